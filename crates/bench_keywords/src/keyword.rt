@@ -107,6 +107,7 @@ fn tell<'i>(
 }
 
 /// The turn of a keyword that asks nothing: the first one tells its errors.
+#[inline(always)]
 fn turn_telling<'s, 'i>(
     keyword: &BenchKeyword,
     alloc: Global,

@@ -32,6 +32,7 @@ fn pattern_text(alloc: Global, pattern: &str, instance: Instance<'_>) -> Result<
 }
 
 /// Notes an error where the pattern doesn't match.
+#[inline(always)]
 fn tell_pattern<'i>(
     alloc: Global,
     pattern: &str,
@@ -58,6 +59,7 @@ fn tell_pattern<'i>(
 }
 
 /// Asks whether the pattern matches a text, and refuses where it doesn't.
+#[inline(always)]
 fn turn_of_text<'s, 'i>(
     alloc: Global,
     pattern: &'s str,
@@ -90,6 +92,7 @@ fn turn_of_text<'s, 'i>(
 }
 
 /// `pattern`: asks whether it matches an instance that is a text or a name, and accepts any other.
+#[inline(always)]
 pub fn turn_pattern<'s, 'i: 's>(
     alloc: Global,
     pattern: &'s str,

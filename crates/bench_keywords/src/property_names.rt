@@ -63,6 +63,7 @@ fn first_name<'i>(
 }
 
 /// Asks at the first name from this place on that a member of the instance has, if there is one, and ends the run else.
+#[inline(always)]
 fn ask_name<'i>(
     names: &[String],
     start: Option<usize>,
@@ -94,6 +95,7 @@ fn ask_name<'i>(
 }
 
 /// `propertyNames`: asks its child at each of these names that a member of the instance has.
+#[inline(always)]
 pub fn turn_property_names<'i>(
     alloc: Global,
     names: &[String],

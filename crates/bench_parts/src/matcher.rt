@@ -35,6 +35,7 @@ impl BenchMatcher {
 }
 
 /// Whether the text is one of these.
+#[inline(always)]
 fn is_among(text: &str, texts: &[String]) -> bool
     ensures among { result ≡ list_any (bytes_eq text.now) (map string_bytes texts.now) }
 {
@@ -108,6 +109,7 @@ impl Matcher for BenchMatcher {
 
     ghost matching = { bench_matcher };
 
+    #[inline(always)]
     fn is_match(&self, alloc: Global, pattern: &str, subject: &str) -> Result<Match, OutOfMemory> {
         if is_among(pattern, self.unfinished.as_slice()) {
             let text = Text::new(

@@ -41,6 +41,7 @@ fn ask_branch<'s>(
 
 /// Takes a turn of a run that branches: it asks whether its first child accepts, and then the branch that follows, whose answer
 /// it passes on. A branch is the number of a child, where there is one.
+#[inline(always)]
 pub fn branch_on<'s, 'i>(
     alloc: Global,
     accepted: Option<usize>,

@@ -23,6 +23,7 @@ pub enum MatchTurn {
 }
 
 /// Takes a turn of a run that asks a match.
+#[inline(always)]
 pub fn match_on(run: &mut Progress, reply: Reply<'_>) -> MatchTurn
     ensures turns { (texts : Bool) (name text : Text) (p : Pair) (a : AnswerOfRun)
         → way_turn (asks_match name p text) (run.old, a) (reply_of texts reply.entry)

@@ -61,6 +61,7 @@ fn tell_not<'i>(
 }
 
 /// `not`: asks whether its child accepts, and refuses then.
+#[inline(always)]
 pub fn turn_not<'s, 'i>(
     alloc: Global,
     schema: &Value,

@@ -60,6 +60,7 @@ fn tell_one_of<'i>(
 }
 
 /// `oneOf`: asks whether just one child accepts; where units are wanted, asks each child for its own.
+#[inline(always)]
 pub fn turn_one_of<'s, 'i>(
     alloc: Global,
     count: usize,
