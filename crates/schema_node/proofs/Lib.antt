@@ -1,8 +1,5 @@
 pub mod NodeMeets
 pub mod KeywordMeets
-pub mod NodeRuns
-pub mod NodeParts
-pub mod KeywordTurns
 pub mod NodeOutcomes
 pub mod MeetsAgain
 pub mod RightVerdicts

@@ -19,21 +19,15 @@ use Rattle.schema_node.specs.NodeMeets.{ChildMeets, EdgeMeets, FormMeets, NodeMe
 use Rattle.schema_parts.specs.KeywordViews.{reply_of}
 use Rattle.schema_parts.specs.declared.keyword.Reply as code
 use Rattle.schema_answers.specs.ReplyModes.{Joins, accepts, refuses, reply_by}
-use Rattle.schema_node.specs.NodeRuns.{Reads, Replies, child_says, edge_needs, edge_says, form_says}
+use Rattle.schema_answers.specs.NodeRuns.{Reads, Replies, child_says, edge_needs, edge_says, form_says}
 use Rattle.schema_contexts.proofs.Matches.{meets_append, meets_same}
 use Rattle.schema_node.proofs.NodeOutcomes.{across_is, outcome_is}
-use Rattle.schema_node.proofs.NodeRuns.{busy_case, entered_case, free_case, some_case}
+use Rattle.schema_answers.proofs.NodeRuns.{busy_case, entered_case, needs_of_entered, some_case}
 
 module _ {K R : Type 0} (words : Bool → Keywords K R) (is_whole : K → Bool) (nodes : Nodes K) (count : ℕ) (w : Settling) where
   -- ---- edges
 
   module _ (s : Subject) (busy : List ℕ) (e : NodeEdge) (mode : Mode) (path : Text) (p : Place) (old new : Remembered) where
-    needs_of_free : e.guarded ≡ false → edge_needs nodes count e s busy ≡ suc (left nodes count e.node s busy)
-    needs_of_free g = free_case e.guarded (list_any (λ i. i == e.node) busy) _ (suc (left nodes count e.node s (e.node ∷ busy))) 0 g
-
-    needs_of_entered : e.guarded ≡ true → list_any (λ i. i == e.node) busy ≡ false → edge_needs nodes count e s busy ≡ suc (left nodes count e.node s (e.node ∷ busy))
-    needs_of_entered g t = entered_case e.guarded (list_any (λ i. i == e.node) busy) (suc (left nodes count e.node s busy)) _ 0 g t
-
     pub meets_busy : e.guarded ≡ true → list_any (λ i. i == e.node) busy ≡ true → old ≡ new → EdgeMeets words is_whole nodes count w mode path p busy s old new e
     meets_busy g t same texts root depth reads l =
         let is = busy_case e.guarded (list_any (λ i. i == e.node) busy) (deep_run words nodes w texts root depth e.node (path ++ e.path) p busy) (deep_run words nodes w texts root depth e.node (path ++ e.path) p (e.node ∷ busy)) (yes_run nodes e.node (path ++ e.path) p) g t in
@@ -41,7 +35,7 @@ module _ {K R : Type 0} (words : Bool → Keywords K R) (is_whole : K → Bool) 
 
     pub meets_entered : e.guarded ≡ true → list_any (λ i. i == e.node) busy ≡ false → NodeMeets words is_whole nodes count w mode (path ++ e.path) p (e.node ∷ busy) s old new e.node → EdgeMeets words is_whole nodes count w mode path p busy s old new e
     meets_entered g t h texts root depth reads l =
-        let n = needs_of_entered g t in
+        let n = needs_of_entered words is_whole nodes count w s busy e g t in
         let is = entered_case e.guarded (list_any (λ i. i == e.node) busy) (deep_run words nodes w texts root depth e.node (path ++ e.path) p busy) (deep_run words nodes w texts root depth e.node (path ++ e.path) p (e.node ∷ busy)) (yes_run nodes e.node (path ++ e.path) p) g t in
         meets_same w.matcher old new _ _ (ap (λ (r : Run). r.met mode) (sym is)) (h texts root depth reads (omega (arith, n, l)))
 

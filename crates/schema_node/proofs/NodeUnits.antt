@@ -23,7 +23,7 @@ use Rattle.schema_meaning.proofs.Falls.{from_below}
 use Rattle.schema_parts.specs.KeywordViews.{answer_of}
 use Rattle.schema_contexts.specs.Matches.{settling}
 use Rattle.schema_node.specs.NodeMeets.{NodeMeets}
-use Rattle.schema_node.specs.NodeRuns.{Reading, Reads, child_says, edge_needs}
+use Rattle.schema_answers.specs.NodeRuns.{Reading, Reads, child_says, edge_needs}
 use Rattle.schema_contexts.specs.Progress.{Context, Pairs}
 use Rattle.schema_answers.specs.Askings.{Asking}
 use Rattle.schema_node.specs.RunStates.{MeetsEdge, MeetsNode, Setting, busy, settled_by}
@@ -32,7 +32,7 @@ use Rattle.schema_parts.specs.declared.keyword.Answer as code_answer
 use Rattle.schema_parts.specs.declared.keyword.Reply as code_reply
 use Rattle.schema_contexts.proofs.Matches.{moved}
 use Rattle.schema_node.proofs.NodeMeets.{meets_entered}
-use Rattle.schema_node.proofs.NodeRuns.{busy_case, entered_case, free_case, none_case, some_case, stands_in}
+use Rattle.schema_answers.proofs.NodeRuns.{busy_case, entered_case, free_case, none_case, some_case, stands_in}
 
 module _ {K R : Type 0} (g : Setting K R) (q : Asking) (c : Context) where
   -- ---- edges

@@ -13,8 +13,8 @@ use Rattle.schema_contexts.specs.Matches.{Settling}
 use Rattle.schema_parts.specs.KeywordViews.{reply_of}
 use Rattle.schema_parts.specs.declared.keyword.Reply.TheVariants as told
 use Rattle.schema_answers.specs.ReplyModes.{Joins, Stamps, reply_by}
-use Rattle.schema_node.specs.NodeRuns.{FormReplies, Reading, Reads, Replies, child_says}
-use Rattle.schema_node.proofs.NodeRuns.{stands_in}
+use Rattle.schema_answers.specs.NodeRuns.{FormReplies, Reading, Reads, Replies, child_says}
+use Rattle.schema_answers.proofs.NodeRuns.{stands_in}
 
 -- a yes changes no verdict that it is joined with
 pub joins_verdict : (b texts : Bool) → Joins (reply_of texts (told.Truth true)) (reply_of texts (told.Truth b)) (reply_of texts (told.Truth b))

@@ -22,11 +22,11 @@ pub use Rattle.schema_answers.specs.Askings
 pub use Rattle.schema_answers.specs.AnswerModes
 pub use Rattle.schema_answers.specs.ReplyModes
 pub use Rattle.schema_answers.specs.NodeUnits
+pub use Rattle.schema_answers.specs.NodeRuns
+pub use Rattle.schema_answers.specs.Turning
 pub mod Remembering
 pub mod NodeMeets
-pub mod NodeRuns
 pub mod RightVerdicts
 pub mod RunStates
 pub mod Visits
-pub mod Turning
 pub mod UnitStates

@@ -1,6 +1,6 @@
 -- What a run is made with and does not change; and what each of its functions answers, over this and what is asked.
 use Rattle.std.specs.List.{list_any}
-use Rattle.std.specs.Prelude.{◌≡◌, ◌<◌, ◌≤◌, ◌==◌, ◌∷◌, [], ℕ, Bool, All, List, None, Some, false, length, map, option_map, true}
+use Rattle.std.specs.Prelude.{◌≡◌, ◌<◌, ◌≤◌, ◌==◌, ◌∷◌, [], ℕ, Bool, All, List, None, Some, false, length, true}
 use Rattle.serde_json.specs.Data.{Data}
 use Rattle.schema_definitions.specs.Instance.{Text}
 use Rattle.schema_reports.specs.InstanceViews.{subject_of}
@@ -9,7 +9,7 @@ use Rattle.schema_definitions.specs.Matching.{Extends, Matcher, completion_of}
 use Rattle.schema_definitions.specs.Reports.{Outcome}
 use Rattle.schema_reports.specs.ReportViews.{BorrowsItsPlace}
 use Rattle.schema_definitions.specs.Runs.{Run, reply_in}
-use Rattle.schema_definitions.specs.Guarded.{Children, NodeEdge, NodeForm, NodePart, Nodes, guarded_node, guarded_within, node_keyword, node_reference, node_these, yes_run}
+use Rattle.schema_definitions.specs.Guarded.{Children, NodeEdge, NodeForm, NodePart, Nodes, guarded_node, guarded_within, node_reference, node_these, yes_run}
 use Rattle.schema_meaning.specs.Numbered.{Ranked, left, subject_in}
 use Rattle.schema_parts.specs.FaultViews.{PassesBorrowed, errors_in, faults_in}
 use Rattle.schema_parts.specs.KeywordViews.{answer_of, mode_of, reply_of}
@@ -17,9 +17,8 @@ use Rattle.schema_contexts.specs.Matches.{MeetsEach, Settling, settling}
 use Rattle.schema_node.specs.NodeMeets.{ChildMeets, EdgeMeets, EntryMeets, FormMeets, NodeMeets, PartsMeet}
 use Rattle.schema_answers.specs.Askings.{Asking, IsAskedOf}
 use Rattle.schema_answers.specs.ReplyModes.{reply_by}
-use Rattle.schema_node.specs.NodeRuns.{ChildReplies, EdgeReplies, FormReplies, NodeReplies, PartsReply, TellsAll}
+use Rattle.schema_answers.specs.NodeRuns.{ChildReplies, EdgeReplies, FormReplies, NodeReplies, PartsReply, TellsAll}
 use Rattle.schema_nodes.specs.NodeTable.{NodeEntry, numbered}
-use Rattle.schema_parts.specs.EdgeViews.{edge_of}
 use Rattle.serde_json.specs.View.{view}
 use Rattle.schema_contexts.specs.Progress.{Context, NoDeeper, busy_at, guard_words}
 use Rattle.schema_node.specs.RightVerdicts.{AreRight, LaysOut, Layout}
@@ -27,7 +26,6 @@ use Rattle.schema_contexts.specs.Verdicts.{MayKeep, one_more, read_verdict, verd
 use Rattle.schema_parts.specs.declared.keyword.Answer as code_answer
 use Rattle.schema_parts.specs.declared.keyword.Reply as code
 use Rattle.schema_answers.specs.declared.question.Engine.{Engine}
-use Rattle.schema_answers.specs.declared.question.NamedKeyword.{NamedKeyword}
 use Rattle.schema_node.specs.declared.node.runs.FirstQuestion.{FirstQuestion}
 
 -- what a run is made with: the keywords as they are read, the numbered nodes and how many there are, and the matcher
@@ -82,10 +80,6 @@ pub record MayRun {K R : Type 0} (g : Setting K R) (q : Asking) (c : Context) (i
 -- and they stay right, whatever more of them are remembered
 abbrev pub StaysRight : {K R : Type 0} → Setting K R → Asking → Context → Context → Type 0
 StaysRight g q c c' = (layout : Layout) → IsLaidOut layout q → RemembersRightly g layout c → RemembersRightly g layout c'
-
--- a keyword with its children, as the form of an entry
-abbrev pub form_at_work : {C K : Type 0} → (C → K) → NamedKeyword C → NodeForm K
-form_at_work shape k = node_keyword (shape k.keyword.now) (map (option_map edge_of) k.children.now)
 
 module _ {K R : Type 0} (g : Setting K R) (q : Asking) (c : Context) where
   -- how the run's matches are settled

@@ -14,7 +14,7 @@ use Rattle.schema_definitions.specs.Guarded.{Children, NodeEdge, NodeForm, NodeP
 use Rattle.schema_reports.specs.declared.evaluation.EvaluationNode.{EvaluationNode}
 use Rattle.schema_reports.specs.declared.evaluation_order.EntryUnits.{EntryUnits}
 use Rattle.schema_parts.specs.KeywordViews.{answer_of, reply_of}
-use Rattle.schema_node.specs.NodeRuns.{Reading, Reads, child_says, edge_needs}
+use Rattle.schema_answers.specs.NodeRuns.{Reading, Reads, child_says, edge_needs}
 use Rattle.schema_contexts.specs.Progress.{Context, NoDeeper}
 use Rattle.serde_json.specs.View.{view}
 use Rattle.schema_answers.specs.Askings.{Asking, IsAskedOf}

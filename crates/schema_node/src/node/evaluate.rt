@@ -6,20 +6,20 @@ ghost use Rattle.schema_parts.specs.KeywordViews.{below_of};
 ghost use Rattle.schema_nodes.specs.NodeTable.{numbered, shaped_form, shaped_part};
 ghost use Rattle.schema_parts.specs.EdgeViews.{edge_of};
 ghost use Rattle.schema_nodes.specs.NodeViews.{entry_of, form_of};
-ghost use Rattle.schema_node.specs.NodeRuns.{HasForm, HasParts, HasChildren};
+ghost use Rattle.schema_answers.specs.NodeRuns.{HasForm, HasParts, HasChildren, form_at_work};
 ghost use Rattle.schema_contexts.specs.Progress.{places_in};
 ghost use Rattle.schema_answers.specs.Askings.{asking};
 ghost use Rattle.schema_answers.specs.EvaluationPlaces.{CarriesItsNumber};
-ghost use Rattle.schema_node.specs.RunStates.{form_at_work, setting};
+ghost use Rattle.schema_node.specs.RunStates.{setting};
 ghost use Rattle.schema_node.specs.RunStates.{Keeps, StaysRight};
 ghost use Rattle.schema_node.specs.RunStates.{MeetsChild, MeetsEdge, MeetsForm, MeetsNode, MeetsParts};
 ghost use Rattle.schema_node.specs.UnitStates.{ChildGives, EdgeGives, FormGives, MayEvaluate, NodeGives, PartsGive};
 ghost use Rattle.schema_node.specs.Visits.{LeadsNowhere};
 
-use crate::node::run::one_below;
 use crate::node::turns::keyword_answer;
 use schema_answers::guarded::GuardedPair;
 use schema_answers::question::{Engine, NamedKeyword, Question};
+use schema_answers::spots::one_below;
 use schema_answers::units::{
     accepting_unit, entries_unit, refusing_unit, unasked_unit, units_of_keyword, units_of_reference,
 };

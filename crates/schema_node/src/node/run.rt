@@ -1,19 +1,18 @@
 //! Runs of nodes over instances, for the first error or for all of them.
-ghost use Rattle.std.specs.Prelude.{◌≡◌, ◌≤◌, IfOk, Some, MatchOption};
+ghost use Rattle.std.specs.Prelude.{◌≡◌, ◌≤◌, IfOk};
 ghost use Rattle.std.specs.Prelude.{map, option_map, string_bytes};
-ghost use Rattle.schema_definitions.specs.Instance.{after_step};
-ghost use Rattle.schema_reports.specs.InstanceViews.{subject_of, step_of};
-ghost use Rattle.schema_definitions.specs.Keywords.{down, here, for_verdict};
+ghost use Rattle.schema_reports.specs.InstanceViews.{subject_of};
+ghost use Rattle.schema_definitions.specs.Keywords.{for_verdict};
 ghost use Rattle.schema_definitions.specs.Laws.{IsPresent, steps_below};
 ghost use Rattle.schema_parts.specs.KeywordViews.{below_of, mode_of};
 ghost use Rattle.schema_nodes.specs.NodeTable.{numbered, shaped_form, shaped_part};
 ghost use Rattle.schema_parts.specs.EdgeViews.{edge_of};
 ghost use Rattle.schema_nodes.specs.NodeViews.{entry_of, form_of};
-ghost use Rattle.schema_node.specs.NodeRuns.{HasForm, HasParts, HasChildren};
+ghost use Rattle.schema_answers.specs.NodeRuns.{HasForm, HasParts, HasChildren, form_at_work};
 ghost use Rattle.schema_contexts.specs.Progress.{places_in};
 ghost use Rattle.schema_answers.specs.Askings.{asking};
 ghost use Rattle.schema_answers.specs.EvaluationPlaces.{CarriesItsNumber};
-ghost use Rattle.schema_node.specs.RunStates.{form_at_work, setting};
+ghost use Rattle.schema_node.specs.RunStates.{setting};
 ghost use Rattle.schema_node.specs.RunStates.{Keeps, MayRun};
 ghost use Rattle.schema_node.specs.RunStates.{ChildSays, EdgeSays, FormSays, NodeSays, PartsSay};
 ghost use Rattle.schema_node.specs.RunStates.{MeetsChild, MeetsEdge, MeetsEntry, MeetsForm, MeetsNode, MeetsParts};
@@ -26,32 +25,14 @@ use schema_answers::faults::finished;
 use schema_answers::guarded::GuardedPair;
 use schema_answers::question::{Engine, NamedKeyword, Question};
 use schema_answers::replies::{accepted, is_settled, joined, refused, stamped_reply};
-use schema_answers::spots::{after, step_below};
+use schema_answers::spots::one_below;
 use schema_contexts::marks::child_edge;
 use schema_contexts::validation::ValidationContext;
 use schema_nodes::node::{Entry, EntryForm, NodeForm};
 use schema_parts::keyword::{Below, Mode, Reply, Validate};
 use schema_parts::matcher::Matcher;
 use schema_parts::numbers::{Edge, SchemaNode};
-use schema_reports::instance::{Instance, InstanceStep};
 use schema_reports::location::OutOfMemory;
-
-// What stands one step below, and the step; none where the question is asked here.
-pub(crate) fn one_below<'i>(
-    instance: Instance<'i>,
-    below: Below<'_>,
-) -> Option<(Instance<'i>, InstanceStep<'i>)>
-    requires present { IsPresent (subject_of instance) (steps_below (below_of below)) }
-    ensures below { MatchOption result (below_of below.entry ≡ here)
-        (λ r. (below_of below.entry ≡ down (step_of r.1))
-        × (after_step (step_of r.1) (subject_of instance.entry) ≡ Some (subject_of r.0))) }
-{
-    let step = step_below(below)?;
-    match after(instance, step) {
-        Some(lower) => Some(lower),
-        None => unreachable!(),
-    }
-}
 
 // The reply of a node at a place: its verdict where that is wanted, or else errors.
 pub(crate) fn node_reply<'i, K: Validate, M: Matcher>(

@@ -28,7 +28,7 @@ use Rattle.schema_parts.specs.EdgeViews.{edge_of}
 use Rattle.schema_nodes.specs.NodeViews.{entry_of, form_of, node_of, plan_of}
 use Rattle.schema_answers.specs.Askings.{entry_where}
 use Rattle.schema_answers.specs.ReplyModes.{refuses, reply_by}
-use Rattle.schema_node.specs.NodeRuns.{EdgeReplies, child_says, edge_needs, parts_say}
+use Rattle.schema_answers.specs.NodeRuns.{EdgeReplies, child_says, edge_needs, parts_say}
 use Rattle.schema_contexts.specs.Progress.{Context, NoDeeper, busy_at}
 use Rattle.schema_node.specs.RightVerdicts.{LaysOut}
 use Rattle.schema_answers.specs.Askings.{asking, Asking}
@@ -40,16 +40,16 @@ use Rattle.schema_node.proofs.RightVerdicts.{laid_below, read_entered}
 use Rattle.schema_node.proofs.Visits.{always_counts, busy_counts, computed_counts, ended_counts, free_counts, keyword_counts, never_counts, next_counts, planned_counts, read_counts}
 use Rattle.schema_node.specs.Visits.{NodeCounts}
 use Rattle.schema_contexts.proofs.Pairs.{busy-below, busy-pushed, deeper-below, deeper-pushed}
-use Rattle.schema_node.proofs.KeywordTurns.{falls_turned, faults_lie, keyword_says, right_at_once, right_reply, silent, silent_reads, tells_nothing, asked_on, asks_there, begins_on, can_after, ended_on, mark_taken_on, marked_on, matched_on, matches_there, told_pattern_on}
+use Rattle.schema_answers.proofs.KeywordTurns.{falls_turned, faults_lie, keyword_says, right_at_once, right_reply, silent, silent_reads, tells_nothing, asked_on, asks_there, begins_on, can_after, ended_on, mark_taken_on, marked_on, matched_on, matches_there, told_pattern_on, ask_goes_on, match_goes_on, ecma_goes_on, mark_goes_on, unmark_goes_on}
 use Rattle.schema_meaning.proofs.Alike.{asked_alike}
 use Rattle.schema_parts.proofs.Replies.{if_ok_always, if_ok_both, if_ok_mono}
-use Rattle.schema_node.proofs.NodeRuns.{agrees_answers, agrees_says, child_below, child_here, edge_busy, falls_below, falls_here, form_reference, leaf_accepts, needs_of_entered, node_by_plan, one_entry, settled_entries, stands_in, start_entries, where_is}
+use Rattle.schema_answers.proofs.NodeRuns.{agrees_answers, agrees_says, child_below, child_here, edge_busy, falls_below, falls_here, form_reference, leaf_accepts, needs_of_entered, node_by_plan, one_entry, settled_entries, stands_in, start_entries, where_is}
 use Rattle.schema_contexts.proofs.Matches.{after_assumes, moved, meets_append, meets_same}
 use Rattle.schema_answers.proofs.AskedMatches.{step_asks}
 use Rattle.schema_node.proofs.KeywordMeets.{meets_all, meets_asked, meets_at_once, meets_begun, meets_mark_taken, meets_marked, meets_matched, meets_nothing}
 use Rattle.schema_node.proofs.NodeMeets.{end_met, last_met, leaf_holds, leaf_no, leaf_yes, meets_below, meets_busy, meets_here, meets_never, meets_reference, meets_these, next_met, nothing_refused, other_entry, stops_at, meets_by_plan, stops}
 use Rattle.schema_parts.proofs.Drops.{drop_at, drop_past}
-use Rattle.schema_node.proofs.NodeParts.{absolute_is, keyword_children, part_at, plain_there, plan_is, reference_edge, replies_refused, tells_keyword, plan_none}
+use Rattle.schema_answers.proofs.NodeParts.{absolute_is, keyword_children, part_at, plain_there, plan_is, reference_edge, replies_refused, tells_keyword, plan_none}
 use Rattle.schema_nodes.specs.declared.node.Entry.{Entry}
 use Rattle.schema_reports.specs.EntryUnits.{entry_units_of, placed_of}
 use Rattle.schema_definitions.specs.UnitOrder.{each_placed}
@@ -89,23 +89,6 @@ as_many a b e = omega (arith, e)
 
 no_fewer : (a b c : ℕ) → a ≤ b → b ≤ c → a ≤ c
 no_fewer a b c h k = omega (arith, h, k)
-
--- ---- a turn that asks for something is not the last
-
-ask_goes_on : (q : Question) (wanted : Mode) → ¬ (ask q wanted ≡ done)
-ask_goes_on q wanted e = cc
-
-match_goes_on : (a : Pair) (point : MatchPoint) → ¬ (match_text a point ≡ done)
-match_goes_on a point e = cc
-
-ecma_goes_on : (text : Text) → ¬ (ecma text ≡ done)
-ecma_goes_on text e = cc
-
-mark_goes_on : (i : Marked) → ¬ (mark i ≡ done)
-mark_goes_on i e = cc
-
-unmark_goes_on : ¬ (unmark ≡ done)
-unmark_goes_on e = cc
 
 pub run::run_child-run_edge-requires : goal.run::run_child-run_edge-requires
 run::run_child-run_edge-requires g t c =

@@ -19,13 +19,13 @@ use Rattle.schema_nodes.specs.NodeViews.{entry_of}
 use Rattle.schema_contexts.specs.Matches.{MeetsEach, settling}
 use Rattle.schema_node.specs.NodeMeets.{child_run, parts_looked, reading}
 use Rattle.schema_answers.specs.ReplyModes.{refuses}
-use Rattle.schema_node.specs.NodeRuns.{Reading, Reads, Replies, child_says, edge_needs, parts_say}
+use Rattle.schema_answers.specs.NodeRuns.{Reading, Reads, Replies, child_says, edge_needs, parts_say}
 use Rattle.schema_answers.specs.Askings.{asking}
 use Rattle.schema_node.specs.RunStates.{PartsRemember, StaysRight, setting}
 use Rattle.schema_node.specs.Visits.{LeadsNowhere, PartsCount}
 use Rattle.schema_node.proofs.KeywordMeets.{MeetsSoFar}
 use Rattle.schema_contexts.specs.Progress.{busy_at}
-use Rattle.schema_node.specs.Turning.{EvaluatesOn}
+use Rattle.schema_answers.specs.Turning.{EvaluatesOn}
 use Rattle.schema_reports.specs.EntryUnits.{placed_of}
 use Rattle.schema_definitions.specs.UnitOrder.{each_placed, nothing_placed}
 use Rattle.schema_node.specs.UnitStates.{child_unit, parts_units}

@@ -6,7 +6,7 @@ use Rattle.schema_contexts.specs.Matches.{settling}
 use Rattle.schema_node.specs.NodeMeets.{reading}
 use Rattle.schema_nodes.specs.NodeTable.{numbered}
 use Rattle.schema_contexts.specs.Progress.{busy_at, places_in}
-use Rattle.schema_node.proofs.KeywordTurns.{silent, silent_reads}
+use Rattle.schema_answers.proofs.KeywordTurns.{silent, silent_reads}
 use Rattle.schema_contexts.proofs.Matches.{completes_once}
 use Rattle.schema_node.proofs.NodeOutcomes.{reply_is}
 use Rattle.schema_nodes.proofs.RankedTable.{ranked_table}
