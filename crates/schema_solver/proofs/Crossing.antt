@@ -1,5 +1,5 @@
 -- What falls with each question of a solver, and what the functions of edges and of pairs are asked and say.
-use Rattle.std.proofs.Common.{◌≡◌, ◌∙◌, ℕ, suc, ◌<◌, ◌≤◌, ◌==◌, ◌++◌, ◌||◌, ◌&&◌, not, Bool, true, false, inl, inr, List, [], ◌∷◌, length, refl, sym, subst, ap, ap₂, arith, true≢false}
+use Rattle.std.proofs.Common.{◌≡◌, ◌∙◌, ℕ, suc, ◌<◌, ◌≤◌, ◌==◌, ◌++◌, ◌||◌, ◌&&◌, not, Bool, true, false, inl, inr, List, [], ◌∷◌, length, refl, sym, subst, ap, arith, true≢false}
 use Rattle.std.specs.Prelude.{Contains, None, Option, Some, drop, slice_get, take, ◌⊎◌}
 use Rattle.std.specs.List.{list_any}
 use Rattle.std.proofs.lemmas.Bool.{false_from_ne_true, or_left}
@@ -9,7 +9,6 @@ use Rattle.serde_json.specs.View.{view}
 use Rattle.schema_definitions.specs.Instance.{Place, Step, Subject, Text, after_step, same_place}
 use Rattle.schema_definitions.specs.Guarded.{Children, NodeEdge, NodePart, Nodes, node_edges, node_keyword}
 use Rattle.schema_definitions.specs.Keywords.{Answer}
-use Rattle.schema_definitions.specs.Matching.{completion_of}
 use Rattle.schema_definitions.specs.Turns.{Standing, TurnLaws}
 use Rattle.schema_definitions.specs.Laws.{EachKeeps}
 use Rattle.schema_definitions.proofs.Products.{in_either}
@@ -18,23 +17,22 @@ use Rattle.schema_meaning.proofs.Falls.{left_below, left_entered, left_lower, st
 use Rattle.schema_places.specs.Numbers.{OwnNumbers, number_of}
 use Rattle.schema_parts.specs.AtOnce.{EndsAtOnce}
 use Rattle.schema_parts.specs.KeywordViews.{Tells}
-use Rattle.schema_contexts.specs.Matches.{settling}
 use Rattle.schema_contexts.specs.Progress.{Pairs, busy_at}
 use Rattle.schema_contexts.specs.Verdicts.{Remembers, is_pair, verdict_of}
 use Rattle.schema_contexts.proofs.Pairs.{among-pair, busy-pushed, snoc_first}
-use Rattle.schema_node.specs.NodeRuns.{HasForm}
-use Rattle.schema_node.proofs.NodeParts.{tells_keyword}
-use Rattle.schema_node.proofs.NodeRuns.{stands_in}
+use Rattle.schema_answers.specs.NodeRuns.{HasForm}
+use Rattle.schema_answers.proofs.NodeRuns.{stands_in}
 use Rattle.schema_solving.specs.Under.{IsSolvable}
 use Rattle.schema_solving.specs.Found.{NoneAt, SaysPair, SaysUnder}
 use Rattle.schema_solving.specs.Says.{FormSays, PartsSay, parts_under}
 use Rattle.schema_solving.proofs.Between.{grows_between, says_assumed, says_busy, says_known}
 use Rattle.schema_solving.proofs.Turning.{at_once_under}
 use Rattle.schema_solver.specs.Contexts.{SettlesAll, Solver, found_of, has_pair, solver_places}
-use Rattle.schema_solver.specs.Solving.{Begins, Goes, HasEachCut, InEach, IsNew, Leaves, MaySolve, Setting, TellsAll, is_cut, solving_in}
+use Rattle.schema_solver.specs.Solving.{Begins, Goes, HasEachCut, InEach, IsNew, Leaves, MaySolve, Setting, is_cut, solving_in}
 use Rattle.schema_solver.specs.Needs.{PairRan, SaysTheRest, edge_needs, pair_needs}
 use Rattle.schema_solver.proofs.PairSteps.{assumed_goes, assumed_says, refused_goes, refused_says, settled_goes, settled_says}
 use Rattle.schema_solver.proofs.PlacesOnce.{once_from_own, there_from_number}
+use Rattle.schema_solver.proofs.Turned.{solvable_in, tells_there}
 
 -- ---- what falls
 
@@ -245,25 +243,13 @@ module _ {K R : Type 0} (g : Setting K R) (p : Place) (c d : Solver) (went : Goe
 
 module _ {K R : Type 0} (g : Setting K R) (laws : (texts : Bool) → EachKeeps (g.words texts)) (c : Solver) (s : Subject) (p : Place) (i : ℕ) (may : MaySolve g c s p i) where
   pub solvable_here : (root : Data) (texts : Bool) → IsSolvable (solving_in g root texts)
-  solvable_here root texts = record {
-    laws = laws texts;
-    ranked = may.ranked;
-    monotone = may.monotone texts;
-    cuts = λ e guarded. or_left _ _ guarded;
-    alike = λ d e same guards. ap₂ (λ x y. x || not (g.is_followed y)) guards same;
-  }
+  solvable_here root texts = solvable_in g laws may.ranked may.monotone root texts
 
   module _ (m : K) (es : Children) (form : HasForm g.nodes i (node_keyword m es)) where
-    -- a reading in which texts are spoken of lets the keyword speak of them
-    pub tells_here : (texts : Bool) → TellsAll texts (view c.root) g.is_whole g.nodes g.count → Tells texts (g.is_whole m) s
-    tells_here texts tells = tells_keyword g.is_whole g.nodes g.count (settling g.matcher []) p s
-        (record { texts = texts; root = view c.root; matcher = g.matcher; completion = completion_of []; depth = 0 }) i m es may.known
-        (record { stands = may.stands; tells = record { keywords = tells.keywords; instance = tells.instance }; matcher = refl; completes = λ a. refl }) form
-
     pub says_at_once : (absorbed : List Text) (remaining : Subject → R → ℕ) (can_be : Bool → Subject → R → Type 0) (end_of : Bool → Standing R → Answer) (Fits : Bool → Standing R → Type 0)
         → ((texts : Bool) → TurnLaws (g.words texts) m absorbed remaining (can_be texts) (end_of texts) (Fits texts)) → (valid : Bool)
         → ((texts : Bool) → Tells texts (g.is_whole m) s → EndsAtOnce (g.words texts) m s valid)
         → InEach g (view c.root) (λ texts w. FormSays w p (found_of c) (node_keyword m es) valid)
     says_at_once absorbed remaining can_be end_of Fits turn_laws valid at_once texts tells =
-        let ends : EndsAtOnce (g.words texts) m (subject_in (view c.root) p) valid = subst (λ z. EndsAtOnce (g.words texts) m z valid) (sym (stands_in (view c.root) p s may.stands)) (at_once texts (tells_here texts tells)) in
+        let ends : EndsAtOnce (g.words texts) m (subject_in (view c.root) p) valid = subst (λ z. EndsAtOnce (g.words texts) m z valid) (sym (stands_in (view c.root) p s may.stands)) (at_once texts (tells_there g c s p i m es may form texts tells)) in
         at_once_under (solving_in g (view c.root) texts) (solvable_here (view c.root) texts) p m absorbed remaining (can_be texts) (end_of texts) (Fits texts) (turn_laws texts) es (found_of c) valid ends.asks_nothing ends.says

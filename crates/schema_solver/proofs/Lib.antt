@@ -6,4 +6,3 @@ pub mod Asking
 pub mod Crossing
 pub mod Turned
 pub mod Assuming
-pub mod Dropping

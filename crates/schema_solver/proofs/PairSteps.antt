@@ -11,6 +11,7 @@ use Rattle.schema_definitions.specs.Laws.{EachKeeps}
 use Rattle.schema_definitions.proofs.Products.{in_either}
 use Rattle.schema_contexts.specs.Progress.{NoDeeper, Pairs, root_places}
 use Rattle.schema_contexts.specs.Verdicts.{Remembers, is_pair}
+use Rattle.schema_answers.specs.NodeRuns.{TellsAll}
 use Rattle.schema_solving.specs.Under.{Solving, IsSolvable}
 use Rattle.schema_solving.specs.Found.{Grows, IsSound, NoneAt, NoneDeeper, SaysPair, SaysUnder, after_no, after_yes, after_yes_alone, entered, is_this}
 use Rattle.schema_solving.specs.Work.{IsCounted, Pairs as AllPairs, pairs_of}
@@ -19,7 +20,7 @@ use Rattle.schema_solving.proofs.Steps.{alone_grows, alone_says, alone_sound, as
 use Rattle.schema_solving.proofs.Work.{assumed_counts, entered_counts, refused_counts, settled_counts}
 use Rattle.schema_solving.proofs.Bounds.{pairs_among, pairs_few}
 use Rattle.schema_solver.specs.Contexts.{SettlesAll, Solver, found_of, has_pair, solver_places}
-use Rattle.schema_solver.specs.Solving.{Begins, Goes, HasEachCut, InEach, IsNew, Leaves, MaySolve, Setting, TellsAll, solving_in}
+use Rattle.schema_solver.specs.Solving.{Begins, Goes, HasEachCut, InEach, IsNew, Leaves, MaySolve, Setting, solving_in}
 use Rattle.schema_solver.proofs.FoundOf.{has_pushed, found_assumed, found_entered, found_refused, found_settled}
 
 -- what no pair in progress lies deeper than is so of what is found

@@ -1,20 +1,12 @@
 -- Places that have their own numbers stand once each.
-use Rattle.std.proofs.Common.{◌≡◌, ◌∙◌, ℕ, suc, ◌+◌, ◌<◌, ◌≤◌, ◌||◌, ◌==◌, Bool, true, false, List, [], ◌∷◌, length, refl, sym, subst, ap, arith, true≢false}
+use Rattle.std.proofs.Common.{◌≡◌, ◌∙◌, ℕ, suc, ◌+◌, ◌<◌, ◌≤◌, ◌||◌, Bool, true, false, List, [], ◌∷◌, length, refl, sym, subst, ap, arith, true≢false}
 use Rattle.std.specs.Prelude.{None, Option, Some, if◌then◌else◌, option_map}
 use Rattle.std.specs.List.{list_any}
 use Rattle.std.proofs.lemmas.Bool.{false_from_ne_true, or_left, or_right}
 use Rattle.schema_definitions.specs.Instance.{Place, same_place}
 use Rattle.schema_places.specs.Numbers.{OwnNumbers, number_of, place_at}
 use Rattle.schema_solving.specs.Work.{EachOnce, how_often, one_if}
-use Rattle.schema_solving.proofs.Pairs.{this_place, this_self}
-use Rattle.std.proofs.lemmas.Bool.{and_parts}
-
--- equal places are one, and a place is itself
-one_place : (p q : Place) → same_place p q ≡ true → p ≡ q
-one_place p q is = this_place 0 p 0 q is
-
-itself : (p : Place) → same_place p p ≡ true
-itself p = (and_parts (0 == 0) (same_place p p) (this_self 0 p)).1
+use Rattle.schema_contexts.proofs.Pairs.{place_equal, same_place-self}
 
 -- a later place has its own number past the first one
 later_number : (b : Bool) (o : Option ℕ) (n : ℕ) → (if b then Some 0 else option_map (λ n. n + 1) o) ≡ Some (suc n) → (b ≡ false) × (o ≡ Some n)
@@ -34,7 +26,7 @@ apart_head q qs own n l = (later_number (same_place (place_at qs n) q) (number_o
 none_later : (p : Place) (qs : List Place) → ((n : ℕ) → n < length qs → same_place (place_at qs n) p ≡ false) → how_often p qs ≡ 0
 none_later p [] apart = refl
 none_later p (q ∷ qs) apart =
-    let here : same_place p q ≡ false = false_from_ne_true (same_place p q) (λ is. true≢false (sym (subst (λ r. same_place q r ≡ true) (sym (one_place p q is)) (itself q)) ∙ apart 0 (omega arith))) in
+    let here : same_place p q ≡ false = false_from_ne_true (same_place p q) (λ is. true≢false (sym (subst (λ r. same_place q r ≡ true) (sym (place_equal p q is)) (same_place-self q)) ∙ apart 0 (omega arith))) in
     let one : one_if (same_place p q) ≡ 0 = ap one_if here in
     omega (arith, one, none_later p qs (λ n l. apart (suc n) (omega (arith, l))))
 
@@ -44,7 +36,7 @@ once_from_own (q ∷ qs) own p = go (same_place p q) refl (once_from_own qs (own
   where
     go : (b : Bool) → same_place p q ≡ b → how_often p qs ≤ 1 → one_if (same_place p q) + how_often p qs ≤ 1
     go true is few =
-        let none : how_often p qs ≡ 0 = subst (λ r. how_often r qs ≡ 0) (sym (one_place p q is)) (none_later q qs (apart_head q qs own)) in
+        let none : how_often p qs ≡ 0 = subst (λ r. how_often r qs ≡ 0) (sym (place_equal p q is)) (none_later q qs (apart_head q qs own)) in
         let one : one_if (same_place p q) ≡ 1 = ap one_if is in
         omega (arith, none, one)
     go false is few =

@@ -21,10 +21,10 @@ use Rattle.schema_contexts.specs.Progress.{root_places}
 use Rattle.schema_answers.specs.EvaluationPlaces.{CarriesItsNumber}
 use Rattle.schema_answers.specs.declared.evaluation_place.EvaluationPlace.{EvaluationPlace}
 use Rattle.schema_contexts.proofs.Matches.{decides, deciding}
-use Rattle.schema_node.specs.NodeRuns.{HasForm}
-use Rattle.schema_node.proofs.KeywordTurns.{falls_turned}
-use Rattle.schema_node.proofs.NodeParts.{tells_keyword}
-use Rattle.schema_node.proofs.NodeRuns.{stands_in}
+use Rattle.schema_answers.specs.NodeRuns.{HasForm, TellsAll}
+use Rattle.schema_answers.proofs.KeywordTurns.{falls_turned}
+use Rattle.schema_answers.proofs.NodeParts.{tells_keyword}
+use Rattle.schema_answers.proofs.NodeRuns.{stands_in}
 use Rattle.schema_solving.specs.Under.{PairSet, Solving, IsSolvable}
 use Rattle.schema_solving.specs.Found.{Between, Grows}
 use Rattle.schema_solving.specs.Says.{ChildSays, FormSays}
@@ -32,7 +32,7 @@ use Rattle.schema_solving.specs.Turning.{TurnsUnder, answers_under, matches_here
 use Rattle.schema_solving.proofs.Between.{grows_between, grows_none}
 use Rattle.schema_solving.proofs.Turning.{answer_verdict, begins_under, ended_under, turned_under}
 use Rattle.schema_solver.specs.Contexts.{Solver, found_of, solver_places}
-use Rattle.schema_solver.specs.Solving.{Goes, InEach, IsSoundIn, MaySolve, Setting, TellsAll, solving_in}
+use Rattle.schema_solver.specs.Solving.{Goes, InEach, IsSoundIn, MaySolve, Setting, solving_in}
 use Rattle.schema_solver.specs.TurningOn.{AsksOn, HasBegun, TurnsOn}
 use Rattle.schema_solver.proofs.Going.{goes_none}
 
@@ -87,7 +87,7 @@ module _ {K R : Type 0} (g : Setting K R) where
       → (texts : Bool) → TellsAll texts (view c.root) g.is_whole g.nodes g.count → Tells texts (g.is_whole m) s
   tells_there c s p i m es may form texts tells =
       tells_keyword g.is_whole g.nodes g.count (settling g.matcher []) p s (record { texts = texts; root = view c.root; matcher = g.matcher; completion = deciding []; depth = 0 }) i m es may.known
-      (record { stands = may.stands; tells = record { keywords = tells.keywords; instance = tells.instance }; matcher = refl; completes = decides [] }) form
+      (record { stands = may.stands; tells = tells; matcher = refl; completes = decides [] }) form
 
   -- ---- a turn of the code is one in each reading
 

@@ -4,17 +4,16 @@ use Rattle.std.specs.Prelude.{All, Bool, Contains, List, None, Some, [], false, 
 use Rattle.serde_json.specs.Data.{Data}
 use Rattle.serde_json.specs.View.{view}
 use Rattle.serde_json.specs.declared.value.Value.{Value}
-use Rattle.serde_json.specs.Written.{has_float}
 use Rattle.schema_definitions.specs.Instance.{Place, Subject, Text, same_place, subject_at}
 use Rattle.schema_definitions.specs.Keywords.{Keywords}
 use Rattle.schema_definitions.specs.Matching.{Matcher, completion_of}
 use Rattle.schema_definitions.specs.Guarded.{NodeEdge, Nodes, guarded_within, node_edges, node_outcome, yes_outcome}
-use Rattle.schema_meaning.specs.Fractions.{AreWhole}
 use Rattle.schema_meaning.specs.Numbered.{Ranked, left, subject_in}
 use Rattle.schema_greatest.specs.NodesSay.{AreMonotone}
 use Rattle.schema_parts.specs.MatcherViews.{FinishesEach}
 use Rattle.schema_contexts.specs.Progress.{NoDeeper, Pairs, root_places}
 use Rattle.schema_contexts.specs.Verdicts.{verdict_of}
+use Rattle.schema_answers.specs.NodeRuns.{TellsAll}
 use Rattle.schema_solving.specs.Under.{Solving}
 use Rattle.schema_solving.specs.Found.{Grows, IsSound}
 use Rattle.schema_solving.specs.Work.{EachOnce, IsBoundedBy, IsCounted, pairs_of}
@@ -29,11 +28,6 @@ pub record Setting (K R : Type 0) : Type 0 where
   pub count : ℕ
   pub is_followed : ℕ → Bool
   pub matcher : Matcher
-
--- texts are spoken of only where neither the root value nor a keyword of the table holds a fraction
-pub record TellsAll {K : Type 0} (texts : Bool) (root : Data) (is_whole : K → Bool) (nodes : Nodes K) (count : ℕ) : Type 0 where
-  pub keywords : texts ≡ true → AreWhole is_whole nodes count
-  pub instance : texts ≡ true → has_float root ≡ false
 
 -- an edge whose pair is answered by what is found: a guarded one, and one that leads to a number that is not followed
 abbrev pub is_cut : (ℕ → Bool) → NodeEdge → Bool

@@ -1,15 +1,14 @@
 //! The verdict of what an edge leads to, and of a pair that is answered by what is found, by a solver.
-ghost use Rattle.std.specs.Prelude.{◌==◌, ◌≡◌, IfOk, List, MatchOption, Some, map, option_map, true, ℕ};
+ghost use Rattle.std.specs.Prelude.{◌==◌, ◌≡◌, IfOk, List, map, option_map, true, ℕ};
 ghost use Rattle.std.specs.List.{list_any};
 ghost use Rattle.serde_json.specs.View.{view};
-ghost use Rattle.schema_definitions.specs.Instance.{after_step};
-ghost use Rattle.schema_definitions.specs.Keywords.{down, here};
+ghost use Rattle.schema_definitions.specs.Keywords.{here};
 ghost use Rattle.schema_definitions.specs.Laws.{IsPresent, steps_below};
-ghost use Rattle.schema_reports.specs.InstanceViews.{step_of, subject_of};
+ghost use Rattle.schema_reports.specs.InstanceViews.{subject_of};
 ghost use Rattle.schema_parts.specs.EdgeViews.{edge_of};
 ghost use Rattle.schema_parts.specs.KeywordViews.{below_of};
 ghost use Rattle.schema_nodes.specs.NodeTable.{numbered};
-ghost use Rattle.schema_node.specs.NodeRuns.{HasChildren};
+ghost use Rattle.schema_answers.specs.NodeRuns.{HasChildren};
 ghost use Rattle.schema_answers.specs.EvaluationPlaces.{CarriesItsNumber, steps_to};
 ghost use Rattle.schema_solving.specs.Found.{SaysPair};
 ghost use Rattle.schema_solving.specs.Says.{ChildSays, EdgeSays};
@@ -21,30 +20,12 @@ use crate::context::SolverContext;
 use crate::pair::SolverPair;
 use crate::question::{Asked, SolverEngine};
 use crate::solve::entries::solve_node;
-use schema_answers::spots::{after, step_below};
+use schema_answers::spots::one_below;
 use schema_contexts::marks::child_edge;
 use schema_parts::keyword::{Below, Validate};
 use schema_parts::matcher::Matcher;
 use schema_parts::numbers::{Edge, SchemaNode};
-use schema_reports::instance::{Instance, InstanceStep};
 use schema_reports::location::OutOfMemory;
-
-// What stands one step below, and the step; none where the question is asked here.
-fn one_below<'i>(
-    instance: Instance<'i>,
-    below: Below<'_>,
-) -> Option<(Instance<'i>, InstanceStep<'i>)>
-    requires present { IsPresent (subject_of instance) (steps_below (below_of below)) }
-    ensures below { MatchOption result (below_of below.entry ≡ here)
-        (λ r. (below_of below.entry ≡ down (step_of r.1))
-        × (after_step (step_of r.1) (subject_of instance.entry) ≡ Some (subject_of r.0))) }
-{
-    let step = step_below(below)?;
-    match after(instance, step) {
-        Some(lower) => Some(lower),
-        None => unreachable!(),
-    }
-}
 
 // The verdict of a keyword's child, here or one step below; yes where its request got none.
 #[cycle(verdict)]

@@ -4,7 +4,7 @@ ghost use Rattle.serde_json.specs.View.{view};
 ghost use Rattle.schema_reports.specs.InstanceViews.{subject_of};
 ghost use Rattle.schema_nodes.specs.NodeTable.{numbered, shaped_form, shaped_part};
 ghost use Rattle.schema_nodes.specs.NodeViews.{entry_of, form_of};
-ghost use Rattle.schema_node.specs.NodeRuns.{HasForm, HasParts};
+ghost use Rattle.schema_answers.specs.NodeRuns.{HasForm, HasParts};
 ghost use Rattle.schema_answers.specs.EvaluationPlaces.{CarriesItsNumber, steps_to};
 ghost use Rattle.schema_solving.specs.Found.{SaysUnder};
 ghost use Rattle.schema_solving.specs.Says.{FormSays, PartsSay};

@@ -18,7 +18,7 @@ use Rattle.schema_nodes.specs.NodeTable.{numbered, shaped_part}
 use Rattle.schema_nodes.specs.NodeViews.{entry_of, node_of, plan_of}
 use Rattle.schema_nodes.specs.declared.node.Entry.{Entry}
 use Rattle.schema_answers.specs.EvaluationPlaces.{CarriesItsNumber, steps_to}
-use Rattle.schema_node.proofs.NodeParts.{part_at, plan_is, reference_edge, keyword_children}
+use Rattle.schema_answers.proofs.NodeParts.{part_at, plan_is, reference_edge, keyword_children}
 use Rattle.schema_solving.specs.Says.{EdgeSays, FormSays, parts_under}
 use Rattle.schema_solving.proofs.Says.{child_some, edge_below, node_says_parts}
 use Rattle.schema_solver.specs.Asked.{is_followed_in, solver_of}
@@ -34,8 +34,8 @@ use Rattle.schema_solver.proofs.PairSteps.{begun_may}
 use Rattle.schema_solver.proofs.solve.+verdict.Goals.{edges::solve_edge-then-edge-via-then-edge, edges::solve_edge-then-edge-via-else-edge+then-not-is_followed}
 use Rattle.schema_definitions.specs.Instance.{Text}
 use Rattle.schema_definitions.specs.Matching.{Pair}
-use Rattle.schema_node.specs.RunStates.{form_at_work}
-use Rattle.schema_node.proofs.KeywordTurns.{asks_there, can_after, falls_turned, tells_nothing}
+use Rattle.schema_answers.specs.NodeRuns.{form_at_work}
+use Rattle.schema_answers.proofs.KeywordTurns.{asks_there, can_after, falls_turned, tells_nothing, ask_goes_on, match_goes_on, ecma_goes_on, mark_goes_on, unmark_goes_on}
 use Rattle.schema_solver.proofs.Turned.{asked_verdict, asks_begun, asks_on, begun_with, can_begun, carries_on, goes_marked, leads_asked, leads_begun, leads_ended, leads_marked, leads_matched, leads_told, leads_unmarked, says_after, stepped_by, turned_by}
 use Rattle.schema_solver.proofs.solve.+verdict.Goals as goal
 
@@ -481,23 +481,6 @@ entries::solve_node-returns-in-Keywords-clause-says g t c =
     let new = c.solve_entries.new.context in
     if_ok_mono c.solve_entries.result _ _ (λ b says texts tells. node_says_parts (solving_in set (view new.root) texts) (found_of new) p (solvable_here set laws old s p c.args.node.0 c.requires.may (view new.root) texts) c.args.node.0 c.requires.may.known _ b plan (says texts tells))
     (rw c.as_slice.ensures.value at c.solve_entries.ensures.says)
-
--- ---- a turn that asks for something is not the last
-
-ask_goes_on : (q : Question) (wanted : Mode) → ¬ (ask q wanted ≡ done)
-ask_goes_on q wanted e = cc
-
-match_goes_on : (a : Pair) (point : MatchPoint) → ¬ (match_text a point ≡ done)
-match_goes_on a point e = cc
-
-ecma_goes_on : (text : Text) → ¬ (ecma text ≡ done)
-ecma_goes_on text e = cc
-
-mark_goes_on : (i : Marked) → ¬ (mark i ≡ done)
-mark_goes_on i e = cc
-
-unmark_goes_on : ¬ (unmark ≡ done)
-unmark_goes_on e = cc
 
 -- ---- the turns of a keyword's run
 
