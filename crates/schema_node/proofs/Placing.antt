@@ -1,13 +1,12 @@
 -- The subject stands at the question's place in the context's instance, and the place carries its own number, from one step to the
 -- next; and the pair of a guarded question, when it is entered.
-use Rattle.std.proofs.Common.{◌≡◌, ◌∙◌, ◌++◌, ◌∷◌, ◌==◌, ℕ, Bool, [], List, ap, subst, sym}
+use Rattle.std.proofs.Common.{◌≡◌, ◌∙◌, ◌++◌, ◌∷◌, ◌==◌, ℕ, Bool, [], ap, subst, sym}
 use Rattle.std.specs.Prelude.{Some, option_and_then}
 use Rattle.std.specs.List.{list_any}
 use Rattle.serde_json.specs.Data.{Data}
 use Rattle.serde_json.specs.View.{view}
 use Rattle.serde_json.specs.declared.value.Value.{Value}
 use Rattle.schema_definitions.specs.Instance.{Place, Step, Subject, a_value, after_step, subject_at}
-use Rattle.schema_definitions.specs.Keywords.{Mode}
 use Rattle.schema_meaning.proofs.Falls.{from_below}
 use Rattle.schema_contexts.specs.Progress.{Context, Pairs, busy_at, root_places}
 use Rattle.schema_answers.specs.Askings.{Asking, IsAskedOf}

@@ -1,6 +1,6 @@
 -- What falls with each question of a solver, and what the functions of edges and of pairs are asked and say.
 use Rattle.std.proofs.Common.{◌≡◌, ◌∙◌, ℕ, suc, ◌<◌, ◌≤◌, ◌==◌, ◌++◌, ◌||◌, ◌&&◌, not, Bool, true, false, inl, inr, List, [], ◌∷◌, length, refl, sym, subst, ap, arith, true≢false}
-use Rattle.std.specs.Prelude.{Contains, None, Option, Some, drop, slice_get, take, ◌⊎◌}
+use Rattle.std.specs.Prelude.{Contains, None, Some, drop, take, ◌⊎◌}
 use Rattle.std.specs.List.{list_any}
 use Rattle.std.proofs.lemmas.Bool.{false_from_ne_true, or_left}
 use Rattle.std.proofs.lemmas.List.{drop_at, take_at}

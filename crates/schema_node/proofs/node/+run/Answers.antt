@@ -4,9 +4,9 @@ use Rattle.schema_reports.specs.ReportViews.{BorrowsItsPlace}
 use Rattle.schema_parts.specs.FaultViews.{PassesBorrowed}
 use Rattle.std.proofs.Common.{◌≡◌, ◌∙◌, ◌==◌, ◌+◌, ◌*◌, ◌<◌, ◌≤◌, ℕ, Bool, suc, arith, sym, refl, ap, subst, map, option_map, string_bytes, length, Some, false, true, true≢false, List, [], ◌∷◌, ◌++◌, drop}
 use Rattle.schema_reports.specs.InstanceViews.{subject_of, step_of}
-use Rattle.schema_definitions.specs.Instance.{Place, Text}
-use Rattle.schema_definitions.specs.Keywords.{Marked, MatchPoint, Mode, Question, ask, done, ecma, for_verdict, mark, match_text, no_reply, truth, unmark}
-use Rattle.schema_answers.specs.EvaluationPlaces.{CarriesItsNumber, steps_to}
+use Rattle.schema_definitions.specs.Instance.{Place}
+use Rattle.schema_definitions.specs.Keywords.{Question, ask, ecma, for_verdict, mark, match_text, no_reply, truth, unmark}
+use Rattle.schema_answers.specs.EvaluationPlaces.{steps_to}
 use Rattle.schema_answers.specs.GuardedPairs.{place_of}
 use Rattle.schema_node.proofs.Placing.{carries_on, pair_busy, pair_entered, stands_at, stands_below, stands_on}
 use Rattle.schema_contexts.specs.Progress.{places_in}
@@ -18,7 +18,7 @@ use Rattle.schema_meaning.specs.Numbered.{left, subject_in}
 use Rattle.schema_definitions.specs.Laws.{IsRight}
 use Rattle.schema_definitions.specs.Runs.{keyword_met, plan_met, site_at}
 use Rattle.schema_definitions.specs.Unfinished.{Remembered}
-use Rattle.schema_definitions.specs.Matching.{Matcher, Pair, completed, matching, settled}
+use Rattle.schema_definitions.specs.Matching.{Matcher, completed, matching, settled}
 use Rattle.schema_definitions.specs.Guarded.{node_at, node_never, same_edge, node_always, node_reference}
 use Rattle.schema_parts.specs.KeywordViews.{below_of, marked_of, mode_of, reply_of, answer_of}
 use Rattle.schema_contexts.specs.Matches.{after_match, settling}
@@ -32,7 +32,7 @@ use Rattle.schema_answers.specs.NodeRuns.{EdgeReplies, child_says, edge_needs, p
 use Rattle.schema_contexts.specs.Progress.{Context, NoDeeper, busy_at}
 use Rattle.schema_node.specs.RightVerdicts.{LaysOut}
 use Rattle.schema_answers.specs.Askings.{asking, Asking}
-use Rattle.schema_node.specs.RunStates.{EdgeRemembers, FormRemembers, FormSays, MeetsNode, NodeSays, RemembersRightly, StaysRight, setting}
+use Rattle.schema_node.specs.RunStates.{FormRemembers, FormSays, MeetsNode, NodeSays, RemembersRightly, StaysRight, setting}
 use Rattle.schema_contexts.specs.Verdicts.{one_more, read_verdict}
 use Rattle.schema_parts.specs.declared.keyword.Reply.TheVariants as told
 use Rattle.schema_node.proofs.GoesOn.{alone_remembers, asked_across, computed_meets, computed_says, computed_stays, ended_remembers, kept_remembers, kept_stays, pairs_back, planned_remembers, read_meets_edge, read_remembers, read_says, reference_remembers, right_matched, right_same}

@@ -1,6 +1,6 @@
 use Rattle.std.proofs.Common.{◌≡◌, ◌∙◌, ◌+◌, ◌*◌, ◌<◌, ◌≤◌, ◌||◌, not, ℕ, Bool, suc, arith, sym, refl, ap, ap₂, subst, drop, map, option_map, string_bytes, length, Some, None, false, true, List, [], ◌∷◌, ◌++◌}
 use Rattle.serde_json.specs.View.{view}
-use Rattle.schema_definitions.specs.Keywords.{down, here, Answer, Marked, MatchPoint, Mode, Question, ask, done, ecma, mark, match_text, no_reply, truth, unmark}
+use Rattle.schema_definitions.specs.Keywords.{down, here, Answer, Question, ask, done, ecma, mark, match_text, no_reply, truth, unmark}
 use Rattle.schema_definitions.specs.Laws.{EachKeeps}
 use Rattle.std.proofs.lemmas.Bool.{or_left, or_right}
 use Rattle.schema_meaning.specs.Numbered.{left}
@@ -32,7 +32,6 @@ use Rattle.schema_solver.proofs.Crossing.{apart_mark, at_pair, cut_guards, entry
 use Rattle.schema_solver.proofs.Going.{goes_below, goes_none, goes_on, may_after}
 use Rattle.schema_solver.proofs.PairSteps.{begun_may}
 use Rattle.schema_solver.proofs.solve.+verdict.Goals.{edges::solve_edge-then-edge-via-then-edge, edges::solve_edge-then-edge-via-else-edge+then-not-is_followed}
-use Rattle.schema_definitions.specs.Instance.{Text}
 use Rattle.schema_definitions.specs.Matching.{Pair}
 use Rattle.schema_answers.specs.NodeRuns.{form_at_work}
 use Rattle.schema_answers.proofs.KeywordTurns.{asks_there, can_after, falls_turned, tells_nothing, ask_goes_on, match_goes_on, ecma_goes_on, mark_goes_on, unmark_goes_on}
