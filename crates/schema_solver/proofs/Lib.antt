@@ -6,3 +6,4 @@ pub mod Asking
 pub mod Crossing
 pub mod Turned
 pub mod Assuming
+pub mod Ways

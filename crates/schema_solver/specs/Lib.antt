@@ -6,3 +6,4 @@ pub mod Asked
 pub mod TurningOn
 pub mod SolverPairs
 pub mod Needs
+pub mod Following

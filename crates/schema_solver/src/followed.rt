@@ -1,5 +1,11 @@
 //! Which numbers a solver follows each time it is asked about them, and which it asks once at each place.
-ghost use Rattle.std.specs.Prelude.{◌≡◌, IfOk, false, length, slice_index_or};
+ghost use Rattle.std.specs.Prelude.{◌≡◌, ◌∷◌, ◌<◌, ◌||◌, ℕ, [], IfOk, Some, false};
+ghost use Rattle.std.specs.Prelude.{filter_map, length, map, nat_le, option_map, slice_index_or};
+ghost use Rattle.schema_definitions.specs.Guarded.{form_edges, node_edges, node_these};
+ghost use Rattle.schema_parts.specs.EdgeViews.{edge_of};
+ghost use Rattle.schema_nodes.specs.NodeTable.{plan_in};
+ghost use Rattle.schema_nodes.specs.NodeViews.{entry_of, form_of, node_of};
+ghost use Rattle.schema_solver.specs.Following.{AreWays, Counts, is_settled_in, table_edges, ways_in};
 
 use schema_nodes::node::{Entry, EntryForm, Node, NodeForm, Nodes};
 use schema_parts::numbers::{Edge, SchemaNode};
@@ -8,8 +14,9 @@ use std::alloc::Global;
 use std::marker::Model;
 
 /// The numbers of nodes that a solver follows each time that an edge which nothing guards leads to them. Of the others it asks once at
-/// each place, and remembers the answer. Any numbers will do; these are the settled ones, whose chains of references do not return, and
-/// those that one edge alone leads to, so that no answer is found twice. Contracts see whether each number is one.
+/// each place, and remembers the answer. It answers the same whichever numbers these are, but how long it takes rests on them: they are the
+/// settled ones, whose chains of references do not return, and those to which at most one edge leads that nothing guards, so that no answer
+/// is found twice. Contracts see whether each number is one.
 #[derive(Drop)]
 pub struct Followed {
     numbers: Vec<bool>,
@@ -23,77 +30,95 @@ impl Model for Followed {
     ghost view = { λ f. f.numbers.items };
 }
 
-// Notes that an edge leads to a number: from the second one on that nothing guards, a number that is not settled is not followed.
-fn note_edge<K: Drop>(nodes: &Nodes<K>, edge: &Edge, met: &mut Vec<bool>, numbers: &mut Vec<bool>)
-    ensures met { length met.new.items ≡ length met.old.items }
-    ensures numbers { length numbers.new.items ≡ length numbers.old.items }
+// Counts an edge that nothing guards as a way to the number that it leads to, where that is one of these. Of the ways to a number no
+// more than two are counted.
+fn count_edge(edge: &Edge, ways: &mut Vec<u8>)
+    ensures counted { Counts (edge_of edge.now ∷ []) ways.old.items ways.new.items }
 {
     let number = edge.node.0;
-    if edge.guarded || number >= nodes.len() || nodes.is_settled(edge.node) {
-        return;
-    }
-    if number < met.len() && number < numbers.len() {
-        if met[number] {
-            numbers[number] = false;
-        }
-        met[number] = true;
+    if !edge.guarded && number < ways.len() && ways[number] < 2 {
+        ways[number] += 1;
     }
 }
 
-// Notes where the edges of an entry lead.
-fn note_entry<K: Drop>(
-    nodes: &Nodes<K>,
-    entry: &Entry<K>,
-    met: &mut Vec<bool>,
-    numbers: &mut Vec<bool>,
-)
-    ensures met { length met.new.items ≡ length met.old.items }
-    ensures numbers { length numbers.new.items ≡ length numbers.old.items }
+// Counts the edges of a keyword.
+fn count_children(children: &[Option<Edge>], ways: &mut Vec<u8>)
+    ensures counted { Counts (filter_map (λ o. o) (map (option_map edge_of) children.now)) ways.old.items ways.new.items }
+{
+    for child in children {
+        if let Some(edge) = child {
+            count_edge(edge, ways);
+        }
+    }
+}
+
+// Counts the edges of an entry.
+fn count_entry<K: Drop>(entry: &Entry<K>, ways: &mut Vec<u8>)
+    ensures counted { Counts (form_edges (form_of entry.now.form)) ways.old.items ways.new.items }
 {
     match &entry.form {
-        EntryForm::Reference(edge) => note_edge(nodes, edge, met, numbers),
-        EntryForm::Keyword(_, children) => {
-            for child in children {
-                if let Some(edge) = child {
-                    note_edge(nodes, edge, met, numbers);
-                }
-            }
-        }
+        EntryForm::Reference(edge) => count_edge(edge, ways),
+        EntryForm::Keyword(_, children) => count_children(children.as_slice(), ways),
     }
 }
 
-// Notes where the edges of a node lead.
-fn note_node<K: Drop>(
-    nodes: &Nodes<K>,
-    node: &Node<K>,
-    met: &mut Vec<bool>,
-    numbers: &mut Vec<bool>,
-)
-    ensures met { length met.new.items ≡ length met.old.items }
-    ensures numbers { length numbers.new.items ≡ length numbers.old.items }
+// Counts the edges of some entries.
+fn count_entries<K: Drop>(entries: &[Entry<K>], ways: &mut Vec<u8>)
+    ensures counted { Counts (node_edges (node_these (map entry_of entries.now))) ways.old.items ways.new.items }
 {
-    if let Some(NodeForm::Keywords(entries)) = &node.form {
-        for entry in entries {
-            note_entry(nodes, entry, met, numbers);
-        }
+    for entry in entries {
+        count_entry(entry, ways);
     }
+}
+
+// Counts the edges of a node.
+fn count_node<K: Drop>(node: &Node<K>, ways: &mut Vec<u8>)
+    ensures counted { Counts (node_edges (plan_in (Some (node_of node.now)))) ways.old.items ways.new.items }
+{
+    match &node.form {
+        None => {}
+        Some(form) => match form {
+            NodeForm::Always => {}
+            NodeForm::Never => {}
+            NodeForm::Keywords(entries) => count_entries(entries.as_slice(), ways),
+        },
+    }
+}
+
+// Returns how many edges that nothing guards lead to each number of these nodes; of more than two no more than two are counted.
+fn count_ways<K: Drop>(alloc: Global, nodes: &Nodes<K>) -> Result<Vec<u8>, OutOfMemory>
+    ensures size { IfOk result (λ ways. length ways.items ≡ length nodes.now) }
+    ensures counted { IfOk result (λ ways. AreWays (table_edges nodes.now) ways.items) }
+{
+    let count = nodes.len();
+    let mut ways = Vec::from_elem(alloc, 0u8, count)?;
+    for number in 0..count {
+        count_node(nodes.node(SchemaNode(number)), &mut ways);
+    }
+    Ok(ways)
+}
+
+// Returns `true` if a number is followed to which so many ways were counted.
+fn is_followed_by<K: Drop>(nodes: &Nodes<K>, number: SchemaNode, ways: u8) -> bool
+    requires within { number.0 < length nodes.now }
+    ensures followed { result ≡ (is_settled_in nodes.now number.0 || nat_le ways 1) }
+{
+    nodes.is_settled(number) || ways <= 1
 }
 
 impl Followed {
-    /// Returns the numbers of these nodes that a solver follows. Fails only if memory cannot be allocated.
+    /// Returns the numbers of these nodes that a solver follows: the settled ones, and those to which at most one edge leads that nothing
+    /// guards. Fails only if memory cannot be allocated.
     pub fn of<K: Drop>(alloc: Global, nodes: &Nodes<K>) -> Result<Followed, OutOfMemory>
         ensures each { IfOk result (λ f. length f ≡ length nodes.now) }
+        ensures followed { IfOk result (λ f. (i : ℕ) → i < length nodes.now
+            → slice_index_or f i false ≡ (is_settled_in nodes.now i || nat_le (ways_in nodes.now i) 1)) }
     {
-        let count = nodes.len();
-        let mut met = Vec::from_elem(alloc, false, count)?;
-        let mut numbers = Vec::from_elem(alloc, true, count)?;
+        let ways = count_ways(alloc, nodes)?;
+        let count = ways.len();
+        let mut numbers = Vec::with_capacity(alloc, count)?;
         for number in 0..count {
-            note_node(
-                nodes,
-                nodes.node(SchemaNode(number)),
-                &mut met,
-                &mut numbers,
-            );
+            numbers.push(is_followed_by(nodes, SchemaNode(number), ways[number]))?;
         }
         Ok(Followed { numbers })
     }
