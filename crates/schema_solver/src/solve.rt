@@ -1,11 +1,11 @@
 //! The verdict of a node by a solver.
-ghost use Rattle.std.specs.Prelude.{◌<◌, Bool, IfOk, length};
+ghost use Rattle.std.specs.Prelude.{◌<◌, ◌≡◌, Bool, IfOk, length};
 ghost use Rattle.serde_json.specs.View.{view};
 ghost use Rattle.schema_greatest.specs.NodesSay.{AreMonotone};
 ghost use Rattle.schema_parts.specs.MatcherViews.{FinishesEach};
 ghost use Rattle.schema_nodes.specs.NodeTable.{numbered};
-ghost use Rattle.schema_solver.specs.Asked.{solver_over};
-ghost use Rattle.schema_solver.specs.Solving.{BeginsFew, SaysAsNodes};
+ghost use Rattle.schema_solver.specs.Asked.{solver_of, solver_over};
+ghost use Rattle.schema_solver.specs.Solving.{BeginsFew, SaysAsNodes, fresh};
 
 mod edges;
 mod entries;
@@ -33,6 +33,36 @@ pub struct Solved {
     pub begun: u64,
 }
 
+// The verdict of a node of an instance, at the root place. Nothing may have been found before: what a run found of another instance, or by
+// other nodes, says nothing of this one.
+fn solve_root<'i, K: Validate, M: Matcher>(
+    engine: &SolverEngine<'_, K, M>,
+    node: SchemaNode,
+    instance: &'i Value,
+    context: &mut SolverContext<'i>,
+) -> Result<bool, OutOfMemory>
+    requires known { node.0 < length engine.now.nodes.now }
+    requires monotone { (texts : Bool) → AreMonotone (K.words texts) (numbered K.shape engine.now.nodes.now) (length engine.now.nodes.now) }
+    requires finishes { FinishesEach (M.matching engine.now.matcher.now) }
+    requires fresh { context.old ≡ fresh instance.now }
+    ensures says { IfOk result (λ valid. SaysAsNodes
+        (solver_of K.words K.is_whole K.shape M.matching engine.now) (view instance.now) node.0 valid) }
+    ensures few { IfOk result (λ _. BeginsFew
+        (solver_of K.words K.is_whole K.shape M.matching engine.now) instance.now context.new.begun) }
+{
+    // (the call says that the table is ordered)
+    let count = engine.nodes.len();
+    let _ordered = count;
+    let root = Place::root(engine.alloc);
+    let place = EvaluationPlace::given(&root);
+    let asked = Asked {
+        instance: Instance::Value(instance),
+        place: &place,
+    };
+    let valid = solve_node(engine, node, &asked, context)?;
+    Ok(valid)
+}
+
 /// Returns the verdict of a node of the instance: what the nodes say where a guarded pair that is in progress is answered yes, so the
 /// greatest solution. Each keyword has to be monotone, and the matcher has to finish every match. A number that is not settled is run
 /// at a place at most once for each of these numbers. Fails only if memory cannot be allocated.
@@ -52,23 +82,14 @@ pub fn solve<K: Validate, M: Matcher>(
     ensures few { IfOk result (λ s. BeginsFew
         (solver_over K.words K.is_whole K.shape nodes.now followed.now (M.matching matcher.now)) instance.now s.begun) }
 {
-    // (the call says that the table is ordered)
-    let count = nodes.len();
-    let _ordered = count;
-    let root = Place::root(alloc);
-    let place = EvaluationPlace::given(&root);
     let engine = SolverEngine {
         nodes,
         alloc,
         matcher,
         followed,
     };
-    let asked = Asked {
-        instance: Instance::Value(instance),
-        place: &place,
-    };
     let mut context = SolverContext::new(alloc, PlacesOnDemand::of(instance));
-    let valid = solve_node(&engine, node, &asked, &mut context)?;
+    let valid = solve_root(&engine, node, instance, &mut context)?;
     Ok(Solved {
         valid,
         begun: context.begun(),

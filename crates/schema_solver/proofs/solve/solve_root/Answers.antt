@@ -8,31 +8,31 @@ use Rattle.schema_contexts.specs.Progress.{root_places}
 use Rattle.schema_answers.specs.EvaluationPlaces.{steps_to}
 use Rattle.schema_solving.specs.Found.{SaysUnder}
 use Rattle.schema_solving.specs.Work.{IsBoundedBy}
-use Rattle.schema_solver.specs.Asked.{solver_over}
+use Rattle.schema_solver.specs.Asked.{solver_of}
 use Rattle.schema_solver.specs.Contexts.{found_of, solver_places}
 use Rattle.schema_solver.specs.Solving.{Goes, InEach, MaySolve, fresh}
 use Rattle.schema_solver.proofs.Going.{end_few, end_says, fresh_may}
-use Rattle.schema_solver.proofs.solve.solve.Goals as goal
+use Rattle.schema_solver.proofs.solve.solve_root.Goals as goal
 
 pub solve_node-requires-clause-may : goal.solve_node-requires-clause-may
 solve_node-requires-clause-may g c =
-    let set = solver_over g.K.Validate.words g.K.Validate.is_whole g.K.Validate.shape c.args.nodes.now c.args.followed.now (g.M.Matcher.matching c.args.matcher.now) in
+    let set = solver_of g.K.Validate.words g.K.Validate.is_whole g.K.Validate.shape g.M.Matcher.matching c.args.engine.now in
     let v = c.args.instance.now in
-    let ranked = ranked_table g.K.Validate.shape c.args.nodes.now c.len-count.ensures.ordered.0 c.len-count.ensures.ordered.1 in
-    let begins : c.new-context.result ≡ fresh v = c.new-context.ensures.empty ∙ ap fresh c.of.ensures.root in
+    let ranked = ranked_table g.K.Validate.shape c.args.engine.now.nodes.now c.len-count.ensures.ordered.0 c.len-count.ensures.ordered.1 in
+    let begins : c.args.context.now ≡ fresh v = c.requires.fresh in
     let place : steps_to c.given-place.result ≡ [] = c.given-place.ensures.same ∙ c.root-root.ensures.root in
     let s = a_value (view v) in
-    subst (λ p. MaySolve set c.new-context.result s p c.args.node.0) (sym place) (subst (λ z. MaySolve set z s [] c.args.node.0) (sym begins) (fresh_may set v c.args.node.0 c.requires.known ranked c.requires.monotone c.requires.finishes))
+    subst (λ p. MaySolve set c.args.context.now s p c.args.node.0) (sym place) (subst (λ z. MaySolve set z s [] c.args.node.0) (sym begins) (fresh_may set v c.args.node.0 c.requires.known ranked c.requires.monotone c.requires.finishes))
 
 pub solve_node-requires-clause-carries : goal.solve_node-requires-clause-carries
-solve_node-requires-clause-carries g c = c.given-place.ensures.carries (solver_places c.new-context.result)
+solve_node-requires-clause-carries g c = c.given-place.ensures.carries (solver_places c.args.context.now)
 
 pub returns-clause-says : goal.returns-clause-says
 returns-clause-says g c =
-    let set = solver_over g.K.Validate.words g.K.Validate.is_whole g.K.Validate.shape c.args.nodes.now c.args.followed.now (g.M.Matcher.matching c.args.matcher.now) in
+    let set = solver_of g.K.Validate.words g.K.Validate.is_whole g.K.Validate.shape g.M.Matcher.matching c.args.engine.now in
     let v = c.args.instance.now in
-    let ranked = ranked_table g.K.Validate.shape c.args.nodes.now c.len-count.ensures.ordered.0 c.len-count.ensures.ordered.1 in
-    let begins : c.new-context.result ≡ fresh v = c.new-context.ensures.empty ∙ ap fresh c.of.ensures.root in
+    let ranked = ranked_table g.K.Validate.shape c.args.engine.now.nodes.now c.len-count.ensures.ordered.0 c.len-count.ensures.ordered.1 in
+    let begins : c.args.context.now ≡ fresh v = c.requires.fresh in
     let place : steps_to c.given-place.result ≡ [] = c.given-place.ensures.same ∙ c.root-root.ensures.root in
     let laws : (texts : Bool) → EachKeeps (g.K.Validate.words texts) = λ texts m. (g.K.Validate.absorbed m, keeps_of_turns (g.K.Validate.words texts) m (g.K.Validate.absorbed m) (g.K.Validate.remaining m) (g.K.Validate.can_be texts m) (g.K.Validate.ends texts m) (g.K.Validate.fits texts m) (g.met.K.Validate.turn_laws texts m) (g.met.K.Validate.function_laws texts m)) in
     let new = c.solve_node.new.context in
@@ -42,12 +42,12 @@ returns-clause-says g c =
 
 pub returns-clause-few : goal.returns-clause-few
 returns-clause-few g c =
-    let set = solver_over g.K.Validate.words g.K.Validate.is_whole g.K.Validate.shape c.args.nodes.now c.args.followed.now (g.M.Matcher.matching c.args.matcher.now) in
+    let set = solver_of g.K.Validate.words g.K.Validate.is_whole g.K.Validate.shape g.M.Matcher.matching c.args.engine.now in
     let v = c.args.instance.now in
-    let ranked = ranked_table g.K.Validate.shape c.args.nodes.now c.len-count.ensures.ordered.0 c.len-count.ensures.ordered.1 in
-    let begins : c.new-context.result ≡ fresh v = c.new-context.ensures.empty ∙ ap fresh c.of.ensures.root in
+    let ranked = ranked_table g.K.Validate.shape c.args.engine.now.nodes.now c.len-count.ensures.ordered.0 c.len-count.ensures.ordered.1 in
+    let begins : c.args.context.now ≡ fresh v = c.requires.fresh in
     let place : steps_to c.given-place.result ≡ [] = c.given-place.ensures.same ∙ c.root-root.ensures.root in
     let laws : (texts : Bool) → EachKeeps (g.K.Validate.words texts) = λ texts m. (g.K.Validate.absorbed m, keeps_of_turns (g.K.Validate.words texts) m (g.K.Validate.absorbed m) (g.K.Validate.remaining m) (g.K.Validate.can_be texts m) (g.K.Validate.ends texts m) (g.K.Validate.fits texts m) (g.met.K.Validate.turn_laws texts m) (g.met.K.Validate.function_laws texts m)) in
     let new = c.solve_node.new.context in
     let went : Goes set [] (fresh v) new = subst (λ p. Goes set p (fresh v) new) place (subst (λ z. Goes set (steps_to c.given-place.result) z new) begins c.in_ok-valid.ensures.goes) in
-    λ ns each. subst (IsBoundedBy ns (root_places v)) (sym c.begun.ensures.begun) (end_few set laws ranked c.requires.monotone v c.args.node.0 c.requires.known new went ns each)
+    λ ns each. (end_few set laws ranked c.requires.monotone v c.args.node.0 c.requires.known new went ns each)
