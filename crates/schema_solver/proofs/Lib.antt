@@ -7,3 +7,4 @@ pub mod Crossing
 pub mod Turned
 pub mod Assuming
 pub mod Ways
+pub mod Weighing

@@ -16,7 +16,7 @@ use Rattle.schema_parts.specs.declared.numbers.Edge.{Edge}
 use Rattle.schema_nodes.specs.declared.node.Entry.{Entry}
 use Rattle.schema_nodes.specs.NodeTable.{NodeEntry, plan_in}
 use Rattle.schema_nodes.specs.NodeViews.{entry_of, form_of}
-use Rattle.schema_solver.specs.Following.{AreWays, Counts, is_settled_in, table_edges, ways_along, ways_in}
+use Rattle.schema_solver.specs.Following.{AreWays, Counts, is_settled_in, table_edges, ways_along, ways_in, weight_in}
 
 -- ---- one edge
 
@@ -44,9 +44,11 @@ counts_then {a} {b} {c} {x} {y} {z} first next is = record {
 abbrev pub child_edges : List (Option Edge) → List NodeEdge
 child_edges cs = filter_map (λ o. o) (map (option_map edge_of) cs)
 
+pub child_more : (cs : List (Option Edge)) (k : ℕ) (d : Option Edge) → k < length cs → child_edges (take (k + 1) cs) ≡ child_edges (take k cs) ++ child_edges (get_or cs k d ∷ [])
+child_more cs k d l = ap child_edges (take_more cs k d l) ∙ ap (filter_map (λ (o : Option NodeEdge). o)) (map-append (option_map edge_of) (take k cs) (get_or cs k d ∷ [])) ∙ filter_map-append (λ (o : Option NodeEdge). o) (map (option_map edge_of) (take k cs)) (map (option_map edge_of) (get_or cs k d ∷ []))
+
 counts_child : (cs : List (Option Edge)) (k : ℕ) (d : Option Edge) {x y z : List ℕ} → k < length cs → Counts (child_edges (take k cs)) x y → Counts (child_edges (get_or cs k d ∷ [])) y z → Counts (child_edges (take (k + 1) cs)) x z
-counts_child cs k d l before more =
-    counts_then before more (ap child_edges (take_more cs k d l) ∙ ap (filter_map (λ (o : Option NodeEdge). o)) (map-append (option_map edge_of) (take k cs) (get_or cs k d ∷ [])) ∙ filter_map-append (λ (o : Option NodeEdge). o) (map (option_map edge_of) (take k cs)) (map (option_map edge_of) (get_or cs k d ∷ [])))
+counts_child cs k d l before more = counts_then before more (child_more cs k d l)
 
 pub counts_child_some : (cs : List (Option Edge)) (k : ℕ) (o : Option Edge) (e : Edge) {x y z : List ℕ} → k < length cs → o ≡ get_or cs k o → o ≡ Some e → Counts (child_edges (take k cs)) x y → Counts (edge_of e ∷ []) y z → Counts (child_edges (take (k + 1) cs)) x z
 counts_child_some cs k o e {x} {y} {z} l at is before more = counts_child cs k o l before (subst (λ (c : Option Edge). Counts (child_edges (c ∷ [])) y z) (sym is ∙ at) more)
@@ -54,15 +56,20 @@ counts_child_some cs k o e {x} {y} {z} l at is before more = counts_child cs k o
 pub counts_child_none : (cs : List (Option Edge)) (k : ℕ) (o : Option Edge) {x y : List ℕ} → k < length cs → o ≡ get_or cs k o → o ≡ None → Counts (child_edges (take k cs)) x y → Counts (child_edges (take (k + 1) cs)) x y
 counts_child_none cs k o {x} {y} l at is before = counts_child cs k o l before (subst (λ (c : Option Edge). Counts (child_edges (c ∷ [])) y y) (sym is ∙ at) (counts_none y))
 
-pub counts_next : {A : Type 0} (f : A → List NodeEdge) (xs : List A) (k : ℕ) (d : A) {x y z : List ℕ} → k < length xs → Counts (flat_map f (take k xs)) x y → Counts (f (get_or xs k d)) y z → Counts (flat_map f (take (k + 1) xs)) x z
-counts_next f xs k d l before more = counts_then before more (ap (flat_map f) (take_more xs k d l) ∙ flat_map-append f (take k xs) (get_or xs k d ∷ []) ∙ ap (λ (es : List NodeEdge). flat_map f (take k xs) ++ es) (append-nil (f (get_or xs k d))))
+next_more : {A : Type 0} (f : A → List NodeEdge) (xs : List A) (k : ℕ) (d : A) → k < length xs → flat_map f (take (k + 1) xs) ≡ flat_map f (take k xs) ++ f (get_or xs k d)
+next_more f xs k d l = ap (flat_map f) (take_more xs k d l) ∙ flat_map-append f (take k xs) (get_or xs k d ∷ []) ∙ ap (λ (es : List NodeEdge). flat_map f (take k xs) ++ es) (append-nil (f (get_or xs k d)))
 
-pub counts_entry : {K : Type 0} (xs : List (Entry K)) (k : ℕ) (e : Entry K) {x y z : List ℕ} → k < length xs → e ≡ get_or xs k e → Counts (node_edges (node_these (map entry_of (take k xs)))) x y → Counts (form_edges (form_of e.form)) y z → Counts (node_edges (node_these (map entry_of (take (k + 1) xs)))) x z
-counts_entry {K} xs k e {x} {y} {z} l at before more =
+counts_next : {A : Type 0} (f : A → List NodeEdge) (xs : List A) (k : ℕ) (d : A) {x y z : List ℕ} → k < length xs → Counts (flat_map f (take k xs)) x y → Counts (f (get_or xs k d)) y z → Counts (flat_map f (take (k + 1) xs)) x z
+counts_next f xs k d l before more = counts_then before more (next_more f xs k d l)
+
+pub entry_more : {K : Type 0} (xs : List (Entry K)) (k : ℕ) (e : Entry K) → k < length xs → e ≡ get_or xs k e → node_edges (node_these (map entry_of (take (k + 1) xs))) ≡ node_edges (node_these (map entry_of (take k xs))) ++ form_edges (form_of e.form)
+entry_more {K} xs k e l at =
     let edges = λ (e : Entry K). form_edges (form_of e.form) in
     let each = flat_map-map (λ (p : NodePart K). form_edges p.form) entry_of in
-    let next = subst (λ (e : Entry K). Counts (edges e) y z) at more in
-    subst (λ (es : List NodeEdge). Counts es x z) (sym (each (take (k + 1) xs))) (counts_next edges xs k e l (subst (λ (es : List NodeEdge). Counts es x y) (each (take k xs)) before) next)
+    each (take (k + 1) xs) ∙ next_more edges xs k e l ∙ ap (λ (es : List NodeEdge). es ++ edges (get_or xs k e)) (sym (each (take k xs))) ∙ ap (λ (d : Entry K). node_edges (node_these (map entry_of (take k xs))) ++ edges d) (sym at)
+
+pub counts_entry : {K : Type 0} (xs : List (Entry K)) (k : ℕ) (e : Entry K) {x y z : List ℕ} → k < length xs → e ≡ get_or xs k e → Counts (node_edges (node_these (map entry_of (take k xs)))) x y → Counts (form_edges (form_of e.form)) y z → Counts (node_edges (node_these (map entry_of (take (k + 1) xs)))) x z
+counts_entry xs k e l at before more = counts_then before more (entry_more xs k e l at)
 
 pub counts_node : {K : Type 0} (ns : List (NodeEntry K)) (k : ℕ) (n : NodeEntry K) {x y z : List ℕ} → slice_get ns k ≡ Some n → Counts (table_edges (take k ns)) x y → Counts (node_edges (plan_in (Some n))) y z → Counts (table_edges (take (k + 1) ns)) x z
 counts_node {K} ns k n {x} {y} {z} at before more =
@@ -85,8 +92,10 @@ are_ways_all {K} ns k x y all none counts = subst (λ (ms : List (NodeEntry K)).
 as_counted : (w ways : ℕ) → w ≡ min 2 ways → leb w 1 ≡ leb ways 1
 as_counted w ways is = grind (arith, nat_tests)
 
-pub followed_by : {K : Type 0} (ns : List (NodeEntry K)) (i : ℕ) (w : ℕ) (b : Bool) → w ≡ min 2 (ways_in ns i) → b ≡ (is_settled_in ns i || leb w 1) → b ≡ (is_settled_in ns i || leb (ways_in ns i) 1)
-followed_by ns i w b is says = says ∙ ap (λ (few : Bool). is_settled_in ns i || few) (as_counted w (ways_in ns i) is)
+pub followed_by : {K : Type 0} (ns : List (NodeEntry K)) (ws : List ℕ) (i w v : ℕ) (b : Bool) → w ≡ min 2 (ways_in ns i) → v ≡ weight_in ws i → b ≡ (leb w 1 || (is_settled_in ns i && leb v 64))
+    → b ≡ (leb (ways_in ns i) 1 || (is_settled_in ns i && leb (weight_in ws i) 64))
+followed_by ns ws i w v b is weighs says =
+    says ∙ ap (λ (few : Bool). few || (is_settled_in ns i && leb v 64)) (as_counted w (ways_in ns i) is) ∙ ap (λ (x : ℕ). leb (ways_in ns i) 1 || (is_settled_in ns i && leb x 64)) weighs
 
 -- of one more number
 pub followed_more : (p : ℕ → Bool) (old new : List Bool) (b : Bool) (k : ℕ) → new ≡ old ++ b ∷ [] → length old ≡ k → b ≡ p k → ((i : ℕ) → i < k → get_or old i false ≡ p i) → (i : ℕ) → i < k + 1 → get_or new i false ≡ p i

@@ -1,6 +1,7 @@
--- How many edges that nothing guards lead to each number of a table, by which a solver picks the numbers that it follows.
-use Rattle.std.specs.Prelude.{Bool, EachIndex, List, Some, count_by, false, flat_map, length, min, not, option_map}
-use Rattle.std.specs.Prelude.{slice_get, slice_index, unwrap_or, ℕ, ◌&&◌, ◌++◌, ◌==◌, ◌≡◌}
+-- How many edges that nothing guards lead to each number of a table, and how many nodes it takes to ask it where each edge is followed,
+-- by which a solver picks the numbers that it follows.
+use Rattle.std.specs.Prelude.{Bool, EachIndex, List, Some, count_by, false, flat_map, if◌then◌else◌, length, min, nat_le, not, option_map}
+use Rattle.std.specs.Prelude.{slice_get, slice_index, slice_index_or, sum_by, unwrap_or, ℕ, ◌&&◌, ◌++◌, ◌<◌, ◌==◌, ◌||◌, ◌≡◌}
 use Rattle.schema_definitions.specs.Guarded.{NodeEdge, node_edges}
 use Rattle.schema_nodes.specs.NodeTable.{NodeEntry, is_settled_entry, plan_in}
 
@@ -28,3 +29,36 @@ AreWays es ways = EachIndex ways (λ i. slice_index ways i ≡ min 2 (ways_along
 pub record Counts (es : List NodeEdge) (old new : List ℕ) : Type 0 where
   pub size : length new ≡ length old
   pub counted : (before : List NodeEdge) → AreWays before old → AreWays (before ++ es) new
+
+-- ---- weights
+
+-- the weight of a number, by the weights of some: 255, which stands for so many nodes that they are not counted, where it has none
+abbrev pub weight_in : List ℕ → ℕ → ℕ
+weight_in ws i = slice_index_or ws i 255
+
+-- the weight of an edge: that of the number that it leads to; 255 where it is guarded
+abbrev pub edge_weight : List ℕ → NodeEdge → ℕ
+edge_weight ws e = if e.guarded then 255 else weight_in ws e.node
+
+-- the weights of some edges, taken together
+abbrev pub edges_weight : List ℕ → List NodeEdge → ℕ
+edges_weight ws es = sum_by (edge_weight ws) es
+
+-- the edges of a number; one that is not of the table, or has no form, has none
+abbrev pub edges_from : {K : Type 0} → List (NodeEntry K) → ℕ → List NodeEdge
+edges_from ns i = node_edges (plan_in (slice_get ns i))
+
+-- no weight is less than the nodes that it takes: a number of the table with a weight below 255 weighs at least one more than its edges
+-- taken together, so none of these is guarded, and what is asked from it where each edge is followed is a tree of at most so many nodes
+abbrev pub Covers : {K : Type 0} → List (NodeEntry K) → List ℕ → Type 0
+Covers ns ws = EachIndex ns (λ i. weight_in ws i < 255 → edges_weight ws (edges_from ns i) < weight_in ws i)
+
+-- by these weights a number is followed: at most one edge leads to it that nothing guards, or it is settled and weighs at most 64
+abbrev pub is_followed_in : {K : Type 0} → List (NodeEntry K) → List ℕ → ℕ → Bool
+is_followed_in ns ws i = nat_le (ways_in ns i) 1 || (is_settled_in ns i && nat_le (weight_in ws i) 64)
+
+-- which numbers of a table are followed, by weights that cover it
+pub record IsFollowing {K : Type 0} (ns : List (NodeEntry K)) (followed : List Bool) : Type 0 where
+  pub weights : List ℕ
+  pub covers : Covers ns weights
+  pub each : EachIndex ns (λ i. slice_index_or followed i false ≡ is_followed_in ns weights i)

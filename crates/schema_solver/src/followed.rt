@@ -1,22 +1,26 @@
 //! Which numbers a solver follows each time it is asked about them, and which it asks once at each place.
-ghost use Rattle.std.specs.Prelude.{◌≡◌, ◌∷◌, ◌<◌, ◌||◌, ℕ, [], IfOk, Some, false};
+ghost use Rattle.std.specs.Prelude.{◌≡◌, ◌∷◌, ◌<◌, ◌||◌, ◌&&◌, [], IfOk, Some, false};
 ghost use Rattle.std.specs.Prelude.{filter_map, length, map, nat_le, option_map, slice_index_or};
 ghost use Rattle.schema_definitions.specs.Guarded.{form_edges, node_edges, node_these};
 ghost use Rattle.schema_parts.specs.EdgeViews.{edge_of};
 ghost use Rattle.schema_nodes.specs.NodeTable.{plan_in};
 ghost use Rattle.schema_nodes.specs.NodeViews.{entry_of, form_of, node_of};
-ghost use Rattle.schema_solver.specs.Following.{AreWays, Counts, is_settled_in, table_edges, ways_in};
+ghost use Rattle.schema_solver.specs.Following.{AreWays, Counts, Covers, IsFollowing, is_settled_in, table_edges};
 
+use crate::weights::{uncounted, weights_of};
 use schema_nodes::node::{Entry, EntryForm, Node, NodeForm, Nodes};
 use schema_parts::numbers::{Edge, SchemaNode};
 use schema_reports::location::OutOfMemory;
 use std::alloc::Global;
 use std::marker::Model;
 
+/// How many nodes it may take at the most to ask a settled number that is followed though two edges or more lead to it.
+pub const MOST_NODES: u8 = 64;
+
 /// The numbers of nodes that a solver follows each time that an edge which nothing guards leads to them. Of the others it asks once at
-/// each place, and remembers the answer. It answers the same whichever numbers these are, but how long it takes rests on them: they are the
-/// settled ones, whose chains of references do not return, and those to which at most one edge leads that nothing guards, so that no answer
-/// is found twice. Contracts see whether each number is one.
+/// each place, and remembers the answer. It answers the same whichever numbers these are, but how long it takes rests on them: they are
+/// those to which at most one edge leads that nothing guards, so that no answer is found twice, and the settled ones that take at most
+/// `MOST_NODES` nodes to ask, so that an answer that is found again takes no more. Contracts see whether each number is one.
 #[derive(Drop)]
 pub struct Followed {
     numbers: Vec<bool>,
@@ -98,27 +102,38 @@ fn count_ways<K: Drop>(alloc: Global, nodes: &Nodes<K>) -> Result<Vec<u8>, OutOf
     Ok(ways)
 }
 
-// Returns `true` if a number is followed to which so many ways were counted.
-fn is_followed_by<K: Drop>(nodes: &Nodes<K>, number: SchemaNode, ways: u8) -> bool
-    requires within { number.0 < length nodes.now }
-    ensures followed { result ≡ (is_settled_in nodes.now number.0 || nat_le ways 1) }
+// Returns weights that cover these nodes, by which numbers are followed. They are counted only where some number has two ways in.
+fn weights_by<K: Drop>(alloc: Global, nodes: &Nodes<K>, ways: &[u8]) -> Result<Vec<u8>, OutOfMemory>
+    ensures each { IfOk result (λ ws. length ws.items ≡ length nodes.now) }
+    ensures covers { IfOk result (λ ws. Covers nodes.now ws.items) }
 {
-    nodes.is_settled(number) || ways <= 1
+    if ways.iter().all(|count| *count <= 1) {
+        return uncounted(alloc, nodes);
+    }
+    weights_of(alloc, nodes)
+}
+
+// Returns `true` if a number is followed to which so many ways were counted, and that has this weight.
+fn is_followed_by<K: Drop>(nodes: &Nodes<K>, number: SchemaNode, ways: u8, weight: u8) -> bool
+    requires within { number.0 < length nodes.now }
+    ensures followed { result ≡ (nat_le ways 1 || (is_settled_in nodes.now number.0 && nat_le weight 64)) }
+{
+    ways <= 1 || (nodes.is_settled(number) && weight <= MOST_NODES)
 }
 
 impl Followed {
-    /// Returns the numbers of these nodes that a solver follows: the settled ones, and those to which at most one edge leads that nothing
-    /// guards. Fails only if memory cannot be allocated.
+    /// Returns the numbers of these nodes that a solver follows: those to which at most one edge leads that nothing guards, and the settled
+    /// ones that take at most `MOST_NODES` nodes to ask. Fails only if memory cannot be allocated.
     pub fn of<K: Drop>(alloc: Global, nodes: &Nodes<K>) -> Result<Followed, OutOfMemory>
         ensures each { IfOk result (λ f. length f ≡ length nodes.now) }
-        ensures followed { IfOk result (λ f. (i : ℕ) → i < length nodes.now
-            → slice_index_or f i false ≡ (is_settled_in nodes.now i || nat_le (ways_in nodes.now i) 1)) }
+        ensures followed { IfOk result (λ f. IsFollowing nodes.now f) }
     {
         let ways = count_ways(alloc, nodes)?;
+        let weights = weights_by(alloc, nodes, ways.as_slice())?;
         let count = ways.len();
         let mut numbers = Vec::with_capacity(alloc, count)?;
         for number in 0..count {
-            numbers.push(is_followed_by(nodes, SchemaNode(number), ways[number]))?;
+            numbers.push(is_followed_by(nodes, SchemaNode(number), ways[number], weights[number]))?;
         }
         Ok(Followed { numbers })
     }

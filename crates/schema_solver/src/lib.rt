@@ -6,3 +6,4 @@ pub mod followed;
 pub mod pair;
 pub mod question;
 pub mod solve;
+pub(crate) mod weights;

@@ -66,8 +66,8 @@ pub(crate) fn solve_child<'i, K: Validate, M: Matcher>(
     }
 }
 
-// The verdict of the node that an edge leads to. Where the edge is guarded, and where the node is not settled, its pair is answered by what
-// is found.
+// The verdict of the node that an edge leads to. Where the edge is guarded, and where its number is not followed, its pair is answered by
+// what is found.
 #[cycle(verdict)]
 pub(crate) fn solve_edge<'i, K: Validate, M: Matcher>(
     engine: &SolverEngine<'_, K, M>,

@@ -11,7 +11,7 @@ use schema_solver::followed::Followed;
 use std::alloc::Global;
 
 /// Returns the numbers that a solver follows, where each keyword says that it is monotone: then a solver finds the verdict, and in
-/// polynomial time where chains of references return. Fails only if memory cannot be allocated.
+/// polynomial time, both where chains of references return and where they part and meet again. Fails only if memory cannot be allocated.
 pub(crate) fn solver_numbers<K: Validate>(
     alloc: Global,
     nodes: &Nodes<K>,
