@@ -174,6 +174,13 @@ def cycles_any_typed(size):
     return Case(around(size, "anyOf", {"type": "integer"}), "x", "", apart=ONE_REFUSAL)
 
 
+def ladder(size):
+    """So many definitions, each of which refers twice to the next, and the last to a string."""
+    rungs = {f"d{k}": {"allOf": [{"$ref": f"#/$defs/d{k + 1}"}] * 2} for k in range(size)}
+    schema = {"$ref": "#/$defs/d0", "$defs": {**rungs, f"d{size}": {"type": "string"}}}
+    return Case(schema, "x", "", apart=("errors", *ONE_VERDICT, "allocations"))
+
+
 # what makes a case of a size, and the sizes that are counted
 CASES = {
     "objects": (objects, (500, 1000, 2000)),
@@ -193,6 +200,7 @@ CASES = {
     "cycles-items": (cycles_items, (8, 16, 32)),
     "cycles-any": (cycles_any, (8, 16, 32)),
     "cycles-any-typed": (cycles_any_typed, (8, 16, 32)),
+    "ladder": (ladder, (8, 16, 32)),
 }
 
 
