@@ -53,12 +53,12 @@ edges_from ns i = node_edges (plan_in (slice_get ns i))
 abbrev pub Covers : {K : Type 0} → List (NodeEntry K) → List ℕ → Type 0
 Covers ns ws = EachIndex ns (λ i. weight_in ws i < 255 → edges_weight ws (edges_from ns i) < weight_in ws i)
 
--- by these weights a number is followed: at most one edge leads to it that nothing guards, or it is settled and weighs at most 64
-abbrev pub is_followed_in : {K : Type 0} → List (NodeEntry K) → List ℕ → ℕ → Bool
-is_followed_in ns ws i = nat_le (ways_in ns i) 1 || (is_settled_in ns i && nat_le (weight_in ws i) 64)
+-- a number is followed, by these weights: at most one edge leads to it that nothing guards, or it is settled and weighs at most 64
+abbrev pub may_be_followed : {K : Type 0} → List (NodeEntry K) → List ℕ → ℕ → Bool
+may_be_followed ns ws i = nat_le (ways_in ns i) 1 || (is_settled_in ns i && nat_le (weight_in ws i) 64)
 
 -- which numbers of a table are followed, by weights that cover it
 pub record IsFollowing {K : Type 0} (ns : List (NodeEntry K)) (followed : List Bool) : Type 0 where
   pub weights : List ℕ
   pub covers : Covers ns weights
-  pub each : EachIndex ns (λ i. slice_index_or followed i false ≡ is_followed_in ns weights i)
+  pub each : EachIndex ns (λ i. slice_index_or followed i false ≡ may_be_followed ns weights i)
