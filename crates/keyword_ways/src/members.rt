@@ -26,6 +26,7 @@ fn is_named(members: &Map<String, Value>, name: &str) -> bool
 }
 
 /// Whether the instance has a member of this name.
+#[inline(always)]
 pub fn has_member(instance: Instance<'_>, name: &str) -> bool
     ensures member { result ≡ has_member name.now (subject_of instance.entry) }
 {

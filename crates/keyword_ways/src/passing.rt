@@ -39,6 +39,7 @@ fn take_asked<'i>(
 
 /// Takes a reply, and says which question comes next, by its place in order; where not every number has a question, says from
 /// which number on the next one is looked for. There are at most `limit` of them.
+#[inline(always)]
 pub fn onward<'i>(
     alloc: Global,
     limit: usize,
