@@ -70,8 +70,8 @@ pub(crate) fn solver_answer<'i, K: Validate, M: Matcher>(
     }
 }
 
-// A run for the verdict that has begun. Its room on the stack is its own.
-#[inline(never)]
+// A run for the verdict that has begun.
+#[inline(always)]
 fn begun_run<K: Validate>(
     alloc: Global,
     keyword: &K,
