@@ -66,6 +66,11 @@ def members(depth):
     return '{"properties":{"n":{"$ref":"#"}},"type":"object"}', text_within(depth, '{"n":', "1", "}"), 1
 
 
+def members_not_monotone(depth):
+    """The same beside a keyword that is not monotone, so that no solver is asked for the verdict."""
+    return '{"not":false,"properties":{"n":{"$ref":"#"}},"type":"object"}', text_within(depth, '{"n":', "1", "}"), 1
+
+
 def items(depth):
     """Lists in lists, by one reference a level."""
     return '{"items":{"$ref":"#"},"type":"array"}', text_within(depth, "[", "1", "]"), 1
@@ -97,7 +102,8 @@ def definitions(depth):
     return text_within(depth, '{"$defs":{"a":', '{"type":"string"}', "}}"), "1", 0
 
 
-WAYS = [references, references_and_members, references_built, members, items, untouched, all_of, negations, properties, definitions]
+WAYS = [references, references_and_members, references_built, members, members_not_monotone, items, untouched, all_of, negations, properties,
+        definitions]
 
 
 class Runs:

@@ -9,3 +9,5 @@ mod Visits
 mod NodeUnits
 mod UnitsAsked
 mod Verdicts
+pub mod VerdictTurns
+mod Measures

@@ -30,3 +30,4 @@ pub mod RightVerdicts
 pub mod RunStates
 pub mod Visits
 pub mod UnitStates
+pub mod VerdictTurns

@@ -19,8 +19,7 @@ ghost use Rattle.schema_node.specs.RunStates.{MeetsChild, MeetsEdge, MeetsForm, 
 ghost use Rattle.schema_node.specs.RunStates.{EdgeRemembers, FormRemembers, NodeRemembers, PartsRemember, StaysRight};
 ghost use Rattle.schema_node.specs.Visits.{EdgeCounts, FormCounts, LeadsNowhere, NodeCounts, PartsCount};
 
-use crate::node::turns::keyword_answer;
-use schema_answers::faults::is_accepting;
+use crate::node::verdict_turns::keyword_verdict;
 use schema_answers::guarded::GuardedPair;
 use schema_answers::question::{Engine, NamedKeyword, Question};
 use schema_answers::spots::one_below;
@@ -33,7 +32,7 @@ use schema_parts::numbers::{Edge, SchemaNode};
 use schema_reports::location::OutOfMemory;
 
 // The verdict of a node at a place.
-#[cycle(run)]
+#[cycle(verdict)]
 pub(crate) fn verdict_node<'i, K: Validate, M: Matcher>(
     engine: &Engine<'_, K, M>,
     node: SchemaNode,
@@ -76,7 +75,7 @@ pub(crate) fn verdict_node<'i, K: Validate, M: Matcher>(
 }
 
 // The verdict of the entries, in their order; no more of them are asked after a no.
-#[cycle(run)]
+#[cycle(verdict)]
 fn verdict_entries<'i, K: Validate, M: Matcher>(
     engine: &Engine<'_, K, M>,
     node: SchemaNode,
@@ -114,7 +113,7 @@ fn verdict_entries<'i, K: Validate, M: Matcher>(
 }
 
 // The verdict of an entry's keyword, or of the node that its reference leads to. A keyword that tells it at once takes no run.
-#[cycle(run)]
+#[cycle(verdict)]
 pub(crate) fn verdict_form<'i, K: Validate, M: Matcher>(
     engine: &Engine<'_, K, M>,
     node: SchemaNode,
@@ -155,7 +154,7 @@ pub(crate) fn verdict_form<'i, K: Validate, M: Matcher>(
 
 // The verdict of an entry by a run. Its room on the stack is its own, so that a keyword that tells its verdict at once pays nothing
 // for it, and the call is the last that the caller makes, so that the caller's room is given back before.
-#[cycle(run)]
+#[cycle(verdict)]
 #[inline(never)]
 fn verdict_keyword<'i, K: Validate, M: Matcher>(
     engine: &Engine<'_, K, M>,
@@ -189,15 +188,14 @@ fn verdict_keyword<'i, K: Validate, M: Matcher>(
                 keyword,
                 children: children.as_slice(),
             };
-            let answer = keyword_answer(engine, node, &named, question, context)?;
-            Ok(is_accepting(answer))
+            keyword_verdict(engine, node, &named, question, context)
         }
         EntryForm::Reference(edge) => verdict_reference(engine, edge, question, context),
     }
 }
 
 // The verdict of the node that a reference leads to. Its room on the stack is its own, too.
-#[cycle(run)]
+#[cycle(verdict)]
 #[inline(never)]
 fn verdict_reference<'i, K: Validate, M: Matcher>(
     engine: &Engine<'_, K, M>,
@@ -235,7 +233,8 @@ fn verdict_reference<'i, K: Validate, M: Matcher>(
 }
 
 // The verdict of a keyword's child, here or one step below; yes where its request got none.
-#[cycle(run)]
+#[cycle(verdict)]
+#[inline(always)]
 pub(crate) fn verdict_child<'i, K: Validate, M: Matcher>(
     engine: &Engine<'_, K, M>,
     node: SchemaNode,
@@ -283,7 +282,7 @@ pub(crate) fn verdict_child<'i, K: Validate, M: Matcher>(
 }
 
 // The verdict of the node that an edge leads to; yes where the edge is guarded and the pair is in progress.
-#[cycle(run)]
+#[cycle(verdict)]
 fn verdict_edge<'i, K: Validate, M: Matcher>(
     engine: &Engine<'_, K, M>,
     edge: &Edge,
@@ -324,7 +323,7 @@ fn verdict_edge<'i, K: Validate, M: Matcher>(
 
 // That of a guarded edge: yes where the pair is in progress. A verdict that the run remembers is the answer, and one that is computed
 // is remembered where it may be. Its room on the stack is its own, so that an edge that is not guarded pays nothing for it.
-#[cycle(run)]
+#[cycle(verdict)]
 #[inline(never)]
 fn guarded_verdict<'i, K: Validate, M: Matcher>(
     engine: &Engine<'_, K, M>,

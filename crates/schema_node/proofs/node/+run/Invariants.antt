@@ -1,4 +1,4 @@
-use Rattle.std.proofs.Common.{◌≡◌, ◌≤◌, ◌<◌, ◌+◌, ◌*◌, ◌++◌, ℕ, Bool, List, false, true, length, map, drop, option_map, string_bytes, Some}
+use Rattle.std.proofs.Common.{◌≡◌, ◌≤◌, ◌+◌, ◌*◌, ◌++◌, ℕ, Bool, List, false, length, map, drop, option_map, string_bytes, Some}
 use Rattle.std.specs.Prelude.{All}
 use Rattle.serde_json.specs.Data.{Data}
 use Rattle.schema_definitions.specs.Instance.{subject_at}
@@ -21,15 +21,14 @@ use Rattle.schema_node.specs.NodeMeets.{child_run, parts_looked, reading}
 use Rattle.schema_answers.specs.ReplyModes.{refuses}
 use Rattle.schema_answers.specs.NodeRuns.{Reading, Reads, Replies, child_says, edge_needs, parts_say}
 use Rattle.schema_answers.specs.Askings.{asking}
-use Rattle.schema_node.specs.RunStates.{PartsRemember, StaysRight, setting}
-use Rattle.schema_node.specs.Visits.{LeadsNowhere, PartsCount}
+use Rattle.schema_node.specs.RunStates.{StaysRight, setting}
+use Rattle.schema_node.specs.Visits.{LeadsNowhere}
 use Rattle.schema_node.proofs.KeywordMeets.{MeetsSoFar}
 use Rattle.schema_contexts.specs.Progress.{busy_at}
 use Rattle.schema_answers.specs.Turning.{EvaluatesOn}
 use Rattle.schema_reports.specs.EntryUnits.{placed_of}
 use Rattle.schema_definitions.specs.UnitOrder.{each_placed, nothing_placed}
 use Rattle.schema_node.specs.UnitStates.{child_unit, parts_units}
-use Rattle.schema_parts.specs.declared.keyword.Reply.TheVariants as told
 use Rattle.schema_node.proofs.node.+run.Given as goal
 
 abbrev pub decreases-run::run_child : goal.decreases-run::run_child
@@ -157,53 +156,3 @@ invariant-evaluate::evaluate_entries-loop-entry g l =
 
 abbrev pub decreases-turns::ask_unit : goal.decreases-turns::ask_unit
 decreases-turns::ask_unit g l = 20 * left (numbered g.K.Validate.shape l.engine.now.nodes.now) (length l.engine.now.nodes.now) l.node.0 (subject_of l.question.now.instance) (busy_at (steps_to l.question.now.place.now) l.context.now.in_progress) + 2
-
-abbrev pub decreases-verdict::verdict_node : goal.decreases-verdict::verdict_node
-decreases-verdict::verdict_node g l = 20 * left (numbered g.K.Validate.shape l.engine.now.nodes.now) (length l.engine.now.nodes.now) l.node.0 (subject_of l.question.now.instance) (busy_at (steps_to l.question.now.place.now) l.context.now.in_progress) + 10
-
-abbrev pub decreases-verdict::verdict_entries : goal.decreases-verdict::verdict_entries
-decreases-verdict::verdict_entries g l = 20 * left (numbered g.K.Validate.shape l.engine.now.nodes.now) (length l.engine.now.nodes.now) l.node.0 (subject_of l.question.now.instance) (busy_at (steps_to l.question.now.place.now) l.context.now.in_progress) + 9
-
-abbrev pub decreases-verdict::verdict_form : goal.decreases-verdict::verdict_form
-decreases-verdict::verdict_form g l = 20 * left (numbered g.K.Validate.shape l.engine.now.nodes.now) (length l.engine.now.nodes.now) l.node.0 (subject_of l.question.now.instance) (busy_at (steps_to l.question.now.place.now) l.context.now.in_progress) + 7
-
-abbrev pub decreases-verdict::verdict_keyword : goal.decreases-verdict::verdict_keyword
-decreases-verdict::verdict_keyword g l = 20 * left (numbered g.K.Validate.shape l.engine.now.nodes.now) (length l.engine.now.nodes.now) l.node.0 (subject_of l.question.now.instance) (busy_at (steps_to l.question.now.place.now) l.context.now.in_progress) + 6
-
-abbrev pub decreases-verdict::verdict_child : goal.decreases-verdict::verdict_child
-decreases-verdict::verdict_child g l = 20 * left (numbered g.K.Validate.shape l.engine.now.nodes.now) (length l.engine.now.nodes.now) l.node.0 (subject_of l.question.now.instance) (busy_at (steps_to l.question.now.place.now) l.context.now.in_progress) + 2
-
-abbrev pub decreases-verdict::verdict_reference : goal.decreases-verdict::verdict_reference
-decreases-verdict::verdict_reference g l = 20 * edge_needs (numbered g.K.Validate.shape l.engine.now.nodes.now) (length l.engine.now.nodes.now) (edge_of l.edge.now) (subject_of l.question.now.instance) (busy_at (steps_to l.question.now.place.now) l.context.now.in_progress) + 2
-
-abbrev pub decreases-verdict::verdict_edge : goal.decreases-verdict::verdict_edge
-decreases-verdict::verdict_edge g l = 20 * edge_needs (numbered g.K.Validate.shape l.engine.now.nodes.now) (length l.engine.now.nodes.now) (edge_of l.edge.now) (subject_of l.question.now.instance) (busy_at (steps_to l.question.now.place.now) l.context.now.in_progress) + 1
-
-abbrev pub decreases-verdict::guarded_verdict : goal.decreases-verdict::guarded_verdict
-decreases-verdict::guarded_verdict g l = 20 * edge_needs (numbered g.K.Validate.shape l.engine.now.nodes.now) (length l.engine.now.nodes.now) (edge_of l.edge.now) (subject_of l.question.now.instance) (busy_at (steps_to l.question.now.place.now) l.context.now.in_progress)
-
-abbrev pub invariant-verdict::verdict_entries-loop-entry : goal.invariant-verdict::verdict_entries-loop-entry
-invariant-verdict::verdict_entries-loop-entry g l =
-    let ns = numbered g.K.Validate.shape l.engine.nodes.now in
-    let busy = busy_at (steps_to l.question.place.now) l.initial.context.in_progress in
-    let s = subject_of l.question.instance in
-    let w = settling (g.M.Matcher.matching l.engine.matcher.now) l.initial.context.remembered.assumptions in
-    record {
-      root : l.context.root ≡ l.initial.context.root;
-      kept : l.context.in_progress ≡ l.initial.context.in_progress;
-      assumes : l.context.remembered.assumptions ≡ l.initial.context.remembered.assumptions;
-      marking : l.context.marking ≡ l.initial.context.marking;
-      counted : l.initial.context.visits ≤ l.context.visits;
-      so_far : (x : Reading) → Reads g.K.Validate.is_whole ns (length l.engine.nodes.now) w (steps_to l.question.place.now) s x → left ns (length l.engine.nodes.now) l.node.0 s busy ≤ x.depth
-          → (o : Outcome) × Replies x (mode_of l.question.mode) (told.Truth true) o
-          × (both o (parts_say g.K.Validate.words ns x l.node.0 (path_of l.question.path.now) (steps_to l.question.place.now) busy (map (shaped_part g.K.Validate.shape) (map entry_of (drop l.entry-index l.entries))))
-          ≡ parts_say g.K.Validate.words ns x l.node.0 (path_of l.question.path.now) (steps_to l.question.place.now) busy (map (shaped_part g.K.Validate.shape) (map entry_of l.entries)));
-      stays : StaysRight (setting g.K.Validate.words g.K.Validate.is_whole g.K.Validate.shape g.M.Matcher.matching l.engine) (asking l.question) l.initial.context l.context;
-      first : l.entry-index ≡ 0 → l.context ≡ l.initial.context;
-      remembers : 0 < l.entry-index → PartsRemember (asking l.question) l.initial.context l.context (map (shaped_part g.K.Validate.shape) (map entry_of l.entries)) (told.Truth true);
-      visited : 0 < l.entry-index → PartsCount ns (asking l.question) l.initial.context l.context (map (shaped_part g.K.Validate.shape) (map entry_of l.entries));
-      met : (texts : Bool) (root : Data) (depth : ℕ) → Reads g.K.Validate.is_whole ns (length l.engine.nodes.now) w (steps_to l.question.place.now) s (reading w texts root depth) → left ns (length l.engine.nodes.now) l.node.0 s busy ≤ depth
-          → (before : List Met) × MeetsEach w.matcher l.initial.context.remembered before l.context.remembered
-          × (before ++ plan_met (mode_of l.question.mode) (parts_looked g.K.Validate.words ns w texts root depth l.node.0 (path_of l.question.path.now) (steps_to l.question.place.now) busy (map (shaped_part g.K.Validate.shape) (map entry_of (drop l.entry-index l.entries))))
-          ≡ plan_met (mode_of l.question.mode) (parts_looked g.K.Validate.words ns w texts root depth l.node.0 (path_of l.question.path.now) (steps_to l.question.place.now) busy (map (shaped_part g.K.Validate.shape) (map entry_of l.entries))));
-    }

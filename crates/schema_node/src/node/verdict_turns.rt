@@ -1,0 +1,195 @@
+//! The turns of a keyword's run for its verdict. A level of an instance takes little room on the stack: what the run begins with, and what
+//! its answer is dropped in, have room of their own, and a turn is told no more than a yes or a no.
+ghost use Rattle.std.specs.Prelude.{◌≡◌, ◌≤◌, [], Bool, IfOk, map, option_map, string_bytes};
+ghost use Rattle.schema_reports.specs.InstanceViews.{subject_of};
+ghost use Rattle.schema_definitions.specs.Keywords.{for_verdict};
+ghost use Rattle.schema_parts.specs.KeywordViews.{answer_of, fresh, mode_of, reply_of};
+ghost use Rattle.schema_parts.specs.declared.keyword.Reply.TheVariants as told;
+ghost use Rattle.schema_nodes.specs.NodeTable.{numbered};
+ghost use Rattle.schema_parts.specs.EdgeViews.{edge_of};
+ghost use Rattle.schema_answers.specs.NodeRuns.{HasForm, form_at_work};
+ghost use Rattle.schema_contexts.specs.Progress.{places_in};
+ghost use Rattle.schema_answers.specs.Askings.{asking};
+ghost use Rattle.schema_answers.specs.EvaluationPlaces.{CarriesItsNumber};
+ghost use Rattle.schema_node.specs.RunStates.{setting};
+ghost use Rattle.schema_node.specs.RunStates.{FormSays, HasBegun, Keeps, MayRun, StaysRight};
+ghost use Rattle.schema_node.specs.RunStates.{MeetsForm};
+ghost use Rattle.schema_node.specs.VerdictTurns.{told_reply};
+ghost use Rattle.schema_node.specs.UnitStates.{FindsRightly};
+ghost use Rattle.schema_node.specs.Visits.{LeadsNowhere};
+
+use crate::node::verdict::verdict_child;
+use schema_answers::faults::{begun, is_accepting};
+use schema_answers::matches::step_match;
+use schema_answers::question::{Engine, NamedKeyword, Question};
+use schema_contexts::validation::ValidationContext;
+use schema_parts::keyword::{Answer, Mode, Reply, Step, Validate};
+use schema_parts::matcher::Matcher;
+use schema_parts::numbers::SchemaNode;
+use schema_reports::instance::Instance;
+use schema_reports::location::OutOfMemory;
+use std::alloc::Global;
+
+// The verdict of a keyword by its run. The run begins with no marks; those of the run that asks are set aside until it has ended.
+#[cycle(verdict)]
+pub(crate) fn keyword_verdict<'i, K: Validate, M: Matcher>(
+    engine: &Engine<'_, K, M>,
+    node: SchemaNode,
+    keyword: &NamedKeyword<'_, K>,
+    question: &Question<'_, 'i>,
+    context: &mut ValidationContext<'i>,
+) -> Result<bool, OutOfMemory>
+    requires may { MayRun (setting K.words K.is_whole K.shape M.matching engine.now) (asking question.now)
+        context.old node.0 }
+    requires carries { CarriesItsNumber (places_in context.old) question.now.place.now }
+    requires verdict { mode_of question.now.mode ≡ for_verdict }
+    requires form { HasForm (numbered K.shape engine.now.nodes.now) node.0 (form_at_work K.shape keyword.now) }
+    ensures keeps { IfOk result (λ _. Keeps context.old context.new) }
+    ensures counts { IfOk result (λ _. context.old.visits ≤ context.new.visits) }
+    ensures quiet { IfOk result (λ _. LeadsNowhere (map (option_map edge_of) keyword.now.children.now)
+        → context.new.visits ≡ context.old.visits) }
+    ensures says { IfOk result (λ b. FormSays
+        (setting K.words K.is_whole K.shape M.matching engine.now) (asking question.now)
+        context.old node.0 (string_bytes keyword.now.name.now) (form_at_work K.shape keyword.now) (told.Truth b)) }
+    ensures meets { IfOk result (λ _. MeetsForm
+        (setting K.words K.is_whole K.shape M.matching engine.now) (asking question.now)
+        context.old context.new node.0 (string_bytes keyword.now.name.now) (form_at_work K.shape keyword.now)) }
+    ensures stays { IfOk result (λ _. StaysRight
+        (setting K.words K.is_whole K.shape M.matching engine.now) (asking question.now) context.old context.new) }
+{
+    let mut run = begun_run(engine.alloc, keyword.keyword, question.instance)?;
+    let mut answer = begun(engine.alloc, Mode::Verdict)?;
+    let aside = context.set_aside(engine.alloc);
+    let turned = take_turns(
+        engine,
+        node,
+        keyword,
+        question,
+        &mut run,
+        &mut answer,
+        context,
+    );
+    context.put_back(aside);
+    match turned {
+        Ok(_) => Ok(verdict_of(answer)),
+        Err(refused) => {
+            dropped(answer);
+            Err(refused)
+        }
+    }
+}
+
+// A run for the verdict that has begun. Its room on the stack is its own.
+#[inline(never)]
+fn begun_run<K: Validate>(
+    alloc: Global,
+    keyword: &K,
+    instance: Instance<'_>,
+) -> Result<K::Run, OutOfMemory>
+    ensures begins { IfOk result (λ run. (texts : Bool)
+        → (K.words texts).begin (K.shape keyword.now) (subject_of instance.entry) for_verdict ≡ (run, fresh for_verdict)) }
+{
+    keyword.begin(alloc, instance, Mode::Verdict)
+}
+
+// The verdict of an answer.
+fn verdict_of(answer: Answer<'_>) -> bool
+    ensures verdict { (texts : Bool) → result ≡ (answer_of texts answer.entry).verdict }
+{
+    match answer {
+        Answer::Verdict(valid) => valid,
+        other => other_verdict(other),
+    }
+}
+
+// That of an answer of another mode. Its room on the stack is its own.
+#[inline(never)]
+fn other_verdict(answer: Answer<'_>) -> bool
+    ensures verdict { (texts : Bool) → result ≡ (answer_of texts answer.entry).verdict }
+{
+    is_accepting(answer)
+}
+
+// Drops an answer. Its room on the stack is its own.
+#[inline(never)]
+fn dropped(answer: Answer<'_>) {
+    drop(answer);
+}
+
+// What a turn is told, as a reply.
+fn reply_with<'i>(told: Option<bool>) -> Reply<'i>
+    ensures told { (texts : Bool) → reply_of texts result ≡ told_reply told }
+{
+    match told {
+        None => Reply::Nothing,
+        Some(truth) => Reply::Truth(truth),
+    }
+}
+
+// The turns of a run for the verdict that has begun, and its answer once they are done.
+#[cycle(verdict)]
+fn take_turns<'i, K: Validate, M: Matcher>(
+    engine: &Engine<'_, K, M>,
+    node: SchemaNode,
+    keyword: &NamedKeyword<'_, K>,
+    question: &Question<'_, 'i>,
+    run: &mut K::Run,
+    answer: &mut Answer<'i>,
+    context: &mut ValidationContext<'i>,
+) -> Result<(), OutOfMemory>
+    requires may { MayRun (setting K.words K.is_whole K.shape M.matching engine.now) (asking question.now)
+        context.old node.0 }
+    requires carries { CarriesItsNumber (places_in context.old) question.now.place.now }
+    requires verdict { mode_of question.now.mode ≡ for_verdict }
+    requires form { HasForm (numbered K.shape engine.now.nodes.now) node.0 (form_at_work K.shape keyword.now) }
+    requires begun { HasBegun (setting K.words K.is_whole K.shape M.matching engine.now) (asking question.now)
+        (K.shape keyword.now.keyword.now) run.old answer.old }
+    requires no_marks { context.old.marking ≡ [] }
+    ensures root { IfOk result (λ _. context.new.root ≡ context.old.root) }
+    ensures kept { IfOk result (λ _. context.new.in_progress ≡ context.old.in_progress) }
+    ensures assumes { IfOk result (λ _. context.new.remembered.assumptions ≡ context.old.remembered.assumptions) }
+    ensures counts { IfOk result (λ _. context.old.visits ≤ context.new.visits) }
+    ensures quiet { IfOk result (λ _. LeadsNowhere (map (option_map edge_of) keyword.now.children.now)
+        → context.new.visits ≡ context.old.visits) }
+    ensures right { IfOk result (λ _. FindsRightly
+        (setting K.words K.is_whole K.shape M.matching engine.now) (asking question.now)
+        context.old node.0 (map (option_map edge_of) keyword.now.children.now) (K.shape keyword.now.keyword.now) answer.new) }
+    ensures meets { IfOk result (λ _. MeetsForm
+        (setting K.words K.is_whole K.shape M.matching engine.now) (asking question.now)
+        context.old context.new node.0 (string_bytes keyword.now.name.now) (form_at_work K.shape keyword.now)) }
+    ensures stays { IfOk result (λ _. StaysRight
+        (setting K.words K.is_whole K.shape M.matching engine.now) (asking question.now) context.old context.new) }
+{
+    let children = keyword.children;
+    let mut told: Option<bool> = None;
+    'turns: loop {
+        let reply = reply_with(told);
+        let step = keyword
+            .keyword
+            .turn(engine.alloc, run, question.instance, reply, answer)?;
+        match step {
+            Step::Ask(child, below, wanted) => {
+                let valid = verdict_child(engine, node, children, child, below, question, context)?;
+                told = Some(valid);
+            }
+            Step::Done => return Ok(()),
+            Step::Match(_, _, _) | Step::MatchAt(_, _, _) => {
+                let node = engine.nodes.node(node);
+                let matches = step_match(engine, node, keyword.name, question, step, context)?;
+                told = Some(matches);
+            }
+            Step::Ecma(text) => {
+                let valid = context.is_valid_ecma_regex(engine.alloc, engine.matcher, text)?;
+                told = Some(valid);
+            }
+            Step::Mark(marked) => {
+                let held = context.enter_marking(children, marked)?;
+                told = Some(held);
+            }
+            Step::Unmark => {
+                context.exit_marking();
+                told = None;
+            }
+        }
+    }
+}
