@@ -10,8 +10,8 @@ use schema_reports::location::OutOfMemory;
 use schema_solver::followed::Followed;
 use std::alloc::Global;
 
-/// Returns the numbers that a solver follows, where each keyword says that it is monotone: then a solver finds the verdict, and in
-/// polynomial time, both where chains of references return and where they part and meet again. Fails only if memory cannot be allocated.
+/// Returns the numbers that a solver follows, where each keyword says that it is monotone: then a solver finds the verdict. It answers a
+/// number that chains of references return to, or meet at again, once at each place. Fails only if memory cannot be allocated.
 pub(crate) fn solver_numbers<K: Validate>(
     alloc: Global,
     nodes: &Nodes<K>,
