@@ -17,7 +17,7 @@ use crate::counts::{CountKind, count_fits, tell_count};
 use crate::each::{turn_items, turn_prefix_items};
 use crate::names::{Names, NamesRun};
 use crate::pattern::turn_pattern;
-use crate::properties::turn_properties;
+use crate::properties::{asks_none, turn_properties};
 use crate::property_names::turn_property_names;
 use crate::required::{lacks_one, tell_required};
 use crate::type_names::TypeName;
@@ -269,6 +269,13 @@ impl Validate for BenchKeyword {
             BenchKeyword::Types(names) => Some(fits_one(names.as_slice(), instance)),
             BenchKeyword::Required(names) => Some(!lacks_one(names.as_slice(), instance)),
             BenchKeyword::Count(kind, limit) => Some(count_fits(*kind, *limit, instance)),
+            BenchKeyword::Properties(names) => {
+                if asks_none(names.as_slice(), instance) {
+                    Some(true)
+                } else {
+                    None
+                }
+            }
             _ => None,
         }
     }

@@ -1,5 +1,5 @@
 //! `properties`.
-ghost use Rattle.std.specs.Prelude.{All, ◌≡◌, Bool, map, option_map, string_bytes, IfOk};
+ghost use Rattle.std.specs.Prelude.{All, ◌≡◌, Bool, None, map, option_map, string_bytes, true, IfOk};
 ghost use Rattle.serde_json.specs.Data.{Data};
 ghost use Rattle.schema_reports.specs.ReportViews.{BorrowsItsPlace};
 ghost use Rattle.schema_reports.specs.InstanceViews.{subject_of};
@@ -43,6 +43,25 @@ pub fn turn_properties<'s, 'i>(
 {
     let start = onward(alloc, names.len(), run, reply, answer)?;
     Ok(ask_member(names, start, run, instance))
+}
+
+/// Whether no child is asked, where that shows at a glance: the instance has no members.
+pub fn asks_none(names: &[String], instance: Instance<'_>) -> bool
+    ensures none { result ≡ true
+        → some_from 0 (members_from 0 (map string_bytes names.now) (subject_of instance.entry)) ≡ None }
+{
+    !may_have_members(instance) && first_present(names, 0, instance).is_none()
+}
+
+/// Whether the instance may have members. What has none is an object of no members, or no object.
+fn may_have_members(instance: Instance<'_>) -> bool {
+    match instance {
+        Instance::Value(value) => match value.as_object() {
+            Some(members) => !members.is_empty(),
+            None => false,
+        },
+        Instance::Name(_) => false,
+    }
 }
 
 /// Asks at the first name from this number on that is a member of the instance, if there is one, and ends the run else.
