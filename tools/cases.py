@@ -158,10 +158,10 @@ def cycles_last(size):
 
 
 def cycles_items(size):
-    """A hundred texts, each asked of so many definitions, each of which is all of them."""
-    schema = around(size, "allOf")
+    """So many texts, each asked of sixteen definitions, each of which is all of them."""
+    schema = around(16, "allOf")
     schema["items"] = {"$ref": schema.pop("$ref")}
-    return Case(schema, [f"t{k}" for k in range(100)], [], apart=("list",))
+    return Case(schema, [f"t{k}" for k in range(size)], [], apart=("list",))
 
 
 def cycles_any(size):
@@ -197,7 +197,7 @@ CASES = {
     "cycles-object": (cycles_object, (8, 16, 32)),
     "cycles-typed": (cycles_typed, (8, 16, 32)),
     "cycles-last": (cycles_last, (8, 16, 32)),
-    "cycles-items": (cycles_items, (8, 16, 32)),
+    "cycles-items": (cycles_items, (100, 200, 400)),
     "cycles-any": (cycles_any, (8, 16, 32)),
     "cycles-any-typed": (cycles_any_typed, (8, 16, 32)),
     "ladder": (ladder, (8, 16, 32)),

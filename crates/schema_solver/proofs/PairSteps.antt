@@ -1,5 +1,6 @@
 -- What a pair's function does and says, by what the run of its node does and says.
-use Rattle.std.proofs.Common.{◌≡◌, ◌∙◌, ℕ, ◌++◌, ◌≤◌, ◌||◌, not, Bool, true, false, List, [], ◌∷◌, length, sym, subst, ap, ap₂, append_assoc, arith, true≢false}
+use Rattle.std.proofs.Common.{◌+◌, ◌≡◌, ◌∙◌, ℕ, ◌++◌, ◌≤◌, ◌||◌, not, Bool, true, false, List, [], ◌∷◌, length, sym, subst, ap, ap₂, append_assoc, arith, true≢false}
+use Rattle.std.proofs.Math.Nat.{min-le_left}
 use Rattle.std.proofs.lemmas.Bool.{or_left}
 use Rattle.std.proofs.lemmas.List.{append-nil}
 use Rattle.std.proofs.lemmas.List.Elements.{All-append, All-cons, All-head, All-nil, All-tail}
@@ -114,7 +115,8 @@ module _ {K R : Type 0} (g : Setting K R) (laws : (texts : Bool) → EachKeeps (
       counted_b : (ns : List ℕ) → HasEachCut g ns → IsCounted (All_ ns) (length ns) (found_of old) old.begun → IsCounted (All_ ns) (length ns) (found_of b) b.begun
       counted_b ns each counted = subst (λ f. IsCounted (All_ ns) (length ns) f b.begun) (sym found_b)
           (let more = entered_counts (All_ ns) (length ns) (found_of old) i p old.begun (pairs_among ns (solver_places old) i p (is_new.among ns each) is_new.there) is_new.unknown is_new.idle is_new.free counted in
-          omega (arith, begins.begun, more))
+          let few = min-le_left (old.begun + 1) 18446744073709551615 in
+          omega (arith, begins.begun, few, more))
 
       counted_e : (ns : List ℕ) → HasEachCut g ns → IsCounted (All_ ns) (length ns) (found_of old) old.begun → IsCounted (All_ ns) (length ns) (found_of e) n.begun
       counted_e ns each counted = subst (λ k. IsCounted (All_ ns) (length ns) (found_of e) k) (sym leaves.begun)

@@ -12,7 +12,7 @@ use Rattle.schema_meaning.specs.Numbered.{Ranked, left, subject_in}
 use Rattle.schema_greatest.specs.NodesSay.{AreMonotone}
 use Rattle.schema_parts.specs.MatcherViews.{FinishesEach}
 use Rattle.schema_contexts.specs.Progress.{NoDeeper, Pairs, root_places}
-use Rattle.schema_contexts.specs.Verdicts.{verdict_of}
+use Rattle.schema_contexts.specs.Verdicts.{one_more, verdict_of}
 use Rattle.schema_answers.specs.NodeRuns.{TellsAll}
 use Rattle.schema_solving.specs.Under.{Solving}
 use Rattle.schema_solving.specs.Found.{Grows, IsSound}
@@ -85,14 +85,14 @@ module _ {K R : Type 0} (g : Setting K R) where
 
 -- ---- the steps of a pair
 
--- it is begun: it goes last among those in progress
+-- it is begun: it goes last among those in progress, and is counted
 pub record Begins (i : ℕ) (p : Place) (old new : Solver) : Type 0 where
   pub root : new.root ≡ old.root
   pub in_progress : new.in_progress ≡ old.in_progress ++ (i, p) ∷ []
   pub assumed : new.assumed ≡ old.assumed
   pub verdicts : new.verdicts ≡ old.verdicts
   pub marking : new.marking ≡ old.marking
-  pub begun : new.begun ≤ old.begun + 1
+  pub begun : new.begun ≡ one_more old.begun
 
 -- it is left, and no pair is begun
 pub record Leaves (old end new : Solver) : Type 0 where

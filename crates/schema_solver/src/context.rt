@@ -1,5 +1,5 @@
 //! What a solver has found while it runs: the pairs in progress, those that are assumed, and the verdicts that are known.
-ghost use Rattle.std.specs.Prelude.{◌≡◌, ◌≤◌, ◌<◌, ◌*◌, ◌++◌, ◌∷◌, ◌⊎◌, ◌&&◌, ◌||◌, []};
+ghost use Rattle.std.specs.Prelude.{◌≡◌, ◌<◌, ◌*◌, ◌++◌, ◌∷◌, ◌⊎◌, ◌&&◌, ◌||◌, []};
 ghost use Rattle.std.specs.Prelude.{All, IfErr, IfOk, IfSome, None, OnErr, OnOk, Some, false, not, true, ℕ};
 ghost use Rattle.std.specs.Prelude.{drop, length, map, option_map, slice_index_or, take};
 ghost use Rattle.std.specs.Borrow.{sem};

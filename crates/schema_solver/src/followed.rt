@@ -19,8 +19,8 @@ pub const MOST_NODES: u8 = 64;
 
 /// The numbers of nodes that a solver follows each time that an edge which nothing guards leads to them. Of the others it asks once at
 /// each place, and remembers the answer. It answers the same whichever numbers these are, but how long it takes rests on them: they are
-/// those to which at most one edge leads that nothing guards, so that no answer is found twice, and the settled ones that take at most
-/// `MOST_NODES` nodes to ask, so that an answer that is found again takes no more. Contracts see whether each number is one.
+/// those to which at most one edge leads that nothing guards, and the settled ones that take at most `MOST_NODES` nodes to ask where each
+/// edge is asked along once, so that an answer that is found again takes no more. Contracts see whether each number is one.
 #[derive(Drop)]
 pub struct Followed {
     numbers: Vec<bool>,

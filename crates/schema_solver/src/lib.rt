@@ -1,4 +1,5 @@
-//! The verdict of numbered nodes over an instance by a solver, which answers chains of references that return in polynomial time.
+//! The verdict of numbered nodes over an instance by a solver. A number that chains of references return to, or meet at again, it answers
+//! once at each place.
 #![tactic(auto)]
 
 pub mod context;

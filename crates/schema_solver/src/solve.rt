@@ -64,8 +64,9 @@ fn solve_root<'i, K: Validate, M: Matcher>(
 }
 
 /// Returns the verdict of a node of the instance: what the nodes say where a guarded pair that is in progress is answered yes, so the
-/// greatest solution. Each keyword has to be monotone, and the matcher has to finish every match. A number that is not followed is run
-/// at a place at most once for each of these numbers. Fails only if memory cannot be allocated.
+/// greatest solution. Each keyword has to be monotone, and the matcher has to finish every match. With g numbers that a guarded edge
+/// leads to or that are not followed, and p places, at most g * p * g pairs of such a number and a place are begun. Fails only if memory
+/// cannot be allocated.
 pub fn solve<K: Validate, M: Matcher>(
     alloc: Global,
     nodes: &Nodes<K>,

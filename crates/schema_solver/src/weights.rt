@@ -1,5 +1,5 @@
 //! How many nodes it takes at the most to ask a number where each edge is followed.
-ghost use Rattle.std.specs.Prelude.{◌≡◌, ◌+◌, IfOk, Some, filter_map, length, map, min, option_map};
+ghost use Rattle.std.specs.Prelude.{◌≡◌, IfOk, Some, filter_map, length, map, min, option_map};
 ghost use Rattle.schema_definitions.specs.Guarded.{form_edges, node_edges, node_these};
 ghost use Rattle.schema_parts.specs.EdgeViews.{edge_of};
 ghost use Rattle.schema_nodes.specs.NodeTable.{plan_in};

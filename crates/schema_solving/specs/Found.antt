@@ -26,7 +26,7 @@ pub record Between (f : Found) (inside : PairSet) : Type 0 where
   pub above : (i : ℕ) (p : Place) → accepted_now f i p ≡ true → inside i p ≡ true
   pub below : (i : ℕ) (p : Place) → refused f i p ≡ true → inside i p ≡ false
 
--- a pair that is in progress, or assumed, is not known; each that is assumed holds under those that are answered yes, and another pair is
+-- a pair that is in progress, or assumed, is not known; each that is assumed holds under those that are answered yes, and some pair is
 -- in progress at its place; those settled stand by themselves; and each that was refused fails under every set that stands by itself
 pub record IsSound {K R : Type 0} (w : Solving K R) (f : Found) : Type 0 where
   pub apart : (i : ℕ) (p : Place) → (f.busy i p || f.assumed i p) ≡ true → f.known i p ≡ None

@@ -248,7 +248,8 @@ impl<K: Validate, M: Matcher> Validator<K, M> {
         }
     }
 
-    // The verdict of the root's node, where nothing is assumed, by a solver: chains of references that return take polynomial time.
+    // The verdict of the root's node, where nothing is assumed, by a solver. A number that chains of references return to is
+    // answered once at each place.
     fn solved(
         &self,
         alloc: Global,

@@ -1,13 +1,11 @@
-use Rattle.std.proofs.Common.{◌≡◌, ◌∙◌, Bool, [], ap, subst, sym}
+use Rattle.std.proofs.Common.{◌≡◌, ◌∙◌, Bool, [], subst, sym}
 use Rattle.serde_json.specs.View.{view}
 use Rattle.schema_definitions.specs.Instance.{a_value}
 use Rattle.schema_definitions.specs.Laws.{EachKeeps}
 use Rattle.schema_meaning.proofs.TurnsGiveRuns.{keeps_of_turns}
 use Rattle.schema_nodes.proofs.RankedTable.{ranked_table}
-use Rattle.schema_contexts.specs.Progress.{root_places}
 use Rattle.schema_answers.specs.EvaluationPlaces.{steps_to}
 use Rattle.schema_solving.specs.Found.{SaysUnder}
-use Rattle.schema_solving.specs.Work.{IsBoundedBy}
 use Rattle.schema_solver.specs.Asked.{solver_of}
 use Rattle.schema_solver.specs.Contexts.{found_of, solver_places}
 use Rattle.schema_solver.specs.Solving.{Goes, InEach, MaySolve, fresh}
