@@ -41,6 +41,7 @@ pub fn after<'i>(
 }
 
 /// What stands one step below, and the step; none where the question is asked here.
+#[inline(always)]
 pub fn one_below<'i>(
     instance: Instance<'i>,
     below: Below<'_>,
