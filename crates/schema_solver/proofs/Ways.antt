@@ -92,10 +92,10 @@ are_ways_all {K} ns k x y all none counts = subst (λ (ms : List (NodeEntry K)).
 as_counted : (w ways : ℕ) → w ≡ min 2 ways → leb w 1 ≡ leb ways 1
 as_counted w ways is = grind (arith, nat_tests)
 
-pub followed_by : {K : Type 0} (ns : List (NodeEntry K)) (ws : List ℕ) (i w v : ℕ) (b : Bool) → w ≡ min 2 (ways_in ns i) → v ≡ weight_in ws i → b ≡ (leb w 1 || (is_settled_in ns i && leb v 64))
-    → b ≡ (leb (ways_in ns i) 1 || (is_settled_in ns i && leb (weight_in ws i) 64))
+pub followed_by : {K : Type 0} (ns : List (NodeEntry K)) (ws : List ℕ) (i w v : ℕ) (b : Bool) → w ≡ min 2 (ways_in ns i) → v ≡ weight_in ws i → b ≡ (leb w 1 || (is_settled_in ns i && leb v 254))
+    → b ≡ (leb (ways_in ns i) 1 || (is_settled_in ns i && leb (weight_in ws i) 254))
 followed_by ns ws i w v b is weighs says =
-    says ∙ ap (λ (few : Bool). few || (is_settled_in ns i && leb v 64)) (as_counted w (ways_in ns i) is) ∙ ap (λ (x : ℕ). leb (ways_in ns i) 1 || (is_settled_in ns i && leb x 64)) weighs
+    says ∙ ap (λ (few : Bool). few || (is_settled_in ns i && leb v 254)) (as_counted w (ways_in ns i) is) ∙ ap (λ (x : ℕ). leb (ways_in ns i) 1 || (is_settled_in ns i && leb x 254)) weighs
 
 -- of one more number
 pub followed_more : (p : ℕ → Bool) (old new : List Bool) (b : Bool) (k : ℕ) → new ≡ old ++ b ∷ [] → length old ≡ k → b ≡ p k → ((i : ℕ) → i < k → get_or old i false ≡ p i) → (i : ℕ) → i < k + 1 → get_or new i false ≡ p i

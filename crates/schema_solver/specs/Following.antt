@@ -53,9 +53,9 @@ edges_from ns i = node_edges (plan_in (slice_get ns i))
 abbrev pub Covers : {K : Type 0} → List (NodeEntry K) → List ℕ → Type 0
 Covers ns ws = EachIndex ns (λ i. weight_in ws i < 255 → edges_weight ws (edges_from ns i) < weight_in ws i)
 
--- a number is followed, by these weights: at most one edge leads to it that nothing guards, or it is settled and weighs at most 64
+-- a number is followed, by these weights: at most one edge leads to it that nothing guards, or it is settled and weighs less than 255
 abbrev pub may_be_followed : {K : Type 0} → List (NodeEntry K) → List ℕ → ℕ → Bool
-may_be_followed ns ws i = nat_le (ways_in ns i) 1 || (is_settled_in ns i && nat_le (weight_in ws i) 64)
+may_be_followed ns ws i = nat_le (ways_in ns i) 1 || (is_settled_in ns i && nat_le (weight_in ws i) 254)
 
 -- which numbers of a table are followed, by weights that cover it
 pub record IsFollowing {K : Type 0} (ns : List (NodeEntry K)) (followed : List Bool) : Type 0 where

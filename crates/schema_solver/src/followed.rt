@@ -15,7 +15,7 @@ use std::alloc::Global;
 use std::marker::Model;
 
 /// How many nodes it may take at the most to ask a settled number that is followed though two edges or more lead to it.
-pub const MOST_NODES: u8 = 64;
+pub const MOST_NODES: u8 = 254;
 
 /// The numbers of nodes that a solver follows each time that an edge which nothing guards leads to them. Of the others it asks once at
 /// each place, and remembers the answer. It answers the same whichever numbers these are, but how long it takes rests on them: they are
@@ -116,7 +116,7 @@ fn weights_by<K: Drop>(alloc: Global, nodes: &Nodes<K>, ways: &[u8]) -> Result<V
 // Returns `true` if a number is followed to which so many ways were counted, and that has this weight.
 fn is_followed_by<K: Drop>(nodes: &Nodes<K>, number: SchemaNode, ways: u8, weight: u8) -> bool
     requires within { number.0 < length nodes.now }
-    ensures followed { result ≡ (nat_le ways 1 || (is_settled_in nodes.now number.0 && nat_le weight 64)) }
+    ensures followed { result ≡ (nat_le ways 1 || (is_settled_in nodes.now number.0 && nat_le weight 254)) }
 {
     ways <= 1 || (nodes.is_settled(number) && weight <= MOST_NODES)
 }

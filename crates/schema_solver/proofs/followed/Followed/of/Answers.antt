@@ -19,7 +19,7 @@ loop-number-preserved g c =
     let here = followed_by ns weights k c.index.result.now c.index-in-loop-number.result.now c.is_followed_by.result counted weighs c.is_followed_by.ensures.followed in
     record {
       each = grind (arith, common_steps);
-      followed = followed_more (λ (i : ℕ). leb (ways_in ns i) 1 || (is_settled_in ns i && leb (weight_in weights i) 64)) c.loop-number.numbers.items c.push.new.self.items c.is_followed_by.result k c.in_ok-push.ensures.items c.loop-number.invariant.each here c.loop-number.invariant.followed;
+      followed = followed_more (λ (i : ℕ). leb (ways_in ns i) 1 || (is_settled_in ns i && leb (weight_in weights i) 254)) c.loop-number.numbers.items c.push.new.self.items c.is_followed_by.result k c.in_ok-push.ensures.items c.loop-number.invariant.each here c.loop-number.invariant.followed;
     }
 
 pub returns-clause-followed : goal.returns-clause-followed
