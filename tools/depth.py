@@ -102,8 +102,10 @@ def definitions(depth):
     return text_within(depth, '{"$defs":{"a":', '{"type":"string"}', "}}"), "1", 0
 
 
-WAYS = [references, references_and_members, references_built, members, members_not_monotone, items, untouched, all_of, negations, properties,
-        definitions]
+WAYS = [
+    references, references_and_members, references_built, members, members_not_monotone, items, untouched,
+    all_of, negations, properties, definitions,
+]
 
 
 class Runs:
