@@ -59,7 +59,7 @@ last_in rows n = (row_in rows n).last
 abbrev pub name_in : List Laid → ℕ → Text
 name_in rows n = name_of (row_in rows n).below
 
--- names that stand at these numbers
+-- names that stand at these numbers: each with its number and the next one, which is its member's
 abbrev pub named_by : (ℕ → Text) → List ℕ → List NameNumbers
 named_by f [] = []
 named_by f (b ∷ bs) = (f b, b, b + 1) ∷ named_by f bs
@@ -90,8 +90,9 @@ abbrev pub number_of_name : Text → List NameNumbers → Option ℕ
 number_of_name k [] = None
 number_of_name k (m ∷ ms) = if bytes_eq k m.0 then Some m.1 else number_of_name k ms
 
--- the numbers of places that follow one another below a place, from the first one on, where the last number at or below each is known:
--- of items, and by 1 of names, each of which stands before its member
+-- the numbers of so many places that follow one another below a place, from the first one's on: each is one past the last number at or
+-- below the place before it. That last number is asked of an item itself (a gap of 0), and of a name's member, whose number is one more
+-- than the name's (a gap of 1)
 abbrev pub numbers_from : (ℕ → ℕ) → ℕ → ℕ → ℕ → List ℕ
 numbers_from last gap n zero = []
 numbers_from last gap n (suc count) = n ∷ numbers_from last gap (last (n + gap) + 1) count

@@ -9,12 +9,18 @@ use schema_reports::location::OutOfMemory;
 use serde_json::{Map, Value};
 use std::alloc::Global;
 
+// How many rows get room when a table is begun, so that few places need no more.
+const FIRST_ROWS: usize = 64;
+
+// How many numbers of items and names get room then.
+const FIRST_NUMBERS: usize = 32;
+
 /// Lays out the rows of a value. Fails only if memory cannot be allocated.
 pub(crate) fn lay_out<'i>(alloc: Global, value: &'i Value) -> Result<Table<'i>, OutOfMemory>
     ensures rows { IfOk result (λ t. t ≡ rows_at 0 (view value.now)) }
     ensures ascend { OnOk result (NamesAscend (view value.now)) }
 {
-    let mut table = Table::new(alloc);
+    let mut table = Table::with_room(alloc, FIRST_ROWS, FIRST_NUMBERS)?;
     push_value(value, &mut table)?;
     Ok(table)
 }

@@ -1,10 +1,12 @@
 //! A row for each place: the number of the last place at or below it, and the places one step below it.
-ghost use Rattle.std.specs.Prelude.{◌≡◌, ◌<◌, ◌≤◌, ◌-◌, ◌+◌, ◌++◌, ◌∷◌, [], OnErr, OnOk, bytes_eq, length, option_map, slice_range, slice_set};
+ghost use Rattle.std.specs.Prelude.{◌≡◌, ◌<◌, ◌≤◌, ◌-◌, ◌+◌, ◌++◌, ◌∷◌, [], IfOk, OnErr, OnOk};
+ghost use Rattle.std.specs.Prelude.{bytes_eq, length, slice_range, slice_set};
 ghost use Rattle.std.specs.Cmp.Lexicographic.{slice_cmp};
 ghost use Rattle.std.specs.Ordering.{nat_cmp};
 ghost use Rattle.schema_reports.specs.InstanceViews.{step_of};
 ghost use Rattle.schema_places.specs.Rows.{Rising, RisesBelow, Walks, items_below, laid, last_in, leads_of, leads_to_items};
-ghost use Rattle.schema_places.specs.Rows.{leads_to_names, led_by, members_below, named_by, nothing, number_of_name, numbers_from, own_name, row_in};
+ghost use Rattle.schema_places.specs.Rows.{leads_to_names, led_by, members_below, named_by, nothing};
+ghost use Rattle.schema_places.specs.Rows.{number_of_name, numbers_from, own_name, row_in};
 ghost use Rattle.schema_places.specs.RowViews.{AllSmall, last_at, text_at};
 
 use schema_reports::instance::InstanceStep;
@@ -128,6 +130,7 @@ fn are_same_bytes(one: &[u8], other: &[u8]) -> bool
 }
 
 // The number of a name.
+#[inline(always)]
 fn number_of(rows: &[Row<'_>], numbers: &[usize], name: &str) -> Option<usize>
     requires rising { Rising (named_by (text_at rows.now) numbers.now) }
     ensures number { result ≡ number_of_name name.now (named_by (text_at rows.now) numbers.now) }
@@ -200,14 +203,17 @@ fn push_numbers(
 }
 
 impl<'i> Table<'i> {
-    /// Returns no rows. It allocates nothing.
-    pub(crate) fn new(alloc: Global) -> Table<'i>
-        ensures empty { result ≡ [] }
+    /// Returns no rows, with room for so many, and for so many numbers of items and names. Fails only if memory cannot be allocated.
+    pub(crate) fn with_room(
+        alloc: Global,
+        rows: usize,
+        numbers: usize,
+    ) -> Result<Table<'i>, OutOfMemory>
+        ensures empty { IfOk result (λ t. t ≡ []) }
     {
-        Table {
-            rows: Vec::new(alloc),
-            numbers: Vec::new(alloc),
-        }
+        let numbers = Vec::with_capacity(alloc, numbers)?;
+        let rows = Vec::with_capacity(alloc, rows)?;
+        Ok(Table { rows, numbers })
     }
 
     /// Returns how many rows there are. It allocates nothing.
