@@ -1,7 +1,7 @@
 //! Rows of bits, each of a node's number.
-ghost use Rattle.std.specs.Prelude.{◌≡◌, ◌<◌, ◌+◌, ◌*◌, ◌/◌, ◌^◌, ◌==◌, [], ℕ, OnErr, OnOk, if◌then◌else◌, length, map, slice_index_or};
+ghost use Rattle.std.specs.Prelude.{◌≡◌, ◌<◌, ◌+◌, ◌*◌, ◌/◌, ◌==◌, [], ℕ, OnErr, OnOk, false, if◌then◌else◌, length, slice_index_or};
 ghost use Rattle.std.specs.Int.{bit_at};
-ghost use Rattle.std.specs.Vec.{vec_items, vec_len};
+ghost use Rattle.std.specs.Vec.{vec_len};
 ghost use Rattle.schema_contexts.specs.Progress.{row_words};
 ghost use Rattle.schema_contexts.specs.RowViews.{rows_of};
 ghost use Rattle.schema_contexts.specs.Rows.{MakesRow, PutsBit, SameRows, has_bit, has_words, row_in, verdict_in};
@@ -131,6 +131,7 @@ impl Rows {
     }
 
     /// Makes a row of so many words for a number that has none. Fails only if memory cannot be allocated, and then nothing has changed.
+    #[inline(always)]
     pub fn make_row(&mut self, alloc: Global, node: usize, words: usize) -> Result<(), OutOfMemory>
         requires some { 0 < words }
         ensures made { OnOk result (MakesRow node words self.old self.new) }
@@ -139,6 +140,17 @@ impl Rows {
         if self.has_row(node) {
             return Ok(());
         }
+        self.add_row(alloc, node, words)
+    }
+
+    // Adds a row of so many words for a number that has none. It stands apart, so that a number that has one takes no call.
+    #[inline(never)]
+    fn add_row(&mut self, alloc: Global, node: usize, words: usize) -> Result<(), OutOfMemory>
+        requires some { 0 < words }
+        requires none { has_words (row_in self.old node) ≡ false }
+        ensures made { OnOk result (MakesRow node words self.old self.new) }
+        ensures unchanged { OnErr result (self.new ≡ self.old) }
+    {
         let row = Vec::from_elem(alloc, 0u64, words)?;
         make_room(alloc, &mut self.rows, node)?;
         self.rows[node] = row;

@@ -1,22 +1,6 @@
-use Rattle.std.proofs.Common.{◌≡◌, ◌∙◌, ap, arith, false, subst, sym, List, ℕ}
-use Rattle.std.specs.Prelude.{slice_set}
-use Rattle.schema_contexts.specs.RowViews.{rows_of}
-use Rattle.schema_contexts.specs.Rows.{MakesRow, has_words, row_in}
-use Rattle.schema_contexts.proofs.RowsChanged.{row_made, row_there, rows_length, rows_written}
+use Rattle.std.proofs.Common.{◌∙◌, sym}
+use Rattle.schema_contexts.proofs.RowsChanged.{row_there}
 use Rattle.schema_contexts.proofs.rows.Rows.make_row.Goals as goal
 
 pub returns-then-has_row-clause-made : goal.returns-then-has_row-clause-made
 returns-then-has_row-clause-made c = row_there c.args.node c.args.words c.args.self.now (sym c.has_row.ensures.row ∙ c.if-has_row.true)
-
-pub returns-clause-made : goal.returns-clause-made
-returns-clause-made c =
-    let n = c.args.node in
-    let rows = c.make_room.new.rows in
-    let v = c.in_ok-row.row in
-    let old = rows_of c.self.inside.rows.items in
-    let absent = subst (λ (rs : List (List ℕ)). has_words (row_in rs n) ≡ false) (sym c.self.view_is) (sym c.has_row.ensures.row ∙ c.if-has_row.false) in
-    let size = rows_length rows.items in
-    subst (λ (rs : List (List ℕ)). MakesRow n c.args.words rs (rows_of (slice_set rows.items n v))) c.self.view_is
-    (row_made n c.args.words old (rows_of rows.items) (rows_of (slice_set rows.items n v)) c.requires.some absent c.in_ok-make_room.ensures.same
-    (omega (arith, size, c.in_ok-make_room.ensures.room, rows.ok.0))
-    (rows_written rows.items n v ∙ ap (slice_set (rows_of rows.items) n) (c.in_ok-row.ensures.items_if_clones_equal (λ y h. h))))
