@@ -94,23 +94,36 @@ fn later_steps<'s>(steps: &'s [SchemaStep], count: usize) -> &'s [SchemaStep]
     }
 }
 
-// The pointer after one step more.
-fn join_schema_step(location: Location, step: &SchemaStep) -> Result<Location, OutOfMemory>
-    ensures joined { IfOk result (λ l. l ≡ location ++ step_text (schema_step_of step.now)) }
+// Appends a step to a pointer. On `Err` a part of it may have been written.
+fn push_schema_step(pointer: &mut Location, step: &SchemaStep) -> Result<(), OutOfMemory>
+    ensures pushed { IfOk result (λ _. pointer.new ≡ pointer.old ++ step_text (schema_step_of step.now)) }
 {
     match step {
-        SchemaStep::Member(name) => location.join(LocationSegment::Property(name.as_str())),
-        SchemaStep::Item(index) => location.join(LocationSegment::Index(*index)),
+        SchemaStep::Member(name) => pointer.push(LocationSegment::Property(name.as_str())),
+        SchemaStep::Item(index) => pointer.push(LocationSegment::Index(*index)),
     }
+}
+
+// How many bytes the pointer of some steps takes, where no name has an escape; an index takes no more than it is given.
+fn pointer_room(steps: &[SchemaStep]) -> usize {
+    let mut bytes = 0usize;
+    for step in steps {
+        let more = match step {
+            SchemaStep::Member(name) => name.len().saturating_add(1),
+            SchemaStep::Item(_) => 21,
+        };
+        bytes = bytes.saturating_add(more);
+    }
+    bytes
 }
 
 // The pointer of some steps.
 fn pointer_of_steps(alloc: Global, steps: &[SchemaStep]) -> Result<Location, OutOfMemory>
     ensures pointer { IfOk result (λ l. l ≡ pointer_to (map schema_step_of steps.now)) }
 {
-    let mut location = Location::new(alloc);
+    let mut location = Location::with_capacity(alloc, pointer_room(steps))?;
     for step in steps {
-        location = join_schema_step(location, step)?;
+        push_schema_step(&mut location, step)?;
     }
     Ok(location)
 }
