@@ -47,16 +47,33 @@ impl<'p, 'i> EvaluationPlace<'p, 'i> {
 
     /// Returns the number of the place among the places of an instance, if there is such a place. It walks down from the last
     /// place that carries its number, or else from the root, and allocates nothing.
+    #[inline(always)]
     pub fn number(&self, places: &Places<'_>) -> Option<usize>
         requires carries { CarriesItsNumber places.now self.now }
         ensures number { result ≡ number_of (steps_to self.now) places.now }
     {
         match self {
-            EvaluationPlace::Given(place) => places.find(place.as_steps()),
-            // (most are a few steps below a place that carries its number, so this asks for it without a call)
+            // (many are one step below a place that carries its number, so this asks for it without a call)
             EvaluationPlace::Below(above, step) => match above {
                 EvaluationPlace::Numbered(_, number) => places.child(*number, *step),
-                _ => match above.number(places) {
+                _ => self.walked_number(places),
+            },
+            _ => self.walked_number(places),
+        }
+    }
+
+    // The same, by a walk down. Its room on the stack is its own.
+    #[inline(never)]
+    fn walked_number(&self, places: &Places<'_>) -> Option<usize>
+        requires carries { CarriesItsNumber places.now self.now }
+        ensures number { result ≡ number_of (steps_to self.now) places.now }
+    {
+        match self {
+            EvaluationPlace::Given(place) => places.find(place.as_steps()),
+            // (most are a few steps below a place that carries its number, so this asks for it without one more call)
+            EvaluationPlace::Below(above, step) => match above {
+                EvaluationPlace::Numbered(_, number) => places.child(*number, *step),
+                _ => match above.walked_number(places) {
                     Some(number) => places.child(number, *step),
                     None => {
                         // (the call says that below a place that is not there is none)

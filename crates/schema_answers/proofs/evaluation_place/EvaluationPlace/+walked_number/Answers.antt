@@ -5,7 +5,7 @@ use Rattle.schema_places.proofs.Closing.{none_below, stands}
 use Rattle.schema_reports.specs.InstanceViews.{step_of}
 use Rattle.schema_answers.specs.EvaluationPlaces.{CarriesItsNumber, steps_to}
 use Rattle.schema_answers.specs.declared.evaluation_place.EvaluationPlace.{EvaluationPlace}
-use Rattle.schema_answers.proofs.evaluation_place.EvaluationPlace.+number.Goals as goal
+use Rattle.schema_answers.proofs.evaluation_place.EvaluationPlace.+walked_number.Goals as goal
 
 pub child-requires : goal.child-requires
 child-requires t c =
