@@ -6,3 +6,4 @@ pub mod ReplyModes
 pub mod NodeUnits
 pub mod NodeRuns
 pub mod Turning
+pub mod EntryUnits

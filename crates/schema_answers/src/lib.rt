@@ -1,6 +1,7 @@
 //! What an answer is made of: questions, places, guarded pairs, sites of matches, errors, replies and units.
 #![tactic(auto)]
 
+pub mod evaluation_order;
 pub mod evaluation_place;
 pub mod faults;
 pub mod guarded;

@@ -6,7 +6,7 @@ ghost use Rattle.schema_reports.specs.InstanceViews.{subject_of};
 ghost use Rattle.schema_definitions.specs.Meaning.{Where};
 ghost use Rattle.schema_definitions.specs.Pointer.{joined, pointer_to};
 ghost use Rattle.schema_definitions.specs.Reports.{report_of, unit, units_of};
-ghost use Rattle.schema_reports.specs.EntryUnits.{absorbed_of, entry_units_of};
+ghost use Rattle.schema_answers.specs.EntryUnits.{absorbed_of, entry_units_of};
 ghost use Rattle.schema_reports.specs.EvaluationResults.{gives_of, named_of};
 ghost use Rattle.schema_definitions.specs.Units.{false_unit, given_units, keyword_unit, no_unit, reference_units, schema_unit, true_unit};
 ghost use Rattle.schema_reports.specs.UnitViews.{described_of, unit_of};
@@ -19,6 +19,7 @@ ghost use Rattle.schema_answers.specs.EvaluationPlaces.{steps_to};
 ghost use Rattle.schema_answers.specs.NodeUnits.{named_gives};
 ghost use Rattle.schema_answers.specs.Askings.{asking, where_asked};
 
+use crate::evaluation_order::{AbsorbedUnit, EntryUnits};
 use crate::question::Question;
 use crate::replies::false_error;
 use schema_contexts::validation::ValidationContext;
@@ -28,7 +29,6 @@ use schema_parts::keyword::{Answer, Found};
 use schema_reports::evaluation::{
     Annotations, ChildList, ErrorDescription, EvaluationNode, UnitReport,
 };
-use schema_reports::evaluation_order::{AbsorbedUnit, EntryUnits};
 use schema_reports::evaluation_result::{AbsorbedResult, EvaluationResult};
 use schema_reports::location::{Location, LocationSegment, OutOfMemory};
 use std::alloc::Global;

@@ -1,11 +1,11 @@
 //! Locations and instances, errors, and evaluations with all that they show.
+pub use schema_answers::evaluation_order::{AbsorbedUnit, EntryUnits, UnitsInOrder};
 pub use schema_output::error_units::unit_of_errors;
 pub use schema_output::errors::{ErrorEntry, EvaluationErrors};
 pub use schema_output::evaluation::Evaluation;
 pub use schema_reports::evaluation::{
     Annotations, ChildList, ErrorDescription, EvaluationNode, UnitReport,
 };
-pub use schema_reports::evaluation_order::{AbsorbedUnit, EntryUnits, UnitsInOrder};
 pub use schema_reports::instance::{Instance, InstanceStep, Place, push_step, same_step};
 pub use schema_reports::location::{Location, LocationSegment, OutOfMemory};
 pub use schema_reports::reports::{ErrorIterator, OwnedError, ValidationError};

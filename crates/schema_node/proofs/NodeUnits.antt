@@ -16,9 +16,9 @@ use Rattle.schema_definitions.specs.UnitOrder.{Placed, all_placed, each_placed, 
 use Rattle.schema_meaning.specs.UnitsOrdered.{placed_in_order}
 use Rattle.schema_reports.specs.UnitViews.{unit_of}
 use Rattle.schema_definitions.specs.Unfinished.{Remembered}
-use Rattle.schema_reports.specs.EntryUnits.{entry_units_of}
+use Rattle.schema_answers.specs.EntryUnits.{entry_units_of}
 use Rattle.schema_reports.specs.declared.evaluation.EvaluationNode.{EvaluationNode}
-use Rattle.schema_reports.specs.declared.evaluation_order.EntryUnits.{EntryUnits}
+use Rattle.schema_answers.specs.declared.evaluation_order.EntryUnits.{EntryUnits}
 use Rattle.schema_meaning.proofs.Falls.{from_below}
 use Rattle.schema_parts.specs.KeywordViews.{answer_of}
 use Rattle.schema_contexts.specs.Matches.{settling}

@@ -4,7 +4,6 @@ pub mod ReportViews
 pub mod UnitViews
 pub mod UnitLevels
 pub mod EvaluationResults
-pub mod EntryUnits
 pub mod InstanceTexts
 pub mod Owned
 pub mod SamePlaces

@@ -2,7 +2,6 @@
 #![tactic(auto)]
 
 pub mod evaluation;
-pub mod evaluation_order;
 pub mod evaluation_result;
 pub mod instance;
 pub mod location;

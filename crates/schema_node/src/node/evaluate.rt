@@ -17,6 +17,7 @@ ghost use Rattle.schema_node.specs.UnitStates.{ChildGives, EdgeGives, FormGives,
 ghost use Rattle.schema_node.specs.Visits.{LeadsNowhere};
 
 use crate::node::turns::keyword_answer;
+use schema_answers::evaluation_order::{EntryUnits, UnitsInOrder};
 use schema_answers::guarded::GuardedPair;
 use schema_answers::question::{Engine, NamedKeyword, Question};
 use schema_answers::spots::one_below;
@@ -30,7 +31,6 @@ use schema_parts::keyword::{Below, Validate};
 use schema_parts::matcher::Matcher;
 use schema_parts::numbers::{Edge, SchemaNode};
 use schema_reports::evaluation::{ChildList, EvaluationNode};
-use schema_reports::evaluation_order::{EntryUnits, UnitsInOrder};
 use schema_reports::location::OutOfMemory;
 
 // The unit of a node at a place.

@@ -1,5 +1,5 @@
 use Rattle.std.proofs.Common.{◌∙◌, ap, string_bytes}
-use Rattle.schema_reports.specs.EntryUnits.{absorbed_of}
+use Rattle.schema_answers.specs.EntryUnits.{absorbed_of}
 use Rattle.schema_reports.specs.EvaluationResults.{gives_of, named_of}
 use Rattle.schema_definitions.specs.Instance.{Text}
 use Rattle.schema_definitions.specs.Keywords.{Named}

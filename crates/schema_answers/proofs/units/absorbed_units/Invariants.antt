@@ -1,6 +1,6 @@
 use Rattle.std.proofs.Common.{◌≡◌, ◌++◌, Bool, map}
 use Rattle.std.specs.Vec.Iter.{into_iter_items}
-use Rattle.schema_reports.specs.EntryUnits.{absorbed_of}
+use Rattle.schema_answers.specs.EntryUnits.{absorbed_of}
 use Rattle.schema_reports.specs.EvaluationResults.{named_of}
 use Rattle.schema_definitions.specs.Instance.{Text}
 use Rattle.schema_definitions.specs.Keywords.{Named}

@@ -46,7 +46,7 @@ use Rattle.schema_node.proofs.NodeMeets.{end_met, last_met, leaf_holds, leaf_no,
 use Rattle.schema_parts.proofs.Drops.{drop_at, drop_past}
 use Rattle.schema_answers.proofs.NodeParts.{absolute_is, keyword_children, part_at, plain_there, plan_is, reference_edge, replies_refused, tells_keyword, plan_none}
 use Rattle.schema_nodes.specs.declared.node.Entry.{Entry}
-use Rattle.schema_reports.specs.EntryUnits.{entry_units_of, placed_of}
+use Rattle.schema_answers.specs.EntryUnits.{entry_units_of, placed_of}
 use Rattle.schema_definitions.specs.UnitOrder.{each_placed}
 use Rattle.schema_definitions.specs.Units.{true_unit}
 use Rattle.serde_json.specs.View.{view}

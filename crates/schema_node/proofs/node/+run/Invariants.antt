@@ -26,7 +26,7 @@ use Rattle.schema_node.specs.Visits.{LeadsNowhere}
 use Rattle.schema_node.proofs.KeywordMeets.{MeetsSoFar}
 use Rattle.schema_contexts.specs.Progress.{busy_at}
 use Rattle.schema_answers.specs.Turning.{EvaluatesOn}
-use Rattle.schema_reports.specs.EntryUnits.{placed_of}
+use Rattle.schema_answers.specs.EntryUnits.{placed_of}
 use Rattle.schema_definitions.specs.UnitOrder.{each_placed, nothing_placed}
 use Rattle.schema_node.specs.UnitStates.{child_unit, parts_units}
 use Rattle.schema_node.proofs.node.+run.Given as goal

@@ -3,10 +3,10 @@
 ghost use Rattle.std.specs.Prelude.{◌≡◌, Bool, IfOk, map};
 ghost use Rattle.schema_reports.specs.UnitViews.{unit_of};
 ghost use Rattle.schema_definitions.specs.UnitOrder.{all_placed, nothing_placed, placed, with_absorbed};
-ghost use Rattle.schema_reports.specs.EntryUnits.{absorbed_of, entry_units_of, placed_of};
+ghost use Rattle.schema_answers.specs.EntryUnits.{absorbed_of, entry_units_of, placed_of};
 
-use crate::evaluation::{ChildList, EvaluationNode};
-use crate::location::OutOfMemory;
+use schema_reports::evaluation::{ChildList, EvaluationNode};
+use schema_reports::location::OutOfMemory;
 use std::alloc::Global;
 
 /// The unit of a keyword that another one absorbs, by the absorbed one's name.

@@ -5,9 +5,9 @@ use Rattle.schema_definitions.specs.Reports.{Unit_}
 use Rattle.schema_definitions.specs.Units.{PartUnits}
 use Rattle.schema_definitions.specs.UnitOrder.{Placed}
 use Rattle.schema_reports.specs.UnitViews.{unit_of}
-use Rattle.schema_reports.specs.declared.evaluation_order.AbsorbedUnit.{AbsorbedUnit}
-use Rattle.schema_reports.specs.declared.evaluation_order.EntryUnits.{EntryUnits}
-use Rattle.schema_reports.specs.declared.evaluation_order.UnitsInOrder.{UnitsInOrder}
+use Rattle.schema_answers.specs.declared.evaluation_order.AbsorbedUnit.{AbsorbedUnit}
+use Rattle.schema_answers.specs.declared.evaluation_order.EntryUnits.{EntryUnits}
+use Rattle.schema_answers.specs.declared.evaluation_order.UnitsInOrder.{UnitsInOrder}
 
 abbrev pub absorbed_of : Bool → AbsorbedUnit → Text × Unit_
 absorbed_of texts a = (string_bytes a.keyword, unit_of texts a.unit)

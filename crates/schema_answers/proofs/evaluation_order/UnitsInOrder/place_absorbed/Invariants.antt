@@ -1,8 +1,8 @@
 use Rattle.std.specs.Prelude.{Bool, map, ◌≡◌}
 use Rattle.std.specs.Vec.Iter.{into_iter_items}
-use Rattle.schema_reports.specs.EntryUnits.{absorbed_of, placed_of}
+use Rattle.schema_answers.specs.EntryUnits.{absorbed_of, placed_of}
 use Rattle.schema_definitions.specs.UnitOrder.{with_absorbed}
-use Rattle.schema_reports.proofs.evaluation_order.UnitsInOrder.place_absorbed.Given as goal
+use Rattle.schema_answers.proofs.evaluation_order.UnitsInOrder.place_absorbed.Given as goal
 
 -- with those that are left it is what it will be
 abbrev pub invariant-loop-one : goal.invariant-loop-one
