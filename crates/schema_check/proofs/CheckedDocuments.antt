@@ -1,5 +1,5 @@
 -- The documents of a schema, by the code's lists of places.
-use Rattle.std.proofs.Common.{◌≡◌, ◌∙◌, ◌<◌, ◌≤◌, ◌+◌, ◌==◌, ◌++◌, ◌∷◌, [], ℕ, zero, suc, Bool, true, false, List, Some, ap, append-nil, inl, inr, append_assoc, arith, drop, get_or, length, map, refl, subst, sym}
+use Rattle.std.proofs.Common.{◌≡◌, ◌∙◌, ◌<◌, ◌≤◌, ◌+◌, ◌==◌, ◌++◌, ◌∷◌, [], ℕ, zero, suc, Bool, true, false, List, Some, ap, append-nil, inl, inr, arith, drop, get_or, length, map, refl, subst, sym}
 use Rattle.std.specs.Prelude.{IfSome, MatchOption, None, Option, flat_map, if◌then◌else◌, option_map, unwrap_or}
 use Rattle.std.specs.List.{AllByRecursion}
 use Rattle.std.proofs.lemmas.Bool.{eqb-true}
@@ -81,9 +81,6 @@ next_one {A} v f items k x l at = ap (λ (xs : List A). flat_map f (map v xs)) (
 
 pub no_more : {A B C : Type 0} (v : A → B) (f : B → List C) (items : List A) (k : ℕ) → length items ≤ k → flat_map f (map v (drop k items)) ≡ []
 no_more {A} v f items k l = ap (λ (xs : List A). flat_map f (map v xs)) (drop_all k items l)
-
-pub turned : {A : Type 0} (old new x rest next whole : List A) → old ++ rest ≡ whole → rest ≡ x ++ next → new ≡ old ++ x → new ++ next ≡ whole
-turned old new x rest next whole so_far one_more added = ap (λ ys. ys ++ next) added ∙ append_assoc old x next ∙ ap (λ ys. old ++ ys) (sym one_more) ∙ so_far
 
 -- ---- the way inwards
 

@@ -4,3 +4,5 @@ pub mod Fragments
 pub mod Lists
 pub mod Members
 pub mod CustomVocabularies
+pub mod DocumentPlaces
+pub mod PlaceNames

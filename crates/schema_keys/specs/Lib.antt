@@ -8,3 +8,4 @@ pub mod Builtins
 pub mod Dialects
 pub mod Readings
 pub mod ShownBases
+pub mod DocumentSchemas

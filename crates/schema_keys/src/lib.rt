@@ -7,6 +7,7 @@ pub mod key;
 pub mod keys;
 pub mod options;
 pub mod references;
+pub mod schemas;
 mod start;
 mod subschema;
 mod text;

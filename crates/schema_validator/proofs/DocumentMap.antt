@@ -15,15 +15,15 @@ use Rattle.schema_parts.specs.ResolverViews.{IsInside}
 use Rattle.schema_keys.specs.Compiling.{Each, In}
 use Rattle.schema_compiler.proofs.Compiled.{stands_but}
 use Rattle.schema_keys.proofs.Lists.{contains_of, each_in}
-use Rattle.schema_validator.specs.DocumentSchemas.{IndicesFit, schemas_of}
+use Rattle.schema_keys.specs.DocumentSchemas.{IndicesFit, schemas_of}
 use Rattle.schema_validator.specs.Entries.{HoldsPlaces, IsCompiledAlone, IsEntry, IsLeftOut}
 use Rattle.schema_validator.specs.Handed.{Handed, Options, parts_of}
 use Rattle.schema_validator.specs.MapViews.{Entries, at_pointer}
 use Rattle.schema_validator.specs.Mapped.{HoldsCompiled, HoldsEach, IsNameOfCompiled, IsValidatorOf, OfEach, name_of}
 use Rattle.schema_validator.specs.Program.{Program}
 use Rattle.schema_validator.specs.Roots.{IsRootKey}
-use Rattle.schema_validator.proofs.DocumentPlaces.{document_schema}
-use Rattle.schema_validator.proofs.PlaceNames.{one_place}
+use Rattle.schema_keys.proofs.DocumentPlaces.{document_schema}
+use Rattle.schema_keys.proofs.PlaceNames.{one_place}
 use Rattle.schema_validator.proofs.RootKeys.{one_root_key, some_is}
 
 module _ {S K R : Type 0} (w : Parts S K R) where

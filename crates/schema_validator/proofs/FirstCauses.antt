@@ -10,7 +10,7 @@ use Rattle.schema_keys.specs.Compiling.{no_keywords, no_matcher, no_table}
 use Rattle.schema_keys.specs.declared.error.BuildError.{BuildError}
 use Rattle.schema_check.specs.Checking.{AcceptsSchema, MetaChecks, RefusesSchema}
 use Rattle.schema_compiler.specs.Compilation.{RefusesInOrder}
-use Rattle.schema_validator.specs.DocumentSchemas.{schemas_of}
+use Rattle.schema_keys.specs.DocumentSchemas.{schemas_of}
 use Rattle.schema_validator.specs.Entries.{RefusesOneOf}
 use Rattle.schema_validator.specs.FirstCauses.{FirstOfBuild, FirstOfMap, names_compiled, names_document, names_root, names_vocabulary}
 use Rattle.schema_validator.specs.Handed.{Handed, Options, parts_of}

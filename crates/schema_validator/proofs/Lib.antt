@@ -1,5 +1,3 @@
-pub mod DocumentPlaces
-pub mod PlaceNames
 pub mod HeldPlaces
 pub mod DocumentMap
 pub mod MapAnswers

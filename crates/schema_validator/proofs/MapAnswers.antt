@@ -10,7 +10,7 @@ use Rattle.schema_keys.specs.Alone.{RefusesVocabularies}
 use Rattle.schema_check.specs.Checking.{AcceptsSchema, MetaChecks, RefusesSchema}
 use Rattle.schema_keys.specs.Compiling.{Each, no_keywords, no_matcher, no_table}
 use Rattle.schema_keys.specs.declared.error.BuildError.{BuildError}
-use Rattle.schema_validator.specs.DocumentSchemas.{IndicesFit, schemas_of}
+use Rattle.schema_keys.specs.DocumentSchemas.{IndicesFit, schemas_of}
 use Rattle.schema_validator.specs.Entries.{HoldsPlaces, RefusesOneOf}
 use Rattle.schema_validator.specs.Handed.{Handed, Options, parts_of}
 use Rattle.schema_validator.specs.MapViews.{Entries}

@@ -13,7 +13,7 @@ use Rattle.schema_check.specs.Checking.{AcceptsSchema, MetaChecks}
 use Rattle.schema_keys.specs.Compiling.{Each, In}
 use Rattle.schema_keys.specs.declared.error.BuildError.{BuildError}
 use Rattle.schema_keys.specs.declared.error.BuildError.TheVariants.{OutOfMemory}
-use Rattle.schema_validator.specs.DocumentSchemas.{IndicesFit, schemas_of}
+use Rattle.schema_keys.specs.DocumentSchemas.{IndicesFit, schemas_of}
 use Rattle.schema_validator.specs.Greatest.{AcceptsAsKey}
 use Rattle.schema_validator.specs.Handed.{Handed, Options, parts_of}
 use Rattle.schema_validator.specs.MapViews.{Entries, at_pointer}

@@ -13,7 +13,6 @@ pub mod Cloned
 pub mod Checked
 pub mod Called
 pub mod MapViews
-pub mod DocumentSchemas
 pub mod Mapped
 pub mod FirstCauses
 pub mod Entries

@@ -14,7 +14,7 @@ use Rattle.schema_keys.specs.Compiling.{In}
 use Rattle.schema_check.specs.Checking.{AcceptsSchema, MetaChecks, RefusesSchema}
 use Rattle.schema_keys.specs.declared.error.BuildError.{BuildError}
 use Rattle.schema_keys.specs.declared.error.BuildError.TheVariants.{NodeLimit}
-use Rattle.schema_validator.specs.DocumentSchemas.{schemas_in}
+use Rattle.schema_keys.specs.DocumentSchemas.{schemas_in}
 use Rattle.schema_validator.specs.Greatest.{AcceptsAsKey}
 use Rattle.schema_validator.specs.Handed.{Handed, Options, parts_of}
 use Rattle.schema_validator.specs.MapViews.{Entries, at_pointer}

@@ -5,8 +5,6 @@ ghost use Rattle.std.specs.Map.{keys_of};
 ghost use Rattle.schema_definitions.specs.Instance.{Text};
 ghost use Rattle.schema_validator.specs.MapViews.{EachOnce, at_pointer};
 
-pub(crate) mod schemas;
-
 use crate::validator::Validator;
 use schema_parts::keyword::Validate;
 use schema_reports::location::OutOfMemory;

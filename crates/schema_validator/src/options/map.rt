@@ -16,7 +16,6 @@ ghost use Rattle.schema_validator.specs.Roots.{IsRootKey, root_parts};
 
 use crate::compiled::of_compiled_within;
 use crate::map::ValidatorMap;
-use crate::map::schemas::schemas_in;
 use crate::options::ValidationOptions;
 use crate::options::root::root_key;
 use crate::validator::Validator;
@@ -26,6 +25,7 @@ use schema_compiler::compiler::{check_vocabularies, compile_subschema};
 use schema_keys::context::Context;
 use schema_keys::error::BuildError;
 use schema_keys::key::SchemaKey;
+use schema_keys::schemas::schemas_in;
 use schema_parts::keyword::Validate;
 use schema_parts::matcher::Matcher;
 use schema_parts::meta::MetaValidators;

@@ -11,7 +11,8 @@ use Rattle.schema_parts.specs.ResolverViews.{place_of, placed_in, placed_of}
 use Rattle.schema_keys.specs.Compiling.{Each, resolving_parts}
 use Rattle.schema_check.specs.CutViews.{cut_of}
 use Rattle.schema_check.specs.declared.check.cuts.Cut as code
-use Rattle.schema_check.proofs.CheckedDocuments.{IsLower, IsRead, at_index, cut_at, cut_below, cut_here, each_read, finished, lie_at, lies_at, next_one, subschemas_lower, turned}
+use Rattle.schema_check.proofs.CheckedDocuments.{IsLower, IsRead, at_index, cut_at, cut_below, cut_here, each_read, finished, lie_at, lies_at, next_one, subschemas_lower}
+use Rattle.schema_keys.proofs.Lists.{turned}
 use Rattle.schema_check.proofs.check.SchemaCheck.+find_cuts.Goals as goal
 use Rattle.schema_check.proofs.check.SchemaCheck.+find_cuts.Goals.{then-is_embedded+in_ok-place+in_ok-push, else-is_embedded+in_ok-find_cuts}
 

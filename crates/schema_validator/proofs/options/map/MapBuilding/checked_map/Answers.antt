@@ -10,7 +10,7 @@ use Rattle.schema_keys.specs.Builtins.{builtin}
 use Rattle.schema_compiler.specs.Compilation.{all_parts}
 use Rattle.schema_keys.specs.Compiling.{Each}
 use Rattle.schema_keys.specs.KeyViews.{key_of}
-use Rattle.schema_validator.specs.DocumentSchemas.{IndicesFit, schemas_of}
+use Rattle.schema_keys.specs.DocumentSchemas.{IndicesFit, schemas_of}
 use Rattle.schema_validator.specs.Entries.{HoldsPlaces, RefusesOneOf}
 use Rattle.schema_validator.specs.Handed.{Options, handed}
 use Rattle.schema_validator.proofs.FirstCauses.{document_first_in_map, entry_first, vocabulary_first}

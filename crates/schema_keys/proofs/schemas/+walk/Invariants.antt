@@ -1,8 +1,8 @@
 use Rattle.std.proofs.Common.{◌≡◌, ◌++◌, drop}
 use Rattle.serde_json.specs.View.{items_view, members_view}
 use Rattle.schema_keys.specs.Compiling.{Each}
-use Rattle.schema_validator.specs.DocumentSchemas.{IndicesFit, schemas_in_items, schemas_in_members}
-use Rattle.schema_validator.proofs.map.schemas.+walk.Given as goal
+use Rattle.schema_keys.specs.DocumentSchemas.{IndicesFit, schemas_in_items, schemas_in_members}
+use Rattle.schema_keys.proofs.schemas.+walk.Given as goal
 
 abbrev pub invariant-push_item_schemas-loop-index : goal.invariant-push_item_schemas-loop-index
 invariant-push_item_schemas-loop-index l =

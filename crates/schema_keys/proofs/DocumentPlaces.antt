@@ -8,7 +8,7 @@ use Rattle.schema_meaning.specs.MapPointers.{is_schema}
 use Rattle.schema_definitions.specs.Parts.{Parts}
 use Rattle.schema_keys.specs.Compiling.{In}
 use Rattle.schema_keys.proofs.Lists.{in_left, in_right}
-use Rattle.schema_validator.specs.DocumentSchemas.{IndicesFit, schemas_in, schemas_in_items, schemas_in_members}
+use Rattle.schema_keys.specs.DocumentSchemas.{IndicesFit, schemas_in, schemas_in_items, schemas_in_members}
 
 pub fit_below : (p : Place) (s : Step) → IndicesFit p → IndicesFit (s ∷ []) → IndicesFit (p ++ s ∷ [])
 fit_below [] s h k = k

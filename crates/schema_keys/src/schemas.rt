@@ -3,7 +3,7 @@ ghost use Rattle.std.specs.Prelude.{◌≡◌, ◌++◌, ◌∷◌, [], IfOk};
 ghost use Rattle.serde_json.specs.View.{items_view, members_view, view};
 ghost use Rattle.schema_parts.specs.SchemaViews.{schema_step_of};
 ghost use Rattle.schema_keys.specs.Compiling.{Each};
-ghost use Rattle.schema_validator.specs.DocumentSchemas.{IndicesFit, schemas_in, schemas_in_items, schemas_in_members};
+ghost use Rattle.schema_keys.specs.DocumentSchemas.{IndicesFit, schemas_in, schemas_in_items, schemas_in_members};
 
 use schema_parts::schema_place::{SchemaPath, SchemaStep};
 use schema_reports::location::OutOfMemory;
@@ -13,7 +13,7 @@ use std::rc::RcStr;
 
 /// Returns the paths of the objects and booleans of a document, in the order of its text, the outer ones first. Fails only out
 /// of memory.
-pub(crate) fn schemas_in(alloc: Global, document: &Value) -> Result<Vec<SchemaPath>, OutOfMemory>
+pub fn schemas_in(alloc: Global, document: &Value) -> Result<Vec<SchemaPath>, OutOfMemory>
     ensures schemas { IfOk result (λ v. v.items ≡ schemas_in [] (view document.now)) }
     ensures fit { IfOk result (λ v. Each IndicesFit v.items) }
 {

@@ -4,10 +4,10 @@ use Rattle.serde_json.specs.View.{items_view, members_view, view}
 use Rattle.serde_json.specs.declared.value.Value.{Value}
 use Rattle.serde_json.proofs.Views.{Entry}
 use Rattle.schema_definitions.specs.Instance.{Place, Text, to_item, to_member}
-use Rattle.schema_check.proofs.CheckedDocuments.{turned}
-use Rattle.schema_validator.specs.DocumentSchemas.{IndicesFit, schemas_in, schemas_in_items, schemas_in_members}
-use Rattle.schema_validator.proofs.DocumentPlaces.{fit_below}
-use Rattle.schema_validator.proofs.map.schemas.+walk.Goals as goal
+use Rattle.schema_keys.proofs.Lists.{turned}
+use Rattle.schema_keys.specs.DocumentSchemas.{IndicesFit, schemas_in, schemas_in_items, schemas_in_members}
+use Rattle.schema_keys.proofs.DocumentPlaces.{fit_below}
+use Rattle.schema_keys.proofs.schemas.+walk.Goals as goal
 
 pub push_item_schemas-loop-index-preserved : goal.push_item_schemas-loop-index-preserved
 push_item_schemas-loop-index-preserved t c =
