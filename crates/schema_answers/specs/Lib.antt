@@ -7,3 +7,4 @@ pub mod NodeUnits
 pub mod NodeRuns
 pub mod Turning
 pub mod EntryUnits
+pub mod VerdictRuns

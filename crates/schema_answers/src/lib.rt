@@ -11,3 +11,4 @@ pub mod replies;
 pub mod sites;
 pub mod spots;
 pub mod units;
+pub mod verdict_runs;

@@ -10,7 +10,7 @@ use Rattle.schema_places.specs.Numbers.{place_at}
 use Rattle.schema_contexts.specs.ProgressViews.{Guards, pair_of}
 use Rattle.schema_contexts.specs.Progress.{Pairs, busy_at, has_number, row_words}
 use Rattle.schema_contexts.specs.Rows.{AreWide, MakesRow, PutsBit, has_bit, has_words, row_in}
-use Rattle.schema_contexts.specs.declared.validation.InProgress.{InProgress}
+use Rattle.schema_contexts.specs.declared.numbered_pairs.NumberedPair.{NumberedPair}
 use Rattle.schema_contexts.proofs.Guarding.{has_row}
 use Rattle.schema_contexts.proofs.Pairs.{among, busy-pushed, eqb-self, nil_snoc, snoc_first}
 use Rattle.schema_contexts.proofs.RowsChanged.{number_if}
@@ -22,7 +22,7 @@ in_row w k n e l = omega arith
 pub few_places : (w n : ℕ) → w ≡ row_words n → n ≤ 64 * w
 few_places w n e = omega arith
 
-pub pushed : (ps : List Place) (old new : List InProgress) (e : InProgress) → new ≡ old ++ e ∷ [] → map (pair_of ps) new ≡ map (pair_of ps) old ++ pair_of ps e ∷ []
+pub pushed : (ps : List Place) (old new : List NumberedPair) (e : NumberedPair) → new ≡ old ++ e ∷ [] → map (pair_of ps) new ≡ map (pair_of ps) old ++ pair_of ps e ∷ []
 pushed ps old new e h = ap (map (pair_of ps)) h ∙ map-append (pair_of ps) old (e ∷ [])
 
 none_of : {X : Type 0} (xs : List X) → length xs ≡ 0 → xs ≡ []
@@ -30,7 +30,7 @@ none_of [] h = refl
 none_of (x ∷ xs) h = absurd (omega arith)
 
 -- what is left once the last pair is taken away
-pub popped : (ps : List Place) (old new : List InProgress) (o : Option InProgress) (x : ℕ × Place) (rest : Pairs) → old ≡ new ++ option_to_list o → (o ≡ None → length new ≡ 0)
+pub popped : (ps : List Place) (old new : List NumberedPair) (o : Option NumberedPair) (x : ℕ × Place) (rest : Pairs) → old ≡ new ++ option_to_list o → (o ≡ None → length new ≡ 0)
     → map (pair_of ps) old ≡ rest ++ x ∷ [] → map (pair_of ps) old ≡ map (pair_of ps) new ++ x ∷ []
 popped ps old new None x rest h empty e =
     let z : map (pair_of ps) old ≡ [] = ap (map (pair_of ps)) (h ∙ append-nil new ∙ none_of new (empty refl)) in

@@ -5,10 +5,10 @@ use Rattle.schema_definitions.specs.Instance.{Place}
 use Rattle.schema_places.specs.Numbers.{OwnNumbers, place_at}
 use Rattle.schema_contexts.specs.Progress.{Distinct, Pairs, Verdicts, busy_at, row_words}
 use Rattle.schema_contexts.specs.Rows.{AreWide, has_bit, row_in}
-use Rattle.schema_contexts.specs.declared.validation.InProgress.{InProgress}
+use Rattle.schema_contexts.specs.declared.numbered_pairs.NumberedPair.{NumberedPair}
 
 -- a pair by the number of its place
-abbrev pub pair_of : List Place → InProgress → ℕ × Place
+abbrev pub pair_of : List Place → NumberedPair → ℕ × Place
 pair_of ps e = (e.node.0, place_at ps e.place)
 
 -- the verdicts of a node, in its row of known places and then that of verdicts, for the places from a number on

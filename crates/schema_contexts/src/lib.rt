@@ -4,5 +4,6 @@
 pub mod evaluation_path;
 pub mod kept_paths;
 pub mod marks;
+pub mod numbered_pairs;
 pub mod rows;
 pub mod validation;

@@ -1,7 +1,6 @@
 //! What a run has in progress, what it assumes and remembers of unfinished matches, and what it marks.
-ghost use Rattle.std.specs.Prelude.{◌≡◌, ◌<◌, ◌≤◌, ◌++◌, ◌∷◌, ◌⊎◌, [], ℕ, IfOk, IfErr, IfSome, OnErr, OnOk, is_some, length, map};
-ghost use Rattle.std.specs.Prelude.{◌==◌, option_map, slice_index_or};
-ghost use Rattle.std.specs.Vec.{vec_capacity, vec_len};
+ghost use Rattle.std.specs.Prelude.{◌≡◌, ◌<◌, ◌≤◌, ◌++◌, ◌∷◌, [], IfOk, IfErr, IfSome, OnErr, OnOk, is_some, length, map};
+ghost use Rattle.std.specs.Prelude.{◌==◌, option_map};
 ghost use Rattle.std.specs.Borrow.{sem};
 ghost use Rattle.std.specs.List.{list_any};
 ghost use Rattle.schema_definitions.specs.Guarded.{same_edge};
@@ -24,6 +23,7 @@ ghost use Rattle.schema_reports.specs.InstanceViews.{subject_of};
 use crate::evaluation_path::EvaluationPath;
 use crate::kept_paths::KeptPaths;
 use crate::marks::Marks;
+use crate::numbered_pairs::{NumberedPair, count_at, make_counts, push_within};
 use crate::rows::{Rows, row_words};
 use schema_matches::assumptions::MatchAssumptions;
 use schema_matches::site::{Match, MatchSite, Reason};
@@ -37,13 +37,6 @@ use schema_reports::location::{Location, OutOfMemory};
 use std::alloc::Global;
 use std::marker::Model;
 use std::mem;
-
-/// A node that is asked about the instance at a place, by the place's number, until it has answered.
-#[derive(Drop)]
-struct InProgress {
-    node: SchemaNode,
-    place: usize,
-}
 
 /// How many guarded visits a verdict has to take, its own included, so that it is remembered.
 const MEMO_MIN_VISITS: u64 = 16;
@@ -60,7 +53,7 @@ const MEMO_MIN_VISITS: u64 = 16;
 pub struct ValidationContext<'i> {
     alloc: Global,
     places: PlacesOnDemand<'i>,
-    pairs: Vec<InProgress>,
+    pairs: Vec<NumberedPair>,
     counts: Vec<usize>,
     guard: Rows,
     known: Rows,
@@ -106,41 +99,6 @@ impl<'i> Model for ValidationContext<'i> {
 
     ghost invariant = { λ c. Holds (root_places c.places) (map (pair_of (root_places c.places)) c.pairs.items)
         c.counts.items c.guard c.known };
-}
-
-// Adds a pair where there is room.
-fn push_within(pairs: &mut Vec<InProgress>, pair: InProgress)
-    requires room { vec_len pairs.old < vec_capacity pairs.old }
-    ensures pushed { pairs.new.items ≡ pairs.old.items ++ pair ∷ [] }
-{
-    match pairs.push(pair) {
-        Ok(_) => (),
-        Err(_) => unreachable!(),
-    }
-}
-
-// Makes a count for each place, where there is none yet. Fails only if memory cannot be allocated, and then nothing has changed.
-fn make_counts(alloc: Global, counts: &mut Vec<usize>, places: usize) -> Result<(), OutOfMemory>
-    requires sized { (length counts.old.items ≡ 0) ⊎ (length counts.old.items ≡ places) }
-    ensures made { OnOk result (length counts.new.items ≡ places) }
-    ensures same { (k : ℕ) → slice_index_or counts.new.items k 0 ≡ slice_index_or counts.old.items k 0 }
-    ensures unchanged { OnErr result (counts.new.items ≡ counts.old.items) }
-{
-    if counts.len() == places {
-        return Ok(());
-    }
-    *counts = Vec::from_elem(alloc, 0usize, places)?;
-    Ok(())
-}
-
-// The count of a place; it is 0 where none was made.
-fn count_at(counts: &[usize], place: usize) -> usize
-    ensures count { result ≡ slice_index_or counts.now place 0 }
-{
-    match counts.get(place) {
-        Some(count) => *count,
-        None => 0,
-    }
 }
 
 impl<'i> ValidationContext<'i> {
@@ -243,7 +201,7 @@ impl<'i> ValidationContext<'i> {
         self.pairs.reserve(1)?;
         make_counts(self.alloc, &mut self.counts, places)?;
         self.guard.make_row(self.alloc, node.0, row_words(places))?;
-        push_within(&mut self.pairs, InProgress { node, place });
+        push_within(&mut self.pairs, NumberedPair { node, place });
         self.guard.put_bit(node.0, 0, place, true);
         let count = self.counts[place];
         self.counts[place] = count + 1;

@@ -11,7 +11,7 @@ use Rattle.schema_solving.specs.Under.{Solving}
 use Rattle.schema_solving.specs.Says.{FormSays, PartsSay}
 use Rattle.schema_solving.proofs.Between.{grows_between}
 use Rattle.schema_meaning.proofs.Falls.{from_below}
-use Rattle.schema_solver.specs.Contexts.{Solver, found_of}
+use Rattle.schema_pairs.specs.Contexts.{Solver, found_of}
 use Rattle.schema_solver.specs.Solving.{Goes, HasEachCut, InEach, IsEdge, MaySolve, Setting, is_cut}
 
 module _ {K R : Type 0} (g : Setting K R) where

@@ -27,8 +27,9 @@ use Rattle.schema_solving.specs.Found.{NoneAt, SaysPair, SaysUnder}
 use Rattle.schema_solving.specs.Says.{FormSays, PartsSay, parts_under}
 use Rattle.schema_solving.proofs.Between.{grows_between, says_assumed, says_busy, says_known}
 use Rattle.schema_solving.proofs.Turning.{at_once_under}
-use Rattle.schema_solver.specs.Contexts.{SettlesAll, Solver, found_of, has_pair, solver_places}
-use Rattle.schema_solver.specs.Solving.{Begins, Goes, HasEachCut, InEach, IsNew, Leaves, MaySolve, Setting, is_cut, solving_in}
+use Rattle.schema_pairs.specs.Contexts.{SettlesAll, Solver, found_of, has_pair, solver_places}
+use Rattle.schema_pairs.specs.Answering.{AssumesBeside, Begins, Refuses, SettlesAlone}
+use Rattle.schema_solver.specs.Solving.{Goes, HasEachCut, InEach, IsNew, Leaves, MaySolve, Setting, is_cut, solving_in}
 use Rattle.schema_solver.specs.Needs.{PairRan, SaysTheRest, edge_needs, pair_needs}
 use Rattle.schema_solver.proofs.PairSteps.{assumed_goes, assumed_says, refused_goes, refused_says, settled_goes, settled_says}
 use Rattle.schema_solver.proofs.PlacesOnce.{once_from_own, there_from_number}
@@ -193,11 +194,11 @@ module _ {K R : Type 0} (g : Setting K R) (laws : (texts : Bool) → EachKeeps (
   ran_says c is = subst (λ c. InEach g (view e.root) (λ texts w. SaysUnder w (found_of e) i p c)) is ran.says
 
   module _ (is_no : v ≡ false) (dropped : n.assumed ≡ take mark x.assumed) (refused : Remembers i p false x.verdicts n.verdicts) where
-    pub ran_refused_goes : Goes g p old n
+    ran_refused_goes : Goes g p old n
     ran_refused_goes = refused_goes g laws old b s p i may ran.is_new ran.begins e n ran.went leaves (ran_says false is_no)
         (dropped ∙ before_mark g old p i b e x mark v ran) (subst (λ vs. Remembers i p false vs n.verdicts) ran.verdicts refused)
 
-    pub ran_refused_says : SaysPair (found_of n) i p false
+    ran_refused_says : SaysPair (found_of n) i p false
     ran_refused_says = refused_says g laws old b s p i may ran.is_new ran.begins e n ran.went leaves (ran_says false is_no)
         (dropped ∙ before_mark g old p i b e x mark v ran) (subst (λ vs. Remembers i p false vs n.verdicts) ran.verdicts refused)
 
@@ -205,11 +206,11 @@ module _ {K R : Type 0} (g : Setting K R) (laws : (texts : Bool) → EachKeeps (
     beside_old : has_pair old.in_progress k p ≡ true
     beside_old = ap (λ es. has_pair es k p) (sym (sym still ∙ leaves.in_progress)) ∙ beside
 
-    pub ran_assumed_goes : Goes g p old n
+    ran_assumed_goes : Goes g p old n
     ran_assumed_goes = assumed_goes g laws old b s p i may ran.is_new ran.begins e n ran.went leaves (ran_says true is_yes) k beside_old
         (pushed ∙ ap (λ es. es ++ (i, p) ∷ []) ran.assumed) (verdicts ∙ ran.verdicts)
 
-    pub ran_assumed_says : SaysPair (found_of n) i p true
+    ran_assumed_says : SaysPair (found_of n) i p true
     ran_assumed_says = assumed_says g laws old b s p i may ran.is_new ran.begins e n ran.went leaves (ran_says true is_yes) k beside_old
         (pushed ∙ ap (λ es. es ++ (i, p) ∷ []) ran.assumed) (verdicts ∙ ran.verdicts)
 
@@ -217,13 +218,34 @@ module _ {K R : Type 0} (g : Setting K R) (laws : (texts : Bool) → EachKeeps (
     none_old : NoneAt p (found_of old)
     none_old k = ap (λ es. has_pair es k p) (sym (sym still ∙ leaves.in_progress)) ∙ none k
 
-    pub ran_settled_goes : Goes g p old n
+    ran_settled_goes : Goes g p old n
     ran_settled_goes = settled_goes g laws old b s p i may ran.is_new ran.begins e n ran.went leaves (ran_says true is_yes) none_old
         (dropped ∙ before_mark g old p i b e x mark v ran) (ran_settles g old p i b e x mark v ran n root still marking begun settles)
 
-    pub ran_settled_says : SaysPair (found_of n) i p true
+    ran_settled_says : SaysPair (found_of n) i p true
     ran_settled_says = settled_says g laws old b s p i may ran.is_new ran.begins e n ran.went leaves (ran_says true is_yes) none_old
         (dropped ∙ before_mark g old p i b e x mark v ran) (ran_settles g old p i b e x mark v ran n root still marking begun settles)
+
+  either_way : {A : Type 0} → (b : Bool) → (b ≡ false → A) → (b ≡ true → A) → A
+  either_way false f h = f refl
+  either_way true f h = h refl
+
+  module _ (as_no : v ≡ false → Refuses i p mark x n) (as_yes : v ≡ true → SettlesAlone i p mark x n ⊎ AssumesBeside i p x n) where
+    pub ran_goes : Goes g p old n
+    ran_goes = either_way v
+        (λ is. let (dropped, refused) = as_no is in ran_refused_goes is dropped refused)
+        (λ is. elim (as_yes is) [
+          | inl (none, dropped, settles) ↦ ran_settled_goes is none dropped settles
+          | inr ((k, beside), pushed, verdicts) ↦ ran_assumed_goes is k beside pushed verdicts
+        ])
+
+    pub ran_says_pair : SaysPair (found_of n) i p v
+    ran_says_pair = either_way v
+        (λ is. let (dropped, refused) = as_no is in subst (SaysPair (found_of n) i p) (sym is) (ran_refused_says is dropped refused))
+        (λ is. subst (SaysPair (found_of n) i p) (sym is) (elim (as_yes is) [
+          | inl (none, dropped, settles) ↦ ran_settled_says is none dropped settles
+          | inr ((k, beside), pushed, verdicts) ↦ ran_assumed_says is k beside pushed verdicts
+        ]))
 
 -- ---- the entries of a node, one after another
 

@@ -20,9 +20,10 @@ use Rattle.schema_solving.specs.Work.{IsCounted, pairs_of}
 use Rattle.schema_solving.proofs.Between.{grows_below, grows_none, grows_on}
 use Rattle.schema_solving.proofs.Solved.{nothing_sound, solver_says_guarded}
 use Rattle.schema_solving.proofs.Bounds.{bounded_by}
-use Rattle.schema_solver.specs.Contexts.{Solver, found_of, has_pair}
-use Rattle.schema_solver.specs.Solving.{BeginsFew, Goes, InEach, IsSoundIn, MaySolve, SaysAsNodes, Setting, StaysCounted, fresh, solving_in}
-use Rattle.schema_solver.proofs.FoundOf.{has_append}
+use Rattle.schema_pairs.specs.Contexts.{Solver, found_of, has_pair}
+use Rattle.schema_pairs.specs.Answering.{fresh}
+use Rattle.schema_solver.specs.Solving.{BeginsFew, Goes, InEach, IsSoundIn, MaySolve, SaysAsNodes, Setting, StaysCounted, solving_in}
+use Rattle.schema_pairs.proofs.FoundOf.{has_append}
 
 module _ {K R : Type 0} (g : Setting K R) where
   pub counted_on : (a b c : Solver) → b.root ≡ a.root → StaysCounted g a b → StaysCounted g b c → StaysCounted g a c

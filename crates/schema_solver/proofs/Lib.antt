@@ -1,10 +1,6 @@
-pub mod FoundOf
 pub mod PairSteps
 pub mod Going
 pub mod PlacesOnce
 pub mod Asking
 pub mod Crossing
 pub mod Turned
-pub mod Assuming
-pub mod Ways
-pub mod Weighing

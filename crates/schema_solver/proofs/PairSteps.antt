@@ -20,9 +20,10 @@ use Rattle.schema_solving.proofs.Pairs.{of_this, this_place}
 use Rattle.schema_solving.proofs.Steps.{alone_grows, alone_says, alone_sound, assumes_grows, assumes_says, assumes_sound, entered_sound, no_grows, no_says, no_sound}
 use Rattle.schema_solving.proofs.Work.{assumed_counts, entered_counts, refused_counts, settled_counts}
 use Rattle.schema_solving.proofs.Bounds.{pairs_among, pairs_few}
-use Rattle.schema_solver.specs.Contexts.{SettlesAll, Solver, found_of, has_pair, solver_places}
-use Rattle.schema_solver.specs.Solving.{Begins, Goes, HasEachCut, InEach, IsNew, Leaves, MaySolve, Setting, solving_in}
-use Rattle.schema_solver.proofs.FoundOf.{has_pushed, found_assumed, found_entered, found_refused, found_settled}
+use Rattle.schema_pairs.specs.Contexts.{SettlesAll, Solver, found_of, has_pair, solver_places}
+use Rattle.schema_pairs.specs.Answering.{Begins}
+use Rattle.schema_solver.specs.Solving.{Goes, HasEachCut, InEach, IsNew, Leaves, MaySolve, Setting, solving_in}
+use Rattle.schema_pairs.proofs.FoundOf.{has_pushed, found_assumed, found_entered, found_refused, found_settled}
 
 -- what no pair in progress lies deeper than is so of what is found
 deeper : (p : Place) (es : Pairs) → NoDeeper p es → (j : ℕ) (q : Place) → has_pair es j q ≡ true → length q ≤ length p

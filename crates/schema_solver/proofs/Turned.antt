@@ -31,7 +31,7 @@ use Rattle.schema_solving.specs.Says.{ChildSays, FormSays}
 use Rattle.schema_solving.specs.Turning.{TurnsUnder, answers_under, matches_here, subject_here, units_under}
 use Rattle.schema_solving.proofs.Between.{grows_between, grows_none}
 use Rattle.schema_solving.proofs.Turning.{answer_verdict, begins_under, ended_under, turned_under}
-use Rattle.schema_solver.specs.Contexts.{Solver, found_of, solver_places}
+use Rattle.schema_pairs.specs.Contexts.{Solver, found_of, solver_places}
 use Rattle.schema_solver.specs.Solving.{Goes, InEach, IsSoundIn, MaySolve, Setting, solving_in}
 use Rattle.schema_solver.specs.TurningOn.{AsksOn, HasBegun, TurnsOn}
 use Rattle.schema_solver.proofs.Going.{goes_none}

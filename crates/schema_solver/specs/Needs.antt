@@ -8,8 +8,9 @@ use Rattle.schema_meaning.specs.Numbered.{left}
 use Rattle.schema_solving.specs.Under.{PairSet, Solving}
 use Rattle.schema_solving.specs.Found.{Between, Found, SaysUnder}
 use Rattle.schema_solving.specs.Says.{parts_under}
-use Rattle.schema_solver.specs.Contexts.{Solver, found_of}
-use Rattle.schema_solver.specs.Solving.{Begins, Goes, InEach, IsNew, Setting}
+use Rattle.schema_pairs.specs.Contexts.{Solver, found_of}
+use Rattle.schema_pairs.specs.Answering.{Begins}
+use Rattle.schema_solver.specs.Solving.{Goes, InEach, IsNew, Setting}
 
 -- for a pair: none where it is in progress
 abbrev pub pair_needs : {K : Type 0} → Nodes K → ℕ → ℕ → Subject → List ℕ → ℕ

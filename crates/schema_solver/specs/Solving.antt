@@ -1,6 +1,6 @@
 -- What each function of a solver's cycle is asked, what it does to the context, and what it says.
 use Rattle.std.specs.List.{list_any}
-use Rattle.std.specs.Prelude.{All, Bool, Contains, List, None, Some, [], false, length, not, true, ℕ, ◌++◌, ◌+◌, ◌<◌, ◌==◌, ◌||◌, ◌∷◌, ◌≡◌, ◌≤◌}
+use Rattle.std.specs.Prelude.{All, Bool, Contains, List, None, Some, [], false, length, not, true, ℕ, ◌++◌, ◌+◌, ◌<◌, ◌==◌, ◌||◌, ◌≡◌}
 use Rattle.serde_json.specs.Data.{Data}
 use Rattle.serde_json.specs.View.{view}
 use Rattle.serde_json.specs.declared.value.Value.{Value}
@@ -12,12 +12,12 @@ use Rattle.schema_meaning.specs.Numbered.{Ranked, left, subject_in}
 use Rattle.schema_greatest.specs.NodesSay.{AreMonotone}
 use Rattle.schema_parts.specs.MatcherViews.{FinishesEach}
 use Rattle.schema_contexts.specs.Progress.{NoDeeper, Pairs, root_places}
-use Rattle.schema_contexts.specs.Verdicts.{one_more, verdict_of}
+use Rattle.schema_contexts.specs.Verdicts.{verdict_of}
 use Rattle.schema_answers.specs.NodeRuns.{TellsAll}
 use Rattle.schema_solving.specs.Under.{Solving}
-use Rattle.schema_solving.specs.Found.{Grows, IsSound}
+use Rattle.schema_solving.specs.Found.{Grows, IsSound, SaysUnder}
 use Rattle.schema_solving.specs.Work.{EachOnce, IsBoundedBy, IsCounted, pairs_of}
-use Rattle.schema_solver.specs.Contexts.{Solver, found_of, has_pair, solver_places}
+use Rattle.schema_pairs.specs.Contexts.{Solver, found_of, has_pair, solver_places}
 
 -- what a solver is made with: the keywords as they are read, the numbered nodes, how many there are, which of them are followed, and the
 -- matcher
@@ -85,15 +85,6 @@ module _ {K R : Type 0} (g : Setting K R) where
 
 -- ---- the steps of a pair
 
--- it is begun: it goes last among those in progress, and is counted
-pub record Begins (i : ℕ) (p : Place) (old new : Solver) : Type 0 where
-  pub root : new.root ≡ old.root
-  pub in_progress : new.in_progress ≡ old.in_progress ++ (i, p) ∷ []
-  pub assumed : new.assumed ≡ old.assumed
-  pub verdicts : new.verdicts ≡ old.verdicts
-  pub marking : new.marking ≡ old.marking
-  pub begun : new.begun ≡ one_more old.begun
-
 -- it is left, and no pair is begun
 pub record Leaves (old end new : Solver) : Type 0 where
   pub root : new.root ≡ end.root
@@ -110,17 +101,18 @@ pub record IsNew {K R : Type 0} (g : Setting K R) (c : Solver) (p : Place) (i : 
   pub there : list_any (same_place p) (solver_places c) ≡ true
   pub once : EachOnce (solver_places c)
 
--- ---- how it begins and ends
-
--- nothing is in progress, assumed, known or marked, and no pair was begun
-abbrev pub fresh : Value → Solver
-fresh v = record { root = v; in_progress = []; assumed = []; verdicts = []; marking = []; begun = 0 }
+-- ---- what it says in the end
 
 -- what is said of a number of an instance at its root place: what nodes say under guards with no pair in progress, in each reading of
 -- texts, by any path and at every depth that is enough, where no match stays unfinished
 abbrev pub SaysAsNodes : {K R : Type 0} → Setting K R → Data → ℕ → Bool → Type 0
 SaysAsNodes g root i b = InEach g root (λ texts w. (path : Text) (n : ℕ) → left g.nodes g.count i (subject_in root []) [] < n
     → (guarded_within yes_outcome (node_outcome w.keywords w.matcher w.nodes (subject_in root) w.completion) n i path [] []).verdict ≡ b)
+
+-- what is said of a number at the root place is what it says under each set that has all pairs that a context holds as answered yes, and
+-- none that it holds as refused
+abbrev pub RestsOnFound : {K R : Type 0} → Setting K R → Solver → ℕ → Bool → Type 0
+RestsOnFound g c i b = InEach g (view c.root) (λ texts w. SaysUnder w (found_of c) i [] b)
 
 -- so many pairs are begun at most: of the numbers that an edge leads to whose pair is answered by what is found, and of the places
 abbrev pub BeginsFew : {K R : Type 0} → Setting K R → Value → ℕ → Type 0

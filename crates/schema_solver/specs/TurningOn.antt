@@ -1,15 +1,15 @@
 -- A keyword's run for the verdict that a solver answers: how it has begun, and how it stands between two turns.
-use Rattle.std.specs.Prelude.{Bool, List, None, Option, Some, false, ℕ, ◌<◌, ◌≡◌}
+use Rattle.std.specs.Prelude.{Bool, List, false, ℕ, ◌<◌, ◌≡◌}
 use Rattle.serde_json.specs.Data.{Data}
 use Rattle.schema_definitions.specs.Instance.{Place, Subject}
-use Rattle.schema_definitions.specs.Keywords.{Answer, Marked, Reply, for_verdict, no_reply, truth}
+use Rattle.schema_definitions.specs.Keywords.{Answer, Marked, Reply, for_verdict}
 use Rattle.schema_definitions.specs.Remembering.{AlwaysAsksVerdict}
 use Rattle.schema_definitions.specs.Turns.{Standing}
 use Rattle.schema_definitions.specs.Guarded.{Children}
 use Rattle.schema_parts.specs.KeywordViews.{answer_of}
 use Rattle.schema_parts.specs.declared.keyword.Answer as code_answer
 use Rattle.schema_solving.specs.Turning.{TurnsUnder}
-use Rattle.schema_solver.specs.Contexts.{Solver, found_of}
+use Rattle.schema_pairs.specs.Contexts.{Solver, found_of}
 use Rattle.schema_solver.specs.Solving.{InEach, Setting}
 
 -- the run of the keyword on a subject has begun, and its answer is fresh
@@ -24,8 +24,3 @@ module _ {K R : Type 0} (g : Setting K R) (m : K) where
   -- in each reading it stands well under every set between
   abbrev pub TurnsOn : Data → Place → (Bool → Standing R → Answer) → (Bool → Standing R → Type 0) → Children → Solver → List Marked → (Bool → R) → (Bool → Reply) → Type 0
   TurnsOn root p end_of fits es c marks r reply = InEach g root (λ texts w. TurnsUnder w p (found_of c) m (end_of texts) (fits texts) es marks (r texts) (reply texts))
-
--- what a turn is told: nothing, or a truth
-abbrev pub told_reply : Option Bool → Reply
-told_reply None = no_reply
-told_reply (Some b) = truth b

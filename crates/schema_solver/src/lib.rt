@@ -2,9 +2,5 @@
 //! once at each place.
 #![tactic(auto)]
 
-pub mod context;
-pub mod followed;
-pub mod pair;
 pub mod question;
 pub mod solve;
-pub(crate) mod weights;

@@ -1,8 +1,8 @@
 //! What a solver is made with, and what it is asked.
 
-use crate::followed::Followed;
 use schema_answers::evaluation_place::EvaluationPlace;
 use schema_nodes::node::Nodes;
+use schema_pairs::followed::Followed;
 use schema_reports::instance::Instance;
 use std::alloc::Global;
 

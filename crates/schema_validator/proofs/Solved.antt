@@ -1,5 +1,6 @@
 -- What a solver says of the root's number is what the run of the root's node decides.
-use Rattle.std.proofs.Common.{◌∙◌, Bool, List, [], ap, sym}
+use Rattle.std.proofs.Common.{◌∙◌, ◌≡◌, Bool, List, [], ap, subst, sym}
+use Rattle.std.specs.Prelude.{IfSome, Option, Some}
 use Rattle.serde_json.specs.Data.{Data}
 use Rattle.schema_definitions.specs.Keywords.{Keywords}
 use Rattle.schema_definitions.specs.Matching.{Matcher}
@@ -17,3 +18,7 @@ pub solved_decides : {K S R M : Type 0} (shape : K → S) (words : Bool → Keyw
 solved_decides shape words is_whole matching p followed instance valid says = λ texts speaks once n more.
     sym (says texts (record { keywords = λ t. (speaks t).1; instance = λ t. (speaks t).0 }) [] n more)
     ∙ sym (ap (λ (o : Outcome). o.verdict) (outcome_is (words texts) (matching p.matcher) (numbered shape p.nodes) (subject_in instance) [] n p.root [] [] []))
+
+-- what is so of the value that there is, if there is one
+pub of_some : {X : Type 0} (found : Option X) (x : X) (P : X → Type 0) → found ≡ Some x → IfSome found P → P x
+of_some found x P is h = subst (λ o. IfSome o P) is h

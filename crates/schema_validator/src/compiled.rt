@@ -1,10 +1,10 @@
 //! Validators of compiled nodes.
-ghost use Rattle.std.specs.Prelude.{◌≡◌, ◌<◌, ◌≤◌, Bool, IfOk, IfSome, length};
-ghost use Rattle.schema_greatest.specs.NodesSay.{AreMonotone};
+ghost use Rattle.std.specs.Prelude.{◌≡◌, ◌<◌, ◌≤◌, IfOk, length};
 ghost use Rattle.schema_keywords.specs.KeywordViews.{draft_of};
 ghost use Rattle.schema_nodes.specs.NodeTable.{numbered};
 ghost use Rattle.schema_validator.specs.Called.{HasUnitsAsCompiled, MeansAsCompiled};
 ghost use Rattle.schema_validator.specs.Handed.{default_runs, handed};
+ghost use Rattle.schema_verdicts.specs.Finding.{SolvesFor};
 
 use crate::validator::Validator;
 use schema_keywords::keywords::Draft;
@@ -16,7 +16,7 @@ use schema_parts::resolver::Resolver;
 use schema_parts::table::KeywordTable;
 use schema_reports::location::OutOfMemory;
 use schema_search::unfinished_matches::MAX_ASSUMED_RUNS;
-use schema_solver::followed::Followed;
+use schema_verdicts::finding::VerdictFinder;
 use std::alloc::Global;
 
 /// Builds a validator from compiled nodes, the number of a key's node and the root's draft. Where the nodes are compiled from
@@ -53,7 +53,7 @@ pub fn of_compiled<S: Resolver, T: KeywordTable<K>, K: Validate, M: Matcher>(
         root,
         draft,
         MAX_ASSUMED_RUNS,
-        None,
+        VerdictFinder::none(),
     )
 }
 
@@ -66,12 +66,11 @@ pub(crate) fn of_compiled_within<S: Resolver, T: KeywordTable<K>, K: Validate, M
     root: SchemaNode,
     draft: Draft,
     run_limit: u32,
-    followed: Option<Followed>,
+    finder: VerdictFinder,
 ) -> Result<Validator<K, M>, OutOfMemory>
     requires inside { root.0 < length nodes }
     requires limit { 1 ≤ run_limit }
-    requires monotone { IfSome followed (λ _. (texts : Bool)
-        → AreMonotone (K.words texts) (numbered K.shape nodes) (length nodes)) }
+    requires solves { SolvesFor K.words (numbered K.shape nodes) (length nodes) finder }
     ensures made { IfOk result (λ v. (v.nodes ≡ nodes) × (v.root ≡ root.0) × (v.draft ≡ draft_of draft)) }
     ensures runs { IfOk result (λ v. v.runs ≡ run_limit) }
     ensures matcher { IfOk result (λ v. M.matching v.matcher ≡ M.matching matcher.now) }
@@ -83,5 +82,5 @@ pub(crate) fn of_compiled_within<S: Resolver, T: KeywordTable<K>, K: Validate, M
         nodes root.0 v) }
 {
     let matcher = matcher.clone()?;
-    Ok(Validator::of_nodes_within(nodes, root, draft, matcher, run_limit, followed))
+    Ok(Validator::of_nodes_within(nodes, root, draft, matcher, run_limit, finder))
 }

@@ -22,11 +22,10 @@ ghost use Rattle.schema_validator.specs.SharedErrors.{AreShared};
 ghost use Rattle.schema_validator.specs.Asked.{RunDecides, RunFindsFirst, RunListsErrors, RunMeets, RunReplies};
 ghost use Rattle.schema_meaning.specs.Numbered.{Ranked};
 ghost use Rattle.schema_monotone.specs.Saying.{EachSays};
-ghost use Rattle.schema_greatest.specs.NodesSay.{AreMonotone};
+ghost use Rattle.schema_verdicts.specs.Finding.{SolvesFor};
 ghost use Rattle.schema_nodes.specs.NodeTable.{numbered};
 
 mod cloning;
-pub(crate) mod solvable;
 
 use schema_contexts::validation::ValidationContext;
 use schema_keywords::keywords::Draft;
@@ -46,8 +45,7 @@ use schema_reports::instance::{Instance, Place};
 use schema_reports::location::{Location, OutOfMemory};
 use schema_reports::reports::{ErrorIterator, ValidationError};
 use schema_search::unfinished_matches::{MAX_ASSUMED_RUNS, errors_under_each, validity_under_each};
-use schema_solver::followed::Followed;
-use schema_solver::solve::solve;
+use schema_verdicts::finding::VerdictFinder;
 use serde_json::Value;
 use std::alloc::Global;
 use std::marker::Model;
@@ -60,16 +58,16 @@ pub struct Validator<K: Validate, M> {
     draft: Draft,
     matcher: M,
     run_limit: u32,
-    // what a solver follows, where each keyword says that it is monotone
-    followed: Option<Followed>,
+    // where a solver finds verdicts
+    finder: VerdictFinder,
 }
 
 impl<K: Validate, M> Model for Validator<K, M> {
     ghost use Rattle.schema_keywords.specs.KeywordViews.{draft_of};
     ghost use Rattle.schema_validator.specs.Program.{Program};
-    ghost use Rattle.schema_greatest.specs.NodesSay.{AreMonotone};
     ghost use Rattle.schema_nodes.specs.NodeTable.{numbered};
-    ghost use Rattle.std.specs.Prelude.{◌<◌, ◌≤◌, Bool, IfSome, length};
+    ghost use Rattle.schema_verdicts.specs.Finding.{SolvesFor};
+    ghost use Rattle.std.specs.Prelude.{◌<◌, ◌≤◌, length};
     ghost use Rattle.serde_json.specs.contracts.value.Value as value;
     ghost use Rattle.std.specs.Coded.{codes};
 
@@ -80,7 +78,7 @@ impl<K: Validate, M> Model for Validator<K, M> {
     ghost view = { λ v. record { nodes = v.nodes; root = v.root.0; draft = draft_of v.draft; matcher = v.matcher; runs = v.run_limit } };
 
     ghost invariant = { λ v. (v.root.0 < length v.nodes) × (1 ≤ v.run_limit)
-        × IfSome v.followed (λ _. (texts : Bool) → AreMonotone (K.words texts) (numbered K.shape v.nodes) (length v.nodes)) };
+        × SolvesFor K.words (numbered K.shape v.nodes) (length v.nodes) v.finder };
 }
 
 // The first of these errors.
@@ -112,7 +110,14 @@ impl<K: Validate, M: Matcher> Validator<K, M> {
         requires inside { root.0 < length nodes }
         ensures made { result ≡ record { nodes = nodes; root = root.0; draft = draft_of draft; matcher = matcher; runs = default_runs } }
     {
-        Validator::of_nodes_within(nodes, root, draft, matcher, MAX_ASSUMED_RUNS, None)
+        Validator::of_nodes_within(
+            nodes,
+            root,
+            draft,
+            matcher,
+            MAX_ASSUMED_RUNS,
+            VerdictFinder::none(),
+        )
     }
 
     // Makes a validator of compiled nodes, whose calls make so many runs at most.
@@ -122,12 +127,11 @@ impl<K: Validate, M: Matcher> Validator<K, M> {
         draft: Draft,
         matcher: M,
         run_limit: u32,
-        followed: Option<Followed>,
+        finder: VerdictFinder,
     ) -> Validator<K, M>
         requires inside { root.0 < length nodes }
         requires limit { 1 ≤ run_limit }
-        requires monotone { IfSome followed (λ _. (texts : Bool)
-            → AreMonotone (K.words texts) (numbered K.shape nodes) (length nodes)) }
+        requires solves { SolvesFor K.words (numbered K.shape nodes) (length nodes) finder }
         ensures made { result ≡ record { nodes = nodes; root = root.0; draft = draft_of draft; matcher = matcher; runs = run_limit } }
     {
         Validator {
@@ -136,7 +140,7 @@ impl<K: Validate, M: Matcher> Validator<K, M> {
             draft,
             matcher,
             run_limit,
-            followed,
+            finder,
         }
     }
 
@@ -248,28 +252,26 @@ impl<K: Validate, M: Matcher> Validator<K, M> {
         }
     }
 
-    // The verdict of the root's node, where nothing is assumed, by a solver. A number that chains of references return to is
-    // answered once at each place.
+    // The verdict of the root's node by a solver, where nothing is assumed; `None` where no solver may find it.
     fn solved(
         &self,
         alloc: Global,
-        followed: &Followed,
+        finishes: bool,
         instance: &Value,
-    ) -> Result<bool, OutOfMemory>
-        requires monotone { (texts : Bool) → NodesAreMonotone K.shape K.words self.now texts }
-        requires finishes { FinishesEach (M.matching self.now.matcher) }
-        ensures says { IfOk result (λ valid. RunDecides
-            K.Validate M.Matcher.own self.now (view instance.now) [] valid) }
+    ) -> Result<Option<bool>, OutOfMemory>
+        requires finishes { finishes ≡ true → FinishesEach (M.matching self.now.matcher) }
+        ensures finishes { IfOk result (λ found. IfSome found (λ _. FinishesEach (M.matching self.now.matcher))) }
+        ensures says { IfOk result (λ found. IfSome found (λ valid. RunDecides
+            K.Validate M.Matcher.own self.now (view instance.now) [] valid)) }
     {
-        let solved = solve(
+        self.finder.verdict(
             alloc,
             &self.nodes,
             &self.matcher,
-            followed,
+            finishes,
             self.root,
             instance,
-        )?;
-        Ok(solved.valid)
+        )
     }
 
     // Whether every outcome of the unfinished matches accepts.
@@ -277,10 +279,8 @@ impl<K: Validate, M: Matcher> Validator<K, M> {
         ensures depth { IfOk result (λ valid. DecidesFromSomeDepth
             K.Validate M.Matcher.own self.now (view instance.now) valid) }
     {
-        if let Some(followed) = &self.followed {
-            if self.matcher.finishes() {
-                return self.solved(alloc, followed, instance);
-            }
+        if let Some(valid) = self.solved(alloc, self.matcher.finishes(), instance)? {
+            return Ok(valid);
         }
         let first = self.verdict(alloc, instance, MatchAssumptions::new(alloc))?;
         if !first.0.met_unassumed() {
@@ -303,8 +303,8 @@ impl<K: Validate, M: Matcher> Validator<K, M> {
             K.Validate M.Matcher.own self.now (view instance.now) []) }
     {
         if self.matcher.finishes() {
-            if let Some(followed) = &self.followed {
-                return self.solved(alloc, followed, instance);
+            if let Some(accepts) = self.solved(alloc, true, instance)? {
+                return Ok(accepts);
             }
             let (met, accepts) = self.verdict(alloc, instance, MatchAssumptions::new(alloc))?;
             drop(met);

@@ -3,7 +3,7 @@
 ghost use Rattle.std.specs.Prelude.{◌≡◌, ◌≤◌, [], Bool, IfOk, map, option_map, string_bytes};
 ghost use Rattle.schema_reports.specs.InstanceViews.{subject_of};
 ghost use Rattle.schema_definitions.specs.Keywords.{for_verdict};
-ghost use Rattle.schema_parts.specs.KeywordViews.{answer_of, fresh, mode_of, reply_of};
+ghost use Rattle.schema_parts.specs.KeywordViews.{fresh, mode_of};
 ghost use Rattle.schema_parts.specs.declared.keyword.Reply.TheVariants as told;
 ghost use Rattle.schema_nodes.specs.NodeTable.{numbered};
 ghost use Rattle.schema_parts.specs.EdgeViews.{edge_of};
@@ -14,16 +14,16 @@ ghost use Rattle.schema_answers.specs.EvaluationPlaces.{CarriesItsNumber};
 ghost use Rattle.schema_node.specs.RunStates.{setting};
 ghost use Rattle.schema_node.specs.RunStates.{FormSays, HasBegun, Keeps, MayRun, StaysRight};
 ghost use Rattle.schema_node.specs.RunStates.{MeetsForm};
-ghost use Rattle.schema_node.specs.VerdictTurns.{told_reply};
 ghost use Rattle.schema_node.specs.UnitStates.{FindsRightly};
 ghost use Rattle.schema_node.specs.Visits.{LeadsNowhere};
 
 use crate::node::verdict::verdict_child;
-use schema_answers::faults::{begun, is_accepting};
+use schema_answers::faults::begun;
 use schema_answers::matches::step_match;
 use schema_answers::question::{Engine, NamedKeyword, Question};
+use schema_answers::verdict_runs::{dropped, reply_with, verdict_of};
 use schema_contexts::validation::ValidationContext;
-use schema_parts::keyword::{Answer, Mode, Reply, Step, Validate};
+use schema_parts::keyword::{Answer, Mode, Step, Validate};
 use schema_parts::matcher::Matcher;
 use schema_parts::numbers::SchemaNode;
 use schema_reports::instance::Instance;
@@ -90,40 +90,6 @@ fn begun_run<K: Validate>(
         → (K.words texts).begin (K.shape keyword.now) (subject_of instance.entry) for_verdict ≡ (run, fresh for_verdict)) }
 {
     keyword.begin(alloc, instance, Mode::Verdict)
-}
-
-// The verdict of an answer.
-fn verdict_of(answer: Answer<'_>) -> bool
-    ensures verdict { (texts : Bool) → result ≡ (answer_of texts answer.entry).verdict }
-{
-    match answer {
-        Answer::Verdict(valid) => valid,
-        other => other_verdict(other),
-    }
-}
-
-// That of an answer of another mode. Its room on the stack is its own.
-#[inline(never)]
-fn other_verdict(answer: Answer<'_>) -> bool
-    ensures verdict { (texts : Bool) → result ≡ (answer_of texts answer.entry).verdict }
-{
-    is_accepting(answer)
-}
-
-// Drops an answer. Its room on the stack is its own.
-#[inline(never)]
-fn dropped(answer: Answer<'_>) {
-    drop(answer);
-}
-
-// What a turn is told, as a reply.
-fn reply_with<'i>(told: Option<bool>) -> Reply<'i>
-    ensures told { (texts : Bool) → reply_of texts result ≡ told_reply told }
-{
-    match told {
-        None => Reply::Nothing,
-        Some(truth) => Reply::Truth(truth),
-    }
 }
 
 // The turns of a run for the verdict that has begun, and its answer once they are done.

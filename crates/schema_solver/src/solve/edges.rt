@@ -13,15 +13,15 @@ ghost use Rattle.schema_answers.specs.EvaluationPlaces.{CarriesItsNumber, steps_
 ghost use Rattle.schema_solving.specs.Found.{SaysPair};
 ghost use Rattle.schema_solving.specs.Says.{ChildSays, EdgeSays};
 ghost use Rattle.schema_solver.specs.Asked.{solver_of};
-ghost use Rattle.schema_solver.specs.Contexts.{found_of, solver_places};
+ghost use Rattle.schema_pairs.specs.Contexts.{found_of, solver_places};
 ghost use Rattle.schema_solver.specs.Solving.{Goes, HasEachCut, InEach, IsEdge, MaySolve};
 
-use crate::context::SolverContext;
-use crate::pair::SolverPair;
 use crate::question::{Asked, SolverEngine};
 use crate::solve::entries::solve_node;
 use schema_answers::spots::one_below;
 use schema_contexts::marks::child_edge;
+use schema_pairs::context::SolverContext;
+use schema_pairs::pair::SolverPair;
 use schema_parts::keyword::{Below, Validate};
 use schema_parts::matcher::Matcher;
 use schema_parts::numbers::{Edge, SchemaNode};
@@ -125,14 +125,6 @@ fn solve_pair<'i, K: Validate, M: Matcher>(
     };
     let valid = solve_node(engine, node, &asked, context)?;
     pair.exit(context);
-    if !valid {
-        pair.refuse(context, mark)?;
-        return Ok(false);
-    }
-    if pair.is_idle(context) {
-        pair.settle(context, mark)?;
-    } else {
-        pair.assume(context)?;
-    }
-    Ok(true)
+    pair.keep_answer(context, mark, valid)?;
+    Ok(valid)
 }

@@ -9,15 +9,15 @@ ghost use Rattle.schema_answers.specs.EvaluationPlaces.{CarriesItsNumber, steps_
 ghost use Rattle.schema_solving.specs.Found.{SaysUnder};
 ghost use Rattle.schema_solving.specs.Says.{FormSays, PartsSay};
 ghost use Rattle.schema_solver.specs.Asked.{solver_of};
-ghost use Rattle.schema_solver.specs.Contexts.{found_of, solver_places};
+ghost use Rattle.schema_pairs.specs.Contexts.{found_of, solver_places};
 ghost use Rattle.schema_solver.specs.Solving.{Goes, InEach, MaySolve};
 
-use crate::context::SolverContext;
 use crate::question::{Asked, SolverEngine};
 use crate::solve::edges::solve_edge;
 use crate::solve::turns::solver_answer;
 use schema_answers::question::NamedKeyword;
 use schema_nodes::node::{Entry, EntryForm, NodeForm};
+use schema_pairs::context::SolverContext;
 use schema_parts::keyword::Validate;
 use schema_parts::matcher::Matcher;
 use schema_parts::numbers::SchemaNode;

@@ -4,24 +4,25 @@ ghost use Rattle.serde_json.specs.View.{view};
 ghost use Rattle.schema_reports.specs.InstanceViews.{subject_of};
 ghost use Rattle.schema_definitions.specs.Keywords.{for_verdict};
 ghost use Rattle.schema_definitions.specs.Matching.{finished};
-ghost use Rattle.schema_parts.specs.KeywordViews.{answer_of, fresh, reply_of};
+ghost use Rattle.schema_parts.specs.KeywordViews.{answer_of, fresh};
 ghost use Rattle.schema_parts.specs.MatcherViews.{FinishesEach};
 ghost use Rattle.schema_nodes.specs.NodeTable.{numbered};
 ghost use Rattle.schema_answers.specs.NodeRuns.{HasForm, form_at_work};
 ghost use Rattle.schema_answers.specs.EvaluationPlaces.{CarriesItsNumber, steps_to};
 ghost use Rattle.schema_solving.specs.Says.{FormSays};
 ghost use Rattle.schema_solver.specs.Asked.{solver_of};
-ghost use Rattle.schema_solver.specs.Contexts.{found_of, solver_places};
+ghost use Rattle.schema_pairs.specs.Contexts.{found_of, solver_places};
 ghost use Rattle.schema_solver.specs.Solving.{Goes, InEach, MaySolve};
-ghost use Rattle.schema_solver.specs.TurningOn.{HasBegun, told_reply};
+ghost use Rattle.schema_solver.specs.TurningOn.{HasBegun};
 
-use crate::context::SolverContext;
 use crate::question::{Asked, SolverEngine};
 use crate::solve::edges::solve_child;
-use schema_answers::faults::{begun, is_accepting};
+use schema_answers::faults::begun;
 use schema_answers::question::NamedKeyword;
+use schema_answers::verdict_runs::{dropped, reply_with, verdict_of};
 use schema_matches::site::Match;
-use schema_parts::keyword::{Answer, Mode, Reply, Step, Validate};
+use schema_pairs::context::SolverContext;
+use schema_parts::keyword::{Answer, Mode, Step, Validate};
 use schema_parts::matcher::Matcher;
 use schema_parts::numbers::SchemaNode;
 use schema_reports::instance::Instance;
@@ -81,40 +82,6 @@ fn begun_run<K: Validate>(
         → (K.words texts).begin (K.shape keyword.now) (subject_of instance.entry) for_verdict ≡ (run, fresh for_verdict)) }
 {
     keyword.begin(alloc, instance, Mode::Verdict)
-}
-
-// The verdict of an answer.
-fn verdict_of(answer: Answer<'_>) -> bool
-    ensures verdict { (texts : Bool) → result ≡ (answer_of texts answer.entry).verdict }
-{
-    match answer {
-        Answer::Verdict(valid) => valid,
-        other => other_verdict(other),
-    }
-}
-
-// That of an answer of another mode. Its room on the stack is its own.
-#[inline(never)]
-fn other_verdict(answer: Answer<'_>) -> bool
-    ensures verdict { (texts : Bool) → result ≡ (answer_of texts answer.entry).verdict }
-{
-    is_accepting(answer)
-}
-
-// Drops an answer. Its room on the stack is its own.
-#[inline(never)]
-fn dropped(answer: Answer<'_>) {
-    drop(answer);
-}
-
-// What a turn is told, as a reply.
-fn reply_with<'i>(told: Option<bool>) -> Reply<'i>
-    ensures told { (texts : Bool) → reply_of texts result ≡ told_reply told }
-{
-    match told {
-        None => Reply::Nothing,
-        Some(truth) => Reply::Truth(truth),
-    }
 }
 
 // The turns of a run that has begun, and its answer once they are done.

@@ -14,7 +14,6 @@ use crate::compiled::of_compiled_within;
 use crate::options::ValidationOptions;
 use crate::options::root::root_key;
 use crate::validator::Validator;
-use crate::validator::solvable::solver_numbers;
 use schema_check::check::validate_schema;
 use schema_compiler::compiler::compile;
 use schema_keys::error::BuildError;
@@ -25,6 +24,7 @@ use schema_parts::meta::MetaValidators;
 use schema_parts::numbers::SchemaNode;
 use schema_parts::resolver::Resolver;
 use schema_parts::table::KeywordTable;
+use schema_verdicts::finding::VerdictFinder;
 use serde_json::Value;
 use std::alloc::Global;
 
@@ -150,7 +150,7 @@ impl ValidationOptions {
         drop(compiled.keys);
         drop(compiled.reservations);
         let runs = self.run_limit;
-        let followed = solver_numbers(alloc, &nodes)?;
+        let finder = VerdictFinder::of(alloc, &nodes)?;
         let validator = of_compiled_within(
             table,
             resolver,
@@ -159,7 +159,7 @@ impl ValidationOptions {
             SchemaNode(0),
             draft,
             runs,
-            followed,
+            finder,
         )?;
         Ok(validator)
     }

@@ -19,7 +19,6 @@ use crate::map::ValidatorMap;
 use crate::options::ValidationOptions;
 use crate::options::root::root_key;
 use crate::validator::Validator;
-use crate::validator::solvable::solver_numbers;
 use schema_check::check::validate_schema;
 use schema_compiler::compiler::{check_vocabularies, compile_subschema};
 use schema_keys::context::Context;
@@ -34,6 +33,7 @@ use schema_parts::resolver::Resolver;
 use schema_parts::schema_place::SchemaPath;
 use schema_parts::table::KeywordTable;
 use schema_reports::location::OutOfMemory;
+use schema_verdicts::finding::VerdictFinder;
 use serde_json::Value;
 use std::alloc::Global;
 
@@ -220,7 +220,7 @@ impl<'p, S: Resolver, T, M: Matcher> MapBuilding<'p, S, T, M> {
         let nodes = compiled.nodes;
         drop(compiled.keys);
         drop(compiled.reservations);
-        let followed = solver_numbers(self.alloc, &nodes)?;
+        let finder = VerdictFinder::of(self.alloc, &nodes)?;
         let validator = of_compiled_within(
             self.table,
             self.resolver,
@@ -229,7 +229,7 @@ impl<'p, S: Resolver, T, M: Matcher> MapBuilding<'p, S, T, M> {
             SchemaNode(0),
             draft,
             options.run_limit,
-            followed,
+            finder,
         )?;
         Ok(validator)
     }

@@ -4,7 +4,6 @@ ghost use Rattle.schema_nodes.specs.Cloned.{shaped_nodes};
 ghost use Rattle.schema_validator.specs.Cloned.{AnswerSame, SaySame};
 
 use crate::validator::Validator;
-use crate::validator::solvable::numbers_again;
 use schema_parts::cloning::CloneKeyword;
 use schema_parts::matcher::Matcher;
 use schema_reports::location::OutOfMemory;
@@ -32,7 +31,7 @@ impl<K: CloneKeyword, M: Matcher> Validator<K, M> {
             draft: self.draft,
             matcher: self.matcher.clone()?,
             run_limit: self.run_limit,
-            followed: numbers_again(&self.followed)?,
+            finder: self.finder.clone()?,
         })
     }
 }

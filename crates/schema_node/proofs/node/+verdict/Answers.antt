@@ -50,7 +50,7 @@ use Rattle.schema_meaning.proofs.TurnsGiveRuns.{keeps_of_turns}
 use Rattle.schema_node.specs.UnitStates.{child_unit, reply_with}
 use Rattle.schema_node.proofs.NodeUnits.{finds_moved}
 use Rattle.schema_node.proofs.UnitsAsked.{answer_is, child_valid, told_is}
-use Rattle.schema_node.specs.VerdictTurns.{told_reply}
+use Rattle.schema_answers.specs.VerdictRuns.{told_reply}
 use Rattle.schema_node.proofs.VerdictTurns.{asked_verdict, asks_begun, asks_on, stepped_by, turned_by, verdict_told}
 use Rattle.schema_node.proofs.Verdicts.{joins_verdict, keyword_replies, stamps_verdict, verdict_replies, yes_says}
 use Rattle.schema_node.proofs.Measures.{lower_same, lower_across, lower_reference, lower_entered, as_many, no_fewer}

@@ -17,7 +17,8 @@ use Rattle.schema_node.specs.NodeMeets.{child_run, parts_looked, reading}
 use Rattle.schema_answers.specs.NodeRuns.{Reading, Reads, Replies, child_says, edge_needs, parts_say}
 use Rattle.schema_answers.specs.Askings.{asking}
 use Rattle.schema_node.specs.RunStates.{PartsRemember, StaysRight, setting}
-use Rattle.schema_node.specs.VerdictTurns.{AsksVerdictsOn, told_reply}
+use Rattle.schema_answers.specs.VerdictRuns.{told_reply}
+use Rattle.schema_node.specs.VerdictTurns.{AsksVerdictsOn}
 use Rattle.schema_node.specs.Visits.{LeadsNowhere, PartsCount}
 use Rattle.schema_node.proofs.KeywordMeets.{MeetsSoFar}
 use Rattle.schema_contexts.specs.Progress.{busy_at}

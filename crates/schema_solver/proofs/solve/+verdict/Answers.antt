@@ -1,4 +1,5 @@
 use Rattle.std.proofs.Common.{◌≡◌, ◌∙◌, ◌+◌, ◌*◌, ◌<◌, ◌≤◌, ◌||◌, not, ℕ, Bool, suc, arith, sym, refl, ap, ap₂, subst, drop, map, option_map, string_bytes, length, Some, None, false, true, List, [], ◌∷◌, ◌++◌}
+use Rattle.std.specs.Prelude.{◌⊎◌}
 use Rattle.serde_json.specs.View.{view}
 use Rattle.schema_definitions.specs.Keywords.{down, here, Answer, Question, ask, done, ecma, mark, match_text, no_reply, truth, unmark}
 use Rattle.schema_definitions.specs.Laws.{EachKeeps}
@@ -12,7 +13,6 @@ use Rattle.schema_parts.specs.declared.numbers.SchemaNode.{SchemaNode}
 use Rattle.schema_parts.proofs.Drops.{drop_at, drop_past}
 use Rattle.schema_parts.proofs.Replies.{if_ok_mono}
 use Rattle.schema_contexts.specs.Progress.{busy_at, root_places}
-use Rattle.schema_contexts.specs.Verdicts.{Remembers}
 use Rattle.schema_contexts.proofs.Pairs.{busy-below}
 use Rattle.schema_nodes.specs.NodeTable.{numbered, shaped_part}
 use Rattle.schema_nodes.specs.NodeViews.{entry_of, node_of, plan_of}
@@ -22,13 +22,14 @@ use Rattle.schema_answers.proofs.NodeParts.{part_at, plan_is, reference_edge, ke
 use Rattle.schema_solving.specs.Says.{EdgeSays, FormSays, parts_under}
 use Rattle.schema_solving.proofs.Says.{child_some, edge_below, node_says_parts}
 use Rattle.schema_solver.specs.Asked.{is_followed_in, solver_of}
-use Rattle.schema_solver.specs.Contexts.{SettlesAll, found_of, has_pair, solver_places}
+use Rattle.schema_pairs.specs.Contexts.{found_of, has_pair, solver_places}
 use Rattle.schema_solver.specs.Needs.{SaysTheRest}
-use Rattle.schema_solver.specs.Solving.{Begins, Goes, InEach, MaySolve, is_cut, solving_in}
-use Rattle.schema_solver.specs.SolverPairs.{place_of}
-use Rattle.schema_solver.specs.TurningOn.{told_reply}
+use Rattle.schema_pairs.specs.Answering.{AssumesBeside, Begins, Refuses, SettlesAlone}
+use Rattle.schema_solver.specs.Solving.{Goes, InEach, MaySolve, is_cut, solving_in}
+use Rattle.schema_pairs.specs.SolverPairs.{place_of}
+use Rattle.schema_answers.specs.VerdictRuns.{told_reply}
 use Rattle.schema_solver.proofs.Asking.{edge_among, may_cross, may_go_below}
-use Rattle.schema_solver.proofs.Crossing.{apart_mark, at_pair, cut_guards, entry_accepts, entry_refuses, falls_across, falls_across_below, falls_entered, needs_of_cut, needs_of_free, pair_ran, ran_assumed_goes, ran_assumed_says, ran_refused_goes, ran_refused_says, ran_settled_goes, ran_settled_says, pair_new, says_at_once, solvable_here}
+use Rattle.schema_solver.proofs.Crossing.{apart_mark, at_pair, cut_guards, entry_accepts, entry_refuses, falls_across, falls_across_below, falls_entered, needs_of_cut, needs_of_free, pair_new, pair_ran, ran_goes, ran_says_pair, says_at_once, solvable_here}
 use Rattle.schema_solver.proofs.Going.{goes_below, goes_none, goes_on, may_after}
 use Rattle.schema_solver.proofs.PairSteps.{begun_may}
 use Rattle.schema_solver.proofs.solve.+verdict.Goals.{edges::solve_edge-then-edge-via-then-edge, edges::solve_edge-then-edge-via-else-edge+then-not-is_followed}
@@ -83,8 +84,8 @@ edges::solve_pair-solve_node-requires g t c =
     let carries : CarriesItsNumber (solver_places c.enter.new.context) c.numbered_place-place.result = subst (λ v. CarriesItsNumber (root_places v) c.numbered_place-place.result) (sym begins.root) (c.numbered_place-place.ensures.carries old c.in_ok-pair.ensures.numbered) in
     λ κs h. (lower_entered _ _ t falls c.decreases, (h.0, (h.1.0, (h.1.1.0, (h.1.1.1, (may, carries))))))
 
-pub edges::solve_pair-refuse-requires-clause-apart : goal.edges::solve_pair-refuse-requires-clause-apart
-edges::solve_pair-refuse-requires-clause-apart g t c =
+pub edges::solve_pair-keep_answer-requires-clause-apart : goal.edges::solve_pair-keep_answer-requires-clause-apart
+edges::solve_pair-keep_answer-requires-clause-apart g t c =
     let set = solver_of g.K.Validate.words g.K.Validate.is_whole g.K.Validate.shape g.M.Matcher.matching c.args.engine.now in
     let p = steps_to c.args.question.now.place.now in
     let s = subject_of c.args.question.now.instance in
@@ -99,8 +100,8 @@ edges::solve_pair-refuse-requires-clause-apart g t c =
     c.in_ok-mark.ensures.begins c.in_ok-valid.ensures.goes c.in_ok-valid.ensures.says c.in_ok-mark.ensures.mark c.exit.ensures.left c.exit.ensures.root c.exit.ensures.assumed c.exit.ensures.verdicts c.exit.ensures.marking c.exit.ensures.begun in
     apart_mark set old p c.args.node.0 c.enter.new.context c.solve_node.new.context c.exit.new.context c.in_ok-mark.mark c.in_ok-valid.valid ran
 
-pub edges::solve_pair-returns-then-not-valid-clause-goes : goal.edges::solve_pair-returns-then-not-valid-clause-goes
-edges::solve_pair-returns-then-not-valid-clause-goes g t c =
+pub edges::solve_pair-returns-clause-goes : goal.edges::solve_pair-returns-clause-goes
+edges::solve_pair-returns-clause-goes g t c =
     let set = solver_of g.K.Validate.words g.K.Validate.is_whole g.K.Validate.shape g.M.Matcher.matching c.args.engine.now in
     let p = steps_to c.args.question.now.place.now in
     let s = subject_of c.args.question.now.instance in
@@ -113,11 +114,16 @@ edges::solve_pair-returns-then-not-valid-clause-goes g t c =
     let ran = pair_ran set old p c.args.node.0 c.in_ok-pair.pair.node.0 (place_of c.in_ok-pair.pair) (steps_to c.numbered_place-place.result) c.new.new.context c.enter.new.context c.solve_node.new.context c.exit.new.context c.in_ok-mark.mark c.in_ok-valid.valid
     node place same c.numbered_place-place.ensures.same (c.state.ensures.unknown none) (c.state.ensures.idle none) (c.state.ensures.free none) c.in_ok-pair.pair.number c.in_ok-pair.ensures.numbered c.in_ok-pair.ensures.own c.requires.among
     c.in_ok-mark.ensures.begins c.in_ok-valid.ensures.goes c.in_ok-valid.ensures.says c.in_ok-mark.ensures.mark c.exit.ensures.left c.exit.ensures.root c.exit.ensures.assumed c.exit.ensures.verdicts c.exit.ensures.marking c.exit.ensures.begun in
-    let refused = at_pair (λ k z d. Remembers k z false c.exit.new.context.verdicts c.refuse.new.context.verdicts) node place same c.in_ok-refuse.ensures.refused in
-    ran_refused_goes set laws old s p c.args.node.0 c.requires.may c.enter.new.context c.solve_node.new.context c.exit.new.context c.in_ok-mark.mark c.in_ok-valid.valid ran c.refuse.new.context c.refuse.ensures.root c.refuse.ensures.in_progress c.refuse.ensures.marking c.refuse.ensures.begun c.if-not-valid.true c.in_ok-refuse.ensures.dropped refused
+    let x = c.exit.new.context in
+    let n = c.keep_answer.new.context in
+    let mark = c.in_ok-mark.mark in
+    let valid = c.in_ok-valid.valid in
+    let as_no = at_pair (λ k z d. valid ≡ false → Refuses k z mark x n) node place same c.in_ok-keep_answer.ensures.refused in
+    let as_yes = at_pair (λ k z d. valid ≡ true → SettlesAlone k z mark x n ⊎ AssumesBeside k z x n) node place same c.in_ok-keep_answer.ensures.accepted in
+    ran_goes set laws old s p c.args.node.0 c.requires.may c.enter.new.context c.solve_node.new.context x mark valid ran n c.keep_answer.ensures.root c.keep_answer.ensures.in_progress c.keep_answer.ensures.marking c.keep_answer.ensures.begun as_no as_yes
 
-pub edges::solve_pair-returns-then-not-valid-clause-says : goal.edges::solve_pair-returns-then-not-valid-clause-says
-edges::solve_pair-returns-then-not-valid-clause-says g t c =
+pub edges::solve_pair-returns-clause-says : goal.edges::solve_pair-returns-clause-says
+edges::solve_pair-returns-clause-says g t c =
     let set = solver_of g.K.Validate.words g.K.Validate.is_whole g.K.Validate.shape g.M.Matcher.matching c.args.engine.now in
     let p = steps_to c.args.question.now.place.now in
     let s = subject_of c.args.question.now.instance in
@@ -130,98 +136,13 @@ edges::solve_pair-returns-then-not-valid-clause-says g t c =
     let ran = pair_ran set old p c.args.node.0 c.in_ok-pair.pair.node.0 (place_of c.in_ok-pair.pair) (steps_to c.numbered_place-place.result) c.new.new.context c.enter.new.context c.solve_node.new.context c.exit.new.context c.in_ok-mark.mark c.in_ok-valid.valid
     node place same c.numbered_place-place.ensures.same (c.state.ensures.unknown none) (c.state.ensures.idle none) (c.state.ensures.free none) c.in_ok-pair.pair.number c.in_ok-pair.ensures.numbered c.in_ok-pair.ensures.own c.requires.among
     c.in_ok-mark.ensures.begins c.in_ok-valid.ensures.goes c.in_ok-valid.ensures.says c.in_ok-mark.ensures.mark c.exit.ensures.left c.exit.ensures.root c.exit.ensures.assumed c.exit.ensures.verdicts c.exit.ensures.marking c.exit.ensures.begun in
-    let refused = at_pair (λ k z d. Remembers k z false c.exit.new.context.verdicts c.refuse.new.context.verdicts) node place same c.in_ok-refuse.ensures.refused in
-    λ texts tells. ran_refused_says set laws old s p c.args.node.0 c.requires.may c.enter.new.context c.solve_node.new.context c.exit.new.context c.in_ok-mark.mark c.in_ok-valid.valid ran c.refuse.new.context c.refuse.ensures.root c.refuse.ensures.in_progress c.refuse.ensures.marking c.refuse.ensures.begun c.if-not-valid.true c.in_ok-refuse.ensures.dropped refused
-
-pub edges::solve_pair-settle-requires-clause-apart : goal.edges::solve_pair-settle-requires-clause-apart
-edges::solve_pair-settle-requires-clause-apart g t c =
-    let set = solver_of g.K.Validate.words g.K.Validate.is_whole g.K.Validate.shape g.M.Matcher.matching c.args.engine.now in
-    let p = steps_to c.args.question.now.place.now in
-    let s = subject_of c.args.question.now.instance in
-    let old = c.args.context.now in
-    let node : c.in_ok-pair.pair.node.0 ≡ c.args.node.0 = ap (λ (n : SchemaNode). n.0) c.in_ok-pair.ensures.node in
-    let place = c.in_ok-pair.ensures.place in
-    let same = c.in_ok-pair.ensures.unchanged in
-    let none : c.state.result ≡ None = c.in_default.is in
-    let laws : (texts : Bool) → EachKeeps (g.K.Validate.words texts) = λ texts m. (g.K.Validate.absorbed m, keeps_of_turns (g.K.Validate.words texts) m (g.K.Validate.absorbed m) (g.K.Validate.remaining m) (g.K.Validate.can_be texts m) (g.K.Validate.ends texts m) (g.K.Validate.fits texts m) (g.met.K.Validate.turn_laws texts m) (g.met.K.Validate.function_laws texts m)) in
-    let ran = pair_ran set old p c.args.node.0 c.in_ok-pair.pair.node.0 (place_of c.in_ok-pair.pair) (steps_to c.numbered_place-place.result) c.new.new.context c.enter.new.context c.solve_node.new.context c.exit.new.context c.in_ok-mark.mark c.in_ok-valid.valid
-    node place same c.numbered_place-place.ensures.same (c.state.ensures.unknown none) (c.state.ensures.idle none) (c.state.ensures.free none) c.in_ok-pair.pair.number c.in_ok-pair.ensures.numbered c.in_ok-pair.ensures.own c.requires.among
-    c.in_ok-mark.ensures.begins c.in_ok-valid.ensures.goes c.in_ok-valid.ensures.says c.in_ok-mark.ensures.mark c.exit.ensures.left c.exit.ensures.root c.exit.ensures.assumed c.exit.ensures.verdicts c.exit.ensures.marking c.exit.ensures.begun in
-    apart_mark set old p c.args.node.0 c.enter.new.context c.solve_node.new.context c.exit.new.context c.in_ok-mark.mark c.in_ok-valid.valid ran
-
-pub edges::solve_pair-returns-in_ok-settle-clause-goes : goal.edges::solve_pair-returns-in_ok-settle-clause-goes
-edges::solve_pair-returns-in_ok-settle-clause-goes g t c =
-    let set = solver_of g.K.Validate.words g.K.Validate.is_whole g.K.Validate.shape g.M.Matcher.matching c.args.engine.now in
-    let p = steps_to c.args.question.now.place.now in
-    let s = subject_of c.args.question.now.instance in
-    let old = c.args.context.now in
-    let node : c.in_ok-pair.pair.node.0 ≡ c.args.node.0 = ap (λ (n : SchemaNode). n.0) c.in_ok-pair.ensures.node in
-    let place = c.in_ok-pair.ensures.place in
-    let same = c.in_ok-pair.ensures.unchanged in
-    let none : c.state.result ≡ None = c.in_default.is in
-    let laws : (texts : Bool) → EachKeeps (g.K.Validate.words texts) = λ texts m. (g.K.Validate.absorbed m, keeps_of_turns (g.K.Validate.words texts) m (g.K.Validate.absorbed m) (g.K.Validate.remaining m) (g.K.Validate.can_be texts m) (g.K.Validate.ends texts m) (g.K.Validate.fits texts m) (g.met.K.Validate.turn_laws texts m) (g.met.K.Validate.function_laws texts m)) in
-    let ran = pair_ran set old p c.args.node.0 c.in_ok-pair.pair.node.0 (place_of c.in_ok-pair.pair) (steps_to c.numbered_place-place.result) c.new.new.context c.enter.new.context c.solve_node.new.context c.exit.new.context c.in_ok-mark.mark c.in_ok-valid.valid
-    node place same c.numbered_place-place.ensures.same (c.state.ensures.unknown none) (c.state.ensures.idle none) (c.state.ensures.free none) c.in_ok-pair.pair.number c.in_ok-pair.ensures.numbered c.in_ok-pair.ensures.own c.requires.among
-    c.in_ok-mark.ensures.begins c.in_ok-valid.ensures.goes c.in_ok-valid.ensures.says c.in_ok-mark.ensures.mark c.exit.ensures.left c.exit.ensures.root c.exit.ensures.assumed c.exit.ensures.verdicts c.exit.ensures.marking c.exit.ensures.begun in
-    let settles = at_pair (λ k z d. SettlesAll ((k, z) ∷ drop c.in_ok-mark.mark c.exit.new.context.assumed) c.exit.new.context.verdicts c.settle.new.context.verdicts) node place same c.in_ok-settle.ensures.settled in
-    let alone : (k : ℕ) → has_pair c.exit.new.context.in_progress k p ≡ false = subst (λ z. (k : ℕ) → has_pair c.exit.new.context.in_progress k z ≡ false) place (c.if-is_idle.ensures.none refl) in
-    ran_settled_goes set laws old s p c.args.node.0 c.requires.may c.enter.new.context c.solve_node.new.context c.exit.new.context c.in_ok-mark.mark c.in_ok-valid.valid ran c.settle.new.context c.settle.ensures.root c.settle.ensures.in_progress c.settle.ensures.marking c.settle.ensures.begun c.if-not-valid.false alone c.in_ok-settle.ensures.dropped settles
-
-pub edges::solve_pair-returns-in_ok-settle-clause-says : goal.edges::solve_pair-returns-in_ok-settle-clause-says
-edges::solve_pair-returns-in_ok-settle-clause-says g t c =
-    let set = solver_of g.K.Validate.words g.K.Validate.is_whole g.K.Validate.shape g.M.Matcher.matching c.args.engine.now in
-    let p = steps_to c.args.question.now.place.now in
-    let s = subject_of c.args.question.now.instance in
-    let old = c.args.context.now in
-    let node : c.in_ok-pair.pair.node.0 ≡ c.args.node.0 = ap (λ (n : SchemaNode). n.0) c.in_ok-pair.ensures.node in
-    let place = c.in_ok-pair.ensures.place in
-    let same = c.in_ok-pair.ensures.unchanged in
-    let none : c.state.result ≡ None = c.in_default.is in
-    let laws : (texts : Bool) → EachKeeps (g.K.Validate.words texts) = λ texts m. (g.K.Validate.absorbed m, keeps_of_turns (g.K.Validate.words texts) m (g.K.Validate.absorbed m) (g.K.Validate.remaining m) (g.K.Validate.can_be texts m) (g.K.Validate.ends texts m) (g.K.Validate.fits texts m) (g.met.K.Validate.turn_laws texts m) (g.met.K.Validate.function_laws texts m)) in
-    let ran = pair_ran set old p c.args.node.0 c.in_ok-pair.pair.node.0 (place_of c.in_ok-pair.pair) (steps_to c.numbered_place-place.result) c.new.new.context c.enter.new.context c.solve_node.new.context c.exit.new.context c.in_ok-mark.mark c.in_ok-valid.valid
-    node place same c.numbered_place-place.ensures.same (c.state.ensures.unknown none) (c.state.ensures.idle none) (c.state.ensures.free none) c.in_ok-pair.pair.number c.in_ok-pair.ensures.numbered c.in_ok-pair.ensures.own c.requires.among
-    c.in_ok-mark.ensures.begins c.in_ok-valid.ensures.goes c.in_ok-valid.ensures.says c.in_ok-mark.ensures.mark c.exit.ensures.left c.exit.ensures.root c.exit.ensures.assumed c.exit.ensures.verdicts c.exit.ensures.marking c.exit.ensures.begun in
-    let settles = at_pair (λ k z d. SettlesAll ((k, z) ∷ drop c.in_ok-mark.mark c.exit.new.context.assumed) c.exit.new.context.verdicts c.settle.new.context.verdicts) node place same c.in_ok-settle.ensures.settled in
-    let alone : (k : ℕ) → has_pair c.exit.new.context.in_progress k p ≡ false = subst (λ z. (k : ℕ) → has_pair c.exit.new.context.in_progress k z ≡ false) place (c.if-is_idle.ensures.none refl) in
-    λ texts tells. ran_settled_says set laws old s p c.args.node.0 c.requires.may c.enter.new.context c.solve_node.new.context c.exit.new.context c.in_ok-mark.mark c.in_ok-valid.valid ran c.settle.new.context c.settle.ensures.root c.settle.ensures.in_progress c.settle.ensures.marking c.settle.ensures.begun c.if-not-valid.false alone c.in_ok-settle.ensures.dropped settles
-
-pub edges::solve_pair-returns-in_ok-assume-clause-goes : goal.edges::solve_pair-returns-in_ok-assume-clause-goes
-edges::solve_pair-returns-in_ok-assume-clause-goes g t c =
-    let set = solver_of g.K.Validate.words g.K.Validate.is_whole g.K.Validate.shape g.M.Matcher.matching c.args.engine.now in
-    let p = steps_to c.args.question.now.place.now in
-    let s = subject_of c.args.question.now.instance in
-    let old = c.args.context.now in
-    let node : c.in_ok-pair.pair.node.0 ≡ c.args.node.0 = ap (λ (n : SchemaNode). n.0) c.in_ok-pair.ensures.node in
-    let place = c.in_ok-pair.ensures.place in
-    let same = c.in_ok-pair.ensures.unchanged in
-    let none : c.state.result ≡ None = c.in_default.is in
-    let laws : (texts : Bool) → EachKeeps (g.K.Validate.words texts) = λ texts m. (g.K.Validate.absorbed m, keeps_of_turns (g.K.Validate.words texts) m (g.K.Validate.absorbed m) (g.K.Validate.remaining m) (g.K.Validate.can_be texts m) (g.K.Validate.ends texts m) (g.K.Validate.fits texts m) (g.met.K.Validate.turn_laws texts m) (g.met.K.Validate.function_laws texts m)) in
-    let ran = pair_ran set old p c.args.node.0 c.in_ok-pair.pair.node.0 (place_of c.in_ok-pair.pair) (steps_to c.numbered_place-place.result) c.new.new.context c.enter.new.context c.solve_node.new.context c.exit.new.context c.in_ok-mark.mark c.in_ok-valid.valid
-    node place same c.numbered_place-place.ensures.same (c.state.ensures.unknown none) (c.state.ensures.idle none) (c.state.ensures.free none) c.in_ok-pair.pair.number c.in_ok-pair.ensures.numbered c.in_ok-pair.ensures.own c.requires.among
-    c.in_ok-mark.ensures.begins c.in_ok-valid.ensures.goes c.in_ok-valid.ensures.says c.in_ok-mark.ensures.mark c.exit.ensures.left c.exit.ensures.root c.exit.ensures.assumed c.exit.ensures.verdicts c.exit.ensures.marking c.exit.ensures.begun in
-    let pushed = at_pair (λ k z d. c.assume.new.context.assumed ≡ c.exit.new.context.assumed ++ (k, z) ∷ []) node place same c.in_ok-assume.ensures.pushed in
-    let (k, other) = c.if-is_idle.ensures.some refl in
-    let beside : has_pair c.exit.new.context.in_progress k p ≡ true = subst (λ z. has_pair c.exit.new.context.in_progress k z ≡ true) place other in
-    ran_assumed_goes set laws old s p c.args.node.0 c.requires.may c.enter.new.context c.solve_node.new.context c.exit.new.context c.in_ok-mark.mark c.in_ok-valid.valid ran c.assume.new.context c.assume.ensures.root c.assume.ensures.in_progress c.assume.ensures.marking c.assume.ensures.begun c.if-not-valid.false k beside pushed c.assume.ensures.verdicts
-
-pub edges::solve_pair-returns-in_ok-assume-clause-says : goal.edges::solve_pair-returns-in_ok-assume-clause-says
-edges::solve_pair-returns-in_ok-assume-clause-says g t c =
-    let set = solver_of g.K.Validate.words g.K.Validate.is_whole g.K.Validate.shape g.M.Matcher.matching c.args.engine.now in
-    let p = steps_to c.args.question.now.place.now in
-    let s = subject_of c.args.question.now.instance in
-    let old = c.args.context.now in
-    let node : c.in_ok-pair.pair.node.0 ≡ c.args.node.0 = ap (λ (n : SchemaNode). n.0) c.in_ok-pair.ensures.node in
-    let place = c.in_ok-pair.ensures.place in
-    let same = c.in_ok-pair.ensures.unchanged in
-    let none : c.state.result ≡ None = c.in_default.is in
-    let laws : (texts : Bool) → EachKeeps (g.K.Validate.words texts) = λ texts m. (g.K.Validate.absorbed m, keeps_of_turns (g.K.Validate.words texts) m (g.K.Validate.absorbed m) (g.K.Validate.remaining m) (g.K.Validate.can_be texts m) (g.K.Validate.ends texts m) (g.K.Validate.fits texts m) (g.met.K.Validate.turn_laws texts m) (g.met.K.Validate.function_laws texts m)) in
-    let ran = pair_ran set old p c.args.node.0 c.in_ok-pair.pair.node.0 (place_of c.in_ok-pair.pair) (steps_to c.numbered_place-place.result) c.new.new.context c.enter.new.context c.solve_node.new.context c.exit.new.context c.in_ok-mark.mark c.in_ok-valid.valid
-    node place same c.numbered_place-place.ensures.same (c.state.ensures.unknown none) (c.state.ensures.idle none) (c.state.ensures.free none) c.in_ok-pair.pair.number c.in_ok-pair.ensures.numbered c.in_ok-pair.ensures.own c.requires.among
-    c.in_ok-mark.ensures.begins c.in_ok-valid.ensures.goes c.in_ok-valid.ensures.says c.in_ok-mark.ensures.mark c.exit.ensures.left c.exit.ensures.root c.exit.ensures.assumed c.exit.ensures.verdicts c.exit.ensures.marking c.exit.ensures.begun in
-    let pushed = at_pair (λ k z d. c.assume.new.context.assumed ≡ c.exit.new.context.assumed ++ (k, z) ∷ []) node place same c.in_ok-assume.ensures.pushed in
-    let (k, other) = c.if-is_idle.ensures.some refl in
-    let beside : has_pair c.exit.new.context.in_progress k p ≡ true = subst (λ z. has_pair c.exit.new.context.in_progress k z ≡ true) place other in
-    λ texts tells. ran_assumed_says set laws old s p c.args.node.0 c.requires.may c.enter.new.context c.solve_node.new.context c.exit.new.context c.in_ok-mark.mark c.in_ok-valid.valid ran c.assume.new.context c.assume.ensures.root c.assume.ensures.in_progress c.assume.ensures.marking c.assume.ensures.begun c.if-not-valid.false k beside pushed c.assume.ensures.verdicts
+    let x = c.exit.new.context in
+    let n = c.keep_answer.new.context in
+    let mark = c.in_ok-mark.mark in
+    let valid = c.in_ok-valid.valid in
+    let as_no = at_pair (λ k z d. valid ≡ false → Refuses k z mark x n) node place same c.in_ok-keep_answer.ensures.refused in
+    let as_yes = at_pair (λ k z d. valid ≡ true → SettlesAlone k z mark x n ⊎ AssumesBeside k z x n) node place same c.in_ok-keep_answer.ensures.accepted in
+    λ texts tells. ran_says_pair set laws old s p c.args.node.0 c.requires.may c.enter.new.context c.solve_node.new.context x mark valid ran n c.keep_answer.ensures.root c.keep_answer.ensures.in_progress c.keep_answer.ensures.marking c.keep_answer.ensures.begun as_no as_yes
 
 pub edges::solve_edge-solve_pair-requires : goal.edges::solve_edge-solve_pair-requires
 edges::solve_edge-solve_pair-requires g t c =

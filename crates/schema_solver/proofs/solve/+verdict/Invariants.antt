@@ -8,11 +8,12 @@ use Rattle.schema_nodes.specs.NodeTable.{numbered, shaped_part}
 use Rattle.schema_nodes.specs.NodeViews.{entry_of}
 use Rattle.schema_answers.specs.EvaluationPlaces.{steps_to}
 use Rattle.schema_solver.specs.Asked.{is_followed_in, solver_of}
-use Rattle.schema_solver.specs.Contexts.{found_of}
+use Rattle.schema_pairs.specs.Contexts.{found_of}
 use Rattle.schema_solver.specs.Needs.{SaysTheRest, edge_needs, pair_needs}
 use Rattle.schema_solver.specs.Solving.{Goes, InEach, is_cut}
 use Rattle.schema_parts.specs.KeywordViews.{answer_of}
-use Rattle.schema_solver.specs.TurningOn.{AsksOn, TurnsOn, told_reply}
+use Rattle.schema_answers.specs.VerdictRuns.{told_reply}
+use Rattle.schema_solver.specs.TurningOn.{AsksOn, TurnsOn}
 use Rattle.schema_solver.proofs.solve.+verdict.Given as goal
 
 abbrev pub decreases-edges::solve_child : goal.decreases-edges::solve_child

@@ -7,8 +7,9 @@ use Rattle.schema_nodes.proofs.RankedTable.{ranked_table}
 use Rattle.schema_answers.specs.EvaluationPlaces.{steps_to}
 use Rattle.schema_solving.specs.Found.{SaysUnder}
 use Rattle.schema_solver.specs.Asked.{solver_of}
-use Rattle.schema_solver.specs.Contexts.{found_of, solver_places}
-use Rattle.schema_solver.specs.Solving.{Goes, InEach, MaySolve, fresh}
+use Rattle.schema_pairs.specs.Contexts.{found_of, solver_places}
+use Rattle.schema_pairs.specs.Answering.{fresh}
+use Rattle.schema_solver.specs.Solving.{Goes, InEach, MaySolve}
 use Rattle.schema_solver.proofs.Going.{end_few, end_says, fresh_may}
 use Rattle.schema_solver.proofs.solve.solve_root.Goals as goal
 
@@ -49,3 +50,40 @@ returns-clause-few g c =
     let new = c.solve_node.new.context in
     let went : Goes set [] (fresh v) new = subst (λ p. Goes set p (fresh v) new) place (subst (λ z. Goes set (steps_to c.given-place.result) z new) begins c.in_ok-valid.ensures.goes) in
     λ ns each. (end_few set laws ranked c.requires.monotone v c.args.node.0 c.requires.known new went ns each)
+
+pub returns-clause-rests : goal.returns-clause-rests
+returns-clause-rests g c =
+    let set = solver_of g.K.Validate.words g.K.Validate.is_whole g.K.Validate.shape g.M.Matcher.matching c.args.engine.now in
+    let place : steps_to c.given-place.result ≡ [] = c.given-place.ensures.same ∙ c.root-root.ensures.root in
+    let new = c.solve_node.new.context in
+    subst (λ p. InEach set (view new.root) (λ texts w. SaysUnder w (found_of new) c.args.node.0 p c.in_ok-valid.valid)) place c.in_ok-valid.ensures.says
+
+pub returns-clause-root : goal.returns-clause-root
+returns-clause-root g c =
+    let set = solver_of g.K.Validate.words g.K.Validate.is_whole g.K.Validate.shape g.M.Matcher.matching c.args.engine.now in
+    let v = c.args.instance.now in
+    let begins : c.args.context.now ≡ fresh v = c.requires.fresh in
+    let place : steps_to c.given-place.result ≡ [] = c.given-place.ensures.same ∙ c.root-root.ensures.root in
+    let new = c.solve_node.new.context in
+    let went : Goes set [] (fresh v) new = subst (λ p. Goes set p (fresh v) new) place (subst (λ z. Goes set (steps_to c.given-place.result) z new) begins c.in_ok-valid.ensures.goes) in
+    went.root
+
+pub returns-clause-idle : goal.returns-clause-idle
+returns-clause-idle g c =
+    let set = solver_of g.K.Validate.words g.K.Validate.is_whole g.K.Validate.shape g.M.Matcher.matching c.args.engine.now in
+    let v = c.args.instance.now in
+    let begins : c.args.context.now ≡ fresh v = c.requires.fresh in
+    let place : steps_to c.given-place.result ≡ [] = c.given-place.ensures.same ∙ c.root-root.ensures.root in
+    let new = c.solve_node.new.context in
+    let went : Goes set [] (fresh v) new = subst (λ p. Goes set p (fresh v) new) place (subst (λ z. Goes set (steps_to c.given-place.result) z new) begins c.in_ok-valid.ensures.goes) in
+    went.in_progress
+
+pub returns-clause-sound : goal.returns-clause-sound
+returns-clause-sound g c =
+    let set = solver_of g.K.Validate.words g.K.Validate.is_whole g.K.Validate.shape g.M.Matcher.matching c.args.engine.now in
+    let v = c.args.instance.now in
+    let begins : c.args.context.now ≡ fresh v = c.requires.fresh in
+    let place : steps_to c.given-place.result ≡ [] = c.given-place.ensures.same ∙ c.root-root.ensures.root in
+    let new = c.solve_node.new.context in
+    let went : Goes set [] (fresh v) new = subst (λ p. Goes set p (fresh v) new) place (subst (λ z. Goes set (steps_to c.given-place.result) z new) begins c.in_ok-valid.ensures.goes) in
+    went.sound

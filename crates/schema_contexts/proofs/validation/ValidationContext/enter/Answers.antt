@@ -5,7 +5,7 @@ use Rattle.schema_places.specs.Numbers.{OwnNumbers, place_at}
 use Rattle.schema_contexts.specs.ProgressViews.{Holds, pair_of}
 use Rattle.schema_contexts.specs.Progress.{Adds, Context, Distinct, Enters, FewRows, IsWide, Pairs, busy_at, row_words}
 use Rattle.schema_contexts.specs.Rows.{AreWide, PutsBit, has_bit, row_in, row_numbers, words_in}
-use Rattle.schema_contexts.specs.declared.validation.InProgress.{InProgress}
+use Rattle.schema_contexts.specs.declared.numbered_pairs.NumberedPair.{NumberedPair}
 use Rattle.std.proofs.lemmas.List.{length-map}
 use Rattle.schema_contexts.proofs.Alone.{busy_short}
 use Rattle.schema_contexts.proofs.Entering.{at_its_own, count_put, pushed, some_place, whatever_else}
@@ -66,7 +66,7 @@ overflow_add-count c =
     let read : r ≡ get_or i.counts.items k 0 = c.index-count.ensures ∙ whatever_else c.make_counts.new.counts.items k r 0 (omega (arith, c.in_ok-make_counts.ensures.made, many_places, known)) ∙ c.make_counts.ensures.same k in
     let short : length (busy_at (place_at ps k) es) ≤ length es = busy_short (place_at ps k) es in
     let many : length es ≡ length i.pairs.items = length-map i.pairs.items (pair_of ps) in
-    let size : length c.push_within.new.pairs.items ≡ length i.pairs.items + 1 = ap length c.push_within.ensures.pushed ∙ length-append c.reserve.new.self.items _ ∙ ap (λ (xs : List InProgress). length xs + 1) c.reserve.ensures.items in
+    let size : length c.push_within.new.pairs.items ≡ length i.pairs.items + 1 = ap length c.push_within.ensures.pushed ∙ length-append c.reserve.new.self.items _ ∙ ap (λ (xs : List NumberedPair). length xs + 1) c.reserve.ensures.items in
     let a = c.push_within.new.pairs.ok in
     let b = c.push_within.new.pairs.small in
     let small : r + 1 < 9223372036854775808 = omega (arith, read, short, many, size, h.guards.counted k known, a.0, a.1, b) in
@@ -77,8 +77,8 @@ after : (c : goal.After-self-3-1) → map (pair_of (root_places c.self.inside.pl
     ≡ map (pair_of (root_places c.self.inside.places)) c.self.inside.pairs.items ++ (c.args.node.0, place_at (root_places c.self.inside.places) c.args.place) ∷ []
 after c =
     let i = c.self.inside in
-    let e : InProgress = record { node = c.args.node; place = c.args.place } in
-    pushed (root_places i.places) i.pairs.items c.push_within.new.pairs.items e (c.push_within.ensures.pushed ∙ ap (λ (xs : List InProgress). xs ++ e ∷ []) c.reserve.ensures.items)
+    let e : NumberedPair = record { node = c.args.node; place = c.args.place } in
+    pushed (root_places i.places) i.pairs.items c.push_within.new.pairs.items e (c.push_within.ensures.pushed ∙ ap (λ (xs : List NumberedPair). xs ++ e ∷ []) c.reserve.ensures.items)
 
 -- it was not in progress
 fresh : (c : goal.After-self-3-1) → among c.args.node.0 (busy_at (place_at (root_places c.self.inside.places) c.args.place) (map (pair_of (root_places c.self.inside.places)) c.self.inside.pairs.items)) ≡ false

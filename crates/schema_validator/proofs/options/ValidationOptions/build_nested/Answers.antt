@@ -31,7 +31,7 @@ of_compiled_within-requires g c =
     let done = c.in_ok-compiled.ensures.compiled (g.M.Matcher.matching c.args.matcher.now) (g.K.Validate.words true) (option_map draft_of inside.draft) (option_map string_bytes inside.base) in
     let same = done.lengths in
     let within = slice_get_within _ 0 _ done.first in
-    record { inside = omega arith; limit = omega arith; monotone = c.in_ok-followed.ensures.monotone }
+    record { inside = omega arith; limit = omega arith; solves = c.in_ok-finder.ensures.solves }
 
 pub returns-in_err-compiled-clause-refused : goal.returns-in_err-compiled-clause-refused
 returns-in_err-compiled-clause-refused g c =

@@ -7,15 +7,15 @@ use Rattle.schema_meaning.proofs.TurnsGiveRuns.{keeps_of_turns}
 use Rattle.schema_nodes.specs.NodeTable.{numbered}
 use Rattle.schema_contexts.proofs.Matches.{nothing_twice}
 use Rattle.schema_parts.specs.MatcherViews.{FinishesEach}
-use Rattle.schema_parts.proofs.Replies.{if_ok_mono}
 use Rattle.schema_validator.specs.Answers.{SaysVerdict}
 use Rattle.schema_validator.specs.Program.{Program}
 use Rattle.schema_validator.proofs.ErrorSearches.{errors_at_once, first_at_once}
+use Rattle.schema_validator.proofs.Solved.{of_some}
 use Rattle.schema_validator.proofs.Searches.{finishes_of}
 use Rattle.schema_validator.proofs.validator.Validator.accepts_at_once.Goals as goal
 
 pub returns-in-Some-clause-first : goal.returns-in-Some-clause-first
-returns-in-Some-clause-first g c = if_ok_mono c.solved.result _ _ (λ accepts says yes texts speaks.
+returns-in-Some-clause-first g c = λ yes texts speaks.
     let w = g.K.Validate in
     let p = c.args.self.now in
     let d = view c.args.instance.now in
@@ -23,14 +23,15 @@ returns-in-Some-clause-first g c = if_ok_mono c.solved.result _ _ (λ accepts sa
     let deep = left nodes (length p.nodes) p.root (subject_in d []) [] in
     let each : EachKeeps (w.words texts) = λ m. (w.absorbed m, keeps_of_turns (w.words texts) m (w.absorbed m) (w.remaining m) (w.can_be texts m) (w.ends texts m) (w.fits texts m) (g.met.K.Validate.turn_laws texts m) (g.met.K.Validate.function_laws texts m)) in
     let one = subst (λ (p : Program g.row.K.Denot g.row.M.Denot). 1 ≤ p.runs) c.self.view_is c.self.invariant.1 in
-    let none_left = subst (λ (p : Program g.row.K.Denot g.row.M.Denot). FinishesEach (g.M.Matcher.matching p.matcher)) c.self.view_is (c.finishes.ensures.finishes c.if-finishes.true) in
+    let says = of_some _ c.in-Some.accepts (SaysVerdict w.shape w.words w.is_whole g.M.Matcher.matching p d []) c.in-Some.is c.in_ok-accepts.ensures.says in
+    let none_left = of_some _ c.in-Some.accepts (λ _. FinishesEach (g.M.Matcher.matching p.matcher)) c.in-Some.is c.in_ok-accepts.ensures.finishes in
     let finishes = finishes_of (g.M.Matcher.matching p.matcher) none_left in (
       suc deep,
       λ n more. first_at_once (w.words texts) each (g.M.Matcher.matching p.matcher) nodes d p.root n p.runs one finishes texts (sym yes ∙ says texts speaks nothing_twice n (omega (arith, more))),
-    )) c.solved.ensures.says
+    )
 
 pub returns-in-Some-clause-errors : goal.returns-in-Some-clause-errors
-returns-in-Some-clause-errors g c = if_ok_mono c.solved.result _ _ (λ accepts says yes texts speaks.
+returns-in-Some-clause-errors g c = λ yes texts speaks.
     let w = g.K.Validate in
     let p = c.args.self.now in
     let d = view c.args.instance.now in
@@ -38,11 +39,12 @@ returns-in-Some-clause-errors g c = if_ok_mono c.solved.result _ _ (λ accepts s
     let deep = left nodes (length p.nodes) p.root (subject_in d []) [] in
     let each : EachKeeps (w.words texts) = λ m. (w.absorbed m, keeps_of_turns (w.words texts) m (w.absorbed m) (w.remaining m) (w.can_be texts m) (w.ends texts m) (w.fits texts m) (g.met.K.Validate.turn_laws texts m) (g.met.K.Validate.function_laws texts m)) in
     let one = subst (λ (p : Program g.row.K.Denot g.row.M.Denot). 1 ≤ p.runs) c.self.view_is c.self.invariant.1 in
-    let none_left = subst (λ (p : Program g.row.K.Denot g.row.M.Denot). FinishesEach (g.M.Matcher.matching p.matcher)) c.self.view_is (c.finishes.ensures.finishes c.if-finishes.true) in
+    let says = of_some _ c.in-Some.accepts (SaysVerdict w.shape w.words w.is_whole g.M.Matcher.matching p d []) c.in-Some.is c.in_ok-accepts.ensures.says in
+    let none_left = of_some _ c.in-Some.accepts (λ _. FinishesEach (g.M.Matcher.matching p.matcher)) c.in-Some.is c.in_ok-accepts.ensures.finishes in
     let finishes = finishes_of (g.M.Matcher.matching p.matcher) none_left in (
       suc deep,
       λ n more. errors_at_once (w.words texts) each (g.M.Matcher.matching p.matcher) nodes d p.root n p.runs one finishes texts (sym yes ∙ says texts speaks nothing_twice n (omega (arith, more))),
-    )) c.solved.ensures.says
+    )
 
 pub returns-then-finishes-clause-first : goal.returns-then-finishes-clause-first
 returns-then-finishes-clause-first g c = λ accepts texts speaks.

@@ -1,10 +1,9 @@
-use Rattle.std.proofs.Common.{◌∙◌, ◌<◌, Bool, ℕ, ap, length, subst, sym}
-use Rattle.std.specs.Prelude.{IfSome, Option}
+use Rattle.std.proofs.Common.{◌∙◌, ◌<◌, ℕ, ap, length, subst, sym}
 use Rattle.std.proofs.lemmas.Option.{IfSome_then}
 use Rattle.schema_definitions.specs.Guarded.{Nodes}
 use Rattle.schema_greatest.specs.NodesSay.{AreMonotone}
 use Rattle.schema_nodes.specs.NodeTable.{numbered}
-use Rattle.schema_solver.specs.declared.followed.Followed.{Followed}
+use Rattle.schema_verdicts.specs.Finding.{SolvesFor}
 use Rattle.schema_validator.specs.Program.{Program}
 use Rattle.schema_validator.proofs.ClonedValidators.{answer_same, say_same}
 use Rattle.schema_validator.proofs.validator.Validator.clone.Goals as goal
@@ -17,7 +16,7 @@ invariant_of-result g c =
     let held = c.self.invariant in (
       subst (λ (n : ℕ). c.self.inside.root.0 < n) (sym count) held.0,
       held.1,
-      IfSome_then c.in_ok-numbers_again.field-0 (subst (λ (o : Option Followed). IfSome o (λ x. (texts : Bool) → AreMonotone (w.words texts) (numbered w.shape c.self.inside.nodes) (length c.self.inside.nodes))) (sym c.in_ok-numbers_again.ensures.same) held.2)
+      IfSome_then c.in_ok-clone-3.field-0 (subst (SolvesFor w.words (numbered w.shape c.self.inside.nodes) (length c.self.inside.nodes)) (sym c.in_ok-clone-3.ensures.same) held.2)
           (λ x said texts. subst (λ (ns : Nodes g.row.K-Shape.Denot). AreMonotone (w.words texts) ns (length c.in_ok-clone.field-0)) (sym shaped)
           (subst (λ (n : ℕ). AreMonotone (w.words texts) (numbered w.shape c.self.inside.nodes) n) (sym count) (said texts))),
     )

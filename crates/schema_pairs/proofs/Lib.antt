@@ -1,0 +1,4 @@
+pub mod FoundOf
+pub mod Assuming
+pub mod Ways
+pub mod Weighing

@@ -1,0 +1,27 @@
+use Rattle.std.proofs.Common.{◌≡◌, false, subst, true}
+use Rattle.std.specs.Prelude.{OnOk, ◌⊎◌}
+use Rattle.schema_definitions.specs.Instance.{Place}
+use Rattle.schema_places.proofs.Closing.{stands}
+use Rattle.schema_pairs.specs.Answering.{AssumesBeside, Refuses, SettlesAlone}
+use Rattle.schema_pairs.specs.Contexts.{solver_places}
+use Rattle.schema_pairs.specs.SolverPairs.{place_of}
+use Rattle.schema_pairs.proofs.pair.SolverPair.keep_answer.Goals as goal
+
+pub keep_answer-requires-clause-known : goal.keep_answer-requires-clause-known
+keep_answer-requires-clause-known c = (stands (place_of c.args.self.now) (solver_places c.args.context.now) c.args.self.now.number c.requires.numbered).0
+
+pub returns-clause-refused : goal.returns-clause-refused
+returns-clause-refused c =
+    let n = c.args.self.now.node.0 in
+    let x = c.args.context.now in
+    let m = c.args.mark in
+    let at = (stands (place_of c.args.self.now) (solver_places c.args.context.now) c.args.self.now.number c.requires.numbered).1 in
+    subst (λ (p : Place). OnOk c.keep_answer.result (c.args.valid ≡ false → Refuses n p m x c.keep_answer.new.self)) at c.keep_answer.ensures.refused
+
+pub returns-clause-accepted : goal.returns-clause-accepted
+returns-clause-accepted c =
+    let n = c.args.self.now.node.0 in
+    let x = c.args.context.now in
+    let m = c.args.mark in
+    let at = (stands (place_of c.args.self.now) (solver_places c.args.context.now) c.args.self.now.number c.requires.numbered).1 in
+    subst (λ (p : Place). OnOk c.keep_answer.result (c.args.valid ≡ true → SettlesAlone n p m x c.keep_answer.new.self ⊎ AssumesBeside n p x c.keep_answer.new.self)) at c.keep_answer.ensures.accepted

@@ -1,0 +1,6 @@
+pub mod Contexts
+pub mod ContextViews
+pub mod Answering
+pub mod Lending
+pub mod SolverPairs
+pub mod Following

@@ -1,8 +1,0 @@
-use Rattle.std.proofs.Common.{◌≡◌, take}
-use Rattle.std.specs.Prelude.{min}
-use Rattle.schema_solver.specs.Following.{edges_weight}
-use Rattle.schema_solver.proofs.Ways.{child_edges}
-use Rattle.schema_solver.proofs.weights.weigh_children.Given as goal
-
-abbrev pub invariant-loop-child : goal.invariant-loop-child
-invariant-loop-child l = l.weight ≡ min 255 (edges_weight l.weights (child_edges (take l.child-index l.children)))
