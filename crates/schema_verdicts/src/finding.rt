@@ -1,7 +1,7 @@
 //! Where a solver finds the verdicts of some nodes.
 ghost use Rattle.std.specs.Prelude.{◌≡◌, ◌<◌, ◌&&◌, ◌↔◌, [], IfOk, IfSome, None, is_some, length, true};
 ghost use Rattle.serde_json.specs.View.{view};
-ghost use Rattle.schema_monotone.specs.Saying.{EachSays};
+ghost use Rattle.schema_verdicts.specs.Saying.{EachSays};
 ghost use Rattle.schema_pairs.specs.Following.{IsFollowing};
 ghost use Rattle.schema_parts.specs.MatcherViews.{FinishesEach};
 ghost use Rattle.schema_nodes.specs.NodeTable.{numbered};
@@ -9,7 +9,7 @@ ghost use Rattle.schema_solver.specs.Asked.{solver_over};
 ghost use Rattle.schema_solver.specs.Solving.{SaysAsNodes};
 ghost use Rattle.schema_verdicts.specs.Finding.{SolvesFor};
 
-use schema_monotone::saying::is_monotone;
+use crate::saying::is_monotone;
 use schema_nodes::node::Nodes;
 use schema_pairs::context::SolverContext;
 use schema_pairs::followed::Followed;

@@ -1,6 +1,6 @@
 use Rattle.std.proofs.Common.{◌∙◌, sym}
-use Rattle.schema_monotone.proofs.Says.{one_says_no, one_more_says}
-use Rattle.schema_monotone.proofs.saying.table_says.Goals as goal
+use Rattle.schema_verdicts.proofs.Says.{one_says_no, one_more_says}
+use Rattle.schema_verdicts.proofs.saying.table_says.Goals as goal
 
 pub returns-then-not-node_says : goal.returns-then-not-node_says
 returns-then-not-node_says g c =

@@ -1,11 +1,11 @@
 use Rattle.std.proofs.Common.{◌∙◌, Some, ap, sym}
 use Rattle.std.specs.List.{list_all}
-use Rattle.schema_monotone.specs.Saying.{form_says}
+use Rattle.schema_verdicts.specs.Saying.{form_says}
 use Rattle.schema_nodes.specs.NodeViews.{form_of}
 use Rattle.schema_nodes.specs.declared.node.Entry.{Entry}
-use Rattle.schema_monotone.proofs.Says.{entries_say, form_in}
+use Rattle.schema_verdicts.proofs.Says.{entries_say, form_in}
 use Rattle.schema_nodes.specs.declared.node.NodeForm.TheVariants.{Keywords}
-use Rattle.schema_monotone.proofs.saying.node_says.Goals as goal
+use Rattle.schema_verdicts.proofs.saying.node_says.Goals as goal
 
 pub returns-in-Keywords : goal.returns-in-Keywords
 returns-in-Keywords g c =

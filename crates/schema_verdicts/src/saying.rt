@@ -3,7 +3,7 @@ ghost use Rattle.std.specs.Prelude.{◌≡◌, ◌↔◌, Bool, length, true};
 ghost use Rattle.std.specs.List.{list_all};
 ghost use Rattle.schema_nodes.specs.declared.node.Entry.{Entry};
 ghost use Rattle.schema_greatest.specs.NodesSay.{AreMonotone};
-ghost use Rattle.schema_monotone.specs.Saying.{EachSays, form_says, node_says, table_says};
+ghost use Rattle.schema_verdicts.specs.Saying.{EachSays, form_says, node_says, table_says};
 ghost use Rattle.schema_nodes.specs.NodeTable.{numbered};
 ghost use Rattle.schema_nodes.specs.NodeViews.{form_of, node_of};
 

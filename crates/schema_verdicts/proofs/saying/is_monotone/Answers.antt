@@ -1,6 +1,6 @@
 use Rattle.std.proofs.Common.{◌∙◌, sym}
-use Rattle.schema_monotone.proofs.Says.{each_from_table, monotone_each, table_from_each}
-use Rattle.schema_monotone.proofs.saying.is_monotone.Goals as goal
+use Rattle.schema_verdicts.proofs.Says.{each_from_table, monotone_each, table_from_each}
+use Rattle.schema_verdicts.proofs.saying.is_monotone.Goals as goal
 
 pub returns : goal.returns
 returns g c =

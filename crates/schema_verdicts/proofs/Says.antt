@@ -17,7 +17,7 @@ use Rattle.schema_nodes.specs.declared.node.Entry.{Entry}
 use Rattle.schema_nodes.specs.declared.node.Node.{Node}
 use Rattle.schema_nodes.specs.declared.node.NodeForm.{NodeForm as CodeForm}
 use Rattle.schema_greatest.specs.NodesSay.{AreMonotone}
-use Rattle.schema_monotone.specs.Saying.{EachSays, form_says, node_says, table_says}
+use Rattle.schema_verdicts.specs.Saying.{EachSays, form_says, node_says, table_says}
 
 flat : {A B : Type 0} (p : B → Bool) (f : A → List B) (xs : List A) → list_all p (flat_map f xs) ≡ list_all (λ x. list_all p (f x)) xs
 flat p f [] = refl
