@@ -1,5 +1,5 @@
 //! The pair of a guarded question: the node that it asks, and the place, with the place's number.
-ghost use Rattle.std.specs.Prelude.{◌≡◌, ◌==◌, ◌++◌, ◌∷◌, [], IfErr, IfOk, OnErr, OnOk, false, is_some, true};
+ghost use Rattle.std.specs.Prelude.{◌≡◌, ◌==◌, ◌++◌, ◌∷◌, [], IfErr, IfOk, OnErr, OnOk, Some, false, is_some, true};
 ghost use Rattle.std.specs.List.{list_any};
 ghost use Rattle.serde_json.specs.View.{view};
 ghost use Rattle.schema_definitions.specs.Instance.{subject_at};
@@ -97,8 +97,23 @@ impl<'q, 'i> GuardedPair<'q, 'i> {
         context.exit(self.node, self.number);
     }
 
-    /// Returns the verdict that is remembered of the pair, unless another node is in progress at its place. It allocates nothing.
-    pub fn remembered_verdict(&self, context: &ValidationContext<'i>) -> Option<bool>
+    /// Returns the verdict of the pair that is known before its node is asked: yes where the pair is in progress, and elsewhere the one
+    /// that is remembered, unless another node is in progress at its place. It allocates nothing.
+    pub fn known_verdict(&self, context: &ValidationContext<'i>) -> Option<bool>
+        requires numbered { IsNumbered (places_in context.now) self.now }
+        ensures busy { list_any (λ i. i == self.now.node.0) (busy_at (place_of self.now) context.now.in_progress) ≡ true
+            → result ≡ Some true }
+        ensures read { list_any (λ i. i == self.now.node.0) (busy_at (place_of self.now) context.now.in_progress) ≡ false
+            → result ≡ read_verdict self.now.node.0 (place_of self.now) context.now }
+    {
+        if self.is_in_progress(context) {
+            return Some(true);
+        }
+        self.remembered_verdict(context)
+    }
+
+    // The verdict that is remembered of the pair, unless another node is in progress at its place.
+    fn remembered_verdict(&self, context: &ValidationContext<'i>) -> Option<bool>
         requires numbered { IsNumbered (places_in context.now) self.now }
         ensures read { result ≡ read_verdict self.now.node.0 (place_of self.now) context.now }
     {

@@ -1,7 +1,8 @@
 -- The subject stands at the question's place in the context's instance, and the place carries its own number, from one step to the
 -- next; and the pair of a guarded question, when it is entered.
-use Rattle.std.proofs.Common.{◌≡◌, ◌∙◌, ◌++◌, ◌∷◌, ◌==◌, ℕ, Bool, [], ap, subst, sym}
-use Rattle.std.specs.Prelude.{Some, option_and_then}
+use Rattle.std.proofs.Common.{◌≡◌, ◌∙◌, ◌⊎◌, ◌++◌, ◌∷◌, ◌==◌, ℕ, Bool, false, true, [], ap, inl, inr, refl, subst, sym}
+use Rattle.std.specs.Prelude.{None, Option, Some, option_and_then, unwrap_or}
+use Rattle.std.proofs.lemmas.Option.{none-some}
 use Rattle.std.specs.List.{list_any}
 use Rattle.serde_json.specs.Data.{Data}
 use Rattle.serde_json.specs.View.{view}
@@ -9,6 +10,7 @@ use Rattle.serde_json.specs.declared.value.Value.{Value}
 use Rattle.schema_definitions.specs.Instance.{Place, Step, Subject, a_value, after_step, subject_at}
 use Rattle.schema_meaning.proofs.Falls.{from_below}
 use Rattle.schema_contexts.specs.Progress.{Context, Pairs, busy_at, root_places}
+use Rattle.schema_contexts.specs.Verdicts.{read_verdict}
 use Rattle.schema_answers.specs.Askings.{Asking, IsAskedOf}
 use Rattle.schema_answers.specs.EvaluationPlaces.{CarriesItsNumber}
 use Rattle.schema_answers.specs.declared.evaluation_place.EvaluationPlace.{EvaluationPlace}
@@ -42,3 +44,31 @@ pub pair_entered : (n m : ℕ) (p q : Place) (c d : Context) (new : Pairs) → m
 pair_entered n m p q c d new node place same entered =
     entered ∙ ap (λ (z : Context). z.in_progress ++ (m, q) ∷ []) same ∙ ap (λ (k : ℕ). c.in_progress ++ (k, q) ∷ []) node
     ∙ ap (λ (z : Place). c.in_progress ++ (n, z) ∷ []) place
+
+-- the verdict that is known of a pair is yes where it is in progress, and the one that is remembered elsewhere
+known : (b : Bool) (read : Option Bool) (v : Bool) → (b ≡ true → Some v ≡ Some true) → (b ≡ false → Some v ≡ read) → ((b ≡ true) × (v ≡ true)) ⊎ ((b ≡ false) × (read ≡ Some v))
+known true read v busy free = inl (refl, ap (λ o. unwrap_or o v) (busy refl))
+known false read v busy free = inr (refl, sym (free refl))
+
+-- of which none is known, it is not in progress, and none is remembered
+unknown : (b : Bool) (read : Option Bool) → (b ≡ true → None ≡ Some true) → (b ≡ false → None ≡ read) → (b ≡ false) × (read ≡ None)
+unknown true read busy free = absurd (none-some true (busy refl))
+unknown false read busy free = (refl, sym (free refl))
+
+module _ (n m : ℕ) (p q : Place) (c d : Context) (node : m ≡ n) (place : q ≡ p) (same : d ≡ c) where
+  pair_read : read_verdict m q d ≡ read_verdict n p c
+  pair_read =
+      ap (λ (z : Context). read_verdict m q z) same ∙ ap (λ (k : ℕ). read_verdict k q c) node ∙ ap (λ (z : Place). read_verdict n z c) place
+
+  pub pair_known : (v : Bool) → (list_any (λ i. i == m) (busy_at q d.in_progress) ≡ true → Some v ≡ Some true) → (list_any (λ i. i == m) (busy_at q d.in_progress) ≡ false → Some v ≡ read_verdict m q d)
+      → ((list_any (λ i. i == n) (busy_at p c.in_progress) ≡ true) × (v ≡ true)) ⊎ ((list_any (λ i. i == n) (busy_at p c.in_progress) ≡ false) × (read_verdict n p c ≡ Some v))
+  pair_known v busy free = elim (known _ _ v busy free) [
+    | inl h ↦ inl (pair_busy n m p q c d _ true node place same refl h.0, h.1)
+    | inr h ↦ inr (pair_busy n m p q c d _ false node place same refl h.0, sym pair_read ∙ h.1)
+  ]
+
+  pub pair_unknown : (list_any (λ i. i == m) (busy_at q d.in_progress) ≡ true → None ≡ Some true) → (list_any (λ i. i == m) (busy_at q d.in_progress) ≡ false → None ≡ read_verdict m q d)
+      → (list_any (λ i. i == n) (busy_at p c.in_progress) ≡ false) × (read_verdict n p c ≡ None)
+  pair_unknown busy free =
+      let h = unknown _ _ busy free in
+      (pair_busy n m p q c d _ false node place same refl h.0, sym pair_read ∙ h.1)

@@ -352,10 +352,7 @@ fn guarded_verdict<'i, K: Validate, M: Matcher>(
         (edge_of edge.now) (told.Truth b)) }
 {
     let pair = GuardedPair::new(context, edge.node, question.place)?;
-    if pair.is_in_progress(context) {
-        return Ok(true);
-    }
-    if let Some(valid) = pair.remembered_verdict(context) {
+    if let Some(valid) = pair.known_verdict(context) {
         return Ok(valid);
     }
     pair.enter(context)?;

@@ -1,10 +1,10 @@
-use Rattle.std.proofs.Common.{◌≡◌, ◌∙◌, ◌==◌, ◌+◌, ◌≤◌, ℕ, Bool, arith, sym, refl, ap, subst, map, option_map, string_bytes, length, Some, false, true, true≢false, List, [], ◌∷◌, ◌++◌, drop}
+use Rattle.std.proofs.Common.{◌≡◌, ◌∙◌, ◌==◌, ◌+◌, ◌≤◌, ℕ, Bool, arith, sym, refl, ap, subst, map, option_map, string_bytes, length, Some, false, true, true≢false, inl, inr, List, [], ◌∷◌, ◌++◌, drop}
 use Rattle.schema_reports.specs.InstanceViews.{subject_of, step_of}
 use Rattle.schema_definitions.specs.Instance.{Place}
 use Rattle.schema_definitions.specs.Keywords.{Question, ask, ecma, for_verdict, mark, match_text, no_reply, truth, unmark}
 use Rattle.schema_answers.specs.EvaluationPlaces.{steps_to}
 use Rattle.schema_answers.specs.GuardedPairs.{place_of}
-use Rattle.schema_node.proofs.Placing.{carries_on, pair_busy, pair_entered, stands_at, stands_below, stands_on}
+use Rattle.schema_node.proofs.Placing.{carries_on, pair_entered, pair_known, pair_unknown, stands_at, stands_below, stands_on}
 use Rattle.schema_contexts.specs.Progress.{places_in}
 use Rattle.schema_parts.specs.declared.numbers.SchemaNode.{SchemaNode}
 use Rattle.std.specs.List.{list_any}
@@ -26,7 +26,7 @@ use Rattle.schema_answers.specs.NodeRuns.{ChildReplies, EdgeReplies, Reading, Re
 use Rattle.schema_contexts.specs.Progress.{Context, NoDeeper, busy_at}
 use Rattle.schema_node.specs.RightVerdicts.{LaysOut}
 use Rattle.schema_answers.specs.Askings.{asking}
-use Rattle.schema_node.specs.RunStates.{FormRemembers, FormSays, MeetsNode, NodeSays, StaysRight, setting}
+use Rattle.schema_node.specs.RunStates.{EdgeSays, FormRemembers, FormSays, MeetsNode, NodeSays, StaysRight, setting}
 use Rattle.schema_contexts.specs.Verdicts.{one_more, read_verdict}
 use Rattle.schema_parts.specs.declared.keyword.Reply.TheVariants as told
 use Rattle.schema_node.proofs.GoesOn.{alone_remembers, asked_across, computed_meets, computed_says, ended_remembers, kept_remembers, kept_stays, pairs_back, planned_remembers, read_meets_edge, read_remembers, read_says, reference_remembers, right_matched, right_same}
@@ -547,64 +547,36 @@ verdict::verdict_entries-returns-clause-visits g t c =
 pub verdict::verdict_edge-returns-clause-visits : goal.verdict::verdict_edge-returns-clause-visits
 verdict::verdict_edge-returns-clause-visits g t c = if_ok_mono c.verdict_node.result _ _ (λ b counts. free_counts (numbered g.K.Validate.shape c.args.engine.now.nodes.now) (asking c.args.question.now) c.args.context.now (edge_of c.args.edge.now) c.verdict_node.new.context c.if-edge.false counts) c.verdict_node.ensures.visits
 
-pub verdict::guarded_verdict-returns-then-is_in_progress-clause-says : goal.verdict::guarded_verdict-returns-then-is_in_progress-clause-says
-verdict::guarded_verdict-returns-then-is_in_progress-clause-says g t c =
-    let p = steps_to c.args.question.now.place.now in
-    let e = edge_of c.args.edge.now in
-    let old = pair_busy e.node c.in_ok-pair.pair.node.0 p (place_of c.in_ok-pair.pair) c.args.context.now c.new.new.context _ true (ap (λ (n : SchemaNode). n.0) c.in_ok-pair.ensures.node) c.in_ok-pair.ensures.place c.in_ok-pair.ensures.unchanged c.is_in_progress.ensures.found c.if-is_in_progress.true in
-    edge_busy g.K.Validate.words g.K.Validate.is_whole (numbered g.K.Validate.shape c.args.engine.now.nodes.now) (length c.args.engine.now.nodes.now) (settling (g.M.Matcher.matching c.args.engine.now.matcher.now) c.args.context.now.remembered.assumptions) (subject_of c.args.question.now.instance) (busy_at p c.args.context.now.in_progress) e (mode_of c.args.question.now.mode) (path_of c.args.question.now.path.now) p (told.Truth true)
-    c.requires.guarded old (yes_says (mode_of c.args.question.now.mode) c.requires.verdict) refl
-
-pub verdict::guarded_verdict-returns-then-is_in_progress-clause-meets : goal.verdict::guarded_verdict-returns-then-is_in_progress-clause-meets
-verdict::guarded_verdict-returns-then-is_in_progress-clause-meets g t c =
-    let ns = numbered g.K.Validate.shape c.args.engine.now.nodes.now in
-    let w = settling (g.M.Matcher.matching c.args.engine.now.matcher.now) c.args.context.now.remembered.assumptions in
-    let p = steps_to c.args.question.now.place.now in
-    let s = subject_of c.args.question.now.instance in
-    let busy = busy_at p c.args.context.now.in_progress in
-    let e = edge_of c.args.edge.now in
-    let old = pair_busy e.node c.in_ok-pair.pair.node.0 p (place_of c.in_ok-pair.pair) c.args.context.now c.new.new.context _ true (ap (λ (n : SchemaNode). n.0) c.in_ok-pair.ensures.node) c.in_ok-pair.ensures.place c.in_ok-pair.ensures.unchanged c.is_in_progress.ensures.found c.if-is_in_progress.true in
-    meets_busy g.K.Validate.words g.K.Validate.is_whole ns (length c.args.engine.now.nodes.now) w s busy e (mode_of c.args.question.now.mode) (path_of c.args.question.now.path.now) p _ _ c.requires.guarded old (sym (ap (λ (z : Context). z.remembered) c.in_ok-pair.ensures.unchanged))
-
-pub verdict::guarded_verdict-returns-then-is_in_progress-clause-remembers : goal.verdict::guarded_verdict-returns-then-is_in_progress-clause-remembers
-verdict::guarded_verdict-returns-then-is_in_progress-clause-remembers g t c = λ mode guarded free.
-    let p = steps_to c.args.question.now.place.now in
-    let e = edge_of c.args.edge.now in
-    let old = pair_busy e.node c.in_ok-pair.pair.node.0 p (place_of c.in_ok-pair.pair) c.args.context.now c.new.new.context _ true (ap (λ (n : SchemaNode). n.0) c.in_ok-pair.ensures.node) c.in_ok-pair.ensures.place c.in_ok-pair.ensures.unchanged c.is_in_progress.ensures.found c.if-is_in_progress.true in
-    absurd (true≢false (sym old ∙ free))
-
-pub verdict::guarded_verdict-returns-then-is_in_progress-clause-visits : goal.verdict::guarded_verdict-returns-then-is_in_progress-clause-visits
-verdict::guarded_verdict-returns-then-is_in_progress-clause-visits g t c =
-    let p = steps_to c.args.question.now.place.now in
-    let e = edge_of c.args.edge.now in
-    let old = pair_busy e.node c.in_ok-pair.pair.node.0 p (place_of c.in_ok-pair.pair) c.args.context.now c.new.new.context _ true (ap (λ (n : SchemaNode). n.0) c.in_ok-pair.ensures.node) c.in_ok-pair.ensures.place c.in_ok-pair.ensures.unchanged c.is_in_progress.ensures.found c.if-is_in_progress.true in
-    busy_counts (numbered g.K.Validate.shape c.args.engine.now.nodes.now) (asking c.args.question.now) c.args.context.now e c.new.new.context c.requires.guarded old (ap (λ (z : Context). z.visits) c.in_ok-pair.ensures.unchanged)
-
 pub verdict::guarded_verdict-returns-in-Some-clause-says : goal.verdict::guarded_verdict-returns-in-Some-clause-says
 verdict::guarded_verdict-returns-in-Some-clause-says g t c =
     let set = setting g.K.Validate.words g.K.Validate.is_whole g.K.Validate.shape g.M.Matcher.matching c.args.engine.now in
     let q = asking c.args.question.now in
     let p = steps_to c.args.question.now.place.now in
     let e = edge_of c.args.edge.now in
-    let fresh = pair_busy e.node c.in_ok-pair.pair.node.0 p (place_of c.in_ok-pair.pair) c.args.context.now c.new.new.context _ false (ap (λ (n : SchemaNode). n.0) c.in_ok-pair.ensures.node) c.in_ok-pair.ensures.place c.in_ok-pair.ensures.unchanged c.is_in_progress.ensures.found c.if-is_in_progress.false in
     let c1 : Context = record c.args.context.now { in_progress = c.args.context.now.in_progress ++ (e.node, p) ∷ [] } in
-    let here = ap (λ (z : Context). read_verdict c.in_ok-pair.pair.node.0 (place_of c.in_ok-pair.pair) z) c.in_ok-pair.ensures.unchanged ∙ ap (λ (k : ℕ). read_verdict k (place_of c.in_ok-pair.pair) c.args.context.now) (ap (λ (n : SchemaNode). n.0) c.in_ok-pair.ensures.node) ∙ ap (λ (z : Place). read_verdict e.node z c.args.context.now) c.in_ok-pair.ensures.place in
-    let was = sym here ∙ sym c.in-Some.ensures.read in
-    let found = read_entered e.node p c.args.context.now c1 refl refl ∙ was in
-    read_says set q e c.args.context.now c.requires.guarded fresh c.requires.verdict c1 c.new.new.context c.in-Some.valid refl refl found c.requires.may.goes_on
+    elim (pair_known e.node c.in_ok-pair.pair.node.0 p (place_of c.in_ok-pair.pair) c.args.context.now c.new.new.context (ap (λ (n : SchemaNode). n.0) c.in_ok-pair.ensures.node) c.in_ok-pair.ensures.place c.in_ok-pair.ensures.unchanged c.in-Some.valid c.in-Some.ensures.busy c.in-Some.ensures.read) [
+      | inl h ↦ subst (λ (b : Bool). EdgeSays set q c.args.context.now e (told.Truth b)) (sym h.1)
+          (edge_busy g.K.Validate.words g.K.Validate.is_whole (numbered g.K.Validate.shape c.args.engine.now.nodes.now) (length c.args.engine.now.nodes.now) (settling (g.M.Matcher.matching c.args.engine.now.matcher.now) c.args.context.now.remembered.assumptions) (subject_of c.args.question.now.instance) (busy_at p c.args.context.now.in_progress) e (mode_of c.args.question.now.mode) (path_of c.args.question.now.path.now) p (told.Truth true)
+          c.requires.guarded h.0 (yes_says (mode_of c.args.question.now.mode) c.requires.verdict) refl)
+      | inr h ↦ read_says set q e c.args.context.now c.requires.guarded h.0 c.requires.verdict c1 c.new.new.context c.in-Some.valid refl refl (read_entered e.node p c.args.context.now c1 refl refl ∙ h.1) c.requires.may.goes_on
+    ]
 
 pub verdict::guarded_verdict-returns-in-Some-clause-meets : goal.verdict::guarded_verdict-returns-in-Some-clause-meets
 verdict::guarded_verdict-returns-in-Some-clause-meets g t c =
     let set = setting g.K.Validate.words g.K.Validate.is_whole g.K.Validate.shape g.M.Matcher.matching c.args.engine.now in
+    let ns = numbered g.K.Validate.shape c.args.engine.now.nodes.now in
+    let w = settling (g.M.Matcher.matching c.args.engine.now.matcher.now) c.args.context.now.remembered.assumptions in
     let q = asking c.args.question.now in
     let p = steps_to c.args.question.now.place.now in
+    let s = subject_of c.args.question.now.instance in
+    let busy = busy_at p c.args.context.now.in_progress in
     let e = edge_of c.args.edge.now in
-    let fresh = pair_busy e.node c.in_ok-pair.pair.node.0 p (place_of c.in_ok-pair.pair) c.args.context.now c.new.new.context _ false (ap (λ (n : SchemaNode). n.0) c.in_ok-pair.ensures.node) c.in_ok-pair.ensures.place c.in_ok-pair.ensures.unchanged c.is_in_progress.ensures.found c.if-is_in_progress.false in
     let c1 : Context = record c.args.context.now { in_progress = c.args.context.now.in_progress ++ (e.node, p) ∷ [] } in
-    let here = ap (λ (z : Context). read_verdict c.in_ok-pair.pair.node.0 (place_of c.in_ok-pair.pair) z) c.in_ok-pair.ensures.unchanged ∙ ap (λ (k : ℕ). read_verdict k (place_of c.in_ok-pair.pair) c.args.context.now) (ap (λ (n : SchemaNode). n.0) c.in_ok-pair.ensures.node) ∙ ap (λ (z : Place). read_verdict e.node z c.args.context.now) c.in_ok-pair.ensures.place in
-    let was = sym here ∙ sym c.in-Some.ensures.read in
-    let found = read_entered e.node p c.args.context.now c1 refl refl ∙ was in
-    read_meets_edge set q e c.args.context.now c.requires.guarded fresh c.requires.verdict c1 c.new.new.context c.in-Some.valid refl refl found c.requires.may.goes_on (ap (λ (z : Context). z.remembered) c.in_ok-pair.ensures.unchanged)
+    let met = ap (λ (z : Context). z.remembered) c.in_ok-pair.ensures.unchanged in
+    elim (pair_known e.node c.in_ok-pair.pair.node.0 p (place_of c.in_ok-pair.pair) c.args.context.now c.new.new.context (ap (λ (n : SchemaNode). n.0) c.in_ok-pair.ensures.node) c.in_ok-pair.ensures.place c.in_ok-pair.ensures.unchanged c.in-Some.valid c.in-Some.ensures.busy c.in-Some.ensures.read) [
+      | inl h ↦ meets_busy g.K.Validate.words g.K.Validate.is_whole ns (length c.args.engine.now.nodes.now) w s busy e (mode_of c.args.question.now.mode) (path_of c.args.question.now.path.now) p _ _ c.requires.guarded h.0 (sym met)
+      | inr h ↦ read_meets_edge set q e c.args.context.now c.requires.guarded h.0 c.requires.verdict c1 c.new.new.context c.in-Some.valid refl refl (read_entered e.node p c.args.context.now c1 refl refl ∙ h.1) c.requires.may.goes_on met
+    ]
 
 pub verdict::guarded_verdict-returns-in-Some-clause-remembers : goal.verdict::guarded_verdict-returns-in-Some-clause-remembers
 verdict::guarded_verdict-returns-in-Some-clause-remembers g t c =
@@ -612,25 +584,23 @@ verdict::guarded_verdict-returns-in-Some-clause-remembers g t c =
     let q = asking c.args.question.now in
     let p = steps_to c.args.question.now.place.now in
     let e = edge_of c.args.edge.now in
-    let fresh = pair_busy e.node c.in_ok-pair.pair.node.0 p (place_of c.in_ok-pair.pair) c.args.context.now c.new.new.context _ false (ap (λ (n : SchemaNode). n.0) c.in_ok-pair.ensures.node) c.in_ok-pair.ensures.place c.in_ok-pair.ensures.unchanged c.is_in_progress.ensures.found c.if-is_in_progress.false in
     let c1 : Context = record c.args.context.now { in_progress = c.args.context.now.in_progress ++ (e.node, p) ∷ [] } in
-    let here = ap (λ (z : Context). read_verdict c.in_ok-pair.pair.node.0 (place_of c.in_ok-pair.pair) z) c.in_ok-pair.ensures.unchanged ∙ ap (λ (k : ℕ). read_verdict k (place_of c.in_ok-pair.pair) c.args.context.now) (ap (λ (n : SchemaNode). n.0) c.in_ok-pair.ensures.node) ∙ ap (λ (z : Place). read_verdict e.node z c.args.context.now) c.in_ok-pair.ensures.place in
-    let was = sym here ∙ sym c.in-Some.ensures.read in
-    let found = read_entered e.node p c.args.context.now c1 refl refl ∙ was in
-    let same = c.in_ok-pair.ensures.unchanged in
-    read_remembers set q e c.args.context.now c.requires.guarded fresh c.requires.verdict c1 c.new.new.context c.in-Some.valid refl refl found same
+    elim (pair_known e.node c.in_ok-pair.pair.node.0 p (place_of c.in_ok-pair.pair) c.args.context.now c.new.new.context (ap (λ (n : SchemaNode). n.0) c.in_ok-pair.ensures.node) c.in_ok-pair.ensures.place c.in_ok-pair.ensures.unchanged c.in-Some.valid c.in-Some.ensures.busy c.in-Some.ensures.read) [
+      | inl h ↦ λ mode guarded free. absurd (true≢false (sym h.0 ∙ free))
+      | inr h ↦ read_remembers set q e c.args.context.now c.requires.guarded h.0 c.requires.verdict c1 c.new.new.context c.in-Some.valid refl refl (read_entered e.node p c.args.context.now c1 refl refl ∙ h.1) c.in_ok-pair.ensures.unchanged
+    ]
 
 pub verdict::guarded_verdict-returns-in-Some-clause-visits : goal.verdict::guarded_verdict-returns-in-Some-clause-visits
 verdict::guarded_verdict-returns-in-Some-clause-visits g t c =
+    let ns = numbered g.K.Validate.shape c.args.engine.now.nodes.now in
     let q = asking c.args.question.now in
     let p = steps_to c.args.question.now.place.now in
     let e = edge_of c.args.edge.now in
-    let fresh = pair_busy e.node c.in_ok-pair.pair.node.0 p (place_of c.in_ok-pair.pair) c.args.context.now c.new.new.context _ false (ap (λ (n : SchemaNode). n.0) c.in_ok-pair.ensures.node) c.in_ok-pair.ensures.place c.in_ok-pair.ensures.unchanged c.is_in_progress.ensures.found c.if-is_in_progress.false in
-    let c1 : Context = record c.args.context.now { in_progress = c.args.context.now.in_progress ++ (e.node, p) ∷ [] } in
-    let here = ap (λ (z : Context). read_verdict c.in_ok-pair.pair.node.0 (place_of c.in_ok-pair.pair) z) c.in_ok-pair.ensures.unchanged ∙ ap (λ (k : ℕ). read_verdict k (place_of c.in_ok-pair.pair) c.args.context.now) (ap (λ (n : SchemaNode). n.0) c.in_ok-pair.ensures.node) ∙ ap (λ (z : Place). read_verdict e.node z c.args.context.now) c.in_ok-pair.ensures.place in
-    let was = sym here ∙ sym c.in-Some.ensures.read in
-    let found = read_entered e.node p c.args.context.now c1 refl refl ∙ was in
-    read_counts (numbered g.K.Validate.shape c.args.engine.now.nodes.now) q c.args.context.now e c.new.new.context c.in-Some.valid c.requires.guarded fresh was (ap (λ (z : Context). z.visits) c.in_ok-pair.ensures.unchanged)
+    let visits = ap (λ (z : Context). z.visits) c.in_ok-pair.ensures.unchanged in
+    elim (pair_known e.node c.in_ok-pair.pair.node.0 p (place_of c.in_ok-pair.pair) c.args.context.now c.new.new.context (ap (λ (n : SchemaNode). n.0) c.in_ok-pair.ensures.node) c.in_ok-pair.ensures.place c.in_ok-pair.ensures.unchanged c.in-Some.valid c.in-Some.ensures.busy c.in-Some.ensures.read) [
+      | inl h ↦ busy_counts ns q c.args.context.now e c.new.new.context c.requires.guarded h.0 visits
+      | inr h ↦ read_counts ns q c.args.context.now e c.new.new.context c.in-Some.valid c.requires.guarded h.0 h.1 visits
+    ]
 
 pub verdict::guarded_verdict-returns-clause-says : goal.verdict::guarded_verdict-returns-clause-says
 verdict::guarded_verdict-returns-clause-says g t c =
@@ -638,8 +608,9 @@ verdict::guarded_verdict-returns-clause-says g t c =
     let q = asking c.args.question.now in
     let p = steps_to c.args.question.now.place.now in
     let e = edge_of c.args.edge.now in
+    let unknown = pair_unknown e.node c.in_ok-pair.pair.node.0 p (place_of c.in_ok-pair.pair) c.args.context.now c.new.new.context (ap (λ (n : SchemaNode). n.0) c.in_ok-pair.ensures.node) c.in_ok-pair.ensures.place c.in_ok-pair.ensures.unchanged c.in_default.ensures.busy c.in_default.ensures.read in
     let entered : (list_any (λ i. i == e.node) (busy_at p c.args.context.now.in_progress) ≡ false) × (c.enter.new.context.in_progress ≡ c.args.context.now.in_progress ++ (e.node, p) ∷ []) = (
-      pair_busy e.node c.in_ok-pair.pair.node.0 p (place_of c.in_ok-pair.pair) c.args.context.now c.new.new.context _ false (ap (λ (n : SchemaNode). n.0) c.in_ok-pair.ensures.node) c.in_ok-pair.ensures.place c.in_ok-pair.ensures.unchanged c.is_in_progress.ensures.found c.if-is_in_progress.false,
+      unknown.0,
       pair_entered e.node c.in_ok-pair.pair.node.0 p (place_of c.in_ok-pair.pair) c.args.context.now c.new.new.context c.enter.new.context.in_progress (ap (λ (n : SchemaNode). n.0) c.in_ok-pair.ensures.node) c.in_ok-pair.ensures.place c.in_ok-pair.ensures.unchanged c.in_ok-enter.ensures.entered,
     ) in
     let c2 = c.start_ref_visit-mark.new.self in
@@ -657,8 +628,9 @@ verdict::guarded_verdict-returns-clause-meets g t c =
     let q = asking c.args.question.now in
     let p = steps_to c.args.question.now.place.now in
     let e = edge_of c.args.edge.now in
+    let unknown = pair_unknown e.node c.in_ok-pair.pair.node.0 p (place_of c.in_ok-pair.pair) c.args.context.now c.new.new.context (ap (λ (n : SchemaNode). n.0) c.in_ok-pair.ensures.node) c.in_ok-pair.ensures.place c.in_ok-pair.ensures.unchanged c.in_default.ensures.busy c.in_default.ensures.read in
     let entered : (list_any (λ i. i == e.node) (busy_at p c.args.context.now.in_progress) ≡ false) × (c.enter.new.context.in_progress ≡ c.args.context.now.in_progress ++ (e.node, p) ∷ []) = (
-      pair_busy e.node c.in_ok-pair.pair.node.0 p (place_of c.in_ok-pair.pair) c.args.context.now c.new.new.context _ false (ap (λ (n : SchemaNode). n.0) c.in_ok-pair.ensures.node) c.in_ok-pair.ensures.place c.in_ok-pair.ensures.unchanged c.is_in_progress.ensures.found c.if-is_in_progress.false,
+      unknown.0,
       pair_entered e.node c.in_ok-pair.pair.node.0 p (place_of c.in_ok-pair.pair) c.args.context.now c.new.new.context c.enter.new.context.in_progress (ap (λ (n : SchemaNode). n.0) c.in_ok-pair.ensures.node) c.in_ok-pair.ensures.place c.in_ok-pair.ensures.unchanged c.in_ok-enter.ensures.entered,
     ) in
     let c2 = c.start_ref_visit-mark.new.self in
@@ -678,8 +650,9 @@ verdict::guarded_verdict-returns-clause-stays g t c =
     let q = asking c.args.question.now in
     let p = steps_to c.args.question.now.place.now in
     let e = edge_of c.args.edge.now in
+    let unknown = pair_unknown e.node c.in_ok-pair.pair.node.0 p (place_of c.in_ok-pair.pair) c.args.context.now c.new.new.context (ap (λ (n : SchemaNode). n.0) c.in_ok-pair.ensures.node) c.in_ok-pair.ensures.place c.in_ok-pair.ensures.unchanged c.in_default.ensures.busy c.in_default.ensures.read in
     let entered : (list_any (λ i. i == e.node) (busy_at p c.args.context.now.in_progress) ≡ false) × (c.enter.new.context.in_progress ≡ c.args.context.now.in_progress ++ (e.node, p) ∷ []) = (
-      pair_busy e.node c.in_ok-pair.pair.node.0 p (place_of c.in_ok-pair.pair) c.args.context.now c.new.new.context _ false (ap (λ (n : SchemaNode). n.0) c.in_ok-pair.ensures.node) c.in_ok-pair.ensures.place c.in_ok-pair.ensures.unchanged c.is_in_progress.ensures.found c.if-is_in_progress.false,
+      unknown.0,
       pair_entered e.node c.in_ok-pair.pair.node.0 p (place_of c.in_ok-pair.pair) c.args.context.now c.new.new.context c.enter.new.context.in_progress (ap (λ (n : SchemaNode). n.0) c.in_ok-pair.ensures.node) c.in_ok-pair.ensures.place c.in_ok-pair.ensures.unchanged c.in_ok-enter.ensures.entered,
     ) in
     let c2 = c.start_ref_visit-mark.new.self in
@@ -705,8 +678,9 @@ verdict::guarded_verdict-returns-clause-remembers g t c =
     let q = asking c.args.question.now in
     let p = steps_to c.args.question.now.place.now in
     let e = edge_of c.args.edge.now in
+    let unknown = pair_unknown e.node c.in_ok-pair.pair.node.0 p (place_of c.in_ok-pair.pair) c.args.context.now c.new.new.context (ap (λ (n : SchemaNode). n.0) c.in_ok-pair.ensures.node) c.in_ok-pair.ensures.place c.in_ok-pair.ensures.unchanged c.in_default.ensures.busy c.in_default.ensures.read in
     let entered : (list_any (λ i. i == e.node) (busy_at p c.args.context.now.in_progress) ≡ false) × (c.enter.new.context.in_progress ≡ c.args.context.now.in_progress ++ (e.node, p) ∷ []) = (
-      pair_busy e.node c.in_ok-pair.pair.node.0 p (place_of c.in_ok-pair.pair) c.args.context.now c.new.new.context _ false (ap (λ (n : SchemaNode). n.0) c.in_ok-pair.ensures.node) c.in_ok-pair.ensures.place c.in_ok-pair.ensures.unchanged c.is_in_progress.ensures.found c.if-is_in_progress.false,
+      unknown.0,
       pair_entered e.node c.in_ok-pair.pair.node.0 p (place_of c.in_ok-pair.pair) c.args.context.now c.new.new.context c.enter.new.context.in_progress (ap (λ (n : SchemaNode). n.0) c.in_ok-pair.ensures.node) c.in_ok-pair.ensures.place c.in_ok-pair.ensures.unchanged c.in_ok-enter.ensures.entered,
     ) in
     let c2 = c.start_ref_visit-mark.new.self in
@@ -720,8 +694,7 @@ verdict::guarded_verdict-returns-clause-remembers g t c =
     let meets = subst (λ z. MeetsNode set z c2 c3 e.node) at_asked c.in_ok-valid.ensures.meets in
     let keeps = c.in_ok-valid.ensures.keeps in
     let kept = rw (ap (λ (n : SchemaNode). n.0) c.in_ok-pair.ensures.node, c.in_ok-pair.ensures.place) at c.in_ok-keep_verdict.ensures.kept in
-    let here = ap (λ (z : Context). read_verdict c.in_ok-pair.pair.node.0 (place_of c.in_ok-pair.pair) z) c.in_ok-pair.ensures.unchanged ∙ ap (λ (k : ℕ). read_verdict k (place_of c.in_ok-pair.pair) c.args.context.now) (ap (λ (n : SchemaNode). n.0) c.in_ok-pair.ensures.node) ∙ ap (λ (z : Place). read_verdict e.node z c.args.context.now) c.in_ok-pair.ensures.place in
-    let none = read_entered e.node p c.args.context.now c.enter.new.context entered.1 (c.enter.ensures.verdicts ∙ ap (λ (z : Context). z.verdicts) c.in_ok-pair.ensures.unchanged) ∙ sym here ∙ sym c.in_default.ensures.read in
+    let none = read_entered e.node p c.args.context.now c.enter.new.context entered.1 (c.enter.ensures.verdicts ∙ ap (λ (z : Context). z.verdicts) c.in_ok-pair.ensures.unchanged) ∙ unknown.1 in
     let left = ap (λ (z : Context). z.in_progress) c.keep_verdict.ensures.frame ∙ keeps.in_progress in
     let back = pairs_back set q e c.args.context.now c.requires.guarded entered.0 c2 c.exit.new.context pairs (sym left ∙ rw (ap (λ (n : SchemaNode). n.0) c.in_ok-pair.ensures.node, c.in_ok-pair.ensures.place) at c.exit.ensures.left) in
     let visits = c.exit.ensures.visits ∙ ap (λ (z : Context). z.visits) c.keep_verdict.ensures.frame in
@@ -743,19 +716,19 @@ verdict::guarded_verdict-returns-clause-visits g t c =
     let q = asking c.args.question.now in
     let p = steps_to c.args.question.now.place.now in
     let e = edge_of c.args.edge.now in
+    let unknown = pair_unknown e.node c.in_ok-pair.pair.node.0 p (place_of c.in_ok-pair.pair) c.args.context.now c.new.new.context (ap (λ (n : SchemaNode). n.0) c.in_ok-pair.ensures.node) c.in_ok-pair.ensures.place c.in_ok-pair.ensures.unchanged c.in_default.ensures.busy c.in_default.ensures.read in
     let c1 = c.enter.new.context in
     let c2 = c.start_ref_visit-mark.new.self in
     let c3 = c.verdict_node.new.context in
     let entered : (list_any (λ i. i == e.node) (busy_at p c.args.context.now.in_progress) ≡ false) × (c.enter.new.context.in_progress ≡ c.args.context.now.in_progress ++ (e.node, p) ∷ []) = (
-      pair_busy e.node c.in_ok-pair.pair.node.0 p (place_of c.in_ok-pair.pair) c.args.context.now c.new.new.context _ false (ap (λ (n : SchemaNode). n.0) c.in_ok-pair.ensures.node) c.in_ok-pair.ensures.place c.in_ok-pair.ensures.unchanged c.is_in_progress.ensures.found c.if-is_in_progress.false,
+      unknown.0,
       pair_entered e.node c.in_ok-pair.pair.node.0 p (place_of c.in_ok-pair.pair) c.args.context.now c.new.new.context c.enter.new.context.in_progress (ap (λ (n : SchemaNode). n.0) c.in_ok-pair.ensures.node) c.in_ok-pair.ensures.place c.in_ok-pair.ensures.unchanged c.in_ok-enter.ensures.entered,
     ) in
     let pairs : c2.in_progress ≡ c.args.context.now.in_progress ++ (e.node, p) ∷ [] = ap (λ (z : Context). z.in_progress) c.start_ref_visit-mark.ensures.counted ∙ entered.1 in
     let read = ap (λ (z : Context). z.verdicts) c.start_ref_visit-mark.ensures.counted ∙ (c.enter.ensures.verdicts ∙ ap (λ (z : Context). z.verdicts) c.in_ok-pair.ensures.unchanged) in
     let counted = ap (λ (z : Context). z.visits) c.start_ref_visit-mark.ensures.counted ∙ ap one_more (c.enter.ensures.visits ∙ ap (λ (z : Context). z.visits) c.in_ok-pair.ensures.unchanged) in
     let there : steps_to c.numbered_place-place.result ≡ p = c.numbered_place-place.ensures.same ∙ c.in_ok-pair.ensures.place in
-    let here = ap (λ (z : Context). read_verdict c.in_ok-pair.pair.node.0 (place_of c.in_ok-pair.pair) z) c.in_ok-pair.ensures.unchanged ∙ ap (λ (k : ℕ). read_verdict k (place_of c.in_ok-pair.pair) c.args.context.now) (ap (λ (n : SchemaNode). n.0) c.in_ok-pair.ensures.node) ∙ ap (λ (z : Place). read_verdict e.node z c.args.context.now) c.in_ok-pair.ensures.place in
-    let none = read_entered e.node p c.args.context.now c.enter.new.context entered.1 (c.enter.ensures.verdicts ∙ ap (λ (z : Context). z.verdicts) c.in_ok-pair.ensures.unchanged) ∙ sym here ∙ sym c.in_default.ensures.read in
+    let none = read_entered e.node p c.args.context.now c.enter.new.context entered.1 (c.enter.ensures.verdicts ∙ ap (λ (z : Context). z.verdicts) c.in_ok-pair.ensures.unchanged) ∙ unknown.1 in
     let node_counts = subst (λ z. NodeCounts ns (record { subject = q.subject; place = z; path = path_of c.across-whole.result; mode = q.mode }) c2 c3 e.node) there c.in_ok-valid.ensures.visits in
     let visits = c.exit.ensures.visits ∙ ap (λ (z : Context). z.visits) c.keep_verdict.ensures.frame in
     computed_counts ns q c.args.context.now e c2 c3 c.exit.new.context c.requires.guarded entered.0
@@ -766,9 +739,10 @@ verdict::guarded_verdict-verdict_node-requires g t c =
     let ns = numbered g.K.Validate.shape c.args.engine.now.nodes.now in
     let p = steps_to c.args.question.now.place.now in
     let e = edge_of c.args.edge.now in
+    let unknown = pair_unknown e.node c.in_ok-pair.pair.node.0 p (place_of c.in_ok-pair.pair) c.args.context.now c.new.new.context (ap (λ (n : SchemaNode). n.0) c.in_ok-pair.ensures.node) c.in_ok-pair.ensures.place c.in_ok-pair.ensures.unchanged c.in_default.ensures.busy c.in_default.ensures.read in
     let s = subject_of c.args.question.now.instance in
     let entered : (list_any (λ i. i == e.node) (busy_at p c.args.context.now.in_progress) ≡ false) × (c.enter.new.context.in_progress ≡ c.args.context.now.in_progress ++ (e.node, p) ∷ []) = (
-      pair_busy e.node c.in_ok-pair.pair.node.0 p (place_of c.in_ok-pair.pair) c.args.context.now c.new.new.context _ false (ap (λ (n : SchemaNode). n.0) c.in_ok-pair.ensures.node) c.in_ok-pair.ensures.place c.in_ok-pair.ensures.unchanged c.is_in_progress.ensures.found c.if-is_in_progress.false,
+      unknown.0,
       pair_entered e.node c.in_ok-pair.pair.node.0 p (place_of c.in_ok-pair.pair) c.args.context.now c.new.new.context c.enter.new.context.in_progress (ap (λ (n : SchemaNode). n.0) c.in_ok-pair.ensures.node) c.in_ok-pair.ensures.place c.in_ok-pair.ensures.unchanged c.in_ok-enter.ensures.entered,
     ) in
     let pairs = ap (λ (z : Context). z.in_progress) c.start_ref_visit-mark.ensures.counted in
