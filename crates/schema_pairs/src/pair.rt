@@ -103,8 +103,8 @@ impl<'q, 'i> SolverPair<'q, 'i> {
     /// Keeps what the node of the pair said, once the pair has been left; the mark is what `enter` returned, and nothing that was assumed
     /// since may have been assumed before it too. A no is known for good, and what was assumed since the mark is dropped. A yes is known
     /// for good, with all that was assumed since, where no other pair is in progress at the place; else it is assumed. Fails only if
-    /// memory cannot be allocated. Then nothing has changed, unless a yes was to be known for good: of what was assumed, which stays so,
-    /// some may be known.
+    /// memory cannot be allocated. Then, of a no, nothing has changed; of a yes, what was assumed stays so, and some of what was to be
+    /// known may be.
     pub fn keep_answer(
         &self,
         context: &mut SolverContext<'i>,
