@@ -1,6 +1,5 @@
-use Rattle.std.proofs.Common.{◌≡◌, ◌∙◌, ◌==◌, ◌+◌, ◌≤◌, ℕ, Bool, arith, sym, refl, ap, subst, map, option_map, string_bytes, length, Some, false, true, true≢false, inl, inr, List, [], ◌∷◌, ◌++◌, drop}
+use Rattle.std.proofs.Common.{◌≡◌, ◌∙◌, ◌==◌, ◌+◌, ◌≤◌, Bool, arith, sym, refl, ap, subst, map, option_map, string_bytes, length, Some, false, true, true≢false, inl, inr, List, [], ◌∷◌, ◌++◌, drop}
 use Rattle.schema_reports.specs.InstanceViews.{subject_of, step_of}
-use Rattle.schema_definitions.specs.Instance.{Place}
 use Rattle.schema_definitions.specs.Keywords.{Question, ask, ecma, for_verdict, mark, match_text, no_reply, truth, unmark}
 use Rattle.schema_answers.specs.EvaluationPlaces.{steps_to}
 use Rattle.schema_answers.specs.GuardedPairs.{place_of}
@@ -27,7 +26,7 @@ use Rattle.schema_contexts.specs.Progress.{Context, NoDeeper, busy_at}
 use Rattle.schema_node.specs.RightVerdicts.{LaysOut}
 use Rattle.schema_answers.specs.Askings.{asking}
 use Rattle.schema_node.specs.RunStates.{EdgeSays, FormRemembers, FormSays, MeetsNode, NodeSays, StaysRight, setting}
-use Rattle.schema_contexts.specs.Verdicts.{one_more, read_verdict}
+use Rattle.schema_contexts.specs.Verdicts.{one_more}
 use Rattle.schema_parts.specs.declared.keyword.Reply.TheVariants as told
 use Rattle.schema_node.proofs.GoesOn.{alone_remembers, asked_across, computed_meets, computed_says, ended_remembers, kept_remembers, kept_stays, pairs_back, planned_remembers, read_meets_edge, read_remembers, read_says, reference_remembers, right_matched, right_same}
 use Rattle.schema_node.proofs.RightVerdicts.{laid_below, read_entered}
