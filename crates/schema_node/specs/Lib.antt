@@ -31,3 +31,4 @@ pub mod RunStates
 pub mod Visits
 pub mod UnitStates
 pub mod VerdictTurns
+pub mod Answered

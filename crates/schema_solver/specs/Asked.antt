@@ -1,7 +1,9 @@
 -- What a solver is made with and asked, as data.
 use Rattle.std.specs.Prelude.{Bool, List, false, length, slice_index_or, ℕ}
-use Rattle.schema_definitions.specs.Keywords.{Keywords}
+use Rattle.schema_definitions.specs.Keywords.{Answer, Keywords}
 use Rattle.schema_definitions.specs.Matching.{Matcher}
+use Rattle.schema_parts.specs.declared.keyword.Validate as keyword
+use Rattle.schema_parts.specs.declared.matcher.Matcher as matcher
 use Rattle.schema_nodes.specs.NodeTable.{NodeEntry, numbered}
 use Rattle.schema_solver.specs.declared.question.SolverEngine.{SolverEngine}
 use Rattle.schema_solver.specs.Solving.{Setting}
@@ -22,3 +24,7 @@ solver_over words is_whole shape ns followed matcher = record {
 
 abbrev pub solver_of : {K R C M : Type 0} → (Bool → Keywords K R) → (K → Bool) → (C → K) → (M → Matcher) → SolverEngine C M → Setting K R
 solver_of words is_whole shape matching e = solver_over words is_whole shape e.nodes.now e.followed.now (matching e.matcher.now)
+
+-- the same by all that a keyword's type and a matcher's say of themselves
+abbrev pub solver_by : {C R K M : Type 0} → keyword.Ghosts C R K → matcher.Ghosts M → SolverEngine C M → Setting K (R × Answer)
+solver_by k m e = solver_of k.words k.is_whole k.shape m.matching e

@@ -2,3 +2,4 @@ pub mod Solving
 pub mod Asked
 pub mod TurningOn
 pub mod Needs
+pub mod Solved

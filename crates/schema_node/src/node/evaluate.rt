@@ -10,6 +10,7 @@ ghost use Rattle.schema_answers.specs.NodeRuns.{HasForm, HasParts, HasChildren, 
 ghost use Rattle.schema_contexts.specs.Progress.{places_in};
 ghost use Rattle.schema_answers.specs.Askings.{asking};
 ghost use Rattle.schema_answers.specs.EvaluationPlaces.{CarriesItsNumber};
+ghost use Rattle.schema_node.specs.Answered.{ChildGiven, EdgeGiven, FormGiven, NodeGiven, PartsGiven, setting_by};
 ghost use Rattle.schema_node.specs.RunStates.{setting};
 ghost use Rattle.schema_node.specs.RunStates.{Keeps, StaysRight};
 ghost use Rattle.schema_node.specs.RunStates.{MeetsChild, MeetsEdge, MeetsForm, MeetsNode, MeetsParts};
@@ -41,17 +42,11 @@ pub(crate) fn evaluate_node<'i, K: Validate, M: Matcher>(
     question: &Question<'_, 'i>,
     context: &mut ValidationContext<'i>,
 ) -> Result<EvaluationNode, OutOfMemory>
-    requires may { MayEvaluate (setting K.words K.is_whole K.shape M.matching engine.now) (asking question.now)
+    requires may { MayEvaluate (setting_by K.Validate M.Matcher.own engine.now) (asking question.now)
         context.old node.0 }
     requires carries { CarriesItsNumber (places_in context.old) question.now.place.now }
-    ensures keeps { IfOk result (λ _. Keeps context.old context.new) }
-    ensures counts { IfOk result (λ _. context.old.visits ≤ context.new.visits) }
-    ensures gives { IfOk result (λ u. NodeGives (setting K.words K.is_whole K.shape M.matching engine.now) (asking question.now)
-        context.old node.0 u) }
-    ensures meets { IfOk result (λ _. MeetsNode (setting K.words K.is_whole K.shape M.matching engine.now) (asking question.now)
-        context.old context.new node.0) }
-    ensures stays { IfOk result (λ _. StaysRight (setting K.words K.is_whole K.shape M.matching engine.now) (asking question.now)
-        context.old context.new) }
+    ensures { NodeGiven (setting_by K.Validate M.Matcher.own engine.now) question.now
+        node.0 context.old context.new result }
 {
     let found = engine.nodes.node(node);
     match &found.form {
@@ -82,18 +77,12 @@ fn evaluate_entries<'i, K: Validate, M: Matcher>(
     question: &Question<'_, 'i>,
     context: &mut ValidationContext<'i>,
 ) -> Result<ChildList, OutOfMemory>
-    requires may { MayEvaluate (setting K.words K.is_whole K.shape M.matching engine.now) (asking question.now)
+    requires may { MayEvaluate (setting_by K.Validate M.Matcher.own engine.now) (asking question.now)
         context.old node.0 }
     requires carries { CarriesItsNumber (places_in context.old) question.now.place.now }
     requires parts { HasParts (numbered K.shape engine.now.nodes.now) node.0 (map (shaped_part K.shape) (map entry_of entries.now)) }
-    ensures keeps { IfOk result (λ _. Keeps context.old context.new) }
-    ensures counts { IfOk result (λ _. context.old.visits ≤ context.new.visits) }
-    ensures gives { IfOk result (λ u. PartsGive (setting K.words K.is_whole K.shape M.matching engine.now) (asking question.now)
-        context.old node.0 (map (shaped_part K.shape) (map entry_of entries.now)) u) }
-    ensures meets { IfOk result (λ _. MeetsParts (setting K.words K.is_whole K.shape M.matching engine.now) (asking question.now)
-        context.old context.new node.0 (map (shaped_part K.shape) (map entry_of entries.now))) }
-    ensures stays { IfOk result (λ _. StaysRight (setting K.words K.is_whole K.shape M.matching engine.now) (asking question.now)
-        context.old context.new) }
+    ensures { PartsGiven (setting_by K.Validate M.Matcher.own engine.now) question.now
+        node.0 (map (shaped_part K.shape) (map entry_of entries.now)) context.old context.new result }
 {
     let mut units = UnitsInOrder::new(engine.alloc);
     for entry in entries {
@@ -112,18 +101,12 @@ fn evaluate_entry<'i, K: Validate, M: Matcher>(
     question: &Question<'_, 'i>,
     context: &mut ValidationContext<'i>,
 ) -> Result<EntryUnits, OutOfMemory>
-    requires may { MayEvaluate (setting K.words K.is_whole K.shape M.matching engine.now) (asking question.now)
+    requires may { MayEvaluate (setting_by K.Validate M.Matcher.own engine.now) (asking question.now)
         context.old node.0 }
     requires carries { CarriesItsNumber (places_in context.old) question.now.place.now }
     requires form { HasForm (numbered K.shape engine.now.nodes.now) node.0 (shaped_form K.shape (form_of entry.now.form)) }
-    ensures keeps { IfOk result (λ _. Keeps context.old context.new) }
-    ensures counts { IfOk result (λ _. context.old.visits ≤ context.new.visits) }
-    ensures gives { IfOk result (λ u. FormGives (setting K.words K.is_whole K.shape M.matching engine.now) (asking question.now)
-        context.old node.0 (string_bytes entry.now.name) (shaped_form K.shape (form_of entry.now.form)) u) }
-    ensures meets { IfOk result (λ _. MeetsForm (setting K.words K.is_whole K.shape M.matching engine.now) (asking question.now)
-        context.old context.new node.0 (string_bytes entry.now.name) (shaped_form K.shape (form_of entry.now.form))) }
-    ensures stays { IfOk result (λ _. StaysRight (setting K.words K.is_whole K.shape M.matching engine.now) (asking question.now)
-        context.old context.new) }
+    ensures { FormGiven (setting_by K.Validate M.Matcher.own engine.now) question.now
+        node.0 (string_bytes entry.now.name) (shaped_form K.shape (form_of entry.now.form)) context.old context.new result }
 {
     match &entry.form {
         EntryForm::Keyword(keyword, children) => {
@@ -157,18 +140,12 @@ fn evaluate_keyword<'i, K: Validate, M: Matcher>(
     question: &Question<'_, 'i>,
     context: &mut ValidationContext<'i>,
 ) -> Result<EntryUnits, OutOfMemory>
-    requires may { MayEvaluate (setting K.words K.is_whole K.shape M.matching engine.now) (asking question.now)
+    requires may { MayEvaluate (setting_by K.Validate M.Matcher.own engine.now) (asking question.now)
         context.old node.0 }
     requires carries { CarriesItsNumber (places_in context.old) question.now.place.now }
     requires form { HasForm (numbered K.shape engine.now.nodes.now) node.0 (form_at_work K.shape keyword.now) }
-    ensures keeps { IfOk result (λ _. Keeps context.old context.new) }
-    ensures counts { IfOk result (λ _. context.old.visits ≤ context.new.visits) }
-    ensures gives { IfOk result (λ u. FormGives (setting K.words K.is_whole K.shape M.matching engine.now) (asking question.now)
-        context.old node.0 (string_bytes keyword.now.name.now) (form_at_work K.shape keyword.now) u) }
-    ensures meets { IfOk result (λ _. MeetsForm (setting K.words K.is_whole K.shape M.matching engine.now) (asking question.now)
-        context.old context.new node.0 (string_bytes keyword.now.name.now) (form_at_work K.shape keyword.now)) }
-    ensures stays { IfOk result (λ _. StaysRight (setting K.words K.is_whole K.shape M.matching engine.now) (asking question.now)
-        context.old context.new) }
+    ensures { FormGiven (setting_by K.Validate M.Matcher.own engine.now) question.now
+        node.0 (string_bytes keyword.now.name.now) (form_at_work K.shape keyword.now) context.old context.new result }
 {
     let answer = keyword_answer(engine, node, keyword, question, context)?;
     units_of_keyword(
@@ -192,20 +169,13 @@ pub(crate) fn evaluate_child<'i, K: Validate, M: Matcher>(
     question: &Question<'_, 'i>,
     context: &mut ValidationContext<'i>,
 ) -> Result<EvaluationNode, OutOfMemory>
-    requires may { MayEvaluate (setting K.words K.is_whole K.shape M.matching engine.now) (asking question.now)
+    requires may { MayEvaluate (setting_by K.Validate M.Matcher.own engine.now) (asking question.now)
         context.old node.0 }
     requires carries { CarriesItsNumber (places_in context.old) question.now.place.now }
     requires children { HasChildren (numbered K.shape engine.now.nodes.now) node.0 (map (option_map edge_of) children.now) }
     requires present { IsPresent (subject_of question.now.instance) (steps_below (below_of below)) }
-    ensures keeps { IfOk result (λ _. Keeps context.old context.new) }
-    ensures counts { IfOk result (λ _. context.old.visits ≤ context.new.visits) }
-    ensures quiet { IfOk result (λ _. LeadsNowhere (map (option_map edge_of) children.now) → context.new.visits ≡ context.old.visits) }
-    ensures gives { IfOk result (λ u. ChildGives (setting K.words K.is_whole K.shape M.matching engine.now) (asking question.now)
-        context.old node.0 (map (option_map edge_of) children.now) (record { child = child; below = below_of below.entry }) u) }
-    ensures meets { IfOk result (λ _. MeetsChild (setting K.words K.is_whole K.shape M.matching engine.now) (asking question.now)
-        context.old context.new node.0 (map (option_map edge_of) children.now) (record { child = child; below = below_of below.entry })) }
-    ensures stays { IfOk result (λ _. StaysRight (setting K.words K.is_whole K.shape M.matching engine.now) (asking question.now)
-        context.old context.new) }
+    ensures { ChildGiven (setting_by K.Validate M.Matcher.own engine.now) question.now
+        node.0 (map (option_map edge_of) children.now) (record { child = child; below = below_of below.entry }) context.old context.new result }
 {
     match child_edge(children, child) {
         None => Ok(unasked_unit(engine.alloc)),
@@ -233,17 +203,11 @@ fn evaluate_edge<'i, K: Validate, M: Matcher>(
     question: &Question<'_, 'i>,
     context: &mut ValidationContext<'i>,
 ) -> Result<EvaluationNode, OutOfMemory>
-    requires may { MayEvaluate (setting K.words K.is_whole K.shape M.matching engine.now) (asking question.now)
+    requires may { MayEvaluate (setting_by K.Validate M.Matcher.own engine.now) (asking question.now)
         context.old edge.now.node.0 }
     requires carries { CarriesItsNumber (places_in context.old) question.now.place.now }
-    ensures keeps { IfOk result (λ _. Keeps context.old context.new) }
-    ensures counts { IfOk result (λ _. context.old.visits ≤ context.new.visits) }
-    ensures gives { IfOk result (λ u. EdgeGives (setting K.words K.is_whole K.shape M.matching engine.now) (asking question.now)
-        context.old (edge_of edge.now) u) }
-    ensures meets { IfOk result (λ _. MeetsEdge (setting K.words K.is_whole K.shape M.matching engine.now) (asking question.now)
-        context.old context.new (edge_of edge.now)) }
-    ensures stays { IfOk result (λ _. StaysRight (setting K.words K.is_whole K.shape M.matching engine.now) (asking question.now)
-        context.old context.new) }
+    ensures { EdgeGiven (setting_by K.Validate M.Matcher.own engine.now) question.now
+        (edge_of edge.now) context.old context.new result }
 {
     let whole = question.path.across(&edge.path);
     if !edge.guarded {

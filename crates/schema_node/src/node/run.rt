@@ -12,6 +12,7 @@ ghost use Rattle.schema_answers.specs.NodeRuns.{HasForm, HasParts, HasChildren, 
 ghost use Rattle.schema_contexts.specs.Progress.{places_in};
 ghost use Rattle.schema_answers.specs.Askings.{asking};
 ghost use Rattle.schema_answers.specs.EvaluationPlaces.{CarriesItsNumber};
+ghost use Rattle.schema_node.specs.Answered.{ChildReplied, EdgeReplied, EntryReplied, FormReplied, NodeReplied, PartsReplied, setting_by};
 ghost use Rattle.schema_node.specs.RunStates.{setting};
 ghost use Rattle.schema_node.specs.RunStates.{Keeps, MayRun};
 ghost use Rattle.schema_node.specs.RunStates.{ChildSays, EdgeSays, FormSays, NodeSays, PartsSay};
@@ -41,7 +42,7 @@ pub(crate) fn node_reply<'i, K: Validate, M: Matcher>(
     question: &Question<'_, 'i>,
     context: &mut ValidationContext<'i>,
 ) -> Result<Reply<'i>, OutOfMemory>
-    requires may { MayRun (setting K.words K.is_whole K.shape M.matching engine.now) (asking question.now)
+    requires may { MayRun (setting_by K.Validate M.Matcher.own engine.now) (asking question.now)
         context.old node.0 }
     requires carries { CarriesItsNumber (places_in context.old) question.now.place.now }
     ensures keeps { IfOk result (λ _. Keeps context.old context.new) }
@@ -49,13 +50,13 @@ pub(crate) fn node_reply<'i, K: Validate, M: Matcher>(
     ensures visits { IfOk result (λ _. NodeCounts (numbered K.shape engine.now.nodes.now)
         (asking question.now) context.old context.new node.0) }
     ensures says { IfOk result (λ r. NodeSays
-        (setting K.words K.is_whole K.shape M.matching engine.now) (asking question.now)
+        (setting_by K.Validate M.Matcher.own engine.now) (asking question.now)
         context.old node.0 r) }
     ensures meets { IfOk result (λ _. MeetsNode
-        (setting K.words K.is_whole K.shape M.matching engine.now) (asking question.now)
+        (setting_by K.Validate M.Matcher.own engine.now) (asking question.now)
         context.old context.new node.0) }
     ensures stays { IfOk result (λ _. StaysRight
-        (setting K.words K.is_whole K.shape M.matching engine.now) (asking question.now) context.old context.new) }
+        (setting_by K.Validate M.Matcher.own engine.now) (asking question.now) context.old context.new) }
     ensures remembers { IfOk result (λ r. NodeRemembers (asking question.now) context.old context.new
         (numbered K.shape engine.now.nodes.now) node.0 r) }
 {
@@ -76,20 +77,12 @@ fn run_node<'i, K: Validate, M: Matcher>(
     question: &Question<'_, 'i>,
     context: &mut ValidationContext<'i>,
 ) -> Result<Reply<'i>, OutOfMemory>
-    requires may { MayRun (setting K.words K.is_whole K.shape M.matching engine.now) (asking question.now)
+    requires may { MayRun (setting_by K.Validate M.Matcher.own engine.now) (asking question.now)
         context.old node.0 }
     requires carries { CarriesItsNumber (places_in context.old) question.now.place.now }
     requires more { ¬ (mode_of question.now.mode ≡ for_verdict) }
-    ensures keeps { IfOk result (λ _. Keeps context.old context.new) }
-    ensures counts { IfOk result (λ _. context.old.visits ≤ context.new.visits) }
-    ensures says { IfOk result (λ r. NodeSays
-        (setting K.words K.is_whole K.shape M.matching engine.now) (asking question.now)
-        context.old node.0 r) }
-    ensures meets { IfOk result (λ _. MeetsNode
-        (setting K.words K.is_whole K.shape M.matching engine.now) (asking question.now)
-        context.old context.new node.0) }
-    ensures stays { IfOk result (λ _. StaysRight
-        (setting K.words K.is_whole K.shape M.matching engine.now) (asking question.now) context.old context.new) }
+    ensures { NodeReplied (setting_by K.Validate M.Matcher.own engine.now) question.now
+        node.0 context.old context.new result }
 {
     let found = engine.nodes.node(node);
     match &found.form {
@@ -117,21 +110,13 @@ fn run_entries<'i, K: Validate, M: Matcher>(
     question: &Question<'_, 'i>,
     context: &mut ValidationContext<'i>,
 ) -> Result<Reply<'i>, OutOfMemory>
-    requires may { MayRun (setting K.words K.is_whole K.shape M.matching engine.now) (asking question.now)
+    requires may { MayRun (setting_by K.Validate M.Matcher.own engine.now) (asking question.now)
         context.old node.0 }
     requires carries { CarriesItsNumber (places_in context.old) question.now.place.now }
     requires more { ¬ (mode_of question.now.mode ≡ for_verdict) }
     requires parts { HasParts (numbered K.shape engine.now.nodes.now) node.0 (map (shaped_part K.shape) (map entry_of entries.now)) }
-    ensures keeps { IfOk result (λ _. Keeps context.old context.new) }
-    ensures counts { IfOk result (λ _. context.old.visits ≤ context.new.visits) }
-    ensures says { IfOk result (λ r. PartsSay
-        (setting K.words K.is_whole K.shape M.matching engine.now) (asking question.now)
-        context.old node.0 (map (shaped_part K.shape) (map entry_of entries.now)) r) }
-    ensures meets { IfOk result (λ _. MeetsParts
-        (setting K.words K.is_whole K.shape M.matching engine.now) (asking question.now)
-        context.old context.new node.0 (map (shaped_part K.shape) (map entry_of entries.now))) }
-    ensures stays { IfOk result (λ _. StaysRight
-        (setting K.words K.is_whole K.shape M.matching engine.now) (asking question.now) context.old context.new) }
+    ensures { PartsReplied (setting_by K.Validate M.Matcher.own engine.now) question.now
+        node.0 (map (shaped_part K.shape) (map entry_of entries.now)) context.old context.new result }
 {
     let mut found = accepted(engine.alloc, question.mode);
     for entry in entries {
@@ -153,21 +138,13 @@ fn run_entry<'i, K: Validate, M: Matcher>(
     question: &Question<'_, 'i>,
     context: &mut ValidationContext<'i>,
 ) -> Result<Reply<'i>, OutOfMemory>
-    requires may { MayRun (setting K.words K.is_whole K.shape M.matching engine.now) (asking question.now)
+    requires may { MayRun (setting_by K.Validate M.Matcher.own engine.now) (asking question.now)
         context.old node.0 }
     requires carries { CarriesItsNumber (places_in context.old) question.now.place.now }
     requires more { ¬ (mode_of question.now.mode ≡ for_verdict) }
     requires form { HasForm (numbered K.shape engine.now.nodes.now) node.0 (shaped_form K.shape (form_of entry.now.form)) }
-    ensures keeps { IfOk result (λ _. Keeps context.old context.new) }
-    ensures counts { IfOk result (λ _. context.old.visits ≤ context.new.visits) }
-    ensures says { IfOk result (λ r. FormSays
-        (setting K.words K.is_whole K.shape M.matching engine.now) (asking question.now)
-        context.old node.0 (string_bytes entry.now.name) (shaped_form K.shape (form_of entry.now.form)) r) }
-    ensures meets { IfOk result (λ _. MeetsEntry
-        (setting K.words K.is_whole K.shape M.matching engine.now) (asking question.now)
-        context.old context.new node.0 (shaped_part K.shape (entry_of entry.now))) }
-    ensures stays { IfOk result (λ _. StaysRight
-        (setting K.words K.is_whole K.shape M.matching engine.now) (asking question.now) context.old context.new) }
+    ensures { EntryReplied (setting_by K.Validate M.Matcher.own engine.now) question.now
+        node.0 (shaped_part K.shape (entry_of entry.now)) context.old context.new result }
 {
     if entry.is_leaf {
         let asked = Question {
@@ -194,21 +171,13 @@ fn run_form<'i, K: Validate, M: Matcher>(
     question: &Question<'_, 'i>,
     context: &mut ValidationContext<'i>,
 ) -> Result<Reply<'i>, OutOfMemory>
-    requires may { MayRun (setting K.words K.is_whole K.shape M.matching engine.now) (asking question.now)
+    requires may { MayRun (setting_by K.Validate M.Matcher.own engine.now) (asking question.now)
         context.old node.0 }
     requires carries { CarriesItsNumber (places_in context.old) question.now.place.now }
     requires more { ¬ (mode_of question.now.mode ≡ for_verdict) }
     requires form { HasForm (numbered K.shape engine.now.nodes.now) node.0 (shaped_form K.shape (form_of entry.now.form)) }
-    ensures keeps { IfOk result (λ _. Keeps context.old context.new) }
-    ensures counts { IfOk result (λ _. context.old.visits ≤ context.new.visits) }
-    ensures says { IfOk result (λ r. FormSays
-        (setting K.words K.is_whole K.shape M.matching engine.now) (asking question.now)
-        context.old node.0 (string_bytes entry.now.name) (shaped_form K.shape (form_of entry.now.form)) r) }
-    ensures meets { IfOk result (λ _. MeetsForm
-        (setting K.words K.is_whole K.shape M.matching engine.now) (asking question.now)
-        context.old context.new node.0 (string_bytes entry.now.name) (shaped_form K.shape (form_of entry.now.form))) }
-    ensures stays { IfOk result (λ _. StaysRight
-        (setting K.words K.is_whole K.shape M.matching engine.now) (asking question.now) context.old context.new) }
+    ensures { FormReplied (setting_by K.Validate M.Matcher.own engine.now) question.now
+        node.0 (string_bytes entry.now.name) (shaped_form K.shape (form_of entry.now.form)) context.old context.new result }
 {
     match &entry.form {
         EntryForm::Keyword(keyword, children) => {
@@ -242,21 +211,13 @@ fn run_keyword<'i, K: Validate, M: Matcher>(
     question: &Question<'_, 'i>,
     context: &mut ValidationContext<'i>,
 ) -> Result<Reply<'i>, OutOfMemory>
-    requires may { MayRun (setting K.words K.is_whole K.shape M.matching engine.now) (asking question.now)
+    requires may { MayRun (setting_by K.Validate M.Matcher.own engine.now) (asking question.now)
         context.old node.0 }
     requires carries { CarriesItsNumber (places_in context.old) question.now.place.now }
     requires more { ¬ (mode_of question.now.mode ≡ for_verdict) }
     requires form { HasForm (numbered K.shape engine.now.nodes.now) node.0 (form_at_work K.shape keyword.now) }
-    ensures keeps { IfOk result (λ _. Keeps context.old context.new) }
-    ensures counts { IfOk result (λ _. context.old.visits ≤ context.new.visits) }
-    ensures says { IfOk result (λ r. FormSays
-        (setting K.words K.is_whole K.shape M.matching engine.now) (asking question.now)
-        context.old node.0 (string_bytes keyword.now.name.now) (form_at_work K.shape keyword.now) r) }
-    ensures meets { IfOk result (λ _. MeetsForm
-        (setting K.words K.is_whole K.shape M.matching engine.now) (asking question.now)
-        context.old context.new node.0 (string_bytes keyword.now.name.now) (form_at_work K.shape keyword.now)) }
-    ensures stays { IfOk result (λ _. StaysRight
-        (setting K.words K.is_whole K.shape M.matching engine.now) (asking question.now) context.old context.new) }
+    ensures { FormReplied (setting_by K.Validate M.Matcher.own engine.now) question.now
+        node.0 (string_bytes keyword.now.name.now) (form_at_work K.shape keyword.now) context.old context.new result }
 {
     let answer = keyword_answer(engine, node, keyword, question, context)?;
     finished(
@@ -282,23 +243,14 @@ pub(crate) fn run_child<'i, K: Validate, M: Matcher>(
     question: &Question<'_, 'i>,
     context: &mut ValidationContext<'i>,
 ) -> Result<Reply<'i>, OutOfMemory>
-    requires may { MayRun (setting K.words K.is_whole K.shape M.matching engine.now) (asking question.now)
+    requires may { MayRun (setting_by K.Validate M.Matcher.own engine.now) (asking question.now)
         context.old node.0 }
     requires carries { CarriesItsNumber (places_in context.old) question.now.place.now }
     requires more { ¬ (mode_of question.now.mode ≡ for_verdict) }
     requires children { HasChildren (numbered K.shape engine.now.nodes.now) node.0 (map (option_map edge_of) children.now) }
     requires present { IsPresent (subject_of question.now.instance) (steps_below (below_of below)) }
-    ensures keeps { IfOk result (λ _. Keeps context.old context.new) }
-    ensures counts { IfOk result (λ _. context.old.visits ≤ context.new.visits) }
-    ensures quiet { IfOk result (λ _. LeadsNowhere (map (option_map edge_of) children.now) → context.new.visits ≡ context.old.visits) }
-    ensures says { IfOk result (λ r. ChildSays
-        (setting K.words K.is_whole K.shape M.matching engine.now) (asking question.now)
-        context.old node.0 (map (option_map edge_of) children.now) (record { child = child; below = below_of below.entry }) r) }
-    ensures meets { IfOk result (λ _. MeetsChild
-        (setting K.words K.is_whole K.shape M.matching engine.now) (asking question.now)
-        context.old context.new node.0 (map (option_map edge_of) children.now) (record { child = child; below = below_of below.entry })) }
-    ensures stays { IfOk result (λ _. StaysRight
-        (setting K.words K.is_whole K.shape M.matching engine.now) (asking question.now) context.old context.new) }
+    ensures { ChildReplied (setting_by K.Validate M.Matcher.own engine.now) question.now
+        node.0 (map (option_map edge_of) children.now) (record { child = child; below = below_of below.entry }) context.old context.new result }
 {
     match child_edge(children, child) {
         None => Ok(accepted(engine.alloc, question.mode)),
@@ -326,20 +278,12 @@ fn run_edge<'i, K: Validate, M: Matcher>(
     question: &Question<'_, 'i>,
     context: &mut ValidationContext<'i>,
 ) -> Result<Reply<'i>, OutOfMemory>
-    requires may { MayRun (setting K.words K.is_whole K.shape M.matching engine.now) (asking question.now)
+    requires may { MayRun (setting_by K.Validate M.Matcher.own engine.now) (asking question.now)
         context.old edge.now.node.0 }
     requires carries { CarriesItsNumber (places_in context.old) question.now.place.now }
     requires more { ¬ (mode_of question.now.mode ≡ for_verdict) }
-    ensures keeps { IfOk result (λ _. Keeps context.old context.new) }
-    ensures counts { IfOk result (λ _. context.old.visits ≤ context.new.visits) }
-    ensures says { IfOk result (λ r. EdgeSays
-        (setting K.words K.is_whole K.shape M.matching engine.now) (asking question.now)
-        context.old (edge_of edge.now) r) }
-    ensures meets { IfOk result (λ _. MeetsEdge
-        (setting K.words K.is_whole K.shape M.matching engine.now) (asking question.now)
-        context.old context.new (edge_of edge.now)) }
-    ensures stays { IfOk result (λ _. StaysRight
-        (setting K.words K.is_whole K.shape M.matching engine.now) (asking question.now) context.old context.new) }
+    ensures { EdgeReplied (setting_by K.Validate M.Matcher.own engine.now) question.now
+        (edge_of edge.now) context.old context.new result }
 {
     let whole = question.path.across(&edge.path);
     if !edge.guarded {

@@ -1,23 +1,7 @@
 //! Runs of nodes for the verdict alone. A level of an instance takes little room on the stack: no reply is moved, only a yes or a no.
-ghost use Rattle.std.specs.Prelude.{◌≡◌, ◌≤◌, IfOk, map, option_map, string_bytes, true};
-ghost use Rattle.schema_reports.specs.InstanceViews.{subject_of};
-ghost use Rattle.schema_definitions.specs.Keywords.{for_verdict};
-ghost use Rattle.schema_definitions.specs.Laws.{IsPresent, steps_below};
-ghost use Rattle.schema_parts.specs.KeywordViews.{below_of, mode_of};
-ghost use Rattle.schema_parts.specs.declared.keyword.Reply.TheVariants as told;
-ghost use Rattle.schema_nodes.specs.NodeTable.{numbered, shaped_form, shaped_part};
+ghost use Rattle.schema_parts.specs.KeywordViews.{below_of};
 ghost use Rattle.schema_parts.specs.EdgeViews.{edge_of};
-ghost use Rattle.schema_nodes.specs.NodeViews.{entry_of, form_of};
-ghost use Rattle.schema_answers.specs.NodeRuns.{HasForm, HasParts, HasChildren};
-ghost use Rattle.schema_contexts.specs.Progress.{places_in};
-ghost use Rattle.schema_answers.specs.Askings.{asking};
-ghost use Rattle.schema_answers.specs.EvaluationPlaces.{CarriesItsNumber};
-ghost use Rattle.schema_node.specs.RunStates.{setting};
-ghost use Rattle.schema_node.specs.RunStates.{Keeps, MayRun};
-ghost use Rattle.schema_node.specs.RunStates.{ChildSays, EdgeSays, FormSays, NodeSays, PartsSay};
-ghost use Rattle.schema_node.specs.RunStates.{MeetsChild, MeetsEdge, MeetsForm, MeetsNode, MeetsParts};
-ghost use Rattle.schema_node.specs.RunStates.{EdgeRemembers, FormRemembers, NodeRemembers, PartsRemember, StaysRight};
-ghost use Rattle.schema_node.specs.Visits.{EdgeCounts, FormCounts, LeadsNowhere, NodeCounts, PartsCount};
+ghost use Rattle.schema_node.specs.Answered.{Answers, IsAsked, a_guarded, a_node, an_edge, setting_by, the_child, the_entries, the_entry};
 
 use crate::node::verdict_turns::keyword_verdict;
 use schema_answers::guarded::GuardedPair;
@@ -39,24 +23,9 @@ pub(crate) fn verdict_node<'i, K: Validate, M: Matcher>(
     question: &Question<'_, 'i>,
     context: &mut ValidationContext<'i>,
 ) -> Result<bool, OutOfMemory>
-    requires may { MayRun (setting K.words K.is_whole K.shape M.matching engine.now) (asking question.now)
-        context.old node.0 }
-    requires carries { CarriesItsNumber (places_in context.old) question.now.place.now }
-    requires verdict { mode_of question.now.mode ≡ for_verdict }
-    ensures keeps { IfOk result (λ _. Keeps context.old context.new) }
-    ensures counts { IfOk result (λ _. context.old.visits ≤ context.new.visits) }
-    ensures visits { IfOk result (λ _. NodeCounts (numbered K.shape engine.now.nodes.now)
-        (asking question.now) context.old context.new node.0) }
-    ensures says { IfOk result (λ b. NodeSays
-        (setting K.words K.is_whole K.shape M.matching engine.now) (asking question.now)
-        context.old node.0 (told.Truth b)) }
-    ensures meets { IfOk result (λ _. MeetsNode
-        (setting K.words K.is_whole K.shape M.matching engine.now) (asking question.now)
-        context.old context.new node.0) }
-    ensures stays { IfOk result (λ _. StaysRight
-        (setting K.words K.is_whole K.shape M.matching engine.now) (asking question.now) context.old context.new) }
-    ensures remembers { IfOk result (λ b. NodeRemembers (asking question.now) context.old context.new
-        (numbered K.shape engine.now.nodes.now) node.0 (told.Truth b)) }
+    requires { IsAsked (setting_by K.Validate M.Matcher.own engine.now) question.now (a_node node.0) context.old }
+    ensures { Answers (setting_by K.Validate M.Matcher.own engine.now) question.now
+        (a_node node.0) context.old context.new result }
 {
     match &engine.nodes.node(node).form {
         None => Ok(true),
@@ -83,25 +52,9 @@ fn verdict_entries<'i, K: Validate, M: Matcher>(
     question: &Question<'_, 'i>,
     context: &mut ValidationContext<'i>,
 ) -> Result<bool, OutOfMemory>
-    requires may { MayRun (setting K.words K.is_whole K.shape M.matching engine.now) (asking question.now)
-        context.old node.0 }
-    requires carries { CarriesItsNumber (places_in context.old) question.now.place.now }
-    requires verdict { mode_of question.now.mode ≡ for_verdict }
-    requires parts { HasParts (numbered K.shape engine.now.nodes.now) node.0 (map (shaped_part K.shape) (map entry_of entries.now)) }
-    ensures keeps { IfOk result (λ _. Keeps context.old context.new) }
-    ensures counts { IfOk result (λ _. context.old.visits ≤ context.new.visits) }
-    ensures visits { IfOk result (λ _. PartsCount (numbered K.shape engine.now.nodes.now)
-        (asking question.now) context.old context.new (map (shaped_part K.shape) (map entry_of entries.now))) }
-    ensures says { IfOk result (λ b. PartsSay
-        (setting K.words K.is_whole K.shape M.matching engine.now) (asking question.now)
-        context.old node.0 (map (shaped_part K.shape) (map entry_of entries.now)) (told.Truth b)) }
-    ensures meets { IfOk result (λ _. MeetsParts
-        (setting K.words K.is_whole K.shape M.matching engine.now) (asking question.now)
-        context.old context.new node.0 (map (shaped_part K.shape) (map entry_of entries.now))) }
-    ensures stays { IfOk result (λ _. StaysRight
-        (setting K.words K.is_whole K.shape M.matching engine.now) (asking question.now) context.old context.new) }
-    ensures remembers { IfOk result (λ b. PartsRemember (asking question.now) context.old context.new
-        (map (shaped_part K.shape) (map entry_of entries.now)) (told.Truth b)) }
+    requires { IsAsked (setting_by K.Validate M.Matcher.own engine.now) question.now (the_entries K.shape node.0 entries.now) context.old }
+    ensures { Answers (setting_by K.Validate M.Matcher.own engine.now) question.now
+        (the_entries K.shape node.0 entries.now) context.old context.new result }
 {
     for entry in entries {
         let valid = verdict_form(engine, node, entry, question, context)?;
@@ -121,25 +74,9 @@ pub(crate) fn verdict_form<'i, K: Validate, M: Matcher>(
     question: &Question<'_, 'i>,
     context: &mut ValidationContext<'i>,
 ) -> Result<bool, OutOfMemory>
-    requires may { MayRun (setting K.words K.is_whole K.shape M.matching engine.now) (asking question.now)
-        context.old node.0 }
-    requires carries { CarriesItsNumber (places_in context.old) question.now.place.now }
-    requires verdict { mode_of question.now.mode ≡ for_verdict }
-    requires form { HasForm (numbered K.shape engine.now.nodes.now) node.0 (shaped_form K.shape (form_of entry.now.form)) }
-    ensures keeps { IfOk result (λ _. Keeps context.old context.new) }
-    ensures counts { IfOk result (λ _. context.old.visits ≤ context.new.visits) }
-    ensures visits { IfOk result (λ _. FormCounts (numbered K.shape engine.now.nodes.now)
-        (asking question.now) context.old context.new (shaped_form K.shape (form_of entry.now.form))) }
-    ensures says { IfOk result (λ b. FormSays
-        (setting K.words K.is_whole K.shape M.matching engine.now) (asking question.now)
-        context.old node.0 (string_bytes entry.now.name) (shaped_form K.shape (form_of entry.now.form)) (told.Truth b)) }
-    ensures meets { IfOk result (λ _. MeetsForm
-        (setting K.words K.is_whole K.shape M.matching engine.now) (asking question.now)
-        context.old context.new node.0 (string_bytes entry.now.name) (shaped_form K.shape (form_of entry.now.form))) }
-    ensures stays { IfOk result (λ _. StaysRight
-        (setting K.words K.is_whole K.shape M.matching engine.now) (asking question.now) context.old context.new) }
-    ensures remembers { IfOk result (λ b. FormRemembers (asking question.now) context.old context.new
-        (shaped_form K.shape (form_of entry.now.form)) (told.Truth b)) }
+    requires { IsAsked (setting_by K.Validate M.Matcher.own engine.now) question.now (the_entry K.shape node.0 entry.now) context.old }
+    ensures { Answers (setting_by K.Validate M.Matcher.own engine.now) question.now
+        (the_entry K.shape node.0 entry.now) context.old context.new result }
 {
     match &entry.form {
         EntryForm::Keyword(keyword, _) => {
@@ -163,23 +100,9 @@ fn verdict_keyword<'i, K: Validate, M: Matcher>(
     question: &Question<'_, 'i>,
     context: &mut ValidationContext<'i>,
 ) -> Result<bool, OutOfMemory>
-    requires may { MayRun (setting K.words K.is_whole K.shape M.matching engine.now) (asking question.now)
-        context.old node.0 }
-    requires carries { CarriesItsNumber (places_in context.old) question.now.place.now }
-    requires verdict { mode_of question.now.mode ≡ for_verdict }
-    requires form { HasForm (numbered K.shape engine.now.nodes.now) node.0 (shaped_form K.shape (form_of entry.now.form)) }
-    ensures keeps { IfOk result (λ _. Keeps context.old context.new) }
-    ensures counts { IfOk result (λ _. context.old.visits ≤ context.new.visits) }
-    ensures visits { IfOk result (λ _. FormCounts (numbered K.shape engine.now.nodes.now)
-        (asking question.now) context.old context.new (shaped_form K.shape (form_of entry.now.form))) }
-    ensures says { IfOk result (λ b. FormSays
-        (setting K.words K.is_whole K.shape M.matching engine.now) (asking question.now)
-        context.old node.0 (string_bytes entry.now.name) (shaped_form K.shape (form_of entry.now.form)) (told.Truth b)) }
-    ensures meets { IfOk result (λ _. MeetsForm
-        (setting K.words K.is_whole K.shape M.matching engine.now) (asking question.now)
-        context.old context.new node.0 (string_bytes entry.now.name) (shaped_form K.shape (form_of entry.now.form))) }
-    ensures stays { IfOk result (λ _. StaysRight
-        (setting K.words K.is_whole K.shape M.matching engine.now) (asking question.now) context.old context.new) }
+    requires { IsAsked (setting_by K.Validate M.Matcher.own engine.now) question.now (the_entry K.shape node.0 entry.now) context.old }
+    ensures { Answers (setting_by K.Validate M.Matcher.own engine.now) question.now
+        (the_entry K.shape node.0 entry.now) context.old context.new result }
 {
     match &entry.form {
         EntryForm::Keyword(keyword, children) => {
@@ -203,24 +126,9 @@ fn verdict_reference<'i, K: Validate, M: Matcher>(
     question: &Question<'_, 'i>,
     context: &mut ValidationContext<'i>,
 ) -> Result<bool, OutOfMemory>
-    requires may { MayRun (setting K.words K.is_whole K.shape M.matching engine.now) (asking question.now)
-        context.old edge.now.node.0 }
-    requires carries { CarriesItsNumber (places_in context.old) question.now.place.now }
-    requires verdict { mode_of question.now.mode ≡ for_verdict }
-    ensures keeps { IfOk result (λ _. Keeps context.old context.new) }
-    ensures counts { IfOk result (λ _. context.old.visits ≤ context.new.visits) }
-    ensures visits { IfOk result (λ _. EdgeCounts (numbered K.shape engine.now.nodes.now)
-        (asking question.now) context.old context.new (edge_of edge.now)) }
-    ensures says { IfOk result (λ b. EdgeSays
-        (setting K.words K.is_whole K.shape M.matching engine.now) (asking question.now)
-        context.old (edge_of edge.now) (told.Truth b)) }
-    ensures meets { IfOk result (λ _. MeetsEdge
-        (setting K.words K.is_whole K.shape M.matching engine.now) (asking question.now)
-        context.old context.new (edge_of edge.now)) }
-    ensures stays { IfOk result (λ _. StaysRight
-        (setting K.words K.is_whole K.shape M.matching engine.now) (asking question.now) context.old context.new) }
-    ensures remembers { IfOk result (λ b. EdgeRemembers (asking question.now) context.old context.new
-        (edge_of edge.now) (told.Truth b)) }
+    requires { IsAsked (setting_by K.Validate M.Matcher.own engine.now) question.now (an_edge (edge_of edge.now)) context.old }
+    ensures { Answers (setting_by K.Validate M.Matcher.own engine.now) question.now
+        (an_edge (edge_of edge.now)) context.old context.new result }
 {
     let path = question.path.under_reference();
     let asked = Question {
@@ -244,24 +152,9 @@ pub(crate) fn verdict_child<'i, K: Validate, M: Matcher>(
     question: &Question<'_, 'i>,
     context: &mut ValidationContext<'i>,
 ) -> Result<bool, OutOfMemory>
-    requires may { MayRun (setting K.words K.is_whole K.shape M.matching engine.now) (asking question.now)
-        context.old node.0 }
-    requires carries { CarriesItsNumber (places_in context.old) question.now.place.now }
-    requires verdict { mode_of question.now.mode ≡ for_verdict }
-    requires children { HasChildren (numbered K.shape engine.now.nodes.now) node.0 (map (option_map edge_of) children.now) }
-    requires present { IsPresent (subject_of question.now.instance) (steps_below (below_of below)) }
-    ensures keeps { IfOk result (λ _. Keeps context.old context.new) }
-    ensures counts { IfOk result (λ _. context.old.visits ≤ context.new.visits) }
-    ensures quiet { IfOk result (λ _. LeadsNowhere (map (option_map edge_of) children.now) → context.new.visits ≡ context.old.visits) }
-    ensures says { IfOk result (λ b. ChildSays
-        (setting K.words K.is_whole K.shape M.matching engine.now) (asking question.now)
-        context.old node.0 (map (option_map edge_of) children.now) (record { child = child; below = below_of below.entry })
-        (told.Truth b)) }
-    ensures meets { IfOk result (λ _. MeetsChild
-        (setting K.words K.is_whole K.shape M.matching engine.now) (asking question.now)
-        context.old context.new node.0 (map (option_map edge_of) children.now) (record { child = child; below = below_of below.entry })) }
-    ensures stays { IfOk result (λ _. StaysRight
-        (setting K.words K.is_whole K.shape M.matching engine.now) (asking question.now) context.old context.new) }
+    requires { IsAsked (setting_by K.Validate M.Matcher.own engine.now) question.now (the_child node.0 children.now child (below_of below)) context.old }
+    ensures { Answers (setting_by K.Validate M.Matcher.own engine.now) question.now
+        (the_child node.0 children.now child (below_of below.entry)) context.old context.new result }
 {
     match child_edge(children, child) {
         None => Ok(true),
@@ -289,24 +182,9 @@ fn verdict_edge<'i, K: Validate, M: Matcher>(
     question: &Question<'_, 'i>,
     context: &mut ValidationContext<'i>,
 ) -> Result<bool, OutOfMemory>
-    requires may { MayRun (setting K.words K.is_whole K.shape M.matching engine.now) (asking question.now)
-        context.old edge.now.node.0 }
-    requires carries { CarriesItsNumber (places_in context.old) question.now.place.now }
-    requires verdict { mode_of question.now.mode ≡ for_verdict }
-    ensures keeps { IfOk result (λ _. Keeps context.old context.new) }
-    ensures counts { IfOk result (λ _. context.old.visits ≤ context.new.visits) }
-    ensures visits { IfOk result (λ _. EdgeCounts (numbered K.shape engine.now.nodes.now)
-        (asking question.now) context.old context.new (edge_of edge.now)) }
-    ensures says { IfOk result (λ b. EdgeSays
-        (setting K.words K.is_whole K.shape M.matching engine.now) (asking question.now)
-        context.old (edge_of edge.now) (told.Truth b)) }
-    ensures meets { IfOk result (λ _. MeetsEdge
-        (setting K.words K.is_whole K.shape M.matching engine.now) (asking question.now)
-        context.old context.new (edge_of edge.now)) }
-    ensures stays { IfOk result (λ _. StaysRight
-        (setting K.words K.is_whole K.shape M.matching engine.now) (asking question.now) context.old context.new) }
-    ensures remembers { IfOk result (λ b. EdgeRemembers (asking question.now) context.old context.new
-        (edge_of edge.now) (told.Truth b)) }
+    requires { IsAsked (setting_by K.Validate M.Matcher.own engine.now) question.now (an_edge (edge_of edge.now)) context.old }
+    ensures { Answers (setting_by K.Validate M.Matcher.own engine.now) question.now
+        (an_edge (edge_of edge.now)) context.old context.new result }
 {
     if edge.guarded {
         return guarded_verdict(engine, edge, question, context);
@@ -331,25 +209,9 @@ fn guarded_verdict<'i, K: Validate, M: Matcher>(
     question: &Question<'_, 'i>,
     context: &mut ValidationContext<'i>,
 ) -> Result<bool, OutOfMemory>
-    requires may { MayRun (setting K.words K.is_whole K.shape M.matching engine.now) (asking question.now)
-        context.old edge.now.node.0 }
-    requires carries { CarriesItsNumber (places_in context.old) question.now.place.now }
-    requires verdict { mode_of question.now.mode ≡ for_verdict }
-    requires guarded { edge.now.guarded ≡ true }
-    ensures keeps { IfOk result (λ _. Keeps context.old context.new) }
-    ensures counts { IfOk result (λ _. context.old.visits ≤ context.new.visits) }
-    ensures visits { IfOk result (λ _. EdgeCounts (numbered K.shape engine.now.nodes.now)
-        (asking question.now) context.old context.new (edge_of edge.now)) }
-    ensures says { IfOk result (λ b. EdgeSays
-        (setting K.words K.is_whole K.shape M.matching engine.now) (asking question.now)
-        context.old (edge_of edge.now) (told.Truth b)) }
-    ensures meets { IfOk result (λ _. MeetsEdge
-        (setting K.words K.is_whole K.shape M.matching engine.now) (asking question.now)
-        context.old context.new (edge_of edge.now)) }
-    ensures stays { IfOk result (λ _. StaysRight
-        (setting K.words K.is_whole K.shape M.matching engine.now) (asking question.now) context.old context.new) }
-    ensures remembers { IfOk result (λ b. EdgeRemembers (asking question.now) context.old context.new
-        (edge_of edge.now) (told.Truth b)) }
+    requires { IsAsked (setting_by K.Validate M.Matcher.own engine.now) question.now (a_guarded (edge_of edge.now)) context.old }
+    ensures { Answers (setting_by K.Validate M.Matcher.own engine.now) question.now
+        (a_guarded (edge_of edge.now)) context.old context.new result }
 {
     let pair = GuardedPair::new(context, edge.node, question.place)?;
     if let Some(valid) = pair.known_verdict(context) {

@@ -1,21 +1,12 @@
 //! The turns of a keyword's run for its verdict. A level of an instance takes little room on the stack: what the run begins with, and what
 //! its answer is dropped in, have room of their own, and a turn is told no more than a yes or a no.
-ghost use Rattle.std.specs.Prelude.{◌≡◌, ◌≤◌, [], Bool, IfOk, map, option_map, string_bytes};
+ghost use Rattle.std.specs.Prelude.{◌≡◌, [], Bool, IfOk};
 ghost use Rattle.schema_reports.specs.InstanceViews.{subject_of};
 ghost use Rattle.schema_definitions.specs.Keywords.{for_verdict};
-ghost use Rattle.schema_parts.specs.KeywordViews.{fresh, mode_of};
-ghost use Rattle.schema_parts.specs.declared.keyword.Reply.TheVariants as told;
-ghost use Rattle.schema_nodes.specs.NodeTable.{numbered};
-ghost use Rattle.schema_parts.specs.EdgeViews.{edge_of};
-ghost use Rattle.schema_answers.specs.NodeRuns.{HasForm, form_at_work};
-ghost use Rattle.schema_contexts.specs.Progress.{places_in};
+ghost use Rattle.schema_parts.specs.KeywordViews.{fresh};
 ghost use Rattle.schema_answers.specs.Askings.{asking};
-ghost use Rattle.schema_answers.specs.EvaluationPlaces.{CarriesItsNumber};
-ghost use Rattle.schema_node.specs.RunStates.{setting};
-ghost use Rattle.schema_node.specs.RunStates.{FormSays, HasBegun, Keeps, MayRun, StaysRight};
-ghost use Rattle.schema_node.specs.RunStates.{MeetsForm};
-ghost use Rattle.schema_node.specs.UnitStates.{FindsRightly};
-ghost use Rattle.schema_node.specs.Visits.{LeadsNowhere};
+ghost use Rattle.schema_node.specs.Answered.{Answers, IsAsked, Turns, setting_by, the_keyword};
+ghost use Rattle.schema_node.specs.RunStates.{HasBegun};
 
 use crate::node::verdict::verdict_child;
 use schema_answers::faults::begun;
@@ -39,23 +30,9 @@ pub(crate) fn keyword_verdict<'i, K: Validate, M: Matcher>(
     question: &Question<'_, 'i>,
     context: &mut ValidationContext<'i>,
 ) -> Result<bool, OutOfMemory>
-    requires may { MayRun (setting K.words K.is_whole K.shape M.matching engine.now) (asking question.now)
-        context.old node.0 }
-    requires carries { CarriesItsNumber (places_in context.old) question.now.place.now }
-    requires verdict { mode_of question.now.mode ≡ for_verdict }
-    requires form { HasForm (numbered K.shape engine.now.nodes.now) node.0 (form_at_work K.shape keyword.now) }
-    ensures keeps { IfOk result (λ _. Keeps context.old context.new) }
-    ensures counts { IfOk result (λ _. context.old.visits ≤ context.new.visits) }
-    ensures quiet { IfOk result (λ _. LeadsNowhere (map (option_map edge_of) keyword.now.children.now)
-        → context.new.visits ≡ context.old.visits) }
-    ensures says { IfOk result (λ b. FormSays
-        (setting K.words K.is_whole K.shape M.matching engine.now) (asking question.now)
-        context.old node.0 (string_bytes keyword.now.name.now) (form_at_work K.shape keyword.now) (told.Truth b)) }
-    ensures meets { IfOk result (λ _. MeetsForm
-        (setting K.words K.is_whole K.shape M.matching engine.now) (asking question.now)
-        context.old context.new node.0 (string_bytes keyword.now.name.now) (form_at_work K.shape keyword.now)) }
-    ensures stays { IfOk result (λ _. StaysRight
-        (setting K.words K.is_whole K.shape M.matching engine.now) (asking question.now) context.old context.new) }
+    requires { IsAsked (setting_by K.Validate M.Matcher.own engine.now) question.now (the_keyword K.shape node.0 keyword.now) context.old }
+    ensures { Answers (setting_by K.Validate M.Matcher.own engine.now) question.now
+        (the_keyword K.shape node.0 keyword.now) context.old context.new result }
 {
     let mut run = begun_run(engine.alloc, keyword.keyword, question.instance)?;
     let mut answer = begun(engine.alloc, Mode::Verdict)?;
@@ -103,28 +80,12 @@ fn take_turns<'i, K: Validate, M: Matcher>(
     answer: &mut Answer<'i>,
     context: &mut ValidationContext<'i>,
 ) -> Result<(), OutOfMemory>
-    requires may { MayRun (setting K.words K.is_whole K.shape M.matching engine.now) (asking question.now)
-        context.old node.0 }
-    requires carries { CarriesItsNumber (places_in context.old) question.now.place.now }
-    requires verdict { mode_of question.now.mode ≡ for_verdict }
-    requires form { HasForm (numbered K.shape engine.now.nodes.now) node.0 (form_at_work K.shape keyword.now) }
-    requires begun { HasBegun (setting K.words K.is_whole K.shape M.matching engine.now) (asking question.now)
+    requires asked { IsAsked (setting_by K.Validate M.Matcher.own engine.now) question.now (the_keyword K.shape node.0 keyword.now) context.old }
+    requires begun { HasBegun (setting_by K.Validate M.Matcher.own engine.now) (asking question.now)
         (K.shape keyword.now.keyword.now) run.old answer.old }
     requires no_marks { context.old.marking ≡ [] }
-    ensures root { IfOk result (λ _. context.new.root ≡ context.old.root) }
-    ensures kept { IfOk result (λ _. context.new.in_progress ≡ context.old.in_progress) }
-    ensures assumes { IfOk result (λ _. context.new.remembered.assumptions ≡ context.old.remembered.assumptions) }
-    ensures counts { IfOk result (λ _. context.old.visits ≤ context.new.visits) }
-    ensures quiet { IfOk result (λ _. LeadsNowhere (map (option_map edge_of) keyword.now.children.now)
-        → context.new.visits ≡ context.old.visits) }
-    ensures right { IfOk result (λ _. FindsRightly
-        (setting K.words K.is_whole K.shape M.matching engine.now) (asking question.now)
-        context.old node.0 (map (option_map edge_of) keyword.now.children.now) (K.shape keyword.now.keyword.now) answer.new) }
-    ensures meets { IfOk result (λ _. MeetsForm
-        (setting K.words K.is_whole K.shape M.matching engine.now) (asking question.now)
-        context.old context.new node.0 (string_bytes keyword.now.name.now) (form_at_work K.shape keyword.now)) }
-    ensures stays { IfOk result (λ _. StaysRight
-        (setting K.words K.is_whole K.shape M.matching engine.now) (asking question.now) context.old context.new) }
+    ensures { Turns K.shape (setting_by K.Validate M.Matcher.own engine.now) question.now
+        node.0 keyword.now context.old context.new result answer.new }
 {
     let children = keyword.children;
     let mut told: Option<bool> = None;

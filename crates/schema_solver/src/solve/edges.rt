@@ -1,20 +1,8 @@
 //! The verdict of what an edge leads to, and of a pair that is answered by what is found, by a solver.
-ghost use Rattle.std.specs.Prelude.{◌==◌, ◌≡◌, IfOk, List, map, option_map, true, ℕ};
-ghost use Rattle.std.specs.List.{list_any};
-ghost use Rattle.serde_json.specs.View.{view};
-ghost use Rattle.schema_definitions.specs.Keywords.{here};
-ghost use Rattle.schema_definitions.specs.Laws.{IsPresent, steps_below};
-ghost use Rattle.schema_reports.specs.InstanceViews.{subject_of};
 ghost use Rattle.schema_parts.specs.EdgeViews.{edge_of};
 ghost use Rattle.schema_parts.specs.KeywordViews.{below_of};
-ghost use Rattle.schema_nodes.specs.NodeTable.{numbered};
-ghost use Rattle.schema_answers.specs.NodeRuns.{HasChildren};
-ghost use Rattle.schema_answers.specs.EvaluationPlaces.{CarriesItsNumber, steps_to};
-ghost use Rattle.schema_solving.specs.Found.{SaysPair};
-ghost use Rattle.schema_solving.specs.Says.{ChildSays, EdgeSays};
-ghost use Rattle.schema_solver.specs.Asked.{solver_of};
-ghost use Rattle.schema_pairs.specs.Contexts.{found_of, solver_places};
-ghost use Rattle.schema_solver.specs.Solving.{Goes, HasEachCut, InEach, IsEdge, MaySolve};
+ghost use Rattle.schema_solver.specs.Asked.{solver_by};
+ghost use Rattle.schema_solver.specs.Solved.{MayAsk, Solves, a_pair, an_edge, the_child};
 
 use crate::question::{Asked, SolverEngine};
 use crate::solve::entries::solve_node;
@@ -38,17 +26,9 @@ pub(crate) fn solve_child<'i, K: Validate, M: Matcher>(
     question: &Asked<'_, 'i>,
     context: &mut SolverContext<'i>,
 ) -> Result<bool, OutOfMemory>
-    requires may { MaySolve (solver_of K.words K.is_whole K.shape M.matching engine.now) context.old
-        (subject_of question.now.instance) (steps_to question.now.place.now) node.0 }
-    requires carries { CarriesItsNumber (solver_places context.old) question.now.place.now }
-    requires children { HasChildren (numbered K.shape engine.now.nodes.now) node.0 (map (option_map edge_of) children.now) }
-    requires present { IsPresent (subject_of question.now.instance) (steps_below (below_of below)) }
-    ensures goes { IfOk result (λ _. Goes (solver_of K.words K.is_whole K.shape M.matching engine.now)
-        (steps_to question.now.place.now) context.old context.new) }
-    ensures marking { IfOk result (λ _. context.new.marking ≡ context.old.marking) }
-    ensures says { IfOk result (λ b. InEach (solver_of K.words K.is_whole K.shape M.matching engine.now) (view context.new.root)
-        (λ texts w. ChildSays w (steps_to question.now.place.now) (found_of context.new)
-        (map (option_map edge_of) children.now) (record { child = child; below = below_of below.entry }) b)) }
+    requires { MayAsk (solver_by K.Validate M.Matcher.own engine.now) question.now (the_child node.0 children.now child (below_of below)) context.old }
+    ensures { Solves (solver_by K.Validate M.Matcher.own engine.now) question.now
+        (the_child node.0 children.now child (below_of below.entry)) context.old context.new result }
 {
     match child_edge(children, child) {
         None => Ok(true),
@@ -75,15 +55,9 @@ pub(crate) fn solve_edge<'i, K: Validate, M: Matcher>(
     question: &Asked<'_, 'i>,
     context: &mut SolverContext<'i>,
 ) -> Result<bool, OutOfMemory>
-    requires may { MaySolve (solver_of K.words K.is_whole K.shape M.matching engine.now) context.old
-        (subject_of question.now.instance) (steps_to question.now.place.now) edge.now.node.0 }
-    requires carries { CarriesItsNumber (solver_places context.old) question.now.place.now }
-    requires edge { IsEdge (solver_of K.words K.is_whole K.shape M.matching engine.now) (edge_of edge.now) }
-    ensures goes { IfOk result (λ _. Goes (solver_of K.words K.is_whole K.shape M.matching engine.now)
-        (steps_to question.now.place.now) context.old context.new) }
-    ensures marking { IfOk result (λ _. context.new.marking ≡ context.old.marking) }
-    ensures says { IfOk result (λ b. InEach (solver_of K.words K.is_whole K.shape M.matching engine.now) (view context.new.root)
-        (λ texts w. EdgeSays w (steps_to question.now.place.now) (found_of context.new) (edge_of edge.now) here b)) }
+    requires { MayAsk (solver_by K.Validate M.Matcher.own engine.now) question.now (an_edge (edge_of edge.now)) context.old }
+    ensures { Solves (solver_by K.Validate M.Matcher.own engine.now) question.now
+        (an_edge (edge_of edge.now)) context.old context.new result }
 {
     if edge.guarded || !engine.followed.is_followed(edge.node) {
         return solve_pair(engine, edge.node, question, context);
@@ -102,16 +76,9 @@ fn solve_pair<'i, K: Validate, M: Matcher>(
     question: &Asked<'_, 'i>,
     context: &mut SolverContext<'i>,
 ) -> Result<bool, OutOfMemory>
-    requires may { MaySolve (solver_of K.words K.is_whole K.shape M.matching engine.now) context.old
-        (subject_of question.now.instance) (steps_to question.now.place.now) node.0 }
-    requires carries { CarriesItsNumber (solver_places context.old) question.now.place.now }
-    requires among { (ns : List ℕ) → HasEachCut (solver_of K.words K.is_whole K.shape M.matching engine.now) ns
-        → list_any (λ n. node.0 == n) ns ≡ true }
-    ensures goes { IfOk result (λ _. Goes (solver_of K.words K.is_whole K.shape M.matching engine.now)
-        (steps_to question.now.place.now) context.old context.new) }
-    ensures marking { IfOk result (λ _. context.new.marking ≡ context.old.marking) }
-    ensures says { IfOk result (λ b. InEach (solver_of K.words K.is_whole K.shape M.matching engine.now) (view context.new.root)
-        (λ texts w. SaysPair (found_of context.new) node.0 (steps_to question.now.place.now) b)) }
+    requires { MayAsk (solver_by K.Validate M.Matcher.own engine.now) question.now (a_pair node.0) context.old }
+    ensures { Solves (solver_by K.Validate M.Matcher.own engine.now) question.now
+        (a_pair node.0) context.old context.new result }
 {
     let pair = SolverPair::new(context, node, question.place)?;
     if let Some(valid) = pair.state(context) {

@@ -1,16 +1,6 @@
 //! The verdict of a node and of its entries, by a solver.
-ghost use Rattle.std.specs.Prelude.{◌≡◌, IfOk, map};
-ghost use Rattle.serde_json.specs.View.{view};
-ghost use Rattle.schema_reports.specs.InstanceViews.{subject_of};
-ghost use Rattle.schema_nodes.specs.NodeTable.{numbered, shaped_form, shaped_part};
-ghost use Rattle.schema_nodes.specs.NodeViews.{entry_of, form_of};
-ghost use Rattle.schema_answers.specs.NodeRuns.{HasForm, HasParts};
-ghost use Rattle.schema_answers.specs.EvaluationPlaces.{CarriesItsNumber, steps_to};
-ghost use Rattle.schema_solving.specs.Found.{SaysUnder};
-ghost use Rattle.schema_solving.specs.Says.{FormSays, PartsSay};
-ghost use Rattle.schema_solver.specs.Asked.{solver_of};
-ghost use Rattle.schema_pairs.specs.Contexts.{found_of, solver_places};
-ghost use Rattle.schema_solver.specs.Solving.{Goes, InEach, MaySolve};
+ghost use Rattle.schema_solver.specs.Asked.{solver_by};
+ghost use Rattle.schema_solver.specs.Solved.{MayAsk, Solves, a_node, the_entries, the_entry};
 
 use crate::question::{Asked, SolverEngine};
 use crate::solve::edges::solve_edge;
@@ -31,14 +21,9 @@ pub(crate) fn solve_node<'i, K: Validate, M: Matcher>(
     question: &Asked<'_, 'i>,
     context: &mut SolverContext<'i>,
 ) -> Result<bool, OutOfMemory>
-    requires may { MaySolve (solver_of K.words K.is_whole K.shape M.matching engine.now) context.old
-        (subject_of question.now.instance) (steps_to question.now.place.now) node.0 }
-    requires carries { CarriesItsNumber (solver_places context.old) question.now.place.now }
-    ensures goes { IfOk result (λ _. Goes (solver_of K.words K.is_whole K.shape M.matching engine.now)
-        (steps_to question.now.place.now) context.old context.new) }
-    ensures marking { IfOk result (λ _. context.new.marking ≡ context.old.marking) }
-    ensures says { IfOk result (λ b. InEach (solver_of K.words K.is_whole K.shape M.matching engine.now) (view context.new.root)
-        (λ texts w. SaysUnder w (found_of context.new) node.0 (steps_to question.now.place.now) b)) }
+    requires { MayAsk (solver_by K.Validate M.Matcher.own engine.now) question.now (a_node node.0) context.old }
+    ensures { Solves (solver_by K.Validate M.Matcher.own engine.now) question.now
+        (a_node node.0) context.old context.new result }
 {
     match &engine.nodes.node(node).form {
         None => Ok(true),
@@ -61,16 +46,9 @@ fn solve_entries<'i, K: Validate, M: Matcher>(
     question: &Asked<'_, 'i>,
     context: &mut SolverContext<'i>,
 ) -> Result<bool, OutOfMemory>
-    requires may { MaySolve (solver_of K.words K.is_whole K.shape M.matching engine.now) context.old
-        (subject_of question.now.instance) (steps_to question.now.place.now) node.0 }
-    requires carries { CarriesItsNumber (solver_places context.old) question.now.place.now }
-    requires parts { HasParts (numbered K.shape engine.now.nodes.now) node.0 (map (shaped_part K.shape) (map entry_of entries.now)) }
-    ensures goes { IfOk result (λ _. Goes (solver_of K.words K.is_whole K.shape M.matching engine.now)
-        (steps_to question.now.place.now) context.old context.new) }
-    ensures marking { IfOk result (λ _. context.new.marking ≡ context.old.marking) }
-    ensures says { IfOk result (λ b. InEach (solver_of K.words K.is_whole K.shape M.matching engine.now) (view context.new.root)
-        (λ texts w. PartsSay w (steps_to question.now.place.now) (found_of context.new)
-        (map (shaped_part K.shape) (map entry_of entries.now)) b)) }
+    requires { MayAsk (solver_by K.Validate M.Matcher.own engine.now) question.now (the_entries K.shape node.0 entries.now) context.old }
+    ensures { Solves (solver_by K.Validate M.Matcher.own engine.now) question.now
+        (the_entries K.shape node.0 entries.now) context.old context.new result }
 {
     for entry in entries {
         let valid = solve_form(engine, node, entry, question, context)?;
@@ -90,15 +68,9 @@ fn solve_form<'i, K: Validate, M: Matcher>(
     question: &Asked<'_, 'i>,
     context: &mut SolverContext<'i>,
 ) -> Result<bool, OutOfMemory>
-    requires may { MaySolve (solver_of K.words K.is_whole K.shape M.matching engine.now) context.old
-        (subject_of question.now.instance) (steps_to question.now.place.now) node.0 }
-    requires carries { CarriesItsNumber (solver_places context.old) question.now.place.now }
-    requires form { HasForm (numbered K.shape engine.now.nodes.now) node.0 (shaped_form K.shape (form_of entry.now.form)) }
-    ensures goes { IfOk result (λ _. Goes (solver_of K.words K.is_whole K.shape M.matching engine.now)
-        (steps_to question.now.place.now) context.old context.new) }
-    ensures marking { IfOk result (λ _. context.new.marking ≡ context.old.marking) }
-    ensures says { IfOk result (λ b. InEach (solver_of K.words K.is_whole K.shape M.matching engine.now) (view context.new.root)
-        (λ texts w. FormSays w (steps_to question.now.place.now) (found_of context.new) (shaped_form K.shape (form_of entry.now.form)) b)) }
+    requires { MayAsk (solver_by K.Validate M.Matcher.own engine.now) question.now (the_entry K.shape node.0 entry.now) context.old }
+    ensures { Solves (solver_by K.Validate M.Matcher.own engine.now) question.now
+        (the_entry K.shape node.0 entry.now) context.old context.new result }
 {
     match &entry.form {
         EntryForm::Keyword(keyword, _) => {
@@ -122,15 +94,9 @@ fn solve_keyword<'i, K: Validate, M: Matcher>(
     question: &Asked<'_, 'i>,
     context: &mut SolverContext<'i>,
 ) -> Result<bool, OutOfMemory>
-    requires may { MaySolve (solver_of K.words K.is_whole K.shape M.matching engine.now) context.old
-        (subject_of question.now.instance) (steps_to question.now.place.now) node.0 }
-    requires carries { CarriesItsNumber (solver_places context.old) question.now.place.now }
-    requires form { HasForm (numbered K.shape engine.now.nodes.now) node.0 (shaped_form K.shape (form_of entry.now.form)) }
-    ensures goes { IfOk result (λ _. Goes (solver_of K.words K.is_whole K.shape M.matching engine.now)
-        (steps_to question.now.place.now) context.old context.new) }
-    ensures marking { IfOk result (λ _. context.new.marking ≡ context.old.marking) }
-    ensures says { IfOk result (λ b. InEach (solver_of K.words K.is_whole K.shape M.matching engine.now) (view context.new.root)
-        (λ texts w. FormSays w (steps_to question.now.place.now) (found_of context.new) (shaped_form K.shape (form_of entry.now.form)) b)) }
+    requires { MayAsk (solver_by K.Validate M.Matcher.own engine.now) question.now (the_entry K.shape node.0 entry.now) context.old }
+    ensures { Solves (solver_by K.Validate M.Matcher.own engine.now) question.now
+        (the_entry K.shape node.0 entry.now) context.old context.new result }
 {
     match &entry.form {
         EntryForm::Keyword(keyword, children) => {

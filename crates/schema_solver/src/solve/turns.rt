@@ -1,18 +1,12 @@
 //! The turns of a keyword's run for its verdict, by a solver.
 ghost use Rattle.std.specs.Prelude.{◌≡◌, [], Bool, IfOk};
-ghost use Rattle.serde_json.specs.View.{view};
 ghost use Rattle.schema_reports.specs.InstanceViews.{subject_of};
 ghost use Rattle.schema_definitions.specs.Keywords.{for_verdict};
 ghost use Rattle.schema_definitions.specs.Matching.{finished};
 ghost use Rattle.schema_parts.specs.KeywordViews.{answer_of, fresh};
 ghost use Rattle.schema_parts.specs.MatcherViews.{FinishesEach};
-ghost use Rattle.schema_nodes.specs.NodeTable.{numbered};
-ghost use Rattle.schema_answers.specs.NodeRuns.{HasForm, form_at_work};
-ghost use Rattle.schema_answers.specs.EvaluationPlaces.{CarriesItsNumber, steps_to};
-ghost use Rattle.schema_solving.specs.Says.{FormSays};
-ghost use Rattle.schema_solver.specs.Asked.{solver_of};
-ghost use Rattle.schema_pairs.specs.Contexts.{found_of, solver_places};
-ghost use Rattle.schema_solver.specs.Solving.{Goes, InEach, MaySolve};
+ghost use Rattle.schema_solver.specs.Asked.{solver_by};
+ghost use Rattle.schema_solver.specs.Solved.{MayAsk, Solves, Turns, the_keyword};
 ghost use Rattle.schema_solver.specs.TurningOn.{HasBegun};
 
 use crate::question::{Asked, SolverEngine};
@@ -39,15 +33,9 @@ pub(crate) fn solver_answer<'i, K: Validate, M: Matcher>(
     question: &Asked<'_, 'i>,
     context: &mut SolverContext<'i>,
 ) -> Result<bool, OutOfMemory>
-    requires may { MaySolve (solver_of K.words K.is_whole K.shape M.matching engine.now) context.old
-        (subject_of question.now.instance) (steps_to question.now.place.now) node.0 }
-    requires carries { CarriesItsNumber (solver_places context.old) question.now.place.now }
-    requires form { HasForm (numbered K.shape engine.now.nodes.now) node.0 (form_at_work K.shape keyword.now) }
-    ensures goes { IfOk result (λ _. Goes (solver_of K.words K.is_whole K.shape M.matching engine.now)
-        (steps_to question.now.place.now) context.old context.new) }
-    ensures marking { IfOk result (λ _. context.new.marking ≡ context.old.marking) }
-    ensures says { IfOk result (λ b. InEach (solver_of K.words K.is_whole K.shape M.matching engine.now) (view context.new.root)
-        (λ texts w. FormSays w (steps_to question.now.place.now) (found_of context.new) (form_at_work K.shape keyword.now) b)) }
+    requires { MayAsk (solver_by K.Validate M.Matcher.own engine.now) question.now (the_keyword K.shape node.0 keyword.now) context.old }
+    ensures { Solves (solver_by K.Validate M.Matcher.own engine.now) question.now
+        (the_keyword K.shape node.0 keyword.now) context.old context.new result }
 {
     let mut run = begun_run(engine.alloc, keyword.keyword, question.instance)?;
     let mut answer = begun(engine.alloc, Mode::Verdict)?;
@@ -95,18 +83,12 @@ fn solver_turns<'i, K: Validate, M: Matcher>(
     answer: &mut Answer<'i>,
     context: &mut SolverContext<'i>,
 ) -> Result<(), OutOfMemory>
-    requires may { MaySolve (solver_of K.words K.is_whole K.shape M.matching engine.now) context.old
-        (subject_of question.now.instance) (steps_to question.now.place.now) node.0 }
-    requires carries { CarriesItsNumber (solver_places context.old) question.now.place.now }
-    requires form { HasForm (numbered K.shape engine.now.nodes.now) node.0 (form_at_work K.shape keyword.now) }
-    requires begun { HasBegun (solver_of K.words K.is_whole K.shape M.matching engine.now) (subject_of question.now.instance)
+    requires may_ask { MayAsk (solver_by K.Validate M.Matcher.own engine.now) question.now (the_keyword K.shape node.0 keyword.now) context.old }
+    requires begun { HasBegun (solver_by K.Validate M.Matcher.own engine.now) (subject_of question.now.instance)
         (K.shape keyword.now.keyword.now) run.old answer.old }
     requires no_marks { context.old.marking ≡ [] }
-    ensures goes { IfOk result (λ _. Goes (solver_of K.words K.is_whole K.shape M.matching engine.now)
-        (steps_to question.now.place.now) context.old context.new) }
-    ensures says { IfOk result (λ _. InEach (solver_of K.words K.is_whole K.shape M.matching engine.now) (view context.new.root)
-        (λ texts w. FormSays w (steps_to question.now.place.now) (found_of context.new) (form_at_work K.shape keyword.now)
-        (answer_of texts answer.new).verdict)) }
+    ensures { Turns (solver_by K.Validate M.Matcher.own engine.now) question.now
+        (the_keyword K.shape node.0 keyword.now) context.old context.new result (λ texts. (answer_of texts answer.new).verdict) }
 {
     let children = keyword.children;
     let mut told: Option<bool> = None;

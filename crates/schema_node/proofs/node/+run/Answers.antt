@@ -1,8 +1,9 @@
 use Rattle.std.proofs.lemmas.List.Elements.{All-nil}
+use Rattle.std.proofs.lemmas.Grind.{common_steps}
 use Rattle.std.specs.Prelude.{All, option_and_then}
 use Rattle.schema_reports.specs.ReportViews.{BorrowsItsPlace}
 use Rattle.schema_parts.specs.FaultViews.{PassesBorrowed}
-use Rattle.std.proofs.Common.{◌≡◌, ◌∙◌, ◌==◌, ◌+◌, Bool, sym, refl, ap, subst, map, option_map, string_bytes, length, Some, false, true, List, [], ◌∷◌, ◌++◌, drop}
+use Rattle.std.proofs.Common.{rules, arith, ◌≡◌, ◌∙◌, ◌==◌, ◌+◌, Bool, sym, refl, ap, subst, map, option_map, string_bytes, length, Some, false, true, List, [], ◌∷◌, ◌++◌, drop}
 use Rattle.schema_reports.specs.InstanceViews.{subject_of, step_of}
 use Rattle.schema_definitions.specs.Keywords.{Question, ask, ecma, mark, match_text, no_reply, truth, unmark}
 use Rattle.schema_answers.specs.EvaluationPlaces.{steps_to}
@@ -81,32 +82,71 @@ run::run_child-run_edge-requires-in-Some-one_below g t c =
     let below = laid_below layout p (subject_of c.args.question.now.instance) (subject_of c.in-Some-one_below.inner) step (steps_to c.below-lower.result) laid c.below-lower.ensures.below c.in-Some-one_below.ensures.below.1 in
     λ κs h. (lower_edge _ _ _ t 0 n l c.decreases, (h.0, (h.1.0, (h.1.1.0, (h.1.1.1, (record { known = (c.requires.may.ranked c.args.node.0 c.requires.may.known e k).0; ranked = c.requires.may.ranked; above = deeper; wanted = c.requires.may.wanted; stands = stands_below (view c.args.context.now.root) p (subject_of c.args.question.now.instance) (subject_of c.in-Some-one_below.inner) step (steps_to c.below-lower.result) c.requires.may.stands c.below-lower.ensures.below c.in-Some-one_below.ensures.below.1; goes_on = (layout, below, right) }, (c.below-lower.ensures.carries (places_in c.args.context.now) c.requires.carries, c.requires.more)))))))
 
-pub run::run_child-returns-in-None-one_below-clause-says : goal.run::run_child-returns-in-None-one_below-clause-says
-run::run_child-returns-in-None-one_below-clause-says g t c =
-    let ns = numbered g.K.Validate.shape c.args.engine.now.nodes.now in
-    let e = edge_of c.in-Some.edge.now in
-    let k = c.requires.children c.args.child e (sym c.in-Some.ensures.edge) in
-    let l = falls_here g.K.Validate.words g.K.Validate.is_whole ns (length c.args.engine.now.nodes.now) (settling (g.M.Matcher.matching c.args.engine.now.matcher.now) c.args.context.now.remembered.assumptions) c.requires.may.ranked c.args.node.0 (subject_of c.args.question.now.instance) (busy_at (steps_to c.args.question.now.place.now) c.args.context.now.in_progress) e c.requires.may.known k in
-    if_ok_mono c.run_edge.result _ _ (λ r says. child_here g.K.Validate.words g.K.Validate.is_whole ns (length c.args.engine.now.nodes.now) (settling (g.M.Matcher.matching c.args.engine.now.matcher.now) c.args.context.now.remembered.assumptions) (mode_of c.args.question.now.mode) (path_of c.args.question.now.path.now) (steps_to c.args.question.now.place.now) (busy_at (steps_to c.args.question.now.place.now) c.args.context.now.in_progress) (subject_of c.args.question.now.instance) c.args.node.0 _
-    (record { child = c.args.child; below = below_of c.args.below }) r e (sym c.in-Some.ensures.edge) c.in-None-one_below.ensures.below l says) c.run_edge.ensures.says
+pub run::run_child-returns-in-None-one_below : goal.run::run_child-returns-in-None-one_below
+run::run_child-returns-in-None-one_below g t c = record {
+  keeps = first_of (search rules, grind (arith, common_steps));
+  counts = first_of (search rules, grind (arith, common_steps));
+  quiet = if_ok_always c.run_edge.result _ (λ none. absurd (none c.args.child (edge_of c.in-Some.edge.now) (sym c.in-Some.ensures.edge)));
+  says =
+      let ns = numbered g.K.Validate.shape c.args.engine.now.nodes.now in
+      let e = edge_of c.in-Some.edge.now in
+      let k = c.requires.children c.args.child e (sym c.in-Some.ensures.edge) in
+      let l = falls_here g.K.Validate.words g.K.Validate.is_whole ns (length c.args.engine.now.nodes.now) (settling (g.M.Matcher.matching c.args.engine.now.matcher.now) c.args.context.now.remembered.assumptions) c.requires.may.ranked c.args.node.0 (subject_of c.args.question.now.instance) (busy_at (steps_to c.args.question.now.place.now) c.args.context.now.in_progress) e c.requires.may.known k in
+      if_ok_mono c.run_edge.result _ _ (λ r says. child_here g.K.Validate.words g.K.Validate.is_whole ns (length c.args.engine.now.nodes.now) (settling (g.M.Matcher.matching c.args.engine.now.matcher.now) c.args.context.now.remembered.assumptions) (mode_of c.args.question.now.mode) (path_of c.args.question.now.path.now) (steps_to c.args.question.now.place.now) (busy_at (steps_to c.args.question.now.place.now) c.args.context.now.in_progress) (subject_of c.args.question.now.instance) c.args.node.0 _
+      (record { child = c.args.child; below = below_of c.args.below }) r e (sym c.in-Some.ensures.edge) c.in-None-one_below.ensures.below l says) c.run_edge.ensures.says;
+  meets =
+      let ns = numbered g.K.Validate.shape c.args.engine.now.nodes.now in
+      let w = settling (g.M.Matcher.matching c.args.engine.now.matcher.now) c.args.context.now.remembered.assumptions in
+      let p = steps_to c.args.question.now.place.now in
+      let s = subject_of c.args.question.now.instance in
+      let busy = busy_at p c.args.context.now.in_progress in
+      let e = edge_of c.in-Some.edge.now in
+      let k = c.requires.children c.args.child e (sym c.in-Some.ensures.edge) in
+      let l = falls_here g.K.Validate.words g.K.Validate.is_whole ns (length c.args.engine.now.nodes.now) w c.requires.may.ranked c.args.node.0 s busy e c.requires.may.known k in
+      if_ok_mono c.run_edge.result _ _ (λ r met. meets_here g.K.Validate.words g.K.Validate.is_whole ns (length c.args.engine.now.nodes.now) w (mode_of c.args.question.now.mode) (path_of c.args.question.now.path.now) p busy s c.args.node.0 _ (record { child = c.args.child; below = below_of c.args.below }) _ _ e (sym c.in-Some.ensures.edge) c.in-None-one_below.ensures.below l met) c.run_edge.ensures.meets;
+  stays = first_of (search rules, grind (arith, common_steps));
+}
 
-pub run::run_child-returns-in-Some-one_below-clause-says : goal.run::run_child-returns-in-Some-one_below-clause-says
-run::run_child-returns-in-Some-one_below-clause-says g t c =
-    let ns = numbered g.K.Validate.shape c.args.engine.now.nodes.now in
-    let e = edge_of c.in-Some.edge.now in
-    let k = c.requires.children c.args.child e (sym c.in-Some.ensures.edge) in
-    let p = steps_to c.args.question.now.place.now in
-    let step = step_of c.in-Some-one_below.step in
-    let es = c.args.context.now.in_progress in
-    let s = subject_of c.args.question.now.instance in
-    let inner = subject_of c.in-Some-one_below.inner in
-    let none : busy_at (steps_to c.below-lower.result) es ≡ [] = ap (λ q. busy_at q es) c.below-lower.ensures.below ∙ busy-below p step es c.requires.may.above in
-    let l = falls_below g.K.Validate.words g.K.Validate.is_whole ns (length c.args.engine.now.nodes.now) (settling (g.M.Matcher.matching c.args.engine.now.matcher.now) c.args.context.now.remembered.assumptions) c.requires.may.ranked c.args.node.0 s inner step (busy_at p es) e c.requires.may.known k c.in-Some-one_below.ensures.below.1 in
-    if_ok_mono c.run_edge-in-Some-one_below.result _ _ (λ r says.
-    let answer = subst (λ busy. EdgeReplies g.K.Validate.words g.K.Validate.is_whole ns (length c.args.engine.now.nodes.now) (settling (g.M.Matcher.matching c.args.engine.now.matcher.now) c.args.context.now.remembered.assumptions) (mode_of c.args.question.now.mode) (path_of c.args.question.now.path.now) (steps_to c.below-lower.result) busy inner e r) none says in
-    child_below g.K.Validate.words g.K.Validate.is_whole ns (length c.args.engine.now.nodes.now) (settling (g.M.Matcher.matching c.args.engine.now.matcher.now) c.args.context.now.remembered.assumptions) (mode_of c.args.question.now.mode) (path_of c.args.question.now.path.now) p (busy_at p es) s c.args.node.0 _
-    (record { child = c.args.child; below = below_of c.args.below }) r e step (steps_to c.below-lower.result) inner (sym c.in-Some.ensures.edge) c.in-Some-one_below.ensures.below.0
-    c.below-lower.ensures.below c.in-Some-one_below.ensures.below.1 l answer) c.run_edge-in-Some-one_below.ensures.says
+pub run::run_child-returns-in-Some-one_below : goal.run::run_child-returns-in-Some-one_below
+run::run_child-returns-in-Some-one_below g t c = record {
+  keeps = first_of (search rules, grind (arith, common_steps));
+  counts = first_of (search rules, grind (arith, common_steps));
+  quiet = if_ok_always c.run_edge-in-Some-one_below.result _ (λ none. absurd (none c.args.child (edge_of c.in-Some.edge.now) (sym c.in-Some.ensures.edge)));
+  says =
+      let ns = numbered g.K.Validate.shape c.args.engine.now.nodes.now in
+      let e = edge_of c.in-Some.edge.now in
+      let k = c.requires.children c.args.child e (sym c.in-Some.ensures.edge) in
+      let p = steps_to c.args.question.now.place.now in
+      let step = step_of c.in-Some-one_below.step in
+      let es = c.args.context.now.in_progress in
+      let s = subject_of c.args.question.now.instance in
+      let inner = subject_of c.in-Some-one_below.inner in
+      let none : busy_at (steps_to c.below-lower.result) es ≡ [] = ap (λ q. busy_at q es) c.below-lower.ensures.below ∙ busy-below p step es c.requires.may.above in
+      let l = falls_below g.K.Validate.words g.K.Validate.is_whole ns (length c.args.engine.now.nodes.now) (settling (g.M.Matcher.matching c.args.engine.now.matcher.now) c.args.context.now.remembered.assumptions) c.requires.may.ranked c.args.node.0 s inner step (busy_at p es) e c.requires.may.known k c.in-Some-one_below.ensures.below.1 in
+      if_ok_mono c.run_edge-in-Some-one_below.result _ _ (λ r says.
+      let answer = subst (λ busy. EdgeReplies g.K.Validate.words g.K.Validate.is_whole ns (length c.args.engine.now.nodes.now) (settling (g.M.Matcher.matching c.args.engine.now.matcher.now) c.args.context.now.remembered.assumptions) (mode_of c.args.question.now.mode) (path_of c.args.question.now.path.now) (steps_to c.below-lower.result) busy inner e r) none says in
+      child_below g.K.Validate.words g.K.Validate.is_whole ns (length c.args.engine.now.nodes.now) (settling (g.M.Matcher.matching c.args.engine.now.matcher.now) c.args.context.now.remembered.assumptions) (mode_of c.args.question.now.mode) (path_of c.args.question.now.path.now) p (busy_at p es) s c.args.node.0 _
+      (record { child = c.args.child; below = below_of c.args.below }) r e step (steps_to c.below-lower.result) inner (sym c.in-Some.ensures.edge) c.in-Some-one_below.ensures.below.0
+      c.below-lower.ensures.below c.in-Some-one_below.ensures.below.1 l answer) c.run_edge-in-Some-one_below.ensures.says;
+  meets =
+      let ns = numbered g.K.Validate.shape c.args.engine.now.nodes.now in
+      let w = settling (g.M.Matcher.matching c.args.engine.now.matcher.now) c.args.context.now.remembered.assumptions in
+      let p = steps_to c.args.question.now.place.now in
+      let s = subject_of c.args.question.now.instance in
+      let busy = busy_at p c.args.context.now.in_progress in
+      let e = edge_of c.in-Some.edge.now in
+      let k = c.requires.children c.args.child e (sym c.in-Some.ensures.edge) in
+      let step = step_of c.in-Some-one_below.step in
+      let es = c.args.context.now.in_progress in
+      let inner = subject_of c.in-Some-one_below.inner in
+      let none : busy_at (steps_to c.below-lower.result) es ≡ [] = ap (λ q. busy_at q es) c.below-lower.ensures.below ∙ busy-below p step es c.requires.may.above in
+      let l = falls_below g.K.Validate.words g.K.Validate.is_whole ns (length c.args.engine.now.nodes.now) w c.requires.may.ranked c.args.node.0 s inner step busy e c.requires.may.known k c.in-Some-one_below.ensures.below.1 in
+      if_ok_mono c.run_edge-in-Some-one_below.result _ _ (λ r says.
+      let met = subst (λ busy'. EdgeMeets g.K.Validate.words g.K.Validate.is_whole ns (length c.args.engine.now.nodes.now) w (mode_of c.args.question.now.mode) (path_of c.args.question.now.path.now) (steps_to c.below-lower.result) busy' inner c.args.context.now.remembered c.run_edge-in-Some-one_below.new.context.remembered e) none says in
+      meets_below g.K.Validate.words g.K.Validate.is_whole ns (length c.args.engine.now.nodes.now) w (mode_of c.args.question.now.mode) (path_of c.args.question.now.path.now) p busy s c.args.node.0 _ (record { child = c.args.child; below = below_of c.args.below }) _ _ e step (steps_to c.below-lower.result) inner (sym c.in-Some.ensures.edge) c.in-Some-one_below.ensures.below.0
+      c.below-lower.ensures.below c.in-Some-one_below.ensures.below.1 l met) c.run_edge-in-Some-one_below.ensures.meets;
+  stays = first_of (search rules, grind (arith, common_steps));
+}
 
 pub run::run_form-run_edge-requires : goal.run::run_form-run_edge-requires
 run::run_form-run_edge-requires g t c =
@@ -116,42 +156,90 @@ run::run_form-run_edge-requires g t c =
     let l = falls_here g.K.Validate.words g.K.Validate.is_whole ns (length c.args.engine.now.nodes.now) (settling (g.M.Matcher.matching c.args.engine.now.matcher.now) c.args.context.now.remembered.assumptions) c.requires.may.ranked c.args.node.0 (subject_of c.args.question.now.instance) (busy_at (steps_to c.args.question.now.place.now) c.args.context.now.in_progress) e c.requires.may.known k in
     λ κs h. (lower_edge _ _ _ t 6 refl l c.decreases, (h.0, (h.1.0, (h.1.1.0, (h.1.1.1, (record { known = (c.requires.may.ranked c.args.node.0 c.requires.may.known e k).0; ranked = c.requires.may.ranked; above = c.requires.may.above; wanted = c.requires.may.wanted; stands = c.requires.may.stands; goes_on = c.requires.may.goes_on }, (c.requires.carries, c.requires.more)))))))
 
-pub run::run_form-returns-in-Keyword-clause-says : goal.run::run_form-returns-in-Keyword-clause-says
-run::run_form-returns-in-Keyword-clause-says g t c = rw (c.in-Keyword.is, ← c.as_slice.ensures.value) c.run_keyword.ensures.says
+pub run::run_form-returns-in-Keyword : goal.run::run_form-returns-in-Keyword
+run::run_form-returns-in-Keyword g t c = record {
+  keeps = first_of (search rules, grind (arith, common_steps));
+  counts = first_of (search rules, grind (arith, common_steps));
+  says = rw (c.in-Keyword.is, ← c.as_slice.ensures.value) c.run_keyword.ensures.says;
+  meets = rw (c.in-Keyword.is, ← c.as_slice.ensures.value) c.run_keyword.ensures.meets;
+  stays = first_of (search rules, grind (arith, common_steps));
+}
 
-pub run::run_form-returns-in_ok-reply-in-Reference-clause-says : goal.run::run_form-returns-in_ok-reply-in-Reference-clause-says
-run::run_form-returns-in_ok-reply-in-Reference-clause-says g t c =
-    let ns = numbered g.K.Validate.shape c.args.engine.now.nodes.now in
-    let e = edge_of c.in-Reference.edge in
-    let k = reference_edge ns c.args.node.0 e (rw c.in-Reference.is at c.requires.form) in
-    let l = falls_here g.K.Validate.words g.K.Validate.is_whole ns (length c.args.engine.now.nodes.now) (settling (g.M.Matcher.matching c.args.engine.now.matcher.now) c.args.context.now.remembered.assumptions) c.requires.may.ranked c.args.node.0 (subject_of c.args.question.now.instance) (busy_at (steps_to c.args.question.now.place.now) c.args.context.now.in_progress) e c.requires.may.known k in
-    let at_node = absolute_is g.K.Validate.shape c.args.engine.now.nodes.now c.args.node.0 (node_of c.node.result.now) (string_bytes c.args.entry.now.name) c.node.ensures.found in
-    rw c.in-Reference.is (if_ok_both c.stamped_reply.result _ _ _ (λ r stamped borrows. form_reference g.K.Validate.words g.K.Validate.is_whole ns (length c.args.engine.now.nodes.now) (settling (g.M.Matcher.matching c.args.engine.now.matcher.now) c.args.context.now.remembered.assumptions) (mode_of c.args.question.now.mode) (path_of c.args.question.now.path.now) (steps_to c.args.question.now.place.now) (busy_at (steps_to c.args.question.now.place.now) c.args.context.now.in_progress) (subject_of c.args.question.now.instance) c.args.node.0 (string_bytes c.args.entry.now.name) e
-    c.in_ok-reply-in-Reference.reply r _ at_node l stamped borrows (subst (λ path. EdgeReplies g.K.Validate.words g.K.Validate.is_whole ns (length c.args.engine.now.nodes.now) (settling (g.M.Matcher.matching c.args.engine.now.matcher.now) c.args.context.now.remembered.assumptions) (mode_of c.args.question.now.mode) path (steps_to c.args.question.now.place.now) (busy_at (steps_to c.args.question.now.place.now) c.args.context.now.in_progress) (subject_of c.args.question.now.instance) e c.in_ok-reply-in-Reference.reply) c.under_reference-path.ensures.same c.in_ok-reply-in-Reference.ensures.says)) c.stamped_reply.ensures.stamped c.stamped_reply.ensures.borrows)
+pub run::run_form-returns-in_ok-reply-in-Reference : goal.run::run_form-returns-in_ok-reply-in-Reference
+run::run_form-returns-in_ok-reply-in-Reference g t c = record {
+  keeps = first_of (search rules, grind (arith, common_steps));
+  counts = first_of (search rules, grind (arith, common_steps));
+  says =
+      let ns = numbered g.K.Validate.shape c.args.engine.now.nodes.now in
+      let e = edge_of c.in-Reference.edge in
+      let k = reference_edge ns c.args.node.0 e (rw c.in-Reference.is at c.requires.form) in
+      let l = falls_here g.K.Validate.words g.K.Validate.is_whole ns (length c.args.engine.now.nodes.now) (settling (g.M.Matcher.matching c.args.engine.now.matcher.now) c.args.context.now.remembered.assumptions) c.requires.may.ranked c.args.node.0 (subject_of c.args.question.now.instance) (busy_at (steps_to c.args.question.now.place.now) c.args.context.now.in_progress) e c.requires.may.known k in
+      let at_node = absolute_is g.K.Validate.shape c.args.engine.now.nodes.now c.args.node.0 (node_of c.node.result.now) (string_bytes c.args.entry.now.name) c.node.ensures.found in
+      rw c.in-Reference.is (if_ok_both c.stamped_reply.result _ _ _ (λ r stamped borrows. form_reference g.K.Validate.words g.K.Validate.is_whole ns (length c.args.engine.now.nodes.now) (settling (g.M.Matcher.matching c.args.engine.now.matcher.now) c.args.context.now.remembered.assumptions) (mode_of c.args.question.now.mode) (path_of c.args.question.now.path.now) (steps_to c.args.question.now.place.now) (busy_at (steps_to c.args.question.now.place.now) c.args.context.now.in_progress) (subject_of c.args.question.now.instance) c.args.node.0 (string_bytes c.args.entry.now.name) e
+      c.in_ok-reply-in-Reference.reply r _ at_node l stamped borrows (subst (λ path. EdgeReplies g.K.Validate.words g.K.Validate.is_whole ns (length c.args.engine.now.nodes.now) (settling (g.M.Matcher.matching c.args.engine.now.matcher.now) c.args.context.now.remembered.assumptions) (mode_of c.args.question.now.mode) path (steps_to c.args.question.now.place.now) (busy_at (steps_to c.args.question.now.place.now) c.args.context.now.in_progress) (subject_of c.args.question.now.instance) e c.in_ok-reply-in-Reference.reply) c.under_reference-path.ensures.same c.in_ok-reply-in-Reference.ensures.says)) c.stamped_reply.ensures.stamped c.stamped_reply.ensures.borrows);
+  meets =
+      let ns = numbered g.K.Validate.shape c.args.engine.now.nodes.now in
+      let w = settling (g.M.Matcher.matching c.args.engine.now.matcher.now) c.args.context.now.remembered.assumptions in
+      let p = steps_to c.args.question.now.place.now in
+      let s = subject_of c.args.question.now.instance in
+      let busy = busy_at p c.args.context.now.in_progress in
+      let e = edge_of c.in-Reference.edge in
+      let k = reference_edge ns c.args.node.0 e (rw c.in-Reference.is at c.requires.form) in
+      let l = falls_here g.K.Validate.words g.K.Validate.is_whole ns (length c.args.engine.now.nodes.now) w c.requires.may.ranked c.args.node.0 s busy e c.requires.may.known k in
+      let met = subst (λ path. EdgeMeets g.K.Validate.words g.K.Validate.is_whole ns (length c.args.engine.now.nodes.now) w (mode_of c.args.question.now.mode) path p busy s c.args.context.now.remembered c.run_edge.new.context.remembered e) c.under_reference-path.ensures.same c.in_ok-reply-in-Reference.ensures.meets in
+      rw c.in-Reference.is (if_ok_always c.stamped_reply.result _ (meets_reference g.K.Validate.words g.K.Validate.is_whole ns (length c.args.engine.now.nodes.now) w (mode_of c.args.question.now.mode) (path_of c.args.question.now.path.now) p busy s c.args.node.0 (string_bytes c.args.entry.now.name) e _ _ l met));
+  stays = first_of (search rules, grind (arith, common_steps));
+}
 
 pub run::run_node-run_entries-requires : goal.run::run_node-run_entries-requires
 run::run_node-run_entries-requires g t c =
     let plan = plan_is g.K.Validate.shape c.args.engine.now.nodes.now c.args.node.0 (node_of c.node-found.result.now) _ c.node-found.ensures.found (ap (option_map plan_of) c.in-Some.is ∙ ap (λ f. Some (plan_of f)) c.in-Keywords.is) in
     λ κs h. (lower_same _ _ t 9 0 refl c.decreases, (h.0, (h.1.0, (h.1.1.0, (h.1.1.1, (c.requires.may, (c.requires.carries, (c.requires.more, rw c.as_slice.ensures.value (_, plan, λ y k. k)))))))))
 
-pub run::run_node-returns-in-Never-clause-says : goal.run::run_node-returns-in-Never-clause-says
-run::run_node-returns-in-Never-clause-says g t c =
-    let ns = numbered g.K.Validate.shape c.args.engine.now.nodes.now in
-    let n = node_of c.node-found.result.now in
-    let p = steps_to c.args.question.now.place.now in
-    let s = subject_of c.args.question.now.instance in
-    let plan = plan_is g.K.Validate.shape c.args.engine.now.nodes.now c.args.node.0 n _ c.node-found.ensures.found (ap (option_map plan_of) c.in-Some.is ∙ ap (λ f. Some (plan_of f)) c.in-Never.is) in
-    if_ok_both c.refused.result _ _ _ (λ r refuses borrows. node_by_plan g.K.Validate.words g.K.Validate.is_whole ns (length c.args.engine.now.nodes.now) (settling (g.M.Matcher.matching c.args.engine.now.matcher.now) c.args.context.now.remembered.assumptions) (mode_of c.args.question.now.mode) (path_of c.args.question.now.path.now) p (busy_at p c.args.context.now.in_progress) s c.args.node.0 r node_never plan
-    (λ x reads l. replies_refused g.K.Validate.shape c.args.engine.now.nodes.now g.K.Validate.words x (mode_of c.args.question.now.mode) (path_of c.args.question.now.path.now) p s c.args.node.0 n r c.node-found.ensures.found (g.met.K.Validate.speaks x.texts) reads.stands
-    (refuses x.texts (plain_there g.K.Validate.is_whole ns (length c.args.engine.now.nodes.now) (settling (g.M.Matcher.matching c.args.engine.now.matcher.now) c.args.context.now.remembered.assumptions) p s x reads)) (borrows x.root reads.stands))) c.refused.ensures.refuses c.refused.ensures.borrows
+pub run::run_node-returns-in-Never : goal.run::run_node-returns-in-Never
+run::run_node-returns-in-Never g t c = record {
+  keeps = first_of (search rules, grind (arith, common_steps));
+  counts = first_of (search rules, grind (arith, common_steps));
+  says =
+      let ns = numbered g.K.Validate.shape c.args.engine.now.nodes.now in
+      let n = node_of c.node-found.result.now in
+      let p = steps_to c.args.question.now.place.now in
+      let s = subject_of c.args.question.now.instance in
+      let plan = plan_is g.K.Validate.shape c.args.engine.now.nodes.now c.args.node.0 n _ c.node-found.ensures.found (ap (option_map plan_of) c.in-Some.is ∙ ap (λ f. Some (plan_of f)) c.in-Never.is) in
+      if_ok_both c.refused.result _ _ _ (λ r refuses borrows. node_by_plan g.K.Validate.words g.K.Validate.is_whole ns (length c.args.engine.now.nodes.now) (settling (g.M.Matcher.matching c.args.engine.now.matcher.now) c.args.context.now.remembered.assumptions) (mode_of c.args.question.now.mode) (path_of c.args.question.now.path.now) p (busy_at p c.args.context.now.in_progress) s c.args.node.0 r node_never plan
+      (λ x reads l. replies_refused g.K.Validate.shape c.args.engine.now.nodes.now g.K.Validate.words x (mode_of c.args.question.now.mode) (path_of c.args.question.now.path.now) p s c.args.node.0 n r c.node-found.ensures.found (g.met.K.Validate.speaks x.texts) reads.stands
+      (refuses x.texts (plain_there g.K.Validate.is_whole ns (length c.args.engine.now.nodes.now) (settling (g.M.Matcher.matching c.args.engine.now.matcher.now) c.args.context.now.remembered.assumptions) p s x reads)) (borrows x.root reads.stands))) c.refused.ensures.refuses c.refused.ensures.borrows;
+  meets =
+      let ns = numbered g.K.Validate.shape c.args.engine.now.nodes.now in
+      let w = settling (g.M.Matcher.matching c.args.engine.now.matcher.now) c.args.context.now.remembered.assumptions in
+      let p = steps_to c.args.question.now.place.now in
+      let s = subject_of c.args.question.now.instance in
+      let busy = busy_at p c.args.context.now.in_progress in
+      let plan = plan_is g.K.Validate.shape c.args.engine.now.nodes.now c.args.node.0 (node_of c.node-found.result.now) _ c.node-found.ensures.found (ap (option_map plan_of) c.in-Some.is ∙ ap (λ f. Some (plan_of f)) c.in-Never.is) in
+      if_ok_always c.refused.result _ (meets_never g.K.Validate.words g.K.Validate.is_whole ns (length c.args.engine.now.nodes.now) w (mode_of c.args.question.now.mode) (path_of c.args.question.now.path.now) p busy s c.args.node.0 _ _ plan refl);
+  stays = first_of (search rules, grind (arith, common_steps));
+}
 
-pub run::run_node-returns-in-Keywords-clause-says : goal.run::run_node-returns-in-Keywords-clause-says
-run::run_node-returns-in-Keywords-clause-says g t c =
-    let ns = numbered g.K.Validate.shape c.args.engine.now.nodes.now in
-    let p = steps_to c.args.question.now.place.now in
-    let plan = plan_is g.K.Validate.shape c.args.engine.now.nodes.now c.args.node.0 (node_of c.node-found.result.now) _ c.node-found.ensures.found (ap (option_map plan_of) c.in-Some.is ∙ ap (λ f. Some (plan_of f)) c.in-Keywords.is) in
-    if_ok_mono c.run_entries.result _ _ (λ r says. node_by_plan g.K.Validate.words g.K.Validate.is_whole ns (length c.args.engine.now.nodes.now) (settling (g.M.Matcher.matching c.args.engine.now.matcher.now) c.args.context.now.remembered.assumptions) (mode_of c.args.question.now.mode) (path_of c.args.question.now.path.now) p (busy_at p c.args.context.now.in_progress) (subject_of c.args.question.now.instance) c.args.node.0 r _ plan says)
-    (rw c.as_slice.ensures.value at c.run_entries.ensures.says)
+pub run::run_node-returns-in-Keywords : goal.run::run_node-returns-in-Keywords
+run::run_node-returns-in-Keywords g t c = record {
+  keeps = first_of (search rules, grind (arith, common_steps));
+  counts = first_of (search rules, grind (arith, common_steps));
+  says =
+      let ns = numbered g.K.Validate.shape c.args.engine.now.nodes.now in
+      let p = steps_to c.args.question.now.place.now in
+      let plan = plan_is g.K.Validate.shape c.args.engine.now.nodes.now c.args.node.0 (node_of c.node-found.result.now) _ c.node-found.ensures.found (ap (option_map plan_of) c.in-Some.is ∙ ap (λ f. Some (plan_of f)) c.in-Keywords.is) in
+      if_ok_mono c.run_entries.result _ _ (λ r says. node_by_plan g.K.Validate.words g.K.Validate.is_whole ns (length c.args.engine.now.nodes.now) (settling (g.M.Matcher.matching c.args.engine.now.matcher.now) c.args.context.now.remembered.assumptions) (mode_of c.args.question.now.mode) (path_of c.args.question.now.path.now) p (busy_at p c.args.context.now.in_progress) (subject_of c.args.question.now.instance) c.args.node.0 r _ plan says)
+      (rw c.as_slice.ensures.value at c.run_entries.ensures.says);
+  meets =
+      let ns = numbered g.K.Validate.shape c.args.engine.now.nodes.now in
+      let w = settling (g.M.Matcher.matching c.args.engine.now.matcher.now) c.args.context.now.remembered.assumptions in
+      let p = steps_to c.args.question.now.place.now in
+      let s = subject_of c.args.question.now.instance in
+      let busy = busy_at p c.args.context.now.in_progress in
+      let plan = plan_is g.K.Validate.shape c.args.engine.now.nodes.now c.args.node.0 (node_of c.node-found.result.now) _ c.node-found.ensures.found (ap (option_map plan_of) c.in-Some.is ∙ ap (λ f. Some (plan_of f)) c.in-Keywords.is) in
+      if_ok_mono c.run_entries.result _ _ (λ r met. meets_these g.K.Validate.words g.K.Validate.is_whole ns (length c.args.engine.now.nodes.now) w (mode_of c.args.question.now.mode) (path_of c.args.question.now.path.now) p busy s c.args.node.0 _ _ _ plan met) (rw c.as_slice.ensures.value at c.run_entries.ensures.meets);
+  stays = first_of (search rules, grind (arith, common_steps));
+}
 
 pub run::run_entries-loop-entry-init : goal.run::run_entries-loop-entry-init
 run::run_entries-loop-entry-init g t c = record {
@@ -210,16 +298,37 @@ run::run_entries-loop-entry-preserved g t c = record {
       c.in_ok-found.ensures.both c.in_ok-found.ensures.borrows says (c.loop-entry.invariant.so_far x reads l);
 }
 
-pub run::run_entries-returns-then-is_settled-clause-says : goal.run::run_entries-returns-then-is_settled-clause-says
-run::run_entries-returns-then-is_settled-clause-says g t c = λ x reads l.
-    let ns = numbered g.K.Validate.shape c.args.engine.now.nodes.now in
-    let p = steps_to c.args.question.now.place.now in
-    let parts = λ (es : List (Entry g.row.K.Denot)). parts_say g.K.Validate.words ns x c.args.node.0 (path_of c.args.question.now.path.now) p (busy_at p c.args.context.now.in_progress) (map (shaped_part g.K.Validate.shape) (map entry_of es)) in
-    let says = (rw (c.loop-entry.invariant.kept, c.loop-entry.invariant.assumes) at c.in_ok-more.ensures.says) x reads l in
-    let split = ap parts (drop_at c.args.entries.now c.loop-entry.entry-index c.entry-item.result c.loop-entry-test.true c.entry-item.is) in
-    let next = one_entry g.K.Validate.words g.K.Validate.is_whole ns (length c.args.engine.now.nodes.now) (settling (g.M.Matcher.matching c.args.engine.now.matcher.now) c.args.context.now.remembered.assumptions) (mode_of c.args.question.now.mode) x c.loop-entry.found c.in_ok-more.more c.in_ok-found.found _ _ (parts (drop (c.loop-entry.entry-index + 1) c.args.entries.now)) _ split
-    c.in_ok-found.ensures.both c.in_ok-found.ensures.borrows says (c.loop-entry.invariant.so_far x reads l) in
-    settled_entries g.K.Validate.words g.K.Validate.is_whole ns (length c.args.engine.now.nodes.now) (settling (g.M.Matcher.matching c.args.engine.now.matcher.now) c.args.context.now.remembered.assumptions) (mode_of c.args.question.now.mode) x c.in_ok-found.found _ _ (sym (c.is_settled.ensures.settled x.texts) ∙ c.if-is_settled.true) next
+pub run::run_entries-returns-then-is_settled : goal.run::run_entries-returns-then-is_settled
+run::run_entries-returns-then-is_settled g t c = record {
+  keeps = first_of (search rules, grind (arith, common_steps));
+  counts = no_fewer c.args.context.now.visits c.loop-entry.context.visits c.run_entry.new.context.visits c.loop-entry.invariant.counted c.in_ok-more.ensures.counts;
+  says = λ x reads l.
+      let ns = numbered g.K.Validate.shape c.args.engine.now.nodes.now in
+      let p = steps_to c.args.question.now.place.now in
+      let parts = λ (es : List (Entry g.row.K.Denot)). parts_say g.K.Validate.words ns x c.args.node.0 (path_of c.args.question.now.path.now) p (busy_at p c.args.context.now.in_progress) (map (shaped_part g.K.Validate.shape) (map entry_of es)) in
+      let says = (rw (c.loop-entry.invariant.kept, c.loop-entry.invariant.assumes) at c.in_ok-more.ensures.says) x reads l in
+      let split = ap parts (drop_at c.args.entries.now c.loop-entry.entry-index c.entry-item.result c.loop-entry-test.true c.entry-item.is) in
+      let next = one_entry g.K.Validate.words g.K.Validate.is_whole ns (length c.args.engine.now.nodes.now) (settling (g.M.Matcher.matching c.args.engine.now.matcher.now) c.args.context.now.remembered.assumptions) (mode_of c.args.question.now.mode) x c.loop-entry.found c.in_ok-more.more c.in_ok-found.found _ _ (parts (drop (c.loop-entry.entry-index + 1) c.args.entries.now)) _ split
+      c.in_ok-found.ensures.both c.in_ok-found.ensures.borrows says (c.loop-entry.invariant.so_far x reads l) in
+      settled_entries g.K.Validate.words g.K.Validate.is_whole ns (length c.args.engine.now.nodes.now) (settling (g.M.Matcher.matching c.args.engine.now.matcher.now) c.args.context.now.remembered.assumptions) (mode_of c.args.question.now.mode) x c.in_ok-found.found _ _ (sym (c.is_settled.ensures.settled x.texts) ∙ c.if-is_settled.true) next;
+  meets = λ texts root depth reads l.
+      let ns = numbered g.K.Validate.shape c.args.engine.now.nodes.now in
+      let w = settling (g.M.Matcher.matching c.args.engine.now.matcher.now) c.args.context.now.remembered.assumptions in
+      let p = steps_to c.args.question.now.place.now in
+      let busy = busy_at p c.args.context.now.in_progress in
+      let mode = mode_of c.args.question.now.mode in
+      let part = shaped_part g.K.Validate.shape (entry_of c.entry-item.result) in
+      let looked = λ (es : List (Entry g.row.K.Denot)). parts_looked g.K.Validate.words ns w texts root depth c.args.node.0 (path_of c.args.question.now.path.now) p busy (map (shaped_part g.K.Validate.shape) (map entry_of es)) in
+      let here = moved (λ es as'. EntryMeets g.K.Validate.words g.K.Validate.is_whole ns (length c.args.engine.now.nodes.now) (settling (g.M.Matcher.matching c.args.engine.now.matcher.now) as') mode (path_of c.args.question.now.path.now) p (busy_at p es) (subject_of c.args.question.now.instance) c.loop-entry.context.remembered c.run_entry.new.context.remembered c.args.node.0 part) c.loop-entry.invariant.kept c.loop-entry.invariant.assumes c.in_ok-more.ensures.meets texts root depth reads l in
+      let says = (rw (c.loop-entry.invariant.kept, c.loop-entry.invariant.assumes) at c.in_ok-more.ensures.says) (reading w texts root depth) reads l in
+      let so_far = c.loop-entry.invariant.so_far (reading w texts root depth) reads l in
+      let met = c.loop-entry.invariant.met texts root depth reads l in
+      let split = ap (λ es. plan_met mode (looked es)) (drop_at c.args.entries.now c.loop-entry.entry-index c.entry-item.result c.loop-entry-test.true c.entry-item.is) in
+      let agrees = agrees_says g.K.Validate.words ns (λ texts m s completion matcher a h. (g.met.K.Validate.function_laws texts m).agree s (matching matcher completion) a h) (reading w texts root depth) c.args.node.0 (path_of c.args.question.now.path.now) p busy part.name part.form in
+      let last = stops_at g.K.Validate.words ns w texts root depth mode c.args.node.0 (path_of c.args.question.now.path.now) p busy part c.loop-entry.found c.in_ok-more.more c.in_ok-found.found so_far.0 _ agrees so_far.1 says c.in_ok-found.ensures.both (c.loop-entry.invariant.unsettled texts) (sym (c.is_settled.ensures.settled texts) ∙ c.if-is_settled.true) in
+      last_met w.matcher mode (part_looked g.K.Validate.words ns w texts root depth c.args.node.0 (path_of c.args.question.now.path.now) p busy part) (looked (drop (c.loop-entry.entry-index + 1) c.args.entries.now)) _ _ met.0 _ _ _ met.1 here met.2 split last;
+  stays = λ layout laid right. c.in_ok-more.ensures.stays layout laid (c.loop-entry.invariant.stays layout laid right);
+}
 
 pub run::run_entry-run_form-requires : goal.run::run_entry-run_form-requires
 run::run_entry-run_form-requires g t c =
@@ -230,13 +339,44 @@ run::run_entry-run_form-requires g t c =
     let l = ap (λ es. left ns (length c.args.engine.now.nodes.now) c.args.node.0 (subject_of c.args.question.now.instance) (busy_at p es)) kept in
     λ κs h. (lower_same _ _ t 7 0 l c.decreases, (h.0, (h.1.0, (h.1.1.0, (h.1.1.1, (record { known = c.requires.may.known; ranked = c.requires.may.ranked; above = subst (NoDeeper p) (sym kept) c.requires.may.above; wanted = c.requires.may.wanted; stands = stands_on c.args.context.now.root _ (asking c.args.question.now) keeps.root c.requires.may.stands; goes_on = (c.requires.may.goes_on.0, c.requires.may.goes_on.1, c.in_ok-valid.ensures.stays c.requires.may.goes_on.0 c.requires.may.goes_on.1 c.requires.may.goes_on.2) }, (carries_on c.args.context.now.root _ c.args.question.now.place.now keeps.root c.requires.carries, (c.requires.more, c.requires.form))))))))
 
-pub run::run_entry-returns-then-valid-clause-says : goal.run::run_entry-returns-then-valid-clause-says
-run::run_entry-returns-then-valid-clause-says g t c = λ x reads l.
-    leaf_accepts g.K.Validate.words (numbered g.K.Validate.shape c.args.engine.now.nodes.now) (λ texts m s completion matcher a h. (g.met.K.Validate.function_laws texts m).agree s (matching matcher completion) a h) x (mode_of c.args.question.now.mode) c.args.node.0 (path_of c.args.question.now.path.now) (steps_to c.args.question.now.place.now)
-    (busy_at (steps_to c.args.question.now.place.now) c.args.context.now.in_progress) (string_bytes c.args.entry.now.name) _ (told.Truth c.in_ok-valid.valid) c.accepted.result c.if-valid.true (c.in_ok-valid.ensures.says x reads l) c.accepted.ensures.accepts c.accepted.ensures.no_errors
+pub run::run_entry-returns-then-valid : goal.run::run_entry-returns-then-valid
+run::run_entry-returns-then-valid g t c = record {
+  keeps = first_of (search rules, grind (arith, common_steps));
+  counts = first_of (search rules, grind (arith, common_steps));
+  says = λ x reads l.
+      leaf_accepts g.K.Validate.words (numbered g.K.Validate.shape c.args.engine.now.nodes.now) (λ texts m s completion matcher a h. (g.met.K.Validate.function_laws texts m).agree s (matching matcher completion) a h) x (mode_of c.args.question.now.mode) c.args.node.0 (path_of c.args.question.now.path.now) (steps_to c.args.question.now.place.now)
+      (busy_at (steps_to c.args.question.now.place.now) c.args.context.now.in_progress) (string_bytes c.args.entry.now.name) _ (told.Truth c.in_ok-valid.valid) c.accepted.result c.if-valid.true (c.in_ok-valid.ensures.says x reads l) c.accepted.ensures.accepts c.accepted.ensures.no_errors;
+  meets = λ texts root depth reads l.
+      let ns = numbered g.K.Validate.shape c.args.engine.now.nodes.now in
+      let w = settling (g.M.Matcher.matching c.args.engine.now.matcher.now) c.args.context.now.remembered.assumptions in
+      let p = steps_to c.args.question.now.place.now in
+      let s = subject_of c.args.question.now.instance in
+      let busy = busy_at p c.args.context.now.in_progress in
+      let part = shaped_part g.K.Validate.shape (entry_of c.args.entry.now) in
+      let looked = part_looked g.K.Validate.words ns w texts root depth c.args.node.0 (path_of c.args.question.now.path.now) p busy part in
+      let holds = leaf_holds g.K.Validate.words ns w texts root depth c.args.node.0 (path_of c.args.question.now.path.now) p busy part (told.Truth c.in_ok-valid.valid) _ (c.in_ok-valid.ensures.says (reading w texts root depth) reads l) c.if-valid.true in
+      meets_same w.matcher _ _ _ _ (leaf_yes (mode_of c.args.question.now.mode) looked c.if-entry.true c.requires.more c.requires.may.wanted holds) (c.in_ok-valid.ensures.meets texts root depth reads l);
+  stays = first_of (search rules, grind (arith, common_steps));
+}
 
-pub run::run_entry-returns-then-entry-clause-says : goal.run::run_entry-returns-then-entry-clause-says
-run::run_entry-returns-then-entry-clause-says g t c = rw (c.in_ok-valid.ensures.keeps.in_progress, c.in_ok-valid.ensures.keeps.assumptions) at c.run_form.ensures.says
+pub run::run_entry-returns-then-entry : goal.run::run_entry-returns-then-entry
+run::run_entry-returns-then-entry g t c = record {
+  keeps = first_of (search rules, grind (arith, common_steps));
+  counts = if_ok_mono c.run_form.result _ _ (λ r more. no_fewer c.args.context.now.visits c.verdict_form.new.context.visits c.run_form.new.context.visits c.in_ok-valid.ensures.counts more) c.run_form.ensures.counts;
+  says = rw (c.in_ok-valid.ensures.keeps.in_progress, c.in_ok-valid.ensures.keeps.assumptions) at c.run_form.ensures.says;
+  meets = if_ok_mono c.run_form.result _ _ (λ r met texts root depth reads l.
+      let ns = numbered g.K.Validate.shape c.args.engine.now.nodes.now in
+      let w = settling (g.M.Matcher.matching c.args.engine.now.matcher.now) c.args.context.now.remembered.assumptions in
+      let p = steps_to c.args.question.now.place.now in
+      let s = subject_of c.args.question.now.instance in
+      let busy = busy_at p c.args.context.now.in_progress in
+      let part = shaped_part g.K.Validate.shape (entry_of c.args.entry.now) in
+      let looked = part_looked g.K.Validate.words ns w texts root depth c.args.node.0 (path_of c.args.question.now.path.now) p busy part in
+      let holds = leaf_holds g.K.Validate.words ns w texts root depth c.args.node.0 (path_of c.args.question.now.path.now) p busy part (told.Truth c.in_ok-valid.valid) _ (c.in_ok-valid.ensures.says (reading w texts root depth) reads l) c.if-valid.false in
+      let more = moved (λ es as'. FormMeets g.K.Validate.words g.K.Validate.is_whole ns (length c.args.engine.now.nodes.now) (settling (g.M.Matcher.matching c.args.engine.now.matcher.now) as') (mode_of c.args.question.now.mode) (path_of c.args.question.now.path.now) p (busy_at p es) s c.verdict_form.new.context.remembered c.run_form.new.context.remembered c.args.node.0 part.name part.form) c.in_ok-valid.ensures.keeps.in_progress c.in_ok-valid.ensures.keeps.assumptions met texts root depth reads l in
+      meets_same w.matcher _ _ _ _ (leaf_no (mode_of c.args.question.now.mode) looked c.if-entry.true c.requires.more c.requires.may.wanted holds) (meets_append w.matcher _ _ _ _ _ (c.in_ok-valid.ensures.meets texts root depth reads l) more)) c.run_form.ensures.meets;
+  stays = if_ok_mono c.run_form.result _ _ (λ r stays layout laid right. stays layout laid (c.in_ok-valid.ensures.stays layout laid right)) c.run_form.ensures.stays;
+}
 
 pub run::run_keyword-keyword_answer-requires : goal.run::run_keyword-keyword_answer-requires
 run::run_keyword-keyword_answer-requires g t c =
@@ -271,178 +411,65 @@ turns::keyword_answer-returns-clause-stays g t c = λ layout laid right.
 pub turns::keyword_answer-returns-clause-counts : goal.turns::keyword_answer-returns-clause-counts
 turns::keyword_answer-returns-clause-counts g t c = rw (c.set_aside-aside.ensures.visits, ← c.put_back.ensures.visits) at c.in_ok-run_turns.ensures.counts
 
-pub run::run_keyword-returns-clause-says : goal.run::run_keyword-returns-clause-says
-run::run_keyword-returns-clause-says g t c =
-    let ns = numbered g.K.Validate.shape c.args.engine.now.nodes.now in
-    let p = steps_to c.args.question.now.place.now in
-    let s = subject_of c.args.question.now.instance in
-    let m = g.K.Validate.shape c.args.keyword.now.keyword.now in
-    let es = map (option_map edge_of) c.args.keyword.now.children.now in
-    let busy = busy_at p c.args.context.now.in_progress in
-    let n = node_of c.node.result.now in
-    let name = string_bytes c.args.keyword.now.name.now in
-    let path = path_of c.args.question.now.path.now in
-    if_ok_both c.finished.result _ _ _ (λ r reply borrows x reads l.
-    let units = child_unit g.K.Validate.words ns x (path_of c.args.question.now.path.now) p busy es in
-    let answers = child_says g.K.Validate.words ns x (path_of c.args.question.now.path.now) p busy es in
-    let right = c.in_ok-answer.ensures.right x reads l in
-    let says = right_reply (g.K.Validate.words x.texts) m s x answers units (same_edge es) (entry_where n (path_of c.args.question.now.path.now) p) name (mode_of c.args.question.now.mode) (answer_of x.texts c.in_ok-answer.answer) c.requires.may.wanted right in
-    let whole = keyword_says g.K.Validate.shape c.args.engine.now.nodes.now g.K.Validate.words x (path_of c.args.question.now.path.now) p s c.args.node.0 n name m answers c.node.ensures.found reads.stands in
-    let lie = faults_lie x.texts x.root s (g.K.Validate.absorbed m) (g.K.Validate.words x.texts) m x answers units (same_edge es) (mode_of c.args.question.now.mode) c.in_ok-answer.answer ((g.met.K.Validate.function_laws x.texts m).stands s (matching x.matcher x.completion) answers) right
-    (c.in_ok-answer.ensures.passes x.root reads.stands) in
-    record { same = reply x.texts ∙ says ∙ ap (reply_by (mode_of c.args.question.now.mode)) whole; borrows = borrows x.root reads.stands lie })
-    c.finished.ensures.reply c.finished.ensures.borrows
+pub run::run_keyword-returns : goal.run::run_keyword-returns
+run::run_keyword-returns g t c = record {
+  keeps = first_of (search rules, grind (arith, common_steps));
+  counts = if_ok_always c.finished.result _ (rw (← c.finished.ensures.stays) at c.in_ok-answer.ensures.counts);
+  says =
+      let ns = numbered g.K.Validate.shape c.args.engine.now.nodes.now in
+      let p = steps_to c.args.question.now.place.now in
+      let s = subject_of c.args.question.now.instance in
+      let m = g.K.Validate.shape c.args.keyword.now.keyword.now in
+      let es = map (option_map edge_of) c.args.keyword.now.children.now in
+      let busy = busy_at p c.args.context.now.in_progress in
+      let n = node_of c.node.result.now in
+      let name = string_bytes c.args.keyword.now.name.now in
+      let path = path_of c.args.question.now.path.now in
+      if_ok_both c.finished.result _ _ _ (λ r reply borrows x reads l.
+      let units = child_unit g.K.Validate.words ns x (path_of c.args.question.now.path.now) p busy es in
+      let answers = child_says g.K.Validate.words ns x (path_of c.args.question.now.path.now) p busy es in
+      let right = c.in_ok-answer.ensures.right x reads l in
+      let says = right_reply (g.K.Validate.words x.texts) m s x answers units (same_edge es) (entry_where n (path_of c.args.question.now.path.now) p) name (mode_of c.args.question.now.mode) (answer_of x.texts c.in_ok-answer.answer) c.requires.may.wanted right in
+      let whole = keyword_says g.K.Validate.shape c.args.engine.now.nodes.now g.K.Validate.words x (path_of c.args.question.now.path.now) p s c.args.node.0 n name m answers c.node.ensures.found reads.stands in
+      let lie = faults_lie x.texts x.root s (g.K.Validate.absorbed m) (g.K.Validate.words x.texts) m x answers units (same_edge es) (mode_of c.args.question.now.mode) c.in_ok-answer.answer ((g.met.K.Validate.function_laws x.texts m).stands s (matching x.matcher x.completion) answers) right
+      (c.in_ok-answer.ensures.passes x.root reads.stands) in
+      record { same = reply x.texts ∙ says ∙ ap (reply_by (mode_of c.args.question.now.mode)) whole; borrows = borrows x.root reads.stands lie })
+      c.finished.ensures.reply c.finished.ensures.borrows;
+  meets = if_ok_always c.finished.result _ (rw (← c.finished.ensures.stays) at c.in_ok-answer.ensures.meets);
+  stays = if_ok_always c.finished.result _ (λ layout laid right.
+      let set = setting g.K.Validate.words g.K.Validate.is_whole g.K.Validate.shape g.M.Matcher.matching c.args.engine.now in
+      subst (RemembersRightly set layout) (sym c.finished.ensures.stays) (c.in_ok-answer.ensures.stays layout laid right));
+}
 
-pub run::run_keyword-returns-clause-meets : goal.run::run_keyword-returns-clause-meets
-run::run_keyword-returns-clause-meets g t c = if_ok_always c.finished.result _ (rw (← c.finished.ensures.stays) at c.in_ok-answer.ensures.meets)
+pub run::run_entry-returns : goal.run::run_entry-returns
+run::run_entry-returns g t c = record {
+  keeps = first_of (search rules, grind (arith, common_steps));
+  counts = first_of (search rules, grind (arith, common_steps));
+  says = first_of (search rules, grind (arith, common_steps));
+  meets = if_ok_mono c.run_form-2.result _ _ (λ r met texts root depth reads l.
+      let ns = numbered g.K.Validate.shape c.args.engine.now.nodes.now in
+      let w = settling (g.M.Matcher.matching c.args.engine.now.matcher.now) c.args.context.now.remembered.assumptions in
+      let p = steps_to c.args.question.now.place.now in
+      let busy = busy_at p c.args.context.now.in_progress in
+      let looked = part_looked g.K.Validate.words ns w texts root depth c.args.node.0 (path_of c.args.question.now.path.now) p busy (shaped_part g.K.Validate.shape (entry_of c.args.entry.now)) in
+      meets_same w.matcher _ _ _ _ (other_entry (mode_of c.args.question.now.mode) looked (λ more less. c.if-entry.false)) (met texts root depth reads l)) c.run_form-2.ensures.meets;
+  stays = first_of (search rules, grind (arith, common_steps));
+}
 
-pub run::run_entries-returns-then-is_settled-clause-meets : goal.run::run_entries-returns-then-is_settled-clause-meets
-run::run_entries-returns-then-is_settled-clause-meets g t c = λ texts root depth reads l.
-    let ns = numbered g.K.Validate.shape c.args.engine.now.nodes.now in
-    let w = settling (g.M.Matcher.matching c.args.engine.now.matcher.now) c.args.context.now.remembered.assumptions in
-    let p = steps_to c.args.question.now.place.now in
-    let busy = busy_at p c.args.context.now.in_progress in
-    let mode = mode_of c.args.question.now.mode in
-    let part = shaped_part g.K.Validate.shape (entry_of c.entry-item.result) in
-    let looked = λ (es : List (Entry g.row.K.Denot)). parts_looked g.K.Validate.words ns w texts root depth c.args.node.0 (path_of c.args.question.now.path.now) p busy (map (shaped_part g.K.Validate.shape) (map entry_of es)) in
-    let here = moved (λ es as'. EntryMeets g.K.Validate.words g.K.Validate.is_whole ns (length c.args.engine.now.nodes.now) (settling (g.M.Matcher.matching c.args.engine.now.matcher.now) as') mode (path_of c.args.question.now.path.now) p (busy_at p es) (subject_of c.args.question.now.instance) c.loop-entry.context.remembered c.run_entry.new.context.remembered c.args.node.0 part) c.loop-entry.invariant.kept c.loop-entry.invariant.assumes c.in_ok-more.ensures.meets texts root depth reads l in
-    let says = (rw (c.loop-entry.invariant.kept, c.loop-entry.invariant.assumes) at c.in_ok-more.ensures.says) (reading w texts root depth) reads l in
-    let so_far = c.loop-entry.invariant.so_far (reading w texts root depth) reads l in
-    let met = c.loop-entry.invariant.met texts root depth reads l in
-    let split = ap (λ es. plan_met mode (looked es)) (drop_at c.args.entries.now c.loop-entry.entry-index c.entry-item.result c.loop-entry-test.true c.entry-item.is) in
-    let agrees = agrees_says g.K.Validate.words ns (λ texts m s completion matcher a h. (g.met.K.Validate.function_laws texts m).agree s (matching matcher completion) a h) (reading w texts root depth) c.args.node.0 (path_of c.args.question.now.path.now) p busy part.name part.form in
-    let last = stops_at g.K.Validate.words ns w texts root depth mode c.args.node.0 (path_of c.args.question.now.path.now) p busy part c.loop-entry.found c.in_ok-more.more c.in_ok-found.found so_far.0 _ agrees so_far.1 says c.in_ok-found.ensures.both (c.loop-entry.invariant.unsettled texts) (sym (c.is_settled.ensures.settled texts) ∙ c.if-is_settled.true) in
-    last_met w.matcher mode (part_looked g.K.Validate.words ns w texts root depth c.args.node.0 (path_of c.args.question.now.path.now) p busy part) (looked (drop (c.loop-entry.entry-index + 1) c.args.entries.now)) _ _ met.0 _ _ _ met.1 here met.2 split last
-
-pub run::run_entry-returns-then-valid-clause-meets : goal.run::run_entry-returns-then-valid-clause-meets
-run::run_entry-returns-then-valid-clause-meets g t c = λ texts root depth reads l.
-    let ns = numbered g.K.Validate.shape c.args.engine.now.nodes.now in
-    let w = settling (g.M.Matcher.matching c.args.engine.now.matcher.now) c.args.context.now.remembered.assumptions in
-    let p = steps_to c.args.question.now.place.now in
-    let s = subject_of c.args.question.now.instance in
-    let busy = busy_at p c.args.context.now.in_progress in
-    let part = shaped_part g.K.Validate.shape (entry_of c.args.entry.now) in
-    let looked = part_looked g.K.Validate.words ns w texts root depth c.args.node.0 (path_of c.args.question.now.path.now) p busy part in
-    let holds = leaf_holds g.K.Validate.words ns w texts root depth c.args.node.0 (path_of c.args.question.now.path.now) p busy part (told.Truth c.in_ok-valid.valid) _ (c.in_ok-valid.ensures.says (reading w texts root depth) reads l) c.if-valid.true in
-    meets_same w.matcher _ _ _ _ (leaf_yes (mode_of c.args.question.now.mode) looked c.if-entry.true c.requires.more c.requires.may.wanted holds) (c.in_ok-valid.ensures.meets texts root depth reads l)
-
-pub run::run_entry-returns-then-entry-clause-meets : goal.run::run_entry-returns-then-entry-clause-meets
-run::run_entry-returns-then-entry-clause-meets g t c = if_ok_mono c.run_form.result _ _ (λ r met texts root depth reads l.
-    let ns = numbered g.K.Validate.shape c.args.engine.now.nodes.now in
-    let w = settling (g.M.Matcher.matching c.args.engine.now.matcher.now) c.args.context.now.remembered.assumptions in
-    let p = steps_to c.args.question.now.place.now in
-    let s = subject_of c.args.question.now.instance in
-    let busy = busy_at p c.args.context.now.in_progress in
-    let part = shaped_part g.K.Validate.shape (entry_of c.args.entry.now) in
-    let looked = part_looked g.K.Validate.words ns w texts root depth c.args.node.0 (path_of c.args.question.now.path.now) p busy part in
-    let holds = leaf_holds g.K.Validate.words ns w texts root depth c.args.node.0 (path_of c.args.question.now.path.now) p busy part (told.Truth c.in_ok-valid.valid) _ (c.in_ok-valid.ensures.says (reading w texts root depth) reads l) c.if-valid.false in
-    let more = moved (λ es as'. FormMeets g.K.Validate.words g.K.Validate.is_whole ns (length c.args.engine.now.nodes.now) (settling (g.M.Matcher.matching c.args.engine.now.matcher.now) as') (mode_of c.args.question.now.mode) (path_of c.args.question.now.path.now) p (busy_at p es) s c.verdict_form.new.context.remembered c.run_form.new.context.remembered c.args.node.0 part.name part.form) c.in_ok-valid.ensures.keeps.in_progress c.in_ok-valid.ensures.keeps.assumptions met texts root depth reads l in
-    meets_same w.matcher _ _ _ _ (leaf_no (mode_of c.args.question.now.mode) looked c.if-entry.true c.requires.more c.requires.may.wanted holds) (meets_append w.matcher _ _ _ _ _ (c.in_ok-valid.ensures.meets texts root depth reads l) more)) c.run_form.ensures.meets
-
-pub run::run_child-returns-in-None-one_below-clause-meets : goal.run::run_child-returns-in-None-one_below-clause-meets
-run::run_child-returns-in-None-one_below-clause-meets g t c =
-    let ns = numbered g.K.Validate.shape c.args.engine.now.nodes.now in
-    let w = settling (g.M.Matcher.matching c.args.engine.now.matcher.now) c.args.context.now.remembered.assumptions in
-    let p = steps_to c.args.question.now.place.now in
-    let s = subject_of c.args.question.now.instance in
-    let busy = busy_at p c.args.context.now.in_progress in
-    let e = edge_of c.in-Some.edge.now in
-    let k = c.requires.children c.args.child e (sym c.in-Some.ensures.edge) in
-    let l = falls_here g.K.Validate.words g.K.Validate.is_whole ns (length c.args.engine.now.nodes.now) w c.requires.may.ranked c.args.node.0 s busy e c.requires.may.known k in
-    if_ok_mono c.run_edge.result _ _ (λ r met. meets_here g.K.Validate.words g.K.Validate.is_whole ns (length c.args.engine.now.nodes.now) w (mode_of c.args.question.now.mode) (path_of c.args.question.now.path.now) p busy s c.args.node.0 _ (record { child = c.args.child; below = below_of c.args.below }) _ _ e (sym c.in-Some.ensures.edge) c.in-None-one_below.ensures.below l met) c.run_edge.ensures.meets
-
-pub run::run_child-returns-in-Some-one_below-clause-meets : goal.run::run_child-returns-in-Some-one_below-clause-meets
-run::run_child-returns-in-Some-one_below-clause-meets g t c =
-    let ns = numbered g.K.Validate.shape c.args.engine.now.nodes.now in
-    let w = settling (g.M.Matcher.matching c.args.engine.now.matcher.now) c.args.context.now.remembered.assumptions in
-    let p = steps_to c.args.question.now.place.now in
-    let s = subject_of c.args.question.now.instance in
-    let busy = busy_at p c.args.context.now.in_progress in
-    let e = edge_of c.in-Some.edge.now in
-    let k = c.requires.children c.args.child e (sym c.in-Some.ensures.edge) in
-    let step = step_of c.in-Some-one_below.step in
-    let es = c.args.context.now.in_progress in
-    let inner = subject_of c.in-Some-one_below.inner in
-    let none : busy_at (steps_to c.below-lower.result) es ≡ [] = ap (λ q. busy_at q es) c.below-lower.ensures.below ∙ busy-below p step es c.requires.may.above in
-    let l = falls_below g.K.Validate.words g.K.Validate.is_whole ns (length c.args.engine.now.nodes.now) w c.requires.may.ranked c.args.node.0 s inner step busy e c.requires.may.known k c.in-Some-one_below.ensures.below.1 in
-    if_ok_mono c.run_edge-in-Some-one_below.result _ _ (λ r says.
-    let met = subst (λ busy'. EdgeMeets g.K.Validate.words g.K.Validate.is_whole ns (length c.args.engine.now.nodes.now) w (mode_of c.args.question.now.mode) (path_of c.args.question.now.path.now) (steps_to c.below-lower.result) busy' inner c.args.context.now.remembered c.run_edge-in-Some-one_below.new.context.remembered e) none says in
-    meets_below g.K.Validate.words g.K.Validate.is_whole ns (length c.args.engine.now.nodes.now) w (mode_of c.args.question.now.mode) (path_of c.args.question.now.path.now) p busy s c.args.node.0 _ (record { child = c.args.child; below = below_of c.args.below }) _ _ e step (steps_to c.below-lower.result) inner (sym c.in-Some.ensures.edge) c.in-Some-one_below.ensures.below.0
-    c.below-lower.ensures.below c.in-Some-one_below.ensures.below.1 l met) c.run_edge-in-Some-one_below.ensures.meets
-
-pub run::run_form-returns-in-Keyword-clause-meets : goal.run::run_form-returns-in-Keyword-clause-meets
-run::run_form-returns-in-Keyword-clause-meets g t c = rw (c.in-Keyword.is, ← c.as_slice.ensures.value) c.run_keyword.ensures.meets
-
-pub run::run_form-returns-in_ok-reply-in-Reference-clause-meets : goal.run::run_form-returns-in_ok-reply-in-Reference-clause-meets
-run::run_form-returns-in_ok-reply-in-Reference-clause-meets g t c =
-    let ns = numbered g.K.Validate.shape c.args.engine.now.nodes.now in
-    let w = settling (g.M.Matcher.matching c.args.engine.now.matcher.now) c.args.context.now.remembered.assumptions in
-    let p = steps_to c.args.question.now.place.now in
-    let s = subject_of c.args.question.now.instance in
-    let busy = busy_at p c.args.context.now.in_progress in
-    let e = edge_of c.in-Reference.edge in
-    let k = reference_edge ns c.args.node.0 e (rw c.in-Reference.is at c.requires.form) in
-    let l = falls_here g.K.Validate.words g.K.Validate.is_whole ns (length c.args.engine.now.nodes.now) w c.requires.may.ranked c.args.node.0 s busy e c.requires.may.known k in
-    let met = subst (λ path. EdgeMeets g.K.Validate.words g.K.Validate.is_whole ns (length c.args.engine.now.nodes.now) w (mode_of c.args.question.now.mode) path p busy s c.args.context.now.remembered c.run_edge.new.context.remembered e) c.under_reference-path.ensures.same c.in_ok-reply-in-Reference.ensures.meets in
-    rw c.in-Reference.is (if_ok_always c.stamped_reply.result _ (meets_reference g.K.Validate.words g.K.Validate.is_whole ns (length c.args.engine.now.nodes.now) w (mode_of c.args.question.now.mode) (path_of c.args.question.now.path.now) p busy s c.args.node.0 (string_bytes c.args.entry.now.name) e _ _ l met))
-
-pub run::run_node-returns-in-Never-clause-meets : goal.run::run_node-returns-in-Never-clause-meets
-run::run_node-returns-in-Never-clause-meets g t c =
-    let ns = numbered g.K.Validate.shape c.args.engine.now.nodes.now in
-    let w = settling (g.M.Matcher.matching c.args.engine.now.matcher.now) c.args.context.now.remembered.assumptions in
-    let p = steps_to c.args.question.now.place.now in
-    let s = subject_of c.args.question.now.instance in
-    let busy = busy_at p c.args.context.now.in_progress in
-    let plan = plan_is g.K.Validate.shape c.args.engine.now.nodes.now c.args.node.0 (node_of c.node-found.result.now) _ c.node-found.ensures.found (ap (option_map plan_of) c.in-Some.is ∙ ap (λ f. Some (plan_of f)) c.in-Never.is) in
-    if_ok_always c.refused.result _ (meets_never g.K.Validate.words g.K.Validate.is_whole ns (length c.args.engine.now.nodes.now) w (mode_of c.args.question.now.mode) (path_of c.args.question.now.path.now) p busy s c.args.node.0 _ _ plan refl)
-
-pub run::run_node-returns-in-Keywords-clause-meets : goal.run::run_node-returns-in-Keywords-clause-meets
-run::run_node-returns-in-Keywords-clause-meets g t c =
-    let ns = numbered g.K.Validate.shape c.args.engine.now.nodes.now in
-    let w = settling (g.M.Matcher.matching c.args.engine.now.matcher.now) c.args.context.now.remembered.assumptions in
-    let p = steps_to c.args.question.now.place.now in
-    let s = subject_of c.args.question.now.instance in
-    let busy = busy_at p c.args.context.now.in_progress in
-    let plan = plan_is g.K.Validate.shape c.args.engine.now.nodes.now c.args.node.0 (node_of c.node-found.result.now) _ c.node-found.ensures.found (ap (option_map plan_of) c.in-Some.is ∙ ap (λ f. Some (plan_of f)) c.in-Keywords.is) in
-    if_ok_mono c.run_entries.result _ _ (λ r met. meets_these g.K.Validate.words g.K.Validate.is_whole ns (length c.args.engine.now.nodes.now) w (mode_of c.args.question.now.mode) (path_of c.args.question.now.path.now) p busy s c.args.node.0 _ _ _ plan met) (rw c.as_slice.ensures.value at c.run_entries.ensures.meets)
-
-pub run::run_entry-returns-clause-meets : goal.run::run_entry-returns-clause-meets
-run::run_entry-returns-clause-meets g t c = if_ok_mono c.run_form-2.result _ _ (λ r met texts root depth reads l.
-    let ns = numbered g.K.Validate.shape c.args.engine.now.nodes.now in
-    let w = settling (g.M.Matcher.matching c.args.engine.now.matcher.now) c.args.context.now.remembered.assumptions in
-    let p = steps_to c.args.question.now.place.now in
-    let busy = busy_at p c.args.context.now.in_progress in
-    let looked = part_looked g.K.Validate.words ns w texts root depth c.args.node.0 (path_of c.args.question.now.path.now) p busy (shaped_part g.K.Validate.shape (entry_of c.args.entry.now)) in
-    meets_same w.matcher _ _ _ _ (other_entry (mode_of c.args.question.now.mode) looked (λ more less. c.if-entry.false)) (met texts root depth reads l)) c.run_form-2.ensures.meets
-
-pub run::run_entries-returns-clause-meets : goal.run::run_entries-returns-clause-meets
-run::run_entries-returns-clause-meets g t c = λ texts root depth reads l.
-    let ns = numbered g.K.Validate.shape c.args.engine.now.nodes.now in
-    let w = settling (g.M.Matcher.matching c.args.engine.now.matcher.now) c.args.context.now.remembered.assumptions in
-    let p = steps_to c.args.question.now.place.now in
-    let looked = λ (es : List (Entry g.row.K.Denot)). parts_looked g.K.Validate.words ns w texts root depth c.args.node.0 (path_of c.args.question.now.path.now) p (busy_at p c.args.context.now.in_progress) (map (shaped_part g.K.Validate.shape) (map entry_of es)) in
-    end_met w.matcher (mode_of c.args.question.now.mode) (looked (drop c.loop-entry.entry-index c.args.entries.now)) (plan_met (mode_of c.args.question.now.mode) (looked c.args.entries.now)) c.args.context.now.remembered c.loop-entry.context.remembered
-    (ap looked (drop_past c.args.entries.now c.loop-entry.entry-index c.loop-entry-test.false)) (c.loop-entry.invariant.met texts root depth reads l)
-
-pub run::run_entries-returns-then-is_settled-clause-counts : goal.run::run_entries-returns-then-is_settled-clause-counts
-run::run_entries-returns-then-is_settled-clause-counts g t c = no_fewer c.args.context.now.visits c.loop-entry.context.visits c.run_entry.new.context.visits c.loop-entry.invariant.counted c.in_ok-more.ensures.counts
-
-pub run::run_entries-returns-then-is_settled-clause-stays : goal.run::run_entries-returns-then-is_settled-clause-stays
-run::run_entries-returns-then-is_settled-clause-stays g t c = λ layout laid right. c.in_ok-more.ensures.stays layout laid (c.loop-entry.invariant.stays layout laid right)
-
-pub run::run_entry-returns-then-entry-clause-stays : goal.run::run_entry-returns-then-entry-clause-stays
-run::run_entry-returns-then-entry-clause-stays g t c = if_ok_mono c.run_form.result _ _ (λ r stays layout laid right. stays layout laid (c.in_ok-valid.ensures.stays layout laid right)) c.run_form.ensures.stays
-
-pub run::run_entry-returns-then-entry-clause-counts : goal.run::run_entry-returns-then-entry-clause-counts
-run::run_entry-returns-then-entry-clause-counts g t c = if_ok_mono c.run_form.result _ _ (λ r more. no_fewer c.args.context.now.visits c.verdict_form.new.context.visits c.run_form.new.context.visits c.in_ok-valid.ensures.counts more) c.run_form.ensures.counts
-
-pub run::run_keyword-returns-clause-stays : goal.run::run_keyword-returns-clause-stays
-run::run_keyword-returns-clause-stays g t c = if_ok_always c.finished.result _ (λ layout laid right.
-    let set = setting g.K.Validate.words g.K.Validate.is_whole g.K.Validate.shape g.M.Matcher.matching c.args.engine.now in
-    subst (RemembersRightly set layout) (sym c.finished.ensures.stays) (c.in_ok-answer.ensures.stays layout laid right))
-
-pub run::run_keyword-returns-clause-counts : goal.run::run_keyword-returns-clause-counts
-run::run_keyword-returns-clause-counts g t c = if_ok_always c.finished.result _ (rw (← c.finished.ensures.stays) at c.in_ok-answer.ensures.counts)
+pub run::run_entries-returns : goal.run::run_entries-returns
+run::run_entries-returns g t c = record {
+  keeps = first_of (search rules, grind (arith, common_steps));
+  counts = first_of (search rules, grind (arith, common_steps));
+  says = first_of (search rules, grind (arith, common_steps));
+  meets = λ texts root depth reads l.
+      let ns = numbered g.K.Validate.shape c.args.engine.now.nodes.now in
+      let w = settling (g.M.Matcher.matching c.args.engine.now.matcher.now) c.args.context.now.remembered.assumptions in
+      let p = steps_to c.args.question.now.place.now in
+      let looked = λ (es : List (Entry g.row.K.Denot)). parts_looked g.K.Validate.words ns w texts root depth c.args.node.0 (path_of c.args.question.now.path.now) p (busy_at p c.args.context.now.in_progress) (map (shaped_part g.K.Validate.shape) (map entry_of es)) in
+      end_met w.matcher (mode_of c.args.question.now.mode) (looked (drop c.loop-entry.entry-index c.args.entries.now)) (plan_met (mode_of c.args.question.now.mode) (looked c.args.entries.now)) c.args.context.now.remembered c.loop-entry.context.remembered
+      (ap looked (drop_past c.args.entries.now c.loop-entry.entry-index c.loop-entry-test.false)) (c.loop-entry.invariant.met texts root depth reads l);
+  stays = first_of (search rules, grind (arith, common_steps));
+}
 
 pub turns::run_turns-turns-init : goal.turns::run_turns-turns-init
 turns::run_turns-turns-init g t c =
@@ -850,72 +877,80 @@ evaluate::evaluate_child-evaluate_edge-requires-in-Some-one_below g t c =
     let below = laid_below layout p s inner step (steps_to c.below-lower.result) laid c.below-lower.ensures.below c.in-Some-one_below.ensures.below.1 in
     λ κs h. (lower_edge _ _ _ t 0 n l c.decreases, (h.0, (h.1.0, (h.1.1.0, (h.1.1.1, (record { known = (c.requires.may.ranked c.args.node.0 c.requires.may.known e k).0; ranked = c.requires.may.ranked; above = deeper; wanted = c.requires.may.wanted; stands = stands_below (view c.args.context.now.root) p (subject_of c.args.question.now.instance) (subject_of c.in-Some-one_below.inner) step (steps_to c.below-lower.result) c.requires.may.stands c.below-lower.ensures.below c.in-Some-one_below.ensures.below.1; goes_on = (layout, below, right) }, c.below-lower.ensures.carries (places_in c.args.context.now) c.requires.carries))))))
 
-pub evaluate::evaluate_child-returns-in-None-one_below-clause-gives : goal.evaluate::evaluate_child-returns-in-None-one_below-clause-gives
-evaluate::evaluate_child-returns-in-None-one_below-clause-gives g t c =
-    let ns = numbered g.K.Validate.shape c.args.engine.now.nodes.now in
-    let set = setting g.K.Validate.words g.K.Validate.is_whole g.K.Validate.shape g.M.Matcher.matching c.args.engine.now in
-    let w = settling (g.M.Matcher.matching c.args.engine.now.matcher.now) c.args.context.now.remembered.assumptions in
-    let q = asking c.args.question.now in
-    let p = steps_to c.args.question.now.place.now in
-    let s = subject_of c.args.question.now.instance in
-    let busy = busy_at p c.args.context.now.in_progress in
-    let e = edge_of c.in-Some.edge.now in
-    let k = c.requires.children c.args.child e (sym c.in-Some.ensures.edge) in
-    let l = falls_here g.K.Validate.words g.K.Validate.is_whole ns (length c.args.engine.now.nodes.now) w c.requires.may.ranked c.args.node.0 s busy e c.requires.may.known k in
-    let asked : Question = record { child = c.args.child; below = below_of c.args.below } in
-    if_ok_mono c.evaluate_edge.result _ _ (λ u gives. gives_here set q c.args.context.now c.args.node.0 (map (option_map edge_of) c.args.children.now) asked u e (sym c.in-Some.ensures.edge) c.in-None-one_below.ensures.below l gives) c.evaluate_edge.ensures.gives
+pub evaluate::evaluate_child-returns-in-None-one_below : goal.evaluate::evaluate_child-returns-in-None-one_below
+evaluate::evaluate_child-returns-in-None-one_below g t c = record {
+  keeps = first_of (search rules, grind (arith, common_steps));
+  counts = first_of (search rules, grind (arith, common_steps));
+  quiet = if_ok_always c.evaluate_edge.result _ (λ none. absurd (none c.args.child (edge_of c.in-Some.edge.now) (sym c.in-Some.ensures.edge)));
+  says =
+      let ns = numbered g.K.Validate.shape c.args.engine.now.nodes.now in
+      let set = setting g.K.Validate.words g.K.Validate.is_whole g.K.Validate.shape g.M.Matcher.matching c.args.engine.now in
+      let w = settling (g.M.Matcher.matching c.args.engine.now.matcher.now) c.args.context.now.remembered.assumptions in
+      let q = asking c.args.question.now in
+      let p = steps_to c.args.question.now.place.now in
+      let s = subject_of c.args.question.now.instance in
+      let busy = busy_at p c.args.context.now.in_progress in
+      let e = edge_of c.in-Some.edge.now in
+      let k = c.requires.children c.args.child e (sym c.in-Some.ensures.edge) in
+      let l = falls_here g.K.Validate.words g.K.Validate.is_whole ns (length c.args.engine.now.nodes.now) w c.requires.may.ranked c.args.node.0 s busy e c.requires.may.known k in
+      let asked : Question = record { child = c.args.child; below = below_of c.args.below } in
+      if_ok_mono c.evaluate_edge.result _ _ (λ u gives. gives_here set q c.args.context.now c.args.node.0 (map (option_map edge_of) c.args.children.now) asked u e (sym c.in-Some.ensures.edge) c.in-None-one_below.ensures.below l gives) c.evaluate_edge.ensures.says;
+  meets =
+      let ns = numbered g.K.Validate.shape c.args.engine.now.nodes.now in
+      let w = settling (g.M.Matcher.matching c.args.engine.now.matcher.now) c.args.context.now.remembered.assumptions in
+      let p = steps_to c.args.question.now.place.now in
+      let s = subject_of c.args.question.now.instance in
+      let busy = busy_at p c.args.context.now.in_progress in
+      let e = edge_of c.in-Some.edge.now in
+      let k = c.requires.children c.args.child e (sym c.in-Some.ensures.edge) in
+      let l = falls_here g.K.Validate.words g.K.Validate.is_whole ns (length c.args.engine.now.nodes.now) w c.requires.may.ranked c.args.node.0 s busy e c.requires.may.known k in
+      let asked : Question = record { child = c.args.child; below = below_of c.args.below } in
+      if_ok_mono c.evaluate_edge.result _ _ (λ r met. meets_here g.K.Validate.words g.K.Validate.is_whole ns (length c.args.engine.now.nodes.now) w (mode_of c.args.question.now.mode) (path_of c.args.question.now.path.now) p busy s c.args.node.0 _ asked _ _ e (sym c.in-Some.ensures.edge) c.in-None-one_below.ensures.below l met) c.evaluate_edge.ensures.meets;
+  stays = first_of (search rules, grind (arith, common_steps));
+}
 
-pub evaluate::evaluate_child-returns-in-Some-one_below-clause-gives : goal.evaluate::evaluate_child-returns-in-Some-one_below-clause-gives
-evaluate::evaluate_child-returns-in-Some-one_below-clause-gives g t c =
-    let ns = numbered g.K.Validate.shape c.args.engine.now.nodes.now in
-    let set = setting g.K.Validate.words g.K.Validate.is_whole g.K.Validate.shape g.M.Matcher.matching c.args.engine.now in
-    let w = settling (g.M.Matcher.matching c.args.engine.now.matcher.now) c.args.context.now.remembered.assumptions in
-    let q = asking c.args.question.now in
-    let p = steps_to c.args.question.now.place.now in
-    let s = subject_of c.args.question.now.instance in
-    let busy = busy_at p c.args.context.now.in_progress in
-    let e = edge_of c.in-Some.edge.now in
-    let k = c.requires.children c.args.child e (sym c.in-Some.ensures.edge) in
-    let step = step_of c.in-Some-one_below.step in
-    let es = c.args.context.now.in_progress in
-    let inner = subject_of c.in-Some-one_below.inner in
-    let none : busy_at (steps_to c.below-lower.result) es ≡ [] = ap (λ q. busy_at q es) c.below-lower.ensures.below ∙ busy-below p step es c.requires.may.above in
-    let l = falls_below g.K.Validate.words g.K.Validate.is_whole ns (length c.args.engine.now.nodes.now) w c.requires.may.ranked c.args.node.0 s inner step busy e c.requires.may.known k c.in-Some-one_below.ensures.below.1 in
-    let asked : Question = record { child = c.args.child; below = below_of c.args.below } in
-    let lower : Asking = record { subject = inner; place = steps_to c.below-lower.result; path = path_of c.args.question.now.path.now; mode = mode_of c.args.question.now.mode } in
-    if_ok_mono c.evaluate_edge-in-Some-one_below.result _ _ (λ u gives. gives_below set q c.args.context.now c.args.node.0 (map (option_map edge_of) c.args.children.now) asked u e step lower (sym c.in-Some.ensures.edge) c.in-Some-one_below.ensures.below.0 c.below-lower.ensures.below refl c.in-Some-one_below.ensures.below.1 none l gives) c.evaluate_edge-in-Some-one_below.ensures.gives
-
-pub evaluate::evaluate_child-returns-in-None-one_below-clause-meets : goal.evaluate::evaluate_child-returns-in-None-one_below-clause-meets
-evaluate::evaluate_child-returns-in-None-one_below-clause-meets g t c =
-    let ns = numbered g.K.Validate.shape c.args.engine.now.nodes.now in
-    let w = settling (g.M.Matcher.matching c.args.engine.now.matcher.now) c.args.context.now.remembered.assumptions in
-    let p = steps_to c.args.question.now.place.now in
-    let s = subject_of c.args.question.now.instance in
-    let busy = busy_at p c.args.context.now.in_progress in
-    let e = edge_of c.in-Some.edge.now in
-    let k = c.requires.children c.args.child e (sym c.in-Some.ensures.edge) in
-    let l = falls_here g.K.Validate.words g.K.Validate.is_whole ns (length c.args.engine.now.nodes.now) w c.requires.may.ranked c.args.node.0 s busy e c.requires.may.known k in
-    let asked : Question = record { child = c.args.child; below = below_of c.args.below } in
-    if_ok_mono c.evaluate_edge.result _ _ (λ r met. meets_here g.K.Validate.words g.K.Validate.is_whole ns (length c.args.engine.now.nodes.now) w (mode_of c.args.question.now.mode) (path_of c.args.question.now.path.now) p busy s c.args.node.0 _ asked _ _ e (sym c.in-Some.ensures.edge) c.in-None-one_below.ensures.below l met) c.evaluate_edge.ensures.meets
-
-pub evaluate::evaluate_child-returns-in-Some-one_below-clause-meets : goal.evaluate::evaluate_child-returns-in-Some-one_below-clause-meets
-evaluate::evaluate_child-returns-in-Some-one_below-clause-meets g t c =
-    let ns = numbered g.K.Validate.shape c.args.engine.now.nodes.now in
-    let w = settling (g.M.Matcher.matching c.args.engine.now.matcher.now) c.args.context.now.remembered.assumptions in
-    let p = steps_to c.args.question.now.place.now in
-    let s = subject_of c.args.question.now.instance in
-    let busy = busy_at p c.args.context.now.in_progress in
-    let e = edge_of c.in-Some.edge.now in
-    let k = c.requires.children c.args.child e (sym c.in-Some.ensures.edge) in
-    let step = step_of c.in-Some-one_below.step in
-    let es = c.args.context.now.in_progress in
-    let inner = subject_of c.in-Some-one_below.inner in
-    let none : busy_at (steps_to c.below-lower.result) es ≡ [] = ap (λ q. busy_at q es) c.below-lower.ensures.below ∙ busy-below p step es c.requires.may.above in
-    let l = falls_below g.K.Validate.words g.K.Validate.is_whole ns (length c.args.engine.now.nodes.now) w c.requires.may.ranked c.args.node.0 s inner step busy e c.requires.may.known k c.in-Some-one_below.ensures.below.1 in
-    let asked : Question = record { child = c.args.child; below = below_of c.args.below } in
-    if_ok_mono c.evaluate_edge-in-Some-one_below.result _ _ (λ r meets.
-    let met = subst (λ busy'. EdgeMeets g.K.Validate.words g.K.Validate.is_whole ns (length c.args.engine.now.nodes.now) w (mode_of c.args.question.now.mode) (path_of c.args.question.now.path.now) (steps_to c.below-lower.result) busy' inner c.args.context.now.remembered c.evaluate_edge-in-Some-one_below.new.context.remembered e) none meets in
-    meets_below g.K.Validate.words g.K.Validate.is_whole ns (length c.args.engine.now.nodes.now) w (mode_of c.args.question.now.mode) (path_of c.args.question.now.path.now) p busy s c.args.node.0 _ asked _ _ e step (steps_to c.below-lower.result) inner (sym c.in-Some.ensures.edge) c.in-Some-one_below.ensures.below.0 c.below-lower.ensures.below c.in-Some-one_below.ensures.below.1 l met) c.evaluate_edge-in-Some-one_below.ensures.meets
+pub evaluate::evaluate_child-returns-in-Some-one_below : goal.evaluate::evaluate_child-returns-in-Some-one_below
+evaluate::evaluate_child-returns-in-Some-one_below g t c = record {
+  keeps = first_of (search rules, grind (arith, common_steps));
+  counts = first_of (search rules, grind (arith, common_steps));
+  quiet = if_ok_always c.evaluate_edge-in-Some-one_below.result _ (λ none. absurd (none c.args.child (edge_of c.in-Some.edge.now) (sym c.in-Some.ensures.edge)));
+  says =
+      let ns = numbered g.K.Validate.shape c.args.engine.now.nodes.now in
+      let set = setting g.K.Validate.words g.K.Validate.is_whole g.K.Validate.shape g.M.Matcher.matching c.args.engine.now in
+      let w = settling (g.M.Matcher.matching c.args.engine.now.matcher.now) c.args.context.now.remembered.assumptions in
+      let q = asking c.args.question.now in
+      let p = steps_to c.args.question.now.place.now in
+      let s = subject_of c.args.question.now.instance in
+      let busy = busy_at p c.args.context.now.in_progress in
+      let e = edge_of c.in-Some.edge.now in
+      let k = c.requires.children c.args.child e (sym c.in-Some.ensures.edge) in
+      let step = step_of c.in-Some-one_below.step in
+      let es = c.args.context.now.in_progress in
+      let inner = subject_of c.in-Some-one_below.inner in
+      let none : busy_at (steps_to c.below-lower.result) es ≡ [] = ap (λ q. busy_at q es) c.below-lower.ensures.below ∙ busy-below p step es c.requires.may.above in
+      let l = falls_below g.K.Validate.words g.K.Validate.is_whole ns (length c.args.engine.now.nodes.now) w c.requires.may.ranked c.args.node.0 s inner step busy e c.requires.may.known k c.in-Some-one_below.ensures.below.1 in
+      let asked : Question = record { child = c.args.child; below = below_of c.args.below } in
+      let lower : Asking = record { subject = inner; place = steps_to c.below-lower.result; path = path_of c.args.question.now.path.now; mode = mode_of c.args.question.now.mode } in
+      if_ok_mono c.evaluate_edge-in-Some-one_below.result _ _ (λ u gives. gives_below set q c.args.context.now c.args.node.0 (map (option_map edge_of) c.args.children.now) asked u e step lower (sym c.in-Some.ensures.edge) c.in-Some-one_below.ensures.below.0 c.below-lower.ensures.below refl c.in-Some-one_below.ensures.below.1 none l gives) c.evaluate_edge-in-Some-one_below.ensures.says;
+  meets =
+      let ns = numbered g.K.Validate.shape c.args.engine.now.nodes.now in
+      let w = settling (g.M.Matcher.matching c.args.engine.now.matcher.now) c.args.context.now.remembered.assumptions in
+      let p = steps_to c.args.question.now.place.now in
+      let s = subject_of c.args.question.now.instance in
+      let busy = busy_at p c.args.context.now.in_progress in
+      let e = edge_of c.in-Some.edge.now in
+      let k = c.requires.children c.args.child e (sym c.in-Some.ensures.edge) in
+      let step = step_of c.in-Some-one_below.step in
+      let es = c.args.context.now.in_progress in
+      let inner = subject_of c.in-Some-one_below.inner in
+      let none : busy_at (steps_to c.below-lower.result) es ≡ [] = ap (λ q. busy_at q es) c.below-lower.ensures.below ∙ busy-below p step es c.requires.may.above in
+      let l = falls_below g.K.Validate.words g.K.Validate.is_whole ns (length c.args.engine.now.nodes.now) w c.requires.may.ranked c.args.node.0 s inner step busy e c.requires.may.known k c.in-Some-one_below.ensures.below.1 in
+      let asked : Question = record { child = c.args.child; below = below_of c.args.below } in
+      if_ok_mono c.evaluate_edge-in-Some-one_below.result _ _ (λ r meets.
+      let met = subst (λ busy'. EdgeMeets g.K.Validate.words g.K.Validate.is_whole ns (length c.args.engine.now.nodes.now) w (mode_of c.args.question.now.mode) (path_of c.args.question.now.path.now) (steps_to c.below-lower.result) busy' inner c.args.context.now.remembered c.evaluate_edge-in-Some-one_below.new.context.remembered e) none meets in
+      meets_below g.K.Validate.words g.K.Validate.is_whole ns (length c.args.engine.now.nodes.now) w (mode_of c.args.question.now.mode) (path_of c.args.question.now.path.now) p busy s c.args.node.0 _ asked _ _ e step (steps_to c.below-lower.result) inner (sym c.in-Some.ensures.edge) c.in-Some-one_below.ensures.below.0 c.below-lower.ensures.below c.in-Some-one_below.ensures.below.1 l met) c.evaluate_edge-in-Some-one_below.ensures.meets;
+  stays = if_ok_mono c.evaluate_edge-in-Some-one_below.result _ _ (λ u stays layout laid right. stays layout (laid_below layout (steps_to c.args.question.now.place.now) (subject_of c.args.question.now.instance) (subject_of c.in-Some-one_below.inner) (step_of c.in-Some-one_below.step) (steps_to c.below-lower.result) laid c.below-lower.ensures.below c.in-Some-one_below.ensures.below.1) right) c.evaluate_edge-in-Some-one_below.ensures.stays;
+}
 
 pub evaluate::evaluate_entries-loop-entry-init : goal.evaluate::evaluate_entries-loop-entry-init
 evaluate::evaluate_entries-loop-entry-init g t c =
@@ -961,7 +996,7 @@ evaluate::evaluate_entries-loop-entry-preserved g t c =
       counted = no_fewer c.args.context.now.visits c.loop-entry.context.visits c.evaluate_entry.new.context.visits c.loop-entry.invariant.counted c.in_ok-given.ensures.counts;
       so_far = λ x reads l.
           let parts = λ (es : List (Entry g.row.K.Denot)). parts_units g.K.Validate.words ns x c.args.node.0 (path_of c.args.question.now.path.now) p busy (map (shaped_part g.K.Validate.shape) (map entry_of es)) in
-          let gives = form_moved set q c.args.context.now c.loop-entry.context c.loop-entry.invariant.kept c.loop-entry.invariant.assumes c.args.node.0 part.name part.form c.in_ok-given.given c.in_ok-given.ensures.gives x reads l in
+          let gives = form_moved set q c.args.context.now c.loop-entry.context c.loop-entry.invariant.kept c.loop-entry.invariant.assumes c.args.node.0 part.name part.form c.in_ok-given.given c.in_ok-given.ensures.says x reads l in
           placed_next (placed_of x.texts c.loop-entry.units) (placed_of x.texts c.place.new.self) _ (record { priority = part.priority; units = entry_units_of x.texts c.in_ok-given.given }) (parts rest) _ _ (ap parts there) (c.in_ok-place.ensures.placed x.texts) (ap (λ units. record { priority = part.priority; units = units }) gives) (c.loop-entry.invariant.so_far x reads l);
       met = λ texts root depth reads l.
           let looked = λ (es : List (Entry g.row.K.Denot)). parts_looked g.K.Validate.words ns w texts root depth c.args.node.0 (path_of c.args.question.now.path.now) p busy (map (shaped_part g.K.Validate.shape) (map entry_of es)) in
@@ -973,25 +1008,28 @@ evaluate::evaluate_entries-loop-entry-preserved g t c =
           next_met w.matcher mode one (looked rest) _ _ met.0 _ _ _ met.1 here met.2 (ap (λ es. plan_met mode (looked es)) there) goes;
     }
 
-pub evaluate::evaluate_entries-returns-clause-gives : goal.evaluate::evaluate_entries-returns-clause-gives
-evaluate::evaluate_entries-returns-clause-gives g t c =
-    let ns = numbered g.K.Validate.shape c.args.engine.now.nodes.now in
-    let p = steps_to c.args.question.now.place.now in
-    let busy = busy_at p c.args.context.now.in_progress in
-    if_ok_mono c.into_children.result _ _ (λ children is x reads l.
-    let parts = λ (es : List (Entry g.row.K.Denot)). parts_units g.K.Validate.words ns x c.args.node.0 (path_of c.args.question.now.path.now) p busy (map (shaped_part g.K.Validate.shape) (map entry_of es)) in
-    placed_last (placed_of x.texts c.loop-entry.units) (parts (drop c.loop-entry.entry-index c.args.entries.now)) (parts c.args.entries.now) _ (ap parts (drop_past c.args.entries.now c.loop-entry.entry-index c.loop-entry-test.false)) (is x.texts) (c.loop-entry.invariant.so_far x reads l)) c.into_children.ensures.children
-
-pub evaluate::evaluate_entries-returns-clause-meets : goal.evaluate::evaluate_entries-returns-clause-meets
-evaluate::evaluate_entries-returns-clause-meets g t c =
-    let ns = numbered g.K.Validate.shape c.args.engine.now.nodes.now in
-    let w = settling (g.M.Matcher.matching c.args.engine.now.matcher.now) c.args.context.now.remembered.assumptions in
-    let p = steps_to c.args.question.now.place.now in
-    let busy = busy_at p c.args.context.now.in_progress in
-    if_ok_always c.into_children.result _ (λ texts root depth reads l.
-    let looked = λ (es : List (Entry g.row.K.Denot)). parts_looked g.K.Validate.words ns w texts root depth c.args.node.0 (path_of c.args.question.now.path.now) p busy (map (shaped_part g.K.Validate.shape) (map entry_of es)) in
-    end_met w.matcher (mode_of c.args.question.now.mode) (looked (drop c.loop-entry.entry-index c.args.entries.now)) (plan_met (mode_of c.args.question.now.mode) (looked c.args.entries.now)) c.args.context.now.remembered c.loop-entry.context.remembered
-    (ap looked (drop_past c.args.entries.now c.loop-entry.entry-index c.loop-entry-test.false)) (c.loop-entry.invariant.met texts root depth reads l))
+pub evaluate::evaluate_entries-returns : goal.evaluate::evaluate_entries-returns
+evaluate::evaluate_entries-returns g t c = record {
+  keeps = first_of (search rules, grind (arith, common_steps));
+  counts = if_ok_always c.into_children.result _ c.loop-entry.invariant.counted;
+  says =
+      let ns = numbered g.K.Validate.shape c.args.engine.now.nodes.now in
+      let p = steps_to c.args.question.now.place.now in
+      let busy = busy_at p c.args.context.now.in_progress in
+      if_ok_mono c.into_children.result _ _ (λ children is x reads l.
+      let parts = λ (es : List (Entry g.row.K.Denot)). parts_units g.K.Validate.words ns x c.args.node.0 (path_of c.args.question.now.path.now) p busy (map (shaped_part g.K.Validate.shape) (map entry_of es)) in
+      placed_last (placed_of x.texts c.loop-entry.units) (parts (drop c.loop-entry.entry-index c.args.entries.now)) (parts c.args.entries.now) _ (ap parts (drop_past c.args.entries.now c.loop-entry.entry-index c.loop-entry-test.false)) (is x.texts) (c.loop-entry.invariant.so_far x reads l)) c.into_children.ensures.children;
+  meets =
+      let ns = numbered g.K.Validate.shape c.args.engine.now.nodes.now in
+      let w = settling (g.M.Matcher.matching c.args.engine.now.matcher.now) c.args.context.now.remembered.assumptions in
+      let p = steps_to c.args.question.now.place.now in
+      let busy = busy_at p c.args.context.now.in_progress in
+      if_ok_always c.into_children.result _ (λ texts root depth reads l.
+      let looked = λ (es : List (Entry g.row.K.Denot)). parts_looked g.K.Validate.words ns w texts root depth c.args.node.0 (path_of c.args.question.now.path.now) p busy (map (shaped_part g.K.Validate.shape) (map entry_of es)) in
+      end_met w.matcher (mode_of c.args.question.now.mode) (looked (drop c.loop-entry.entry-index c.args.entries.now)) (plan_met (mode_of c.args.question.now.mode) (looked c.args.entries.now)) c.args.context.now.remembered c.loop-entry.context.remembered
+      (ap looked (drop_past c.args.entries.now c.loop-entry.entry-index c.loop-entry-test.false)) (c.loop-entry.invariant.met texts root depth reads l));
+  stays = first_of (search rules, grind (arith, common_steps));
+}
 
 pub evaluate::evaluate_entry-evaluate_edge-requires : goal.evaluate::evaluate_entry-evaluate_edge-requires
 evaluate::evaluate_entry-evaluate_edge-requires g t c =
@@ -1005,70 +1043,76 @@ evaluate::evaluate_entry-evaluate_edge-requires g t c =
     let l = falls_here g.K.Validate.words g.K.Validate.is_whole ns (length c.args.engine.now.nodes.now) w c.requires.may.ranked c.args.node.0 s busy e c.requires.may.known k in
     λ κs h. (lower_edge _ _ _ t 7 refl l c.decreases, (h.0, (h.1.0, (h.1.1.0, (h.1.1.1, (record { known = (c.requires.may.ranked c.args.node.0 c.requires.may.known e k).0; ranked = c.requires.may.ranked; above = c.requires.may.above; wanted = c.requires.may.wanted; stands = c.requires.may.stands; goes_on = c.requires.may.goes_on }, c.requires.carries))))))
 
-pub evaluate::evaluate_entry-returns-in-Keyword-clause-meets : goal.evaluate::evaluate_entry-returns-in-Keyword-clause-meets
-evaluate::evaluate_entry-returns-in-Keyword-clause-meets g t c =
-    rw (c.in-Keyword.is, ← c.as_slice.ensures.value) c.evaluate_keyword.ensures.meets
+pub evaluate::evaluate_entry-returns-in-Keyword : goal.evaluate::evaluate_entry-returns-in-Keyword
+evaluate::evaluate_entry-returns-in-Keyword g t c = record {
+  keeps = first_of (search rules, grind (arith, common_steps));
+  counts = first_of (search rules, grind (arith, common_steps));
+  says = first_of (search rules, grind (arith, common_steps));
+  meets =
+      rw (c.in-Keyword.is, ← c.as_slice.ensures.value) c.evaluate_keyword.ensures.meets;
+  stays = first_of (search rules, grind (arith, common_steps));
+}
 
-pub evaluate::evaluate_entry-returns-in_ok-unit-in-Reference-clause-gives : goal.evaluate::evaluate_entry-returns-in_ok-unit-in-Reference-clause-gives
-evaluate::evaluate_entry-returns-in_ok-unit-in-Reference-clause-gives g t c =
-    let ns = numbered g.K.Validate.shape c.args.engine.now.nodes.now in
-    let set = setting g.K.Validate.words g.K.Validate.is_whole g.K.Validate.shape g.M.Matcher.matching c.args.engine.now in
-    let w = settling (g.M.Matcher.matching c.args.engine.now.matcher.now) c.args.context.now.remembered.assumptions in
-    let q = asking c.args.question.now in
-    let p = steps_to c.args.question.now.place.now in
-    let s = subject_of c.args.question.now.instance in
-    let busy = busy_at p c.args.context.now.in_progress in
-    let e = edge_of c.in-Reference.edge in
-    let k = reference_edge ns c.args.node.0 e (rw c.in-Reference.is at c.requires.form) in
-    let l = falls_here g.K.Validate.words g.K.Validate.is_whole ns (length c.args.engine.now.nodes.now) w c.requires.may.ranked c.args.node.0 s busy e c.requires.may.known k in
-    let name = string_bytes c.args.entry.now.name in
-    let asked : Asking = record { subject = q.subject; place = q.place; path = path_of c.under_reference-path.result; mode = q.mode } in
-    let same : asked ≡ q = λ i. record { subject = q.subject; place = q.place; path = c.under_reference-path.ensures.same i; mode = q.mode } in
-    rw c.in-Reference.is (if_ok_mono c.units_of_reference.result _ _ (λ units is. gives_reference set q c.args.context.now c.args.node.0 name units e c.in_ok-unit-in-Reference.unit asked same l is c.in_ok-unit-in-Reference.ensures.gives) c.units_of_reference.ensures.units)
-
-pub evaluate::evaluate_entry-returns-in_ok-unit-in-Reference-clause-meets : goal.evaluate::evaluate_entry-returns-in_ok-unit-in-Reference-clause-meets
-evaluate::evaluate_entry-returns-in_ok-unit-in-Reference-clause-meets g t c =
-    let ns = numbered g.K.Validate.shape c.args.engine.now.nodes.now in
-    let w = settling (g.M.Matcher.matching c.args.engine.now.matcher.now) c.args.context.now.remembered.assumptions in
-    let p = steps_to c.args.question.now.place.now in
-    let s = subject_of c.args.question.now.instance in
-    let busy = busy_at p c.args.context.now.in_progress in
-    let e = edge_of c.in-Reference.edge in
-    let k = reference_edge ns c.args.node.0 e (rw c.in-Reference.is at c.requires.form) in
-    let l = falls_here g.K.Validate.words g.K.Validate.is_whole ns (length c.args.engine.now.nodes.now) w c.requires.may.ranked c.args.node.0 s busy e c.requires.may.known k in
-    let met = subst (λ path. EdgeMeets g.K.Validate.words g.K.Validate.is_whole ns (length c.args.engine.now.nodes.now) w (mode_of c.args.question.now.mode) path p busy s c.args.context.now.remembered c.evaluate_edge.new.context.remembered e) c.under_reference-path.ensures.same c.in_ok-unit-in-Reference.ensures.meets in
-    let form = meets_reference g.K.Validate.words g.K.Validate.is_whole ns (length c.args.engine.now.nodes.now) w (mode_of c.args.question.now.mode) (path_of c.args.question.now.path.now) p busy s c.args.node.0 (string_bytes c.args.entry.now.name) e _ _ l met in
-    rw c.in-Reference.is (if_ok_always c.units_of_reference.result _ (subst (λ (z : Context). FormMeets g.K.Validate.words g.K.Validate.is_whole ns (length c.args.engine.now.nodes.now) w (mode_of c.args.question.now.mode) (path_of c.args.question.now.path.now) p busy s c.args.context.now.remembered z.remembered c.args.node.0 (string_bytes c.args.entry.now.name) (node_reference e)) (sym c.units_of_reference.ensures.stays) form))
+pub evaluate::evaluate_entry-returns-in_ok-unit-in-Reference : goal.evaluate::evaluate_entry-returns-in_ok-unit-in-Reference
+evaluate::evaluate_entry-returns-in_ok-unit-in-Reference g t c = record {
+  keeps = first_of (search rules, grind (arith, common_steps));
+  counts = if_ok_always c.units_of_reference.result _ (rw (← c.units_of_reference.ensures.stays) at c.in_ok-unit-in-Reference.ensures.counts);
+  says =
+      let ns = numbered g.K.Validate.shape c.args.engine.now.nodes.now in
+      let set = setting g.K.Validate.words g.K.Validate.is_whole g.K.Validate.shape g.M.Matcher.matching c.args.engine.now in
+      let w = settling (g.M.Matcher.matching c.args.engine.now.matcher.now) c.args.context.now.remembered.assumptions in
+      let q = asking c.args.question.now in
+      let p = steps_to c.args.question.now.place.now in
+      let s = subject_of c.args.question.now.instance in
+      let busy = busy_at p c.args.context.now.in_progress in
+      let e = edge_of c.in-Reference.edge in
+      let k = reference_edge ns c.args.node.0 e (rw c.in-Reference.is at c.requires.form) in
+      let l = falls_here g.K.Validate.words g.K.Validate.is_whole ns (length c.args.engine.now.nodes.now) w c.requires.may.ranked c.args.node.0 s busy e c.requires.may.known k in
+      let name = string_bytes c.args.entry.now.name in
+      let asked : Asking = record { subject = q.subject; place = q.place; path = path_of c.under_reference-path.result; mode = q.mode } in
+      let same : asked ≡ q = λ i. record { subject = q.subject; place = q.place; path = c.under_reference-path.ensures.same i; mode = q.mode } in
+      rw c.in-Reference.is (if_ok_mono c.units_of_reference.result _ _ (λ units is. gives_reference set q c.args.context.now c.args.node.0 name units e c.in_ok-unit-in-Reference.unit asked same l is c.in_ok-unit-in-Reference.ensures.says) c.units_of_reference.ensures.units);
+  meets =
+      let ns = numbered g.K.Validate.shape c.args.engine.now.nodes.now in
+      let w = settling (g.M.Matcher.matching c.args.engine.now.matcher.now) c.args.context.now.remembered.assumptions in
+      let p = steps_to c.args.question.now.place.now in
+      let s = subject_of c.args.question.now.instance in
+      let busy = busy_at p c.args.context.now.in_progress in
+      let e = edge_of c.in-Reference.edge in
+      let k = reference_edge ns c.args.node.0 e (rw c.in-Reference.is at c.requires.form) in
+      let l = falls_here g.K.Validate.words g.K.Validate.is_whole ns (length c.args.engine.now.nodes.now) w c.requires.may.ranked c.args.node.0 s busy e c.requires.may.known k in
+      let met = subst (λ path. EdgeMeets g.K.Validate.words g.K.Validate.is_whole ns (length c.args.engine.now.nodes.now) w (mode_of c.args.question.now.mode) path p busy s c.args.context.now.remembered c.evaluate_edge.new.context.remembered e) c.under_reference-path.ensures.same c.in_ok-unit-in-Reference.ensures.meets in
+      let form = meets_reference g.K.Validate.words g.K.Validate.is_whole ns (length c.args.engine.now.nodes.now) w (mode_of c.args.question.now.mode) (path_of c.args.question.now.path.now) p busy s c.args.node.0 (string_bytes c.args.entry.now.name) e _ _ l met in
+      rw c.in-Reference.is (if_ok_always c.units_of_reference.result _ (subst (λ (z : Context). FormMeets g.K.Validate.words g.K.Validate.is_whole ns (length c.args.engine.now.nodes.now) w (mode_of c.args.question.now.mode) (path_of c.args.question.now.path.now) p busy s c.args.context.now.remembered z.remembered c.args.node.0 (string_bytes c.args.entry.now.name) (node_reference e)) (sym c.units_of_reference.ensures.stays) form));
+  stays = if_ok_always c.units_of_reference.result _ (rw (← c.units_of_reference.ensures.stays) at c.in_ok-unit-in-Reference.ensures.stays);
+}
 
 pub evaluate::evaluate_keyword-keyword_answer-requires : goal.evaluate::evaluate_keyword-keyword_answer-requires
 evaluate::evaluate_keyword-keyword_answer-requires g t c =
     λ κs h. (lower_same _ _ t 5 0 refl c.decreases, (h.0, (h.1.0, (h.1.1.0, (h.1.1.1, (record { known = c.requires.may.known; ranked = c.requires.may.ranked; above = c.requires.may.above; stands = c.requires.may.stands; goes_on = c.requires.may.goes_on }, (c.requires.carries, c.requires.form)))))))
 
-pub evaluate::evaluate_keyword-returns-clause-gives : goal.evaluate::evaluate_keyword-returns-clause-gives
-evaluate::evaluate_keyword-returns-clause-gives g t c =
-    let ns = numbered g.K.Validate.shape c.args.engine.now.nodes.now in
-    let set = setting g.K.Validate.words g.K.Validate.is_whole g.K.Validate.shape g.M.Matcher.matching c.args.engine.now in
-    let q = asking c.args.question.now in
-    let p = steps_to c.args.question.now.place.now in
-    let s = subject_of c.args.question.now.instance in
-    let m = g.K.Validate.shape c.args.keyword.now.keyword.now in
-    let es = map (option_map edge_of) c.args.keyword.now.children.now in
-    let n = node_of c.node.result.now in
-    let name = string_bytes c.args.keyword.now.name.now in
-    let finds = finds_units set q c.args.context.now c.args.node.0 es m c.in_ok-answer.answer c.requires.may.wanted c.in_ok-answer.ensures.right in
-    if_ok_mono c.units_of_keyword.result _ _ (λ units is. gives_keyword set q c.args.context.now c.args.node.0 name units m es c.in_ok-answer.answer (entry_where n (path_of c.args.question.now.path.now) p)
-    (λ x. where_is g.K.Validate.shape c.args.engine.now.nodes.now (g.K.Validate.words x.texts) x.matcher (subject_in x.root) c.args.node.0 n (path_of c.args.question.now.path.now) p c.node.ensures.found) finds is) c.units_of_keyword.ensures.units
-
-pub evaluate::evaluate_keyword-returns-clause-meets : goal.evaluate::evaluate_keyword-returns-clause-meets
-evaluate::evaluate_keyword-returns-clause-meets g t c = if_ok_always c.units_of_keyword.result _ (rw (← c.units_of_keyword.ensures.stays) at c.in_ok-answer.ensures.meets)
-
-pub evaluate::evaluate_keyword-returns-clause-stays : goal.evaluate::evaluate_keyword-returns-clause-stays
-evaluate::evaluate_keyword-returns-clause-stays g t c = if_ok_always c.units_of_keyword.result _ (λ layout laid right.
-    let set = setting g.K.Validate.words g.K.Validate.is_whole g.K.Validate.shape g.M.Matcher.matching c.args.engine.now in
-    subst (RemembersRightly set layout) (sym c.units_of_keyword.ensures.stays) (c.in_ok-answer.ensures.stays layout laid right))
-
-pub evaluate::evaluate_keyword-returns-clause-counts : goal.evaluate::evaluate_keyword-returns-clause-counts
-evaluate::evaluate_keyword-returns-clause-counts g t c = if_ok_always c.units_of_keyword.result _ (rw (← c.units_of_keyword.ensures.stays) at c.in_ok-answer.ensures.counts)
+pub evaluate::evaluate_keyword-returns : goal.evaluate::evaluate_keyword-returns
+evaluate::evaluate_keyword-returns g t c = record {
+  keeps = first_of (search rules, grind (arith, common_steps));
+  counts = if_ok_always c.units_of_keyword.result _ (rw (← c.units_of_keyword.ensures.stays) at c.in_ok-answer.ensures.counts);
+  says =
+      let ns = numbered g.K.Validate.shape c.args.engine.now.nodes.now in
+      let set = setting g.K.Validate.words g.K.Validate.is_whole g.K.Validate.shape g.M.Matcher.matching c.args.engine.now in
+      let q = asking c.args.question.now in
+      let p = steps_to c.args.question.now.place.now in
+      let s = subject_of c.args.question.now.instance in
+      let m = g.K.Validate.shape c.args.keyword.now.keyword.now in
+      let es = map (option_map edge_of) c.args.keyword.now.children.now in
+      let n = node_of c.node.result.now in
+      let name = string_bytes c.args.keyword.now.name.now in
+      let finds = finds_units set q c.args.context.now c.args.node.0 es m c.in_ok-answer.answer c.requires.may.wanted c.in_ok-answer.ensures.right in
+      if_ok_mono c.units_of_keyword.result _ _ (λ units is. gives_keyword set q c.args.context.now c.args.node.0 name units m es c.in_ok-answer.answer (entry_where n (path_of c.args.question.now.path.now) p)
+      (λ x. where_is g.K.Validate.shape c.args.engine.now.nodes.now (g.K.Validate.words x.texts) x.matcher (subject_in x.root) c.args.node.0 n (path_of c.args.question.now.path.now) p c.node.ensures.found) finds is) c.units_of_keyword.ensures.units;
+  meets = if_ok_always c.units_of_keyword.result _ (rw (← c.units_of_keyword.ensures.stays) at c.in_ok-answer.ensures.meets);
+  stays = if_ok_always c.units_of_keyword.result _ (λ layout laid right.
+      let set = setting g.K.Validate.words g.K.Validate.is_whole g.K.Validate.shape g.M.Matcher.matching c.args.engine.now in
+      subst (RemembersRightly set layout) (sym c.units_of_keyword.ensures.stays) (c.in_ok-answer.ensures.stays layout laid right));
+}
 
 pub evaluate::evaluate_node-evaluate_entries-requires : goal.evaluate::evaluate_node-evaluate_entries-requires
 evaluate::evaluate_node-evaluate_entries-requires g t c =
@@ -1076,119 +1120,127 @@ evaluate::evaluate_node-evaluate_entries-requires g t c =
     let plan = plan_is g.K.Validate.shape c.args.engine.now.nodes.now c.args.node.0 n _ c.node-found.ensures.found (ap (option_map plan_of) c.in-Some.is ∙ ap (λ f. Some (plan_of f)) c.in-Keywords.is) in
     λ κs h. (lower_same _ _ t 9 0 refl c.decreases, (h.0, (h.1.0, (h.1.1.0, (h.1.1.1, (c.requires.may, (c.requires.carries, rw c.as_slice.ensures.value (_, plan, λ y k. k))))))))
 
-pub evaluate::evaluate_node-returns-in-None-clause-gives : goal.evaluate::evaluate_node-returns-in-None-clause-gives
-evaluate::evaluate_node-returns-in-None-clause-gives g t c =
-    let set = setting g.K.Validate.words g.K.Validate.is_whole g.K.Validate.shape g.M.Matcher.matching c.args.engine.now in
-    let q = asking c.args.question.now in
-    let p = steps_to c.args.question.now.place.now in
-    let n = node_of c.node-found.result.now in
-    let plan = plan_none g.K.Validate.shape c.args.engine.now.nodes.now c.args.node.0 n c.node-found.ensures.found (ap (option_map plan_of) c.in-None.is) in
-    if_ok_mono c.accepting_unit.result _ _ (λ u is. gives_always set q c.args.context.now c.args.node.0 u (entry_where n (path_of c.args.question.now.path.now) p) (λ x. where_is g.K.Validate.shape c.args.engine.now.nodes.now (g.K.Validate.words x.texts) x.matcher (subject_in x.root) c.args.node.0 n (path_of c.args.question.now.path.now) p c.node-found.ensures.found) plan is) c.accepting_unit.ensures.unit
+pub evaluate::evaluate_node-returns-in-None : goal.evaluate::evaluate_node-returns-in-None
+evaluate::evaluate_node-returns-in-None g t c = record {
+  keeps = first_of (search rules, grind (arith, common_steps));
+  counts = first_of (search rules, grind (arith, common_steps));
+  says =
+      let set = setting g.K.Validate.words g.K.Validate.is_whole g.K.Validate.shape g.M.Matcher.matching c.args.engine.now in
+      let q = asking c.args.question.now in
+      let p = steps_to c.args.question.now.place.now in
+      let n = node_of c.node-found.result.now in
+      let plan = plan_none g.K.Validate.shape c.args.engine.now.nodes.now c.args.node.0 n c.node-found.ensures.found (ap (option_map plan_of) c.in-None.is) in
+      if_ok_mono c.accepting_unit.result _ _ (λ u is. gives_always set q c.args.context.now c.args.node.0 u (entry_where n (path_of c.args.question.now.path.now) p) (λ x. where_is g.K.Validate.shape c.args.engine.now.nodes.now (g.K.Validate.words x.texts) x.matcher (subject_in x.root) c.args.node.0 n (path_of c.args.question.now.path.now) p c.node-found.ensures.found) plan is) c.accepting_unit.ensures.unit;
+  meets =
+      let ns = numbered g.K.Validate.shape c.args.engine.now.nodes.now in
+      let w = settling (g.M.Matcher.matching c.args.engine.now.matcher.now) c.args.context.now.remembered.assumptions in
+      let p = steps_to c.args.question.now.place.now in
+      let s = subject_of c.args.question.now.instance in
+      let busy = busy_at p c.args.context.now.in_progress in
+      let n = node_of c.node-found.result.now in
+      let plan = plan_none g.K.Validate.shape c.args.engine.now.nodes.now c.args.node.0 n c.node-found.ensures.found (ap (option_map plan_of) c.in-None.is) in
+      if_ok_always c.accepting_unit.result _ (meets_by_plan g.K.Validate.words g.K.Validate.is_whole ns (length c.args.engine.now.nodes.now) w (mode_of c.args.question.now.mode) (path_of c.args.question.now.path.now) p busy s c.args.node.0 _ _ node_always plan (λ texts root depth reads l. refl));
+  stays = first_of (search rules, grind (arith, common_steps));
+}
 
-pub evaluate::evaluate_node-returns-in-None-clause-meets : goal.evaluate::evaluate_node-returns-in-None-clause-meets
-evaluate::evaluate_node-returns-in-None-clause-meets g t c =
-    let ns = numbered g.K.Validate.shape c.args.engine.now.nodes.now in
-    let w = settling (g.M.Matcher.matching c.args.engine.now.matcher.now) c.args.context.now.remembered.assumptions in
-    let p = steps_to c.args.question.now.place.now in
-    let s = subject_of c.args.question.now.instance in
-    let busy = busy_at p c.args.context.now.in_progress in
-    let n = node_of c.node-found.result.now in
-    let plan = plan_none g.K.Validate.shape c.args.engine.now.nodes.now c.args.node.0 n c.node-found.ensures.found (ap (option_map plan_of) c.in-None.is) in
-    if_ok_always c.accepting_unit.result _ (meets_by_plan g.K.Validate.words g.K.Validate.is_whole ns (length c.args.engine.now.nodes.now) w (mode_of c.args.question.now.mode) (path_of c.args.question.now.path.now) p busy s c.args.node.0 _ _ node_always plan (λ texts root depth reads l. refl))
+pub evaluate::evaluate_node-returns-in-Always : goal.evaluate::evaluate_node-returns-in-Always
+evaluate::evaluate_node-returns-in-Always g t c = record {
+  keeps = first_of (search rules, grind (arith, common_steps));
+  counts = first_of (search rules, grind (arith, common_steps));
+  says =
+      let set = setting g.K.Validate.words g.K.Validate.is_whole g.K.Validate.shape g.M.Matcher.matching c.args.engine.now in
+      let q = asking c.args.question.now in
+      let p = steps_to c.args.question.now.place.now in
+      let n = node_of c.node-found.result.now in
+      let plan = plan_is g.K.Validate.shape c.args.engine.now.nodes.now c.args.node.0 n _ c.node-found.ensures.found (ap (option_map plan_of) c.in-Some.is ∙ ap (λ f. Some (plan_of f)) c.in-Always.is) in
+      if_ok_mono c.accepting_unit-in-Always.result _ _ (λ u is. gives_always set q c.args.context.now c.args.node.0 u (entry_where n (path_of c.args.question.now.path.now) p) (λ x. where_is g.K.Validate.shape c.args.engine.now.nodes.now (g.K.Validate.words x.texts) x.matcher (subject_in x.root) c.args.node.0 n (path_of c.args.question.now.path.now) p c.node-found.ensures.found) plan is) c.accepting_unit-in-Always.ensures.unit;
+  meets =
+      let ns = numbered g.K.Validate.shape c.args.engine.now.nodes.now in
+      let w = settling (g.M.Matcher.matching c.args.engine.now.matcher.now) c.args.context.now.remembered.assumptions in
+      let p = steps_to c.args.question.now.place.now in
+      let s = subject_of c.args.question.now.instance in
+      let busy = busy_at p c.args.context.now.in_progress in
+      let n = node_of c.node-found.result.now in
+      let plan = plan_is g.K.Validate.shape c.args.engine.now.nodes.now c.args.node.0 n _ c.node-found.ensures.found (ap (option_map plan_of) c.in-Some.is ∙ ap (λ f. Some (plan_of f)) c.in-Always.is) in
+      if_ok_always c.accepting_unit-in-Always.result _ (meets_by_plan g.K.Validate.words g.K.Validate.is_whole ns (length c.args.engine.now.nodes.now) w (mode_of c.args.question.now.mode) (path_of c.args.question.now.path.now) p busy s c.args.node.0 _ _ node_always plan (λ texts root depth reads l. refl));
+  stays = first_of (search rules, grind (arith, common_steps));
+}
 
-pub evaluate::evaluate_node-returns-in-Always-clause-gives : goal.evaluate::evaluate_node-returns-in-Always-clause-gives
-evaluate::evaluate_node-returns-in-Always-clause-gives g t c =
-    let set = setting g.K.Validate.words g.K.Validate.is_whole g.K.Validate.shape g.M.Matcher.matching c.args.engine.now in
-    let q = asking c.args.question.now in
-    let p = steps_to c.args.question.now.place.now in
-    let n = node_of c.node-found.result.now in
-    let plan = plan_is g.K.Validate.shape c.args.engine.now.nodes.now c.args.node.0 n _ c.node-found.ensures.found (ap (option_map plan_of) c.in-Some.is ∙ ap (λ f. Some (plan_of f)) c.in-Always.is) in
-    if_ok_mono c.accepting_unit-in-Always.result _ _ (λ u is. gives_always set q c.args.context.now c.args.node.0 u (entry_where n (path_of c.args.question.now.path.now) p) (λ x. where_is g.K.Validate.shape c.args.engine.now.nodes.now (g.K.Validate.words x.texts) x.matcher (subject_in x.root) c.args.node.0 n (path_of c.args.question.now.path.now) p c.node-found.ensures.found) plan is) c.accepting_unit-in-Always.ensures.unit
+pub evaluate::evaluate_node-returns-in-Never : goal.evaluate::evaluate_node-returns-in-Never
+evaluate::evaluate_node-returns-in-Never g t c = record {
+  keeps = first_of (search rules, grind (arith, common_steps));
+  counts = first_of (search rules, grind (arith, common_steps));
+  says =
+      let ns = numbered g.K.Validate.shape c.args.engine.now.nodes.now in
+      let set = setting g.K.Validate.words g.K.Validate.is_whole g.K.Validate.shape g.M.Matcher.matching c.args.engine.now in
+      let w = settling (g.M.Matcher.matching c.args.engine.now.matcher.now) c.args.context.now.remembered.assumptions in
+      let q = asking c.args.question.now in
+      let p = steps_to c.args.question.now.place.now in
+      let s = subject_of c.args.question.now.instance in
+      let n = node_of c.node-found.result.now in
+      let plan = plan_is g.K.Validate.shape c.args.engine.now.nodes.now c.args.node.0 n _ c.node-found.ensures.found (ap (option_map plan_of) c.in-Some.is ∙ ap (λ f. Some (plan_of f)) c.in-Never.is) in
+      if_ok_mono c.refusing_unit.result _ _ (λ u is. gives_never set q c.args.context.now c.args.node.0 u (entry_where n (path_of c.args.question.now.path.now) p) (λ x. where_is g.K.Validate.shape c.args.engine.now.nodes.now (g.K.Validate.words x.texts) x.matcher (subject_in x.root) c.args.node.0 n (path_of c.args.question.now.path.now) p c.node-found.ensures.found) plan g.met.K.Validate.speaks (λ x reads. is x.texts (plain_there g.K.Validate.is_whole ns (length c.args.engine.now.nodes.now) w p s x reads))) c.refusing_unit.ensures.unit;
+  meets =
+      let ns = numbered g.K.Validate.shape c.args.engine.now.nodes.now in
+      let w = settling (g.M.Matcher.matching c.args.engine.now.matcher.now) c.args.context.now.remembered.assumptions in
+      let p = steps_to c.args.question.now.place.now in
+      let s = subject_of c.args.question.now.instance in
+      let busy = busy_at p c.args.context.now.in_progress in
+      let n = node_of c.node-found.result.now in
+      let plan = plan_is g.K.Validate.shape c.args.engine.now.nodes.now c.args.node.0 n _ c.node-found.ensures.found (ap (option_map plan_of) c.in-Some.is ∙ ap (λ f. Some (plan_of f)) c.in-Never.is) in
+      if_ok_always c.refusing_unit.result _ (meets_never g.K.Validate.words g.K.Validate.is_whole ns (length c.args.engine.now.nodes.now) w (mode_of c.args.question.now.mode) (path_of c.args.question.now.path.now) p busy s c.args.node.0 _ _ plan refl);
+  stays = first_of (search rules, grind (arith, common_steps));
+}
 
-pub evaluate::evaluate_node-returns-in-Always-clause-meets : goal.evaluate::evaluate_node-returns-in-Always-clause-meets
-evaluate::evaluate_node-returns-in-Always-clause-meets g t c =
-    let ns = numbered g.K.Validate.shape c.args.engine.now.nodes.now in
-    let w = settling (g.M.Matcher.matching c.args.engine.now.matcher.now) c.args.context.now.remembered.assumptions in
-    let p = steps_to c.args.question.now.place.now in
-    let s = subject_of c.args.question.now.instance in
-    let busy = busy_at p c.args.context.now.in_progress in
-    let n = node_of c.node-found.result.now in
-    let plan = plan_is g.K.Validate.shape c.args.engine.now.nodes.now c.args.node.0 n _ c.node-found.ensures.found (ap (option_map plan_of) c.in-Some.is ∙ ap (λ f. Some (plan_of f)) c.in-Always.is) in
-    if_ok_always c.accepting_unit-in-Always.result _ (meets_by_plan g.K.Validate.words g.K.Validate.is_whole ns (length c.args.engine.now.nodes.now) w (mode_of c.args.question.now.mode) (path_of c.args.question.now.path.now) p busy s c.args.node.0 _ _ node_always plan (λ texts root depth reads l. refl))
-
-pub evaluate::evaluate_node-returns-in-Never-clause-gives : goal.evaluate::evaluate_node-returns-in-Never-clause-gives
-evaluate::evaluate_node-returns-in-Never-clause-gives g t c =
-    let ns = numbered g.K.Validate.shape c.args.engine.now.nodes.now in
-    let set = setting g.K.Validate.words g.K.Validate.is_whole g.K.Validate.shape g.M.Matcher.matching c.args.engine.now in
-    let w = settling (g.M.Matcher.matching c.args.engine.now.matcher.now) c.args.context.now.remembered.assumptions in
-    let q = asking c.args.question.now in
-    let p = steps_to c.args.question.now.place.now in
-    let s = subject_of c.args.question.now.instance in
-    let n = node_of c.node-found.result.now in
-    let plan = plan_is g.K.Validate.shape c.args.engine.now.nodes.now c.args.node.0 n _ c.node-found.ensures.found (ap (option_map plan_of) c.in-Some.is ∙ ap (λ f. Some (plan_of f)) c.in-Never.is) in
-    if_ok_mono c.refusing_unit.result _ _ (λ u is. gives_never set q c.args.context.now c.args.node.0 u (entry_where n (path_of c.args.question.now.path.now) p) (λ x. where_is g.K.Validate.shape c.args.engine.now.nodes.now (g.K.Validate.words x.texts) x.matcher (subject_in x.root) c.args.node.0 n (path_of c.args.question.now.path.now) p c.node-found.ensures.found) plan g.met.K.Validate.speaks (λ x reads. is x.texts (plain_there g.K.Validate.is_whole ns (length c.args.engine.now.nodes.now) w p s x reads))) c.refusing_unit.ensures.unit
-
-pub evaluate::evaluate_node-returns-in-Never-clause-meets : goal.evaluate::evaluate_node-returns-in-Never-clause-meets
-evaluate::evaluate_node-returns-in-Never-clause-meets g t c =
-    let ns = numbered g.K.Validate.shape c.args.engine.now.nodes.now in
-    let w = settling (g.M.Matcher.matching c.args.engine.now.matcher.now) c.args.context.now.remembered.assumptions in
-    let p = steps_to c.args.question.now.place.now in
-    let s = subject_of c.args.question.now.instance in
-    let busy = busy_at p c.args.context.now.in_progress in
-    let n = node_of c.node-found.result.now in
-    let plan = plan_is g.K.Validate.shape c.args.engine.now.nodes.now c.args.node.0 n _ c.node-found.ensures.found (ap (option_map plan_of) c.in-Some.is ∙ ap (λ f. Some (plan_of f)) c.in-Never.is) in
-    if_ok_always c.refusing_unit.result _ (meets_never g.K.Validate.words g.K.Validate.is_whole ns (length c.args.engine.now.nodes.now) w (mode_of c.args.question.now.mode) (path_of c.args.question.now.path.now) p busy s c.args.node.0 _ _ plan refl)
-
-pub evaluate::evaluate_node-returns-in_ok-children-in-Keywords-clause-gives : goal.evaluate::evaluate_node-returns-in_ok-children-in-Keywords-clause-gives
-evaluate::evaluate_node-returns-in_ok-children-in-Keywords-clause-gives g t c =
-    let set = setting g.K.Validate.words g.K.Validate.is_whole g.K.Validate.shape g.M.Matcher.matching c.args.engine.now in
-    let q = asking c.args.question.now in
-    let p = steps_to c.args.question.now.place.now in
-    let n = node_of c.node-found.result.now in
-    let plan = plan_is g.K.Validate.shape c.args.engine.now.nodes.now c.args.node.0 n _ c.node-found.ensures.found (ap (option_map plan_of) c.in-Some.is ∙ ap (λ f. Some (plan_of f)) c.in-Keywords.is) in
-    let notes = ap (λ o. option_and_then (λ n. option_map view n.annotations) o) c.node-found.ensures.found in
-    let gives = rw c.as_slice.ensures.value at c.in_ok-children-in-Keywords.ensures.gives in
-    if_ok_mono c.entries_unit.result _ _ (λ u is. gives_these set q c.args.context.now c.args.node.0 u (entry_where n (path_of c.args.question.now.path.now) p) (λ x. where_is g.K.Validate.shape c.args.engine.now.nodes.now (g.K.Validate.words x.texts) x.matcher (subject_in x.root) c.args.node.0 n (path_of c.args.question.now.path.now) p c.node-found.ensures.found) _ c.in_ok-children-in-Keywords.children _ plan notes is gives) c.entries_unit.ensures.unit
-
-pub evaluate::evaluate_node-returns-in_ok-children-in-Keywords-clause-meets : goal.evaluate::evaluate_node-returns-in_ok-children-in-Keywords-clause-meets
-evaluate::evaluate_node-returns-in_ok-children-in-Keywords-clause-meets g t c =
-    let ns = numbered g.K.Validate.shape c.args.engine.now.nodes.now in
-    let w = settling (g.M.Matcher.matching c.args.engine.now.matcher.now) c.args.context.now.remembered.assumptions in
-    let p = steps_to c.args.question.now.place.now in
-    let s = subject_of c.args.question.now.instance in
-    let busy = busy_at p c.args.context.now.in_progress in
-    let n = node_of c.node-found.result.now in
-    let plan = plan_is g.K.Validate.shape c.args.engine.now.nodes.now c.args.node.0 n _ c.node-found.ensures.found (ap (option_map plan_of) c.in-Some.is ∙ ap (λ f. Some (plan_of f)) c.in-Keywords.is) in
-    if_ok_always c.entries_unit.result _ (meets_these g.K.Validate.words g.K.Validate.is_whole ns (length c.args.engine.now.nodes.now) w (mode_of c.args.question.now.mode) (path_of c.args.question.now.path.now) p busy s c.args.node.0 _ _ _ plan (rw c.as_slice.ensures.value at c.in_ok-children-in-Keywords.ensures.meets))
-
-pub evaluate::evaluate_entries-returns-clause-counts : goal.evaluate::evaluate_entries-returns-clause-counts
-evaluate::evaluate_entries-returns-clause-counts g t c = if_ok_always c.into_children.result _ c.loop-entry.invariant.counted
-
-pub evaluate::evaluate_entry-returns-in_ok-unit-in-Reference-clause-counts : goal.evaluate::evaluate_entry-returns-in_ok-unit-in-Reference-clause-counts
-evaluate::evaluate_entry-returns-in_ok-unit-in-Reference-clause-counts g t c = if_ok_always c.units_of_reference.result _ (rw (← c.units_of_reference.ensures.stays) at c.in_ok-unit-in-Reference.ensures.counts)
+pub evaluate::evaluate_node-returns-in_ok-children-in-Keywords : goal.evaluate::evaluate_node-returns-in_ok-children-in-Keywords
+evaluate::evaluate_node-returns-in_ok-children-in-Keywords g t c = record {
+  keeps = first_of (search rules, grind (arith, common_steps));
+  counts = first_of (search rules, grind (arith, common_steps));
+  says =
+      let set = setting g.K.Validate.words g.K.Validate.is_whole g.K.Validate.shape g.M.Matcher.matching c.args.engine.now in
+      let q = asking c.args.question.now in
+      let p = steps_to c.args.question.now.place.now in
+      let n = node_of c.node-found.result.now in
+      let plan = plan_is g.K.Validate.shape c.args.engine.now.nodes.now c.args.node.0 n _ c.node-found.ensures.found (ap (option_map plan_of) c.in-Some.is ∙ ap (λ f. Some (plan_of f)) c.in-Keywords.is) in
+      let notes = ap (λ o. option_and_then (λ n. option_map view n.annotations) o) c.node-found.ensures.found in
+      let gives = rw c.as_slice.ensures.value at c.in_ok-children-in-Keywords.ensures.says in
+      if_ok_mono c.entries_unit.result _ _ (λ u is. gives_these set q c.args.context.now c.args.node.0 u (entry_where n (path_of c.args.question.now.path.now) p) (λ x. where_is g.K.Validate.shape c.args.engine.now.nodes.now (g.K.Validate.words x.texts) x.matcher (subject_in x.root) c.args.node.0 n (path_of c.args.question.now.path.now) p c.node-found.ensures.found) _ c.in_ok-children-in-Keywords.children _ plan notes is gives) c.entries_unit.ensures.unit;
+  meets =
+      let ns = numbered g.K.Validate.shape c.args.engine.now.nodes.now in
+      let w = settling (g.M.Matcher.matching c.args.engine.now.matcher.now) c.args.context.now.remembered.assumptions in
+      let p = steps_to c.args.question.now.place.now in
+      let s = subject_of c.args.question.now.instance in
+      let busy = busy_at p c.args.context.now.in_progress in
+      let n = node_of c.node-found.result.now in
+      let plan = plan_is g.K.Validate.shape c.args.engine.now.nodes.now c.args.node.0 n _ c.node-found.ensures.found (ap (option_map plan_of) c.in-Some.is ∙ ap (λ f. Some (plan_of f)) c.in-Keywords.is) in
+      if_ok_always c.entries_unit.result _ (meets_these g.K.Validate.words g.K.Validate.is_whole ns (length c.args.engine.now.nodes.now) w (mode_of c.args.question.now.mode) (path_of c.args.question.now.path.now) p busy s c.args.node.0 _ _ _ plan (rw c.as_slice.ensures.value at c.in_ok-children-in-Keywords.ensures.meets));
+  stays = first_of (search rules, grind (arith, common_steps));
+}
 
 pub turns::keyword_answer-returns-clause-quiet : goal.turns::keyword_answer-returns-clause-quiet
 turns::keyword_answer-returns-clause-quiet g t c = λ none. c.put_back.ensures.visits ∙ c.in_ok-run_turns.ensures.quiet none ∙ c.set_aside-aside.ensures.visits
 
-pub run::run_child-returns-in-None-one_below-clause-quiet : goal.run::run_child-returns-in-None-one_below-clause-quiet
-run::run_child-returns-in-None-one_below-clause-quiet g t c = if_ok_always c.run_edge.result _ (λ none. absurd (none c.args.child (edge_of c.in-Some.edge.now) (sym c.in-Some.ensures.edge)))
-
-pub run::run_child-returns-in-Some-one_below-clause-quiet : goal.run::run_child-returns-in-Some-one_below-clause-quiet
-run::run_child-returns-in-Some-one_below-clause-quiet g t c = if_ok_always c.run_edge-in-Some-one_below.result _ (λ none. absurd (none c.args.child (edge_of c.in-Some.edge.now) (sym c.in-Some.ensures.edge)))
-
-pub evaluate::evaluate_child-returns-in-None-one_below-clause-quiet : goal.evaluate::evaluate_child-returns-in-None-one_below-clause-quiet
-evaluate::evaluate_child-returns-in-None-one_below-clause-quiet g t c = if_ok_always c.evaluate_edge.result _ (λ none. absurd (none c.args.child (edge_of c.in-Some.edge.now) (sym c.in-Some.ensures.edge)))
-
-pub evaluate::evaluate_child-returns-in-Some-one_below-clause-quiet : goal.evaluate::evaluate_child-returns-in-Some-one_below-clause-quiet
-evaluate::evaluate_child-returns-in-Some-one_below-clause-quiet g t c = if_ok_always c.evaluate_edge-in-Some-one_below.result _ (λ none. absurd (none c.args.child (edge_of c.in-Some.edge.now) (sym c.in-Some.ensures.edge)))
-
-pub run::run_edge-returns-then-is_in_progress-clause-says : goal.run::run_edge-returns-then-is_in_progress-clause-says
-run::run_edge-returns-then-is_in_progress-clause-says g t c =
-    let p = steps_to c.args.question.now.place.now in
-    let e = edge_of c.args.edge.now in
-    let old = pair_busy e.node c.in_ok-pair.pair.node.0 p (place_of c.in_ok-pair.pair) c.args.context.now c.new.new.context _ true (ap (λ (n : SchemaNode). n.0) c.in_ok-pair.ensures.node) c.in_ok-pair.ensures.place c.in_ok-pair.ensures.unchanged c.is_in_progress.ensures.found c.if-is_in_progress.true in
-    edge_busy g.K.Validate.words g.K.Validate.is_whole (numbered g.K.Validate.shape c.args.engine.now.nodes.now) (length c.args.engine.now.nodes.now) (settling (g.M.Matcher.matching c.args.engine.now.matcher.now) c.args.context.now.remembered.assumptions) (subject_of c.args.question.now.instance) (busy_at p c.args.context.now.in_progress) e (mode_of c.args.question.now.mode) (path_of c.args.question.now.path.now) p c.accepted.result
-    c.if-not-edge.false old c.accepted.ensures.accepts c.accepted.ensures.no_errors
+pub run::run_edge-returns-then-is_in_progress : goal.run::run_edge-returns-then-is_in_progress
+run::run_edge-returns-then-is_in_progress g t c = record {
+  keeps = first_of (search rules, grind (arith, common_steps));
+  counts = first_of (search rules, grind (arith, common_steps));
+  says =
+      let p = steps_to c.args.question.now.place.now in
+      let e = edge_of c.args.edge.now in
+      let old = pair_busy e.node c.in_ok-pair.pair.node.0 p (place_of c.in_ok-pair.pair) c.args.context.now c.new.new.context _ true (ap (λ (n : SchemaNode). n.0) c.in_ok-pair.ensures.node) c.in_ok-pair.ensures.place c.in_ok-pair.ensures.unchanged c.is_in_progress.ensures.found c.if-is_in_progress.true in
+      edge_busy g.K.Validate.words g.K.Validate.is_whole (numbered g.K.Validate.shape c.args.engine.now.nodes.now) (length c.args.engine.now.nodes.now) (settling (g.M.Matcher.matching c.args.engine.now.matcher.now) c.args.context.now.remembered.assumptions) (subject_of c.args.question.now.instance) (busy_at p c.args.context.now.in_progress) e (mode_of c.args.question.now.mode) (path_of c.args.question.now.path.now) p c.accepted.result
+      c.if-not-edge.false old c.accepted.ensures.accepts c.accepted.ensures.no_errors;
+  meets =
+      let ns = numbered g.K.Validate.shape c.args.engine.now.nodes.now in
+      let w = settling (g.M.Matcher.matching c.args.engine.now.matcher.now) c.args.context.now.remembered.assumptions in
+      let p = steps_to c.args.question.now.place.now in
+      let s = subject_of c.args.question.now.instance in
+      let busy = busy_at p c.args.context.now.in_progress in
+      let e = edge_of c.args.edge.now in
+      let old = pair_busy e.node c.in_ok-pair.pair.node.0 p (place_of c.in_ok-pair.pair) c.args.context.now c.new.new.context _ true (ap (λ (n : SchemaNode). n.0) c.in_ok-pair.ensures.node) c.in_ok-pair.ensures.place c.in_ok-pair.ensures.unchanged c.is_in_progress.ensures.found c.if-is_in_progress.true in
+      meets_busy g.K.Validate.words g.K.Validate.is_whole ns (length c.args.engine.now.nodes.now) w s busy e (mode_of c.args.question.now.mode) (path_of c.args.question.now.path.now) p _ _ c.if-not-edge.false old (sym (ap (λ (z : Context). z.remembered) c.in_ok-pair.ensures.unchanged));
+  stays = first_of (search rules, grind (arith, common_steps));
+}
 
 pub run::run_edge-run_node-requires-2 : goal.run::run_edge-run_node-requires-2
 run::run_edge-run_node-requires-2 g t c =
@@ -1214,96 +1266,85 @@ run::run_edge-run_node-requires-2 g t c =
     let carries = carries_on c.args.context.now.root c.enter.new.context.root c.numbered_place-place.result root (c.numbered_place-place.ensures.carries c.args.context.now c.in_ok-pair.ensures.numbered) in
     λ κs h. (lower_entered _ _ _ t l needs c.decreases, (h.0, (h.1.0, (h.1.1.0, (h.1.1.1, (record { known = c.requires.may.known; ranked = c.requires.may.ranked; above = deeper; wanted = c.requires.may.wanted; stands = stands_at c.args.context.now.root _ (asking c.args.question.now) _ root there c.requires.may.stands; goes_on = (layout, laid', right') }, (carries, c.requires.more)))))))
 
-pub run::run_edge-returns-then-is_in_progress-clause-meets : goal.run::run_edge-returns-then-is_in_progress-clause-meets
-run::run_edge-returns-then-is_in_progress-clause-meets g t c =
-    let ns = numbered g.K.Validate.shape c.args.engine.now.nodes.now in
-    let w = settling (g.M.Matcher.matching c.args.engine.now.matcher.now) c.args.context.now.remembered.assumptions in
-    let p = steps_to c.args.question.now.place.now in
-    let s = subject_of c.args.question.now.instance in
-    let busy = busy_at p c.args.context.now.in_progress in
-    let e = edge_of c.args.edge.now in
-    let old = pair_busy e.node c.in_ok-pair.pair.node.0 p (place_of c.in_ok-pair.pair) c.args.context.now c.new.new.context _ true (ap (λ (n : SchemaNode). n.0) c.in_ok-pair.ensures.node) c.in_ok-pair.ensures.place c.in_ok-pair.ensures.unchanged c.is_in_progress.ensures.found c.if-is_in_progress.true in
-    meets_busy g.K.Validate.words g.K.Validate.is_whole ns (length c.args.engine.now.nodes.now) w s busy e (mode_of c.args.question.now.mode) (path_of c.args.question.now.path.now) p _ _ c.if-not-edge.false old (sym (ap (λ (z : Context). z.remembered) c.in_ok-pair.ensures.unchanged))
+pub run::run_edge-returns : goal.run::run_edge-returns
+run::run_edge-returns g t c = record {
+  keeps = first_of (search rules, grind (arith, common_steps));
+  counts = rw ((c.enter.ensures.visits ∙ ap (λ (z : Context). z.visits) c.in_ok-pair.ensures.unchanged), ← c.exit.ensures.visits) at c.in_ok-reply.ensures.counts;
+  says =
+      let set = setting g.K.Validate.words g.K.Validate.is_whole g.K.Validate.shape g.M.Matcher.matching c.args.engine.now in
+      let q = asking c.args.question.now in
+      let p = steps_to c.args.question.now.place.now in
+      let e = edge_of c.args.edge.now in
+      let c1 = c.enter.new.context in
+      let entered : (list_any (λ i. i == e.node) (busy_at p c.args.context.now.in_progress) ≡ false) × (c.enter.new.context.in_progress ≡ c.args.context.now.in_progress ++ (e.node, p) ∷ []) = (
+        pair_busy e.node c.in_ok-pair.pair.node.0 p (place_of c.in_ok-pair.pair) c.args.context.now c.new.new.context _ false (ap (λ (n : SchemaNode). n.0) c.in_ok-pair.ensures.node) c.in_ok-pair.ensures.place c.in_ok-pair.ensures.unchanged c.is_in_progress.ensures.found c.if-is_in_progress.false,
+        pair_entered e.node c.in_ok-pair.pair.node.0 p (place_of c.in_ok-pair.pair) c.args.context.now c.new.new.context c.enter.new.context.in_progress (ap (λ (n : SchemaNode). n.0) c.in_ok-pair.ensures.node) c.in_ok-pair.ensures.place c.in_ok-pair.ensures.unchanged c.in_ok-enter.ensures.entered,
+      ) in
+      let there : steps_to c.numbered_place-place.result ≡ p = c.numbered_place-place.ensures.same ∙ c.in_ok-pair.ensures.place in
+      let at_asked : (record { subject = q.subject; place = steps_to c.numbered_place-place.result; path = path_of c.across-whole.result; mode = q.mode }) ≡ asked_across set q e c.args.context.now c.if-not-edge.false entered.0
+      = λ i. record { subject = q.subject; place = there i; path = c.across-whole.ensures.appended i; mode = q.mode } in
+      computed_says set q e c.args.context.now c.if-not-edge.false entered.0 c1 entered.1 (c.enter.ensures.remembered ∙ ap (λ (z : Context). z.remembered) c.in_ok-pair.ensures.unchanged) c.in_ok-reply.reply (subst (λ z. NodeSays set z c1 e.node c.in_ok-reply.reply) at_asked c.in_ok-reply.ensures.says);
+  meets =
+      let set = setting g.K.Validate.words g.K.Validate.is_whole g.K.Validate.shape g.M.Matcher.matching c.args.engine.now in
+      let q = asking c.args.question.now in
+      let p = steps_to c.args.question.now.place.now in
+      let e = edge_of c.args.edge.now in
+      let c1 = c.enter.new.context in
+      let c3 = c.run_node-2.new.context in
+      let entered : (list_any (λ i. i == e.node) (busy_at p c.args.context.now.in_progress) ≡ false) × (c.enter.new.context.in_progress ≡ c.args.context.now.in_progress ++ (e.node, p) ∷ []) = (
+        pair_busy e.node c.in_ok-pair.pair.node.0 p (place_of c.in_ok-pair.pair) c.args.context.now c.new.new.context _ false (ap (λ (n : SchemaNode). n.0) c.in_ok-pair.ensures.node) c.in_ok-pair.ensures.place c.in_ok-pair.ensures.unchanged c.is_in_progress.ensures.found c.if-is_in_progress.false,
+        pair_entered e.node c.in_ok-pair.pair.node.0 p (place_of c.in_ok-pair.pair) c.args.context.now c.new.new.context c.enter.new.context.in_progress (ap (λ (n : SchemaNode). n.0) c.in_ok-pair.ensures.node) c.in_ok-pair.ensures.place c.in_ok-pair.ensures.unchanged c.in_ok-enter.ensures.entered,
+      ) in
+      let there : steps_to c.numbered_place-place.result ≡ p = c.numbered_place-place.ensures.same ∙ c.in_ok-pair.ensures.place in
+      let at_asked : (record { subject = q.subject; place = steps_to c.numbered_place-place.result; path = path_of c.across-whole.result; mode = q.mode }) ≡ asked_across set q e c.args.context.now c.if-not-edge.false entered.0
+      = λ i. record { subject = q.subject; place = there i; path = c.across-whole.ensures.appended i; mode = q.mode } in
+      computed_meets set q e c.args.context.now c.if-not-edge.false entered.0 c1 entered.1 (c.enter.ensures.remembered ∙ ap (λ (z : Context). z.remembered) c.in_ok-pair.ensures.unchanged) c3 c.exit.new.context (subst (λ z. MeetsNode set z c1 c3 e.node) at_asked c.in_ok-reply.ensures.meets) c.exit.ensures.remembered;
+  stays =
+      let set = setting g.K.Validate.words g.K.Validate.is_whole g.K.Validate.shape g.M.Matcher.matching c.args.engine.now in
+      let q = asking c.args.question.now in
+      let p = steps_to c.args.question.now.place.now in
+      let e = edge_of c.args.edge.now in
+      let c1 = c.enter.new.context in
+      let c3 = c.run_node-2.new.context in
+      let entered : (list_any (λ i. i == e.node) (busy_at p c.args.context.now.in_progress) ≡ false) × (c.enter.new.context.in_progress ≡ c.args.context.now.in_progress ++ (e.node, p) ∷ []) = (
+        pair_busy e.node c.in_ok-pair.pair.node.0 p (place_of c.in_ok-pair.pair) c.args.context.now c.new.new.context _ false (ap (λ (n : SchemaNode). n.0) c.in_ok-pair.ensures.node) c.in_ok-pair.ensures.place c.in_ok-pair.ensures.unchanged c.is_in_progress.ensures.found c.if-is_in_progress.false,
+        pair_entered e.node c.in_ok-pair.pair.node.0 p (place_of c.in_ok-pair.pair) c.args.context.now c.new.new.context c.enter.new.context.in_progress (ap (λ (n : SchemaNode). n.0) c.in_ok-pair.ensures.node) c.in_ok-pair.ensures.place c.in_ok-pair.ensures.unchanged c.in_ok-enter.ensures.entered,
+      ) in
+      let there : steps_to c.numbered_place-place.result ≡ p = c.numbered_place-place.ensures.same ∙ c.in_ok-pair.ensures.place in
+      let at_asked : (record { subject = q.subject; place = steps_to c.numbered_place-place.result; path = path_of c.across-whole.result; mode = q.mode }) ≡ asked_across set q e c.args.context.now c.if-not-edge.false entered.0
+      = λ i. record { subject = q.subject; place = there i; path = c.across-whole.ensures.appended i; mode = q.mode } in
+      computed_stays set q e c.args.context.now c.if-not-edge.false entered.0 c1 entered.1 (c.enter.ensures.remembered ∙ ap (λ (z : Context). z.remembered) c.in_ok-pair.ensures.unchanged) c3 c.exit.new.context (c.enter.ensures.verdicts ∙ ap (λ (z : Context). z.verdicts) c.in_ok-pair.ensures.unchanged) (subst (λ z. StaysRight set z c1 c3) at_asked c.in_ok-reply.ensures.stays) c.exit.ensures.remembered c.exit.ensures.verdicts;
+}
 
-pub run::run_edge-returns-clause-says : goal.run::run_edge-returns-clause-says
-run::run_edge-returns-clause-says g t c =
-    let set = setting g.K.Validate.words g.K.Validate.is_whole g.K.Validate.shape g.M.Matcher.matching c.args.engine.now in
-    let q = asking c.args.question.now in
-    let p = steps_to c.args.question.now.place.now in
-    let e = edge_of c.args.edge.now in
-    let c1 = c.enter.new.context in
-    let entered : (list_any (λ i. i == e.node) (busy_at p c.args.context.now.in_progress) ≡ false) × (c.enter.new.context.in_progress ≡ c.args.context.now.in_progress ++ (e.node, p) ∷ []) = (
-      pair_busy e.node c.in_ok-pair.pair.node.0 p (place_of c.in_ok-pair.pair) c.args.context.now c.new.new.context _ false (ap (λ (n : SchemaNode). n.0) c.in_ok-pair.ensures.node) c.in_ok-pair.ensures.place c.in_ok-pair.ensures.unchanged c.is_in_progress.ensures.found c.if-is_in_progress.false,
-      pair_entered e.node c.in_ok-pair.pair.node.0 p (place_of c.in_ok-pair.pair) c.args.context.now c.new.new.context c.enter.new.context.in_progress (ap (λ (n : SchemaNode). n.0) c.in_ok-pair.ensures.node) c.in_ok-pair.ensures.place c.in_ok-pair.ensures.unchanged c.in_ok-enter.ensures.entered,
-    ) in
-    let there : steps_to c.numbered_place-place.result ≡ p = c.numbered_place-place.ensures.same ∙ c.in_ok-pair.ensures.place in
-    let at_asked : (record { subject = q.subject; place = steps_to c.numbered_place-place.result; path = path_of c.across-whole.result; mode = q.mode }) ≡ asked_across set q e c.args.context.now c.if-not-edge.false entered.0
-    = λ i. record { subject = q.subject; place = there i; path = c.across-whole.ensures.appended i; mode = q.mode } in
-    computed_says set q e c.args.context.now c.if-not-edge.false entered.0 c1 entered.1 (c.enter.ensures.remembered ∙ ap (λ (z : Context). z.remembered) c.in_ok-pair.ensures.unchanged) c.in_ok-reply.reply (subst (λ z. NodeSays set z c1 e.node c.in_ok-reply.reply) at_asked c.in_ok-reply.ensures.says)
-
-pub run::run_edge-returns-clause-meets : goal.run::run_edge-returns-clause-meets
-run::run_edge-returns-clause-meets g t c =
-    let set = setting g.K.Validate.words g.K.Validate.is_whole g.K.Validate.shape g.M.Matcher.matching c.args.engine.now in
-    let q = asking c.args.question.now in
-    let p = steps_to c.args.question.now.place.now in
-    let e = edge_of c.args.edge.now in
-    let c1 = c.enter.new.context in
-    let c3 = c.run_node-2.new.context in
-    let entered : (list_any (λ i. i == e.node) (busy_at p c.args.context.now.in_progress) ≡ false) × (c.enter.new.context.in_progress ≡ c.args.context.now.in_progress ++ (e.node, p) ∷ []) = (
-      pair_busy e.node c.in_ok-pair.pair.node.0 p (place_of c.in_ok-pair.pair) c.args.context.now c.new.new.context _ false (ap (λ (n : SchemaNode). n.0) c.in_ok-pair.ensures.node) c.in_ok-pair.ensures.place c.in_ok-pair.ensures.unchanged c.is_in_progress.ensures.found c.if-is_in_progress.false,
-      pair_entered e.node c.in_ok-pair.pair.node.0 p (place_of c.in_ok-pair.pair) c.args.context.now c.new.new.context c.enter.new.context.in_progress (ap (λ (n : SchemaNode). n.0) c.in_ok-pair.ensures.node) c.in_ok-pair.ensures.place c.in_ok-pair.ensures.unchanged c.in_ok-enter.ensures.entered,
-    ) in
-    let there : steps_to c.numbered_place-place.result ≡ p = c.numbered_place-place.ensures.same ∙ c.in_ok-pair.ensures.place in
-    let at_asked : (record { subject = q.subject; place = steps_to c.numbered_place-place.result; path = path_of c.across-whole.result; mode = q.mode }) ≡ asked_across set q e c.args.context.now c.if-not-edge.false entered.0
-    = λ i. record { subject = q.subject; place = there i; path = c.across-whole.ensures.appended i; mode = q.mode } in
-    computed_meets set q e c.args.context.now c.if-not-edge.false entered.0 c1 entered.1 (c.enter.ensures.remembered ∙ ap (λ (z : Context). z.remembered) c.in_ok-pair.ensures.unchanged) c3 c.exit.new.context (subst (λ z. MeetsNode set z c1 c3 e.node) at_asked c.in_ok-reply.ensures.meets) c.exit.ensures.remembered
-
-pub run::run_edge-returns-clause-stays : goal.run::run_edge-returns-clause-stays
-run::run_edge-returns-clause-stays g t c =
-    let set = setting g.K.Validate.words g.K.Validate.is_whole g.K.Validate.shape g.M.Matcher.matching c.args.engine.now in
-    let q = asking c.args.question.now in
-    let p = steps_to c.args.question.now.place.now in
-    let e = edge_of c.args.edge.now in
-    let c1 = c.enter.new.context in
-    let c3 = c.run_node-2.new.context in
-    let entered : (list_any (λ i. i == e.node) (busy_at p c.args.context.now.in_progress) ≡ false) × (c.enter.new.context.in_progress ≡ c.args.context.now.in_progress ++ (e.node, p) ∷ []) = (
-      pair_busy e.node c.in_ok-pair.pair.node.0 p (place_of c.in_ok-pair.pair) c.args.context.now c.new.new.context _ false (ap (λ (n : SchemaNode). n.0) c.in_ok-pair.ensures.node) c.in_ok-pair.ensures.place c.in_ok-pair.ensures.unchanged c.is_in_progress.ensures.found c.if-is_in_progress.false,
-      pair_entered e.node c.in_ok-pair.pair.node.0 p (place_of c.in_ok-pair.pair) c.args.context.now c.new.new.context c.enter.new.context.in_progress (ap (λ (n : SchemaNode). n.0) c.in_ok-pair.ensures.node) c.in_ok-pair.ensures.place c.in_ok-pair.ensures.unchanged c.in_ok-enter.ensures.entered,
-    ) in
-    let there : steps_to c.numbered_place-place.result ≡ p = c.numbered_place-place.ensures.same ∙ c.in_ok-pair.ensures.place in
-    let at_asked : (record { subject = q.subject; place = steps_to c.numbered_place-place.result; path = path_of c.across-whole.result; mode = q.mode }) ≡ asked_across set q e c.args.context.now c.if-not-edge.false entered.0
-    = λ i. record { subject = q.subject; place = there i; path = c.across-whole.ensures.appended i; mode = q.mode } in
-    computed_stays set q e c.args.context.now c.if-not-edge.false entered.0 c1 entered.1 (c.enter.ensures.remembered ∙ ap (λ (z : Context). z.remembered) c.in_ok-pair.ensures.unchanged) c3 c.exit.new.context (c.enter.ensures.verdicts ∙ ap (λ (z : Context). z.verdicts) c.in_ok-pair.ensures.unchanged) (subst (λ z. StaysRight set z c1 c3) at_asked c.in_ok-reply.ensures.stays) c.exit.ensures.remembered c.exit.ensures.verdicts
-
-pub run::run_edge-returns-clause-counts : goal.run::run_edge-returns-clause-counts
-run::run_edge-returns-clause-counts g t c = rw ((c.enter.ensures.visits ∙ ap (λ (z : Context). z.visits) c.in_ok-pair.ensures.unchanged), ← c.exit.ensures.visits) at c.in_ok-reply.ensures.counts
-
-pub evaluate::evaluate_edge-returns-then-is_in_progress-clause-gives : goal.evaluate::evaluate_edge-returns-then-is_in_progress-clause-gives
-evaluate::evaluate_edge-returns-then-is_in_progress-clause-gives g t c =
-    let set = setting g.K.Validate.words g.K.Validate.is_whole g.K.Validate.shape g.M.Matcher.matching c.args.engine.now in
-    let q = asking c.args.question.now in
-    let p = steps_to c.args.question.now.place.now in
-    let s = subject_of c.args.question.now.instance in
-    let e = edge_of c.args.edge.now in
-    let old = pair_busy e.node c.in_ok-pair.pair.node.0 p (place_of c.in_ok-pair.pair) c.args.context.now c.new.new.context _ true (ap (λ (n : SchemaNode). n.0) c.in_ok-pair.ensures.node) c.in_ok-pair.ensures.place c.in_ok-pair.ensures.unchanged c.is_in_progress.ensures.found c.if-is_in_progress.true in
-    let there : steps_to c.numbered_place-place.result ≡ p = c.numbered_place-place.ensures.same ∙ c.in_ok-pair.ensures.place in
-    let n = node_of c.node.result.now in
-    let at_node = where_is g.K.Validate.shape c.args.engine.now.nodes.now (g.K.Validate.words false) (g.M.Matcher.matching c.args.engine.now.matcher.now) (λ place. s) e.node n (path_of c.args.question.now.path.now ++ e.path) p c.node.ensures.found in
-    if_ok_mono c.accepting_unit.result _ _ (λ u is. gives_busy set q c.args.context.now e u c.if-not-edge.false old (λ texts. is texts
-    ∙ ap (λ path. true_unit (entry_where n path (steps_to c.numbered_place-place.result))) c.across-whole.ensures.appended
-    ∙ ap (λ place. true_unit (entry_where n (path_of c.args.question.now.path.now ++ e.path) place)) there
-    ∙ ap true_unit (sym at_node))) c.accepting_unit.ensures.unit
-
-pub evaluate::evaluate_edge-returns-then-is_in_progress-clause-meets : goal.evaluate::evaluate_edge-returns-then-is_in_progress-clause-meets
-evaluate::evaluate_edge-returns-then-is_in_progress-clause-meets g t c =
-    let ns = numbered g.K.Validate.shape c.args.engine.now.nodes.now in
-    let w = settling (g.M.Matcher.matching c.args.engine.now.matcher.now) c.args.context.now.remembered.assumptions in
-    let p = steps_to c.args.question.now.place.now in
-    let s = subject_of c.args.question.now.instance in
-    let busy = busy_at p c.args.context.now.in_progress in
-    let e = edge_of c.args.edge.now in
-    let old = pair_busy e.node c.in_ok-pair.pair.node.0 p (place_of c.in_ok-pair.pair) c.args.context.now c.new.new.context _ true (ap (λ (n : SchemaNode). n.0) c.in_ok-pair.ensures.node) c.in_ok-pair.ensures.place c.in_ok-pair.ensures.unchanged c.is_in_progress.ensures.found c.if-is_in_progress.true in
-    if_ok_always c.accepting_unit.result _ (meets_busy g.K.Validate.words g.K.Validate.is_whole ns (length c.args.engine.now.nodes.now) w s busy e (mode_of c.args.question.now.mode) (path_of c.args.question.now.path.now) p _ _ c.if-not-edge.false old (sym (ap (λ (z : Context). z.remembered) c.in_ok-pair.ensures.unchanged)))
+pub evaluate::evaluate_edge-returns-then-is_in_progress : goal.evaluate::evaluate_edge-returns-then-is_in_progress
+evaluate::evaluate_edge-returns-then-is_in_progress g t c = record {
+  keeps = first_of (search rules, grind (arith, common_steps));
+  counts = if_ok_always c.accepting_unit.result _ (as_many _ _ (ap (λ (z : Context). z.visits) c.in_ok-pair.ensures.unchanged));
+  says =
+      let set = setting g.K.Validate.words g.K.Validate.is_whole g.K.Validate.shape g.M.Matcher.matching c.args.engine.now in
+      let q = asking c.args.question.now in
+      let p = steps_to c.args.question.now.place.now in
+      let s = subject_of c.args.question.now.instance in
+      let e = edge_of c.args.edge.now in
+      let old = pair_busy e.node c.in_ok-pair.pair.node.0 p (place_of c.in_ok-pair.pair) c.args.context.now c.new.new.context _ true (ap (λ (n : SchemaNode). n.0) c.in_ok-pair.ensures.node) c.in_ok-pair.ensures.place c.in_ok-pair.ensures.unchanged c.is_in_progress.ensures.found c.if-is_in_progress.true in
+      let there : steps_to c.numbered_place-place.result ≡ p = c.numbered_place-place.ensures.same ∙ c.in_ok-pair.ensures.place in
+      let n = node_of c.node.result.now in
+      let at_node = where_is g.K.Validate.shape c.args.engine.now.nodes.now (g.K.Validate.words false) (g.M.Matcher.matching c.args.engine.now.matcher.now) (λ place. s) e.node n (path_of c.args.question.now.path.now ++ e.path) p c.node.ensures.found in
+      if_ok_mono c.accepting_unit.result _ _ (λ u is. gives_busy set q c.args.context.now e u c.if-not-edge.false old (λ texts. is texts
+      ∙ ap (λ path. true_unit (entry_where n path (steps_to c.numbered_place-place.result))) c.across-whole.ensures.appended
+      ∙ ap (λ place. true_unit (entry_where n (path_of c.args.question.now.path.now ++ e.path) place)) there
+      ∙ ap true_unit (sym at_node))) c.accepting_unit.ensures.unit;
+  meets =
+      let ns = numbered g.K.Validate.shape c.args.engine.now.nodes.now in
+      let w = settling (g.M.Matcher.matching c.args.engine.now.matcher.now) c.args.context.now.remembered.assumptions in
+      let p = steps_to c.args.question.now.place.now in
+      let s = subject_of c.args.question.now.instance in
+      let busy = busy_at p c.args.context.now.in_progress in
+      let e = edge_of c.args.edge.now in
+      let old = pair_busy e.node c.in_ok-pair.pair.node.0 p (place_of c.in_ok-pair.pair) c.args.context.now c.new.new.context _ true (ap (λ (n : SchemaNode). n.0) c.in_ok-pair.ensures.node) c.in_ok-pair.ensures.place c.in_ok-pair.ensures.unchanged c.is_in_progress.ensures.found c.if-is_in_progress.true in
+      if_ok_always c.accepting_unit.result _ (meets_busy g.K.Validate.words g.K.Validate.is_whole ns (length c.args.engine.now.nodes.now) w s busy e (mode_of c.args.question.now.mode) (path_of c.args.question.now.path.now) p _ _ c.if-not-edge.false old (sym (ap (λ (z : Context). z.remembered) c.in_ok-pair.ensures.unchanged)));
+  stays = first_of (search rules, grind (arith, common_steps));
+}
 
 pub evaluate::evaluate_edge-evaluate_node-requires-2 : goal.evaluate::evaluate_edge-evaluate_node-requires-2
 evaluate::evaluate_edge-evaluate_node-requires-2 g t c =
@@ -1329,56 +1370,50 @@ evaluate::evaluate_edge-evaluate_node-requires-2 g t c =
     let carries = carries_on c.args.context.now.root c.enter.new.context.root c.numbered_place-place.result root (c.numbered_place-place.ensures.carries c.args.context.now c.in_ok-pair.ensures.numbered) in
     λ κs h. (lower_entered _ _ _ t l needs c.decreases, (h.0, (h.1.0, (h.1.1.0, (h.1.1.1, (record { known = c.requires.may.known; ranked = c.requires.may.ranked; above = deeper; wanted = c.requires.may.wanted; stands = stands_at c.args.context.now.root _ (asking c.args.question.now) _ root there c.requires.may.stands; goes_on = (layout, laid', right') }, carries))))))
 
-pub evaluate::evaluate_edge-returns-clause-gives : goal.evaluate::evaluate_edge-returns-clause-gives
-evaluate::evaluate_edge-returns-clause-gives g t c =
-    let set = setting g.K.Validate.words g.K.Validate.is_whole g.K.Validate.shape g.M.Matcher.matching c.args.engine.now in
-    let q = asking c.args.question.now in
-    let p = steps_to c.args.question.now.place.now in
-    let e = edge_of c.args.edge.now in
-    let entered : (list_any (λ i. i == e.node) (busy_at p c.args.context.now.in_progress) ≡ false) × (c.enter.new.context.in_progress ≡ c.args.context.now.in_progress ++ (e.node, p) ∷ []) = (
-      pair_busy e.node c.in_ok-pair.pair.node.0 p (place_of c.in_ok-pair.pair) c.args.context.now c.new.new.context _ false (ap (λ (n : SchemaNode). n.0) c.in_ok-pair.ensures.node) c.in_ok-pair.ensures.place c.in_ok-pair.ensures.unchanged c.is_in_progress.ensures.found c.if-is_in_progress.false,
-      pair_entered e.node c.in_ok-pair.pair.node.0 p (place_of c.in_ok-pair.pair) c.args.context.now c.new.new.context c.enter.new.context.in_progress (ap (λ (n : SchemaNode). n.0) c.in_ok-pair.ensures.node) c.in_ok-pair.ensures.place c.in_ok-pair.ensures.unchanged c.in_ok-enter.ensures.entered,
-    ) in
-    let pushed : busy_at p c.enter.new.context.in_progress ≡ e.node ∷ busy_at p c.args.context.now.in_progress = ap (busy_at p) entered.1 ∙ busy-pushed p e.node c.args.context.now.in_progress in
-    let there : steps_to c.numbered_place-place.result ≡ p = c.numbered_place-place.ensures.same ∙ c.in_ok-pair.ensures.place in
-    let asked : Asking = record { subject = q.subject; place = steps_to c.numbered_place-place.result; path = path_of c.across-whole.result; mode = q.mode } in
-    let is : asked ≡ record q { path = q.path ++ e.path } = λ i. record { subject = q.subject; place = there i; path = c.across-whole.ensures.appended i; mode = q.mode } in
-    gives_entered set q c.args.context.now e c.in_ok-unit.unit c.if-not-edge.false entered.0 asked c.enter.new.context is pushed (c.enter.ensures.remembered ∙ ap (λ (z : Context). z.remembered) c.in_ok-pair.ensures.unchanged) c.in_ok-unit.ensures.gives
-
-pub evaluate::evaluate_edge-returns-clause-meets : goal.evaluate::evaluate_edge-returns-clause-meets
-evaluate::evaluate_edge-returns-clause-meets g t c =
-    let ns = numbered g.K.Validate.shape c.args.engine.now.nodes.now in
-    let set = setting g.K.Validate.words g.K.Validate.is_whole g.K.Validate.shape g.M.Matcher.matching c.args.engine.now in
-    let w = settling (g.M.Matcher.matching c.args.engine.now.matcher.now) c.args.context.now.remembered.assumptions in
-    let q = asking c.args.question.now in
-    let p = steps_to c.args.question.now.place.now in
-    let s = subject_of c.args.question.now.instance in
-    let busy = busy_at p c.args.context.now.in_progress in
-    let e = edge_of c.args.edge.now in
-    let entered : (list_any (λ i. i == e.node) (busy_at p c.args.context.now.in_progress) ≡ false) × (c.enter.new.context.in_progress ≡ c.args.context.now.in_progress ++ (e.node, p) ∷ []) = (
-      pair_busy e.node c.in_ok-pair.pair.node.0 p (place_of c.in_ok-pair.pair) c.args.context.now c.new.new.context _ false (ap (λ (n : SchemaNode). n.0) c.in_ok-pair.ensures.node) c.in_ok-pair.ensures.place c.in_ok-pair.ensures.unchanged c.is_in_progress.ensures.found c.if-is_in_progress.false,
-      pair_entered e.node c.in_ok-pair.pair.node.0 p (place_of c.in_ok-pair.pair) c.args.context.now c.new.new.context c.enter.new.context.in_progress (ap (λ (n : SchemaNode). n.0) c.in_ok-pair.ensures.node) c.in_ok-pair.ensures.place c.in_ok-pair.ensures.unchanged c.in_ok-enter.ensures.entered,
-    ) in
-    let pushed : busy_at p c.enter.new.context.in_progress ≡ e.node ∷ busy_at p c.args.context.now.in_progress = ap (busy_at p) entered.1 ∙ busy-pushed p e.node c.args.context.now.in_progress in
-    let there : steps_to c.numbered_place-place.result ≡ p = c.numbered_place-place.ensures.same ∙ c.in_ok-pair.ensures.place in
-    let asked : Asking = record { subject = q.subject; place = steps_to c.numbered_place-place.result; path = path_of c.across-whole.result; mode = q.mode } in
-    let is : asked ≡ record q { path = q.path ++ e.path } = λ i. record { subject = q.subject; place = there i; path = c.across-whole.ensures.appended i; mode = q.mode } in
-    let met = entered_meets set q c.args.context.now e c.in_ok-unit.unit c.if-not-edge.false entered.0 asked c.enter.new.context c.evaluate_node-2.new.context is pushed (c.enter.ensures.remembered ∙ ap (λ (z : Context). z.remembered) c.in_ok-pair.ensures.unchanged) c.in_ok-unit.ensures.meets in
-    subst (λ r. EdgeMeets g.K.Validate.words g.K.Validate.is_whole ns (length c.args.engine.now.nodes.now) w (mode_of c.args.question.now.mode) (path_of c.args.question.now.path.now) p busy s c.args.context.now.remembered r e) (sym c.exit.ensures.remembered) met
-
-pub evaluate::evaluate_edge-returns-clause-stays : goal.evaluate::evaluate_edge-returns-clause-stays
-evaluate::evaluate_edge-returns-clause-stays g t c =
-    let set = setting g.K.Validate.words g.K.Validate.is_whole g.K.Validate.shape g.M.Matcher.matching c.args.engine.now in
-    let p = steps_to c.args.question.now.place.now in
-    let s = subject_of c.args.question.now.instance in
-    let there : steps_to c.numbered_place-place.result ≡ p = c.numbered_place-place.ensures.same ∙ c.in_ok-pair.ensures.place in
-    λ layout laid right.
-    let right1 = right_same set layout c.args.context.now c.enter.new.context (c.enter.ensures.remembered ∙ ap (λ (z : Context). z.remembered) c.in_ok-pair.ensures.unchanged) (c.enter.ensures.verdicts ∙ ap (λ (z : Context). z.verdicts) c.in_ok-pair.ensures.unchanged) right in
-    let laid' = subst (λ q. LaysOut layout q s) (sym there) laid in
-    right_same set layout c.evaluate_node-2.new.context c.exit.new.context c.exit.ensures.remembered c.exit.ensures.verdicts (c.in_ok-unit.ensures.stays layout laid' right1)
-
-pub evaluate::evaluate_edge-returns-clause-counts : goal.evaluate::evaluate_edge-returns-clause-counts
-evaluate::evaluate_edge-returns-clause-counts g t c = rw ((c.enter.ensures.visits ∙ ap (λ (z : Context). z.visits) c.in_ok-pair.ensures.unchanged), ← c.exit.ensures.visits) at c.in_ok-unit.ensures.counts
-
-pub evaluate::evaluate_edge-returns-then-is_in_progress-clause-counts : goal.evaluate::evaluate_edge-returns-then-is_in_progress-clause-counts
-evaluate::evaluate_edge-returns-then-is_in_progress-clause-counts g t c = if_ok_always c.accepting_unit.result _ (as_many _ _ (ap (λ (z : Context). z.visits) c.in_ok-pair.ensures.unchanged))
+pub evaluate::evaluate_edge-returns : goal.evaluate::evaluate_edge-returns
+evaluate::evaluate_edge-returns g t c = record {
+  keeps = first_of (search rules, grind (arith, common_steps));
+  counts = rw ((c.enter.ensures.visits ∙ ap (λ (z : Context). z.visits) c.in_ok-pair.ensures.unchanged), ← c.exit.ensures.visits) at c.in_ok-unit.ensures.counts;
+  says =
+      let set = setting g.K.Validate.words g.K.Validate.is_whole g.K.Validate.shape g.M.Matcher.matching c.args.engine.now in
+      let q = asking c.args.question.now in
+      let p = steps_to c.args.question.now.place.now in
+      let e = edge_of c.args.edge.now in
+      let entered : (list_any (λ i. i == e.node) (busy_at p c.args.context.now.in_progress) ≡ false) × (c.enter.new.context.in_progress ≡ c.args.context.now.in_progress ++ (e.node, p) ∷ []) = (
+        pair_busy e.node c.in_ok-pair.pair.node.0 p (place_of c.in_ok-pair.pair) c.args.context.now c.new.new.context _ false (ap (λ (n : SchemaNode). n.0) c.in_ok-pair.ensures.node) c.in_ok-pair.ensures.place c.in_ok-pair.ensures.unchanged c.is_in_progress.ensures.found c.if-is_in_progress.false,
+        pair_entered e.node c.in_ok-pair.pair.node.0 p (place_of c.in_ok-pair.pair) c.args.context.now c.new.new.context c.enter.new.context.in_progress (ap (λ (n : SchemaNode). n.0) c.in_ok-pair.ensures.node) c.in_ok-pair.ensures.place c.in_ok-pair.ensures.unchanged c.in_ok-enter.ensures.entered,
+      ) in
+      let pushed : busy_at p c.enter.new.context.in_progress ≡ e.node ∷ busy_at p c.args.context.now.in_progress = ap (busy_at p) entered.1 ∙ busy-pushed p e.node c.args.context.now.in_progress in
+      let there : steps_to c.numbered_place-place.result ≡ p = c.numbered_place-place.ensures.same ∙ c.in_ok-pair.ensures.place in
+      let asked : Asking = record { subject = q.subject; place = steps_to c.numbered_place-place.result; path = path_of c.across-whole.result; mode = q.mode } in
+      let is : asked ≡ record q { path = q.path ++ e.path } = λ i. record { subject = q.subject; place = there i; path = c.across-whole.ensures.appended i; mode = q.mode } in
+      gives_entered set q c.args.context.now e c.in_ok-unit.unit c.if-not-edge.false entered.0 asked c.enter.new.context is pushed (c.enter.ensures.remembered ∙ ap (λ (z : Context). z.remembered) c.in_ok-pair.ensures.unchanged) c.in_ok-unit.ensures.says;
+  meets =
+      let ns = numbered g.K.Validate.shape c.args.engine.now.nodes.now in
+      let set = setting g.K.Validate.words g.K.Validate.is_whole g.K.Validate.shape g.M.Matcher.matching c.args.engine.now in
+      let w = settling (g.M.Matcher.matching c.args.engine.now.matcher.now) c.args.context.now.remembered.assumptions in
+      let q = asking c.args.question.now in
+      let p = steps_to c.args.question.now.place.now in
+      let s = subject_of c.args.question.now.instance in
+      let busy = busy_at p c.args.context.now.in_progress in
+      let e = edge_of c.args.edge.now in
+      let entered : (list_any (λ i. i == e.node) (busy_at p c.args.context.now.in_progress) ≡ false) × (c.enter.new.context.in_progress ≡ c.args.context.now.in_progress ++ (e.node, p) ∷ []) = (
+        pair_busy e.node c.in_ok-pair.pair.node.0 p (place_of c.in_ok-pair.pair) c.args.context.now c.new.new.context _ false (ap (λ (n : SchemaNode). n.0) c.in_ok-pair.ensures.node) c.in_ok-pair.ensures.place c.in_ok-pair.ensures.unchanged c.is_in_progress.ensures.found c.if-is_in_progress.false,
+        pair_entered e.node c.in_ok-pair.pair.node.0 p (place_of c.in_ok-pair.pair) c.args.context.now c.new.new.context c.enter.new.context.in_progress (ap (λ (n : SchemaNode). n.0) c.in_ok-pair.ensures.node) c.in_ok-pair.ensures.place c.in_ok-pair.ensures.unchanged c.in_ok-enter.ensures.entered,
+      ) in
+      let pushed : busy_at p c.enter.new.context.in_progress ≡ e.node ∷ busy_at p c.args.context.now.in_progress = ap (busy_at p) entered.1 ∙ busy-pushed p e.node c.args.context.now.in_progress in
+      let there : steps_to c.numbered_place-place.result ≡ p = c.numbered_place-place.ensures.same ∙ c.in_ok-pair.ensures.place in
+      let asked : Asking = record { subject = q.subject; place = steps_to c.numbered_place-place.result; path = path_of c.across-whole.result; mode = q.mode } in
+      let is : asked ≡ record q { path = q.path ++ e.path } = λ i. record { subject = q.subject; place = there i; path = c.across-whole.ensures.appended i; mode = q.mode } in
+      let met = entered_meets set q c.args.context.now e c.in_ok-unit.unit c.if-not-edge.false entered.0 asked c.enter.new.context c.evaluate_node-2.new.context is pushed (c.enter.ensures.remembered ∙ ap (λ (z : Context). z.remembered) c.in_ok-pair.ensures.unchanged) c.in_ok-unit.ensures.meets in
+      subst (λ r. EdgeMeets g.K.Validate.words g.K.Validate.is_whole ns (length c.args.engine.now.nodes.now) w (mode_of c.args.question.now.mode) (path_of c.args.question.now.path.now) p busy s c.args.context.now.remembered r e) (sym c.exit.ensures.remembered) met;
+  stays =
+      let set = setting g.K.Validate.words g.K.Validate.is_whole g.K.Validate.shape g.M.Matcher.matching c.args.engine.now in
+      let p = steps_to c.args.question.now.place.now in
+      let s = subject_of c.args.question.now.instance in
+      let there : steps_to c.numbered_place-place.result ≡ p = c.numbered_place-place.ensures.same ∙ c.in_ok-pair.ensures.place in
+      λ layout laid right.
+      let right1 = right_same set layout c.args.context.now c.enter.new.context (c.enter.ensures.remembered ∙ ap (λ (z : Context). z.remembered) c.in_ok-pair.ensures.unchanged) (c.enter.ensures.verdicts ∙ ap (λ (z : Context). z.verdicts) c.in_ok-pair.ensures.unchanged) right in
+      let laid' = subst (λ q. LaysOut layout q s) (sym there) laid in
+      right_same set layout c.evaluate_node-2.new.context c.exit.new.context c.exit.ensures.remembered c.exit.ensures.verdicts (c.in_ok-unit.ensures.stays layout laid' right1);
+}

@@ -1,4 +1,5 @@
-use Rattle.std.proofs.Common.{◌≡◌, ◌∙◌, ◌==◌, ◌+◌, ◌≤◌, Bool, arith, sym, refl, ap, subst, map, option_map, string_bytes, length, Some, false, true, true≢false, inl, inr, List, [], ◌∷◌, ◌++◌, drop}
+use Rattle.std.proofs.Common.{◌≡◌, ◌∙◌, ◌==◌, ◌+◌, ◌≤◌, Bool, arith, sym, refl, rules, ap, subst, map, option_map, string_bytes, length, Some, false, true, true≢false, inl, inr, List, [], ◌∷◌, ◌++◌, drop}
+use Rattle.std.proofs.lemmas.Grind.{common_steps}
 use Rattle.schema_reports.specs.InstanceViews.{subject_of, step_of}
 use Rattle.schema_definitions.specs.Keywords.{Question, ask, ecma, for_verdict, mark, match_text, no_reply, truth, unmark}
 use Rattle.schema_answers.specs.EvaluationPlaces.{steps_to}
@@ -59,15 +60,15 @@ pub verdict::verdict_child-verdict_edge-requires : goal.verdict::verdict_child-v
 verdict::verdict_child-verdict_edge-requires g t c =
     let ns = numbered g.K.Validate.shape c.args.engine.now.nodes.now in
     let e = edge_of c.in-Some.edge.now in
-    let k = c.requires.children c.args.child e (sym c.in-Some.ensures.edge) in
+    let k = c.requires.stands.0 c.args.child e (sym c.in-Some.ensures.edge) in
     let l = falls_here g.K.Validate.words g.K.Validate.is_whole ns (length c.args.engine.now.nodes.now) (settling (g.M.Matcher.matching c.args.engine.now.matcher.now) c.args.context.now.remembered.assumptions) c.requires.may.ranked c.args.node.0 (subject_of c.args.question.now.instance) (busy_at (steps_to c.args.question.now.place.now) c.args.context.now.in_progress) e c.requires.may.known k in
-    λ κs h. (lower_across _ _ _ t 0 refl l c.decreases, (h.0, (h.1.0, (h.1.1.0, (h.1.1.1, (record { known = (c.requires.may.ranked c.args.node.0 c.requires.may.known e k).0; ranked = c.requires.may.ranked; above = c.requires.may.above; wanted = c.requires.may.wanted; stands = c.requires.may.stands; goes_on = c.requires.may.goes_on }, (c.requires.carries, c.requires.verdict)))))))
+    λ κs h. (lower_across _ _ _ t 0 refl l c.decreases, (h.0, (h.1.0, (h.1.1.0, (h.1.1.1, record { may = record { known = (c.requires.may.ranked c.args.node.0 c.requires.may.known e k).0; ranked = c.requires.may.ranked; above = c.requires.may.above; wanted = c.requires.may.wanted; stands = c.requires.may.stands; goes_on = c.requires.may.goes_on }; carries = c.requires.carries; verdict = c.requires.verdict; stands = tt })))))
 
 pub verdict::verdict_child-verdict_edge-requires-in-Some-one_below : goal.verdict::verdict_child-verdict_edge-requires-in-Some-one_below
 verdict::verdict_child-verdict_edge-requires-in-Some-one_below g t c =
     let ns = numbered g.K.Validate.shape c.args.engine.now.nodes.now in
     let e = edge_of c.in-Some.edge.now in
-    let k = c.requires.children c.args.child e (sym c.in-Some.ensures.edge) in
+    let k = c.requires.stands.0 c.args.child e (sym c.in-Some.ensures.edge) in
     let p = steps_to c.args.question.now.place.now in
     let step = step_of c.in-Some-one_below.step in
     let es = c.args.context.now.in_progress in
@@ -77,350 +78,367 @@ verdict::verdict_child-verdict_edge-requires-in-Some-one_below g t c =
     let n = ap (edge_needs ns (length c.args.engine.now.nodes.now) e (subject_of c.in-Some-one_below.inner)) none in
     let (layout, laid, right) = c.requires.may.goes_on in
     let below = laid_below layout p (subject_of c.args.question.now.instance) (subject_of c.in-Some-one_below.inner) step (steps_to c.below-lower.result) laid c.below-lower.ensures.below c.in-Some-one_below.ensures.below.1 in
-    λ κs h. (lower_across _ _ _ t 0 n l c.decreases, (h.0, (h.1.0, (h.1.1.0, (h.1.1.1, (record { known = (c.requires.may.ranked c.args.node.0 c.requires.may.known e k).0; ranked = c.requires.may.ranked; above = deeper; wanted = c.requires.may.wanted; stands = stands_below (view c.args.context.now.root) p (subject_of c.args.question.now.instance) (subject_of c.in-Some-one_below.inner) step (steps_to c.below-lower.result) c.requires.may.stands c.below-lower.ensures.below c.in-Some-one_below.ensures.below.1; goes_on = (layout, below, right) }, (c.below-lower.ensures.carries (places_in c.args.context.now) c.requires.carries, c.requires.verdict)))))))
+    λ κs h. (lower_across _ _ _ t 0 n l c.decreases, (h.0, (h.1.0, (h.1.1.0, (h.1.1.1, record { may = record { known = (c.requires.may.ranked c.args.node.0 c.requires.may.known e k).0; ranked = c.requires.may.ranked; above = deeper; wanted = c.requires.may.wanted; stands = stands_below (view c.args.context.now.root) p (subject_of c.args.question.now.instance) (subject_of c.in-Some-one_below.inner) step (steps_to c.below-lower.result) c.requires.may.stands c.below-lower.ensures.below c.in-Some-one_below.ensures.below.1; goes_on = (layout, below, right) }; carries = c.below-lower.ensures.carries (places_in c.args.context.now) c.requires.carries; verdict = c.requires.verdict; stands = tt })))))
 
-pub verdict::verdict_child-returns-in-None-one_below-clause-says : goal.verdict::verdict_child-returns-in-None-one_below-clause-says
-verdict::verdict_child-returns-in-None-one_below-clause-says g t c =
-    let ns = numbered g.K.Validate.shape c.args.engine.now.nodes.now in
-    let e = edge_of c.in-Some.edge.now in
-    let k = c.requires.children c.args.child e (sym c.in-Some.ensures.edge) in
-    let l = falls_here g.K.Validate.words g.K.Validate.is_whole ns (length c.args.engine.now.nodes.now) (settling (g.M.Matcher.matching c.args.engine.now.matcher.now) c.args.context.now.remembered.assumptions) c.requires.may.ranked c.args.node.0 (subject_of c.args.question.now.instance) (busy_at (steps_to c.args.question.now.place.now) c.args.context.now.in_progress) e c.requires.may.known k in
-    if_ok_mono c.verdict_edge.result _ _ (λ b says. child_here g.K.Validate.words g.K.Validate.is_whole ns (length c.args.engine.now.nodes.now) (settling (g.M.Matcher.matching c.args.engine.now.matcher.now) c.args.context.now.remembered.assumptions) (mode_of c.args.question.now.mode) (path_of c.args.question.now.path.now) (steps_to c.args.question.now.place.now) (busy_at (steps_to c.args.question.now.place.now) c.args.context.now.in_progress) (subject_of c.args.question.now.instance) c.args.node.0 _
-    (record { child = c.args.child; below = below_of c.args.below }) (told.Truth b) e (sym c.in-Some.ensures.edge) c.in-None-one_below.ensures.below l says) c.verdict_edge.ensures.says
+pub verdict::verdict_child-returns-in-None-one_below : goal.verdict::verdict_child-returns-in-None-one_below
+verdict::verdict_child-returns-in-None-one_below g t c = record {
+  keeps = search rules;
+  counts = search rules;
+  visits = if_ok_always c.verdict_edge.result _ (λ none. absurd (none c.args.child (edge_of c.in-Some.edge.now) (sym c.in-Some.ensures.edge)));
+  says =
+      let ns = numbered g.K.Validate.shape c.args.engine.now.nodes.now in
+      let e = edge_of c.in-Some.edge.now in
+      let k = c.requires.stands.0 c.args.child e (sym c.in-Some.ensures.edge) in
+      let l = falls_here g.K.Validate.words g.K.Validate.is_whole ns (length c.args.engine.now.nodes.now) (settling (g.M.Matcher.matching c.args.engine.now.matcher.now) c.args.context.now.remembered.assumptions) c.requires.may.ranked c.args.node.0 (subject_of c.args.question.now.instance) (busy_at (steps_to c.args.question.now.place.now) c.args.context.now.in_progress) e c.requires.may.known k in
+      if_ok_mono c.verdict_edge.result _ _ (λ b says. child_here g.K.Validate.words g.K.Validate.is_whole ns (length c.args.engine.now.nodes.now) (settling (g.M.Matcher.matching c.args.engine.now.matcher.now) c.args.context.now.remembered.assumptions) (mode_of c.args.question.now.mode) (path_of c.args.question.now.path.now) (steps_to c.args.question.now.place.now) (busy_at (steps_to c.args.question.now.place.now) c.args.context.now.in_progress) (subject_of c.args.question.now.instance) c.args.node.0 _
+      (record { child = c.args.child; below = below_of c.args.below }) (told.Truth b) e (sym c.in-Some.ensures.edge) c.in-None-one_below.ensures.below l says) c.verdict_edge.ensures.says;
+  meets =
+      let ns = numbered g.K.Validate.shape c.args.engine.now.nodes.now in
+      let w = settling (g.M.Matcher.matching c.args.engine.now.matcher.now) c.args.context.now.remembered.assumptions in
+      let p = steps_to c.args.question.now.place.now in
+      let s = subject_of c.args.question.now.instance in
+      let busy = busy_at p c.args.context.now.in_progress in
+      let e = edge_of c.in-Some.edge.now in
+      let k = c.requires.stands.0 c.args.child e (sym c.in-Some.ensures.edge) in
+      let l = falls_here g.K.Validate.words g.K.Validate.is_whole ns (length c.args.engine.now.nodes.now) w c.requires.may.ranked c.args.node.0 s busy e c.requires.may.known k in
+      if_ok_mono c.verdict_edge.result _ _ (λ b met. meets_here g.K.Validate.words g.K.Validate.is_whole ns (length c.args.engine.now.nodes.now) w (mode_of c.args.question.now.mode) (path_of c.args.question.now.path.now) p busy s c.args.node.0 _ (record { child = c.args.child; below = below_of c.args.below }) _ _ e (sym c.in-Some.ensures.edge) c.in-None-one_below.ensures.below l met) c.verdict_edge.ensures.meets;
+  stays = search rules;
+  remembers = if_ok_always c.verdict_edge.result _ tt;
+}
 
-pub verdict::verdict_child-returns-in-Some-one_below-clause-says : goal.verdict::verdict_child-returns-in-Some-one_below-clause-says
-verdict::verdict_child-returns-in-Some-one_below-clause-says g t c =
-    let ns = numbered g.K.Validate.shape c.args.engine.now.nodes.now in
-    let e = edge_of c.in-Some.edge.now in
-    let k = c.requires.children c.args.child e (sym c.in-Some.ensures.edge) in
-    let p = steps_to c.args.question.now.place.now in
-    let step = step_of c.in-Some-one_below.step in
-    let es = c.args.context.now.in_progress in
-    let s = subject_of c.args.question.now.instance in
-    let inner = subject_of c.in-Some-one_below.inner in
-    let none : busy_at (steps_to c.below-lower.result) es ≡ [] = ap (λ q. busy_at q es) c.below-lower.ensures.below ∙ busy-below p step es c.requires.may.above in
-    let l = falls_below g.K.Validate.words g.K.Validate.is_whole ns (length c.args.engine.now.nodes.now) (settling (g.M.Matcher.matching c.args.engine.now.matcher.now) c.args.context.now.remembered.assumptions) c.requires.may.ranked c.args.node.0 s inner step (busy_at p es) e c.requires.may.known k c.in-Some-one_below.ensures.below.1 in
-    if_ok_mono c.verdict_edge-in-Some-one_below.result _ _ (λ b says.
-    let answer = subst (λ busy. EdgeReplies g.K.Validate.words g.K.Validate.is_whole ns (length c.args.engine.now.nodes.now) (settling (g.M.Matcher.matching c.args.engine.now.matcher.now) c.args.context.now.remembered.assumptions) (mode_of c.args.question.now.mode) (path_of c.args.question.now.path.now) (steps_to c.below-lower.result) busy inner e (told.Truth b)) none says in
-    child_below g.K.Validate.words g.K.Validate.is_whole ns (length c.args.engine.now.nodes.now) (settling (g.M.Matcher.matching c.args.engine.now.matcher.now) c.args.context.now.remembered.assumptions) (mode_of c.args.question.now.mode) (path_of c.args.question.now.path.now) p (busy_at p es) s c.args.node.0 _
-    (record { child = c.args.child; below = below_of c.args.below }) (told.Truth b) e step (steps_to c.below-lower.result) inner (sym c.in-Some.ensures.edge) c.in-Some-one_below.ensures.below.0
-    c.below-lower.ensures.below c.in-Some-one_below.ensures.below.1 l answer) c.verdict_edge-in-Some-one_below.ensures.says
+pub verdict::verdict_child-returns-in-Some-one_below : goal.verdict::verdict_child-returns-in-Some-one_below
+verdict::verdict_child-returns-in-Some-one_below g t c = record {
+  keeps = search rules;
+  counts = search rules;
+  visits = if_ok_always c.verdict_edge-in-Some-one_below.result _ (λ none. absurd (none c.args.child (edge_of c.in-Some.edge.now) (sym c.in-Some.ensures.edge)));
+  says =
+      let ns = numbered g.K.Validate.shape c.args.engine.now.nodes.now in
+      let e = edge_of c.in-Some.edge.now in
+      let k = c.requires.stands.0 c.args.child e (sym c.in-Some.ensures.edge) in
+      let p = steps_to c.args.question.now.place.now in
+      let step = step_of c.in-Some-one_below.step in
+      let es = c.args.context.now.in_progress in
+      let s = subject_of c.args.question.now.instance in
+      let inner = subject_of c.in-Some-one_below.inner in
+      let none : busy_at (steps_to c.below-lower.result) es ≡ [] = ap (λ q. busy_at q es) c.below-lower.ensures.below ∙ busy-below p step es c.requires.may.above in
+      let l = falls_below g.K.Validate.words g.K.Validate.is_whole ns (length c.args.engine.now.nodes.now) (settling (g.M.Matcher.matching c.args.engine.now.matcher.now) c.args.context.now.remembered.assumptions) c.requires.may.ranked c.args.node.0 s inner step (busy_at p es) e c.requires.may.known k c.in-Some-one_below.ensures.below.1 in
+      if_ok_mono c.verdict_edge-in-Some-one_below.result _ _ (λ b says.
+      let answer = subst (λ busy. EdgeReplies g.K.Validate.words g.K.Validate.is_whole ns (length c.args.engine.now.nodes.now) (settling (g.M.Matcher.matching c.args.engine.now.matcher.now) c.args.context.now.remembered.assumptions) (mode_of c.args.question.now.mode) (path_of c.args.question.now.path.now) (steps_to c.below-lower.result) busy inner e (told.Truth b)) none says in
+      child_below g.K.Validate.words g.K.Validate.is_whole ns (length c.args.engine.now.nodes.now) (settling (g.M.Matcher.matching c.args.engine.now.matcher.now) c.args.context.now.remembered.assumptions) (mode_of c.args.question.now.mode) (path_of c.args.question.now.path.now) p (busy_at p es) s c.args.node.0 _
+      (record { child = c.args.child; below = below_of c.args.below }) (told.Truth b) e step (steps_to c.below-lower.result) inner (sym c.in-Some.ensures.edge) c.in-Some-one_below.ensures.below.0
+      c.below-lower.ensures.below c.in-Some-one_below.ensures.below.1 l answer) c.verdict_edge-in-Some-one_below.ensures.says;
+  meets =
+      let ns = numbered g.K.Validate.shape c.args.engine.now.nodes.now in
+      let w = settling (g.M.Matcher.matching c.args.engine.now.matcher.now) c.args.context.now.remembered.assumptions in
+      let p = steps_to c.args.question.now.place.now in
+      let s = subject_of c.args.question.now.instance in
+      let busy = busy_at p c.args.context.now.in_progress in
+      let e = edge_of c.in-Some.edge.now in
+      let k = c.requires.stands.0 c.args.child e (sym c.in-Some.ensures.edge) in
+      let step = step_of c.in-Some-one_below.step in
+      let es = c.args.context.now.in_progress in
+      let inner = subject_of c.in-Some-one_below.inner in
+      let none : busy_at (steps_to c.below-lower.result) es ≡ [] = ap (λ q. busy_at q es) c.below-lower.ensures.below ∙ busy-below p step es c.requires.may.above in
+      let l = falls_below g.K.Validate.words g.K.Validate.is_whole ns (length c.args.engine.now.nodes.now) w c.requires.may.ranked c.args.node.0 s inner step busy e c.requires.may.known k c.in-Some-one_below.ensures.below.1 in
+      if_ok_mono c.verdict_edge-in-Some-one_below.result _ _ (λ b says.
+      let met = subst (λ busy'. EdgeMeets g.K.Validate.words g.K.Validate.is_whole ns (length c.args.engine.now.nodes.now) w (mode_of c.args.question.now.mode) (path_of c.args.question.now.path.now) (steps_to c.below-lower.result) busy' inner c.args.context.now.remembered c.verdict_edge-in-Some-one_below.new.context.remembered e) none says in
+      meets_below g.K.Validate.words g.K.Validate.is_whole ns (length c.args.engine.now.nodes.now) w (mode_of c.args.question.now.mode) (path_of c.args.question.now.path.now) p busy s c.args.node.0 _ (record { child = c.args.child; below = below_of c.args.below }) _ _ e step (steps_to c.below-lower.result) inner (sym c.in-Some.ensures.edge) c.in-Some-one_below.ensures.below.0
+      c.below-lower.ensures.below c.in-Some-one_below.ensures.below.1 l met) c.verdict_edge-in-Some-one_below.ensures.meets;
+  stays = search rules;
+  remembers = if_ok_always c.verdict_edge-in-Some-one_below.result _ tt;
+}
 
-pub verdict::verdict_child-returns-in-None-one_below-clause-meets : goal.verdict::verdict_child-returns-in-None-one_below-clause-meets
-verdict::verdict_child-returns-in-None-one_below-clause-meets g t c =
-    let ns = numbered g.K.Validate.shape c.args.engine.now.nodes.now in
-    let w = settling (g.M.Matcher.matching c.args.engine.now.matcher.now) c.args.context.now.remembered.assumptions in
-    let p = steps_to c.args.question.now.place.now in
-    let s = subject_of c.args.question.now.instance in
-    let busy = busy_at p c.args.context.now.in_progress in
-    let e = edge_of c.in-Some.edge.now in
-    let k = c.requires.children c.args.child e (sym c.in-Some.ensures.edge) in
-    let l = falls_here g.K.Validate.words g.K.Validate.is_whole ns (length c.args.engine.now.nodes.now) w c.requires.may.ranked c.args.node.0 s busy e c.requires.may.known k in
-    if_ok_mono c.verdict_edge.result _ _ (λ b met. meets_here g.K.Validate.words g.K.Validate.is_whole ns (length c.args.engine.now.nodes.now) w (mode_of c.args.question.now.mode) (path_of c.args.question.now.path.now) p busy s c.args.node.0 _ (record { child = c.args.child; below = below_of c.args.below }) _ _ e (sym c.in-Some.ensures.edge) c.in-None-one_below.ensures.below l met) c.verdict_edge.ensures.meets
-
-pub verdict::verdict_child-returns-in-Some-one_below-clause-meets : goal.verdict::verdict_child-returns-in-Some-one_below-clause-meets
-verdict::verdict_child-returns-in-Some-one_below-clause-meets g t c =
-    let ns = numbered g.K.Validate.shape c.args.engine.now.nodes.now in
-    let w = settling (g.M.Matcher.matching c.args.engine.now.matcher.now) c.args.context.now.remembered.assumptions in
-    let p = steps_to c.args.question.now.place.now in
-    let s = subject_of c.args.question.now.instance in
-    let busy = busy_at p c.args.context.now.in_progress in
-    let e = edge_of c.in-Some.edge.now in
-    let k = c.requires.children c.args.child e (sym c.in-Some.ensures.edge) in
-    let step = step_of c.in-Some-one_below.step in
-    let es = c.args.context.now.in_progress in
-    let inner = subject_of c.in-Some-one_below.inner in
-    let none : busy_at (steps_to c.below-lower.result) es ≡ [] = ap (λ q. busy_at q es) c.below-lower.ensures.below ∙ busy-below p step es c.requires.may.above in
-    let l = falls_below g.K.Validate.words g.K.Validate.is_whole ns (length c.args.engine.now.nodes.now) w c.requires.may.ranked c.args.node.0 s inner step busy e c.requires.may.known k c.in-Some-one_below.ensures.below.1 in
-    if_ok_mono c.verdict_edge-in-Some-one_below.result _ _ (λ b says.
-    let met = subst (λ busy'. EdgeMeets g.K.Validate.words g.K.Validate.is_whole ns (length c.args.engine.now.nodes.now) w (mode_of c.args.question.now.mode) (path_of c.args.question.now.path.now) (steps_to c.below-lower.result) busy' inner c.args.context.now.remembered c.verdict_edge-in-Some-one_below.new.context.remembered e) none says in
-    meets_below g.K.Validate.words g.K.Validate.is_whole ns (length c.args.engine.now.nodes.now) w (mode_of c.args.question.now.mode) (path_of c.args.question.now.path.now) p busy s c.args.node.0 _ (record { child = c.args.child; below = below_of c.args.below }) _ _ e step (steps_to c.below-lower.result) inner (sym c.in-Some.ensures.edge) c.in-Some-one_below.ensures.below.0
-    c.below-lower.ensures.below c.in-Some-one_below.ensures.below.1 l met) c.verdict_edge-in-Some-one_below.ensures.meets
-
-pub verdict::verdict_child-returns-in-None-one_below-clause-quiet : goal.verdict::verdict_child-returns-in-None-one_below-clause-quiet
-verdict::verdict_child-returns-in-None-one_below-clause-quiet g t c = if_ok_always c.verdict_edge.result _ (λ none. absurd (none c.args.child (edge_of c.in-Some.edge.now) (sym c.in-Some.ensures.edge)))
-
-pub verdict::verdict_child-returns-in-Some-one_below-clause-quiet : goal.verdict::verdict_child-returns-in-Some-one_below-clause-quiet
-verdict::verdict_child-returns-in-Some-one_below-clause-quiet g t c = if_ok_always c.verdict_edge-in-Some-one_below.result _ (λ none. absurd (none c.args.child (edge_of c.in-Some.edge.now) (sym c.in-Some.ensures.edge)))
-
-pub verdict::verdict_form-returns-in-Some-clause-says : goal.verdict::verdict_form-returns-in-Some-clause-says
-verdict::verdict_form-returns-in-Some-clause-says g t c =
-    let ns = numbered g.K.Validate.shape c.args.engine.now.nodes.now in
-    let w = settling (g.M.Matcher.matching c.args.engine.now.matcher.now) c.args.context.now.remembered.assumptions in
-    let p = steps_to c.args.question.now.place.now in
-    let s = subject_of c.args.question.now.instance in
-    let busy = busy_at p c.args.context.now.in_progress in
-    let mode = mode_of c.args.question.now.mode in
-    let path = path_of c.args.question.now.path.now in
-    let m = g.K.Validate.shape c.in-Keyword.keyword in
-    let es = map (option_map edge_of) c.in-Keyword.field-1.items in
-    let form = rw c.in-Keyword.is at c.requires.form in
-    rw c.in-Keyword.is (keyword_replies mode c.requires.verdict g.K.Validate.words g.K.Validate.is_whole ns (length c.args.engine.now.nodes.now) w path p busy s c.args.node.0 (string_bytes c.args.entry.now.name) m es c.in-Some.valid (λ x reads l.
-    let tells = tells_keyword g.K.Validate.is_whole ns (length c.args.engine.now.nodes.now) w p s x c.args.node.0 m es c.requires.may.known reads form in
-    right_at_once (g.K.Validate.words x.texts) m (g.K.Validate.absorbed m) (g.K.Validate.remaining m) (g.K.Validate.can_be x.texts m) (g.K.Validate.ends x.texts m) (g.K.Validate.fits x.texts m) (g.met.K.Validate.turn_laws x.texts m) s x (child_says g.K.Validate.words ns x path p busy es) (same_edge es) c.in-Some.valid
-    (agrees_answers g.K.Validate.words ns (λ texts m s completion matcher a h. (g.met.K.Validate.function_laws texts m).agree s (matching matcher completion) a h) x path p busy es)
-    (asked_alike (g.K.Validate.words x.texts) x.matcher ns (subject_in x.root) x.completion x.depth path p busy es)
-    (c.in-Some.ensures.at_once x.texts tells)))
-
-pub verdict::verdict_form-returns-in-Some-clause-meets : goal.verdict::verdict_form-returns-in-Some-clause-meets
-verdict::verdict_form-returns-in-Some-clause-meets g t c = rw c.in-Keyword.is (λ texts root depth reads l.
-    let ns = numbered g.K.Validate.shape c.args.engine.now.nodes.now in
-    let w = settling (g.M.Matcher.matching c.args.engine.now.matcher.now) c.args.context.now.remembered.assumptions in
-    let p = steps_to c.args.question.now.place.now in
-    let s = subject_of c.args.question.now.instance in
-    let busy = busy_at p c.args.context.now.in_progress in
-    let mode = mode_of c.args.question.now.mode in
-    let path = path_of c.args.question.now.path.now in
-    let m = g.K.Validate.shape c.in-Keyword.keyword in
-    let es = map (option_map edge_of) c.in-Keyword.field-1.items in
-    let form = rw c.in-Keyword.is at c.requires.form in
-    let name = string_bytes c.args.entry.now.name in
-    let at_node = node_at (g.K.Validate.words texts) w.matcher ns (subject_in root) c.args.node.0 path p in
-    let runs = child_run g.K.Validate.words ns w texts root depth path p busy es in
-    let tells = tells_keyword g.K.Validate.is_whole ns (length c.args.engine.now.nodes.now) w p s (reading w texts root depth) c.args.node.0 m es c.requires.may.known reads form in
-    let all = meets_at_once (g.K.Validate.words texts) w.matcher w.assumptions at_node s runs (same_edge es) name m (g.K.Validate.remaining m s) c.args.context.now.remembered c.in-Some.valid (c.in-Some.ensures.at_once texts tells) ((g.met.K.Validate.turn_laws texts m).bounded s for_verdict) in
-    meets_same w.matcher _ _ _ _ (ap (keyword_met (g.K.Validate.words texts) w.matcher w.assumptions at_node s runs (same_edge es) name m) (sym c.requires.verdict)
-    ∙ ap (λ v. keyword_met (g.K.Validate.words texts) w.matcher w.assumptions at_node v runs (same_edge es) name m mode) (sym (stands_in root p s reads.stands))) all)
-
-pub verdict::verdict_form-returns-in-Some-clause-visits : goal.verdict::verdict_form-returns-in-Some-clause-visits
-verdict::verdict_form-returns-in-Some-clause-visits g t c = rw c.in-Keyword.is (keyword_counts (numbered g.K.Validate.shape c.args.engine.now.nodes.now) (asking c.args.question.now) c.args.context.now c.args.context.now (g.K.Validate.shape c.in-Keyword.keyword) (map (option_map edge_of) c.in-Keyword.field-1.items) (λ none. refl))
+pub verdict::verdict_form-returns-in-Some : goal.verdict::verdict_form-returns-in-Some
+verdict::verdict_form-returns-in-Some g t c = record {
+  keeps = search rules;
+  counts = search rules;
+  visits = rw c.in-Keyword.is (keyword_counts (numbered g.K.Validate.shape c.args.engine.now.nodes.now) (asking c.args.question.now) c.args.context.now c.args.context.now (g.K.Validate.shape c.in-Keyword.keyword) (map (option_map edge_of) c.in-Keyword.field-1.items) (λ none. refl));
+  says =
+      let ns = numbered g.K.Validate.shape c.args.engine.now.nodes.now in
+      let w = settling (g.M.Matcher.matching c.args.engine.now.matcher.now) c.args.context.now.remembered.assumptions in
+      let p = steps_to c.args.question.now.place.now in
+      let s = subject_of c.args.question.now.instance in
+      let busy = busy_at p c.args.context.now.in_progress in
+      let mode = mode_of c.args.question.now.mode in
+      let path = path_of c.args.question.now.path.now in
+      let m = g.K.Validate.shape c.in-Keyword.keyword in
+      let es = map (option_map edge_of) c.in-Keyword.field-1.items in
+      let form = rw c.in-Keyword.is at c.requires.stands in
+      rw c.in-Keyword.is (keyword_replies mode c.requires.verdict g.K.Validate.words g.K.Validate.is_whole ns (length c.args.engine.now.nodes.now) w path p busy s c.args.node.0 (string_bytes c.args.entry.now.name) m es c.in-Some.valid (λ x reads l.
+      let tells = tells_keyword g.K.Validate.is_whole ns (length c.args.engine.now.nodes.now) w p s x c.args.node.0 m es c.requires.may.known reads form in
+      right_at_once (g.K.Validate.words x.texts) m (g.K.Validate.absorbed m) (g.K.Validate.remaining m) (g.K.Validate.can_be x.texts m) (g.K.Validate.ends x.texts m) (g.K.Validate.fits x.texts m) (g.met.K.Validate.turn_laws x.texts m) s x (child_says g.K.Validate.words ns x path p busy es) (same_edge es) c.in-Some.valid
+      (agrees_answers g.K.Validate.words ns (λ texts m s completion matcher a h. (g.met.K.Validate.function_laws texts m).agree s (matching matcher completion) a h) x path p busy es)
+      (asked_alike (g.K.Validate.words x.texts) x.matcher ns (subject_in x.root) x.completion x.depth path p busy es)
+      (c.in-Some.ensures.at_once x.texts tells)));
+  meets = rw c.in-Keyword.is (λ texts root depth reads l.
+      let ns = numbered g.K.Validate.shape c.args.engine.now.nodes.now in
+      let w = settling (g.M.Matcher.matching c.args.engine.now.matcher.now) c.args.context.now.remembered.assumptions in
+      let p = steps_to c.args.question.now.place.now in
+      let s = subject_of c.args.question.now.instance in
+      let busy = busy_at p c.args.context.now.in_progress in
+      let mode = mode_of c.args.question.now.mode in
+      let path = path_of c.args.question.now.path.now in
+      let m = g.K.Validate.shape c.in-Keyword.keyword in
+      let es = map (option_map edge_of) c.in-Keyword.field-1.items in
+      let form = rw c.in-Keyword.is at c.requires.stands in
+      let name = string_bytes c.args.entry.now.name in
+      let at_node = node_at (g.K.Validate.words texts) w.matcher ns (subject_in root) c.args.node.0 path p in
+      let runs = child_run g.K.Validate.words ns w texts root depth path p busy es in
+      let tells = tells_keyword g.K.Validate.is_whole ns (length c.args.engine.now.nodes.now) w p s (reading w texts root depth) c.args.node.0 m es c.requires.may.known reads form in
+      let all = meets_at_once (g.K.Validate.words texts) w.matcher w.assumptions at_node s runs (same_edge es) name m (g.K.Validate.remaining m s) c.args.context.now.remembered c.in-Some.valid (c.in-Some.ensures.at_once texts tells) ((g.met.K.Validate.turn_laws texts m).bounded s for_verdict) in
+      meets_same w.matcher _ _ _ _ (ap (keyword_met (g.K.Validate.words texts) w.matcher w.assumptions at_node s runs (same_edge es) name m) (sym c.requires.verdict)
+      ∙ ap (λ v. keyword_met (g.K.Validate.words texts) w.matcher w.assumptions at_node v runs (same_edge es) name m mode) (sym (stands_in root p s reads.stands))) all);
+  stays = search rules;
+  remembers = search rules;
+}
 
 pub verdict::verdict_form-verdict_reference-requires : goal.verdict::verdict_form-verdict_reference-requires
 verdict::verdict_form-verdict_reference-requires g t c =
     let ns = numbered g.K.Validate.shape c.args.engine.now.nodes.now in
     let e = edge_of c.in-Reference.edge in
-    let k = reference_edge ns c.args.node.0 e (rw c.in-Reference.is at c.requires.form) in
+    let k = reference_edge ns c.args.node.0 e (rw c.in-Reference.is at c.requires.stands) in
     let l = falls_here g.K.Validate.words g.K.Validate.is_whole ns (length c.args.engine.now.nodes.now) (settling (g.M.Matcher.matching c.args.engine.now.matcher.now) c.args.context.now.remembered.assumptions) c.requires.may.ranked c.args.node.0 (subject_of c.args.question.now.instance) (busy_at (steps_to c.args.question.now.place.now) c.args.context.now.in_progress) e c.requires.may.known k in
-    λ κs h. (lower_reference _ _ _ t 4 refl l c.decreases, (h.0, (h.1.0, (h.1.1.0, (h.1.1.1, (record { known = (c.requires.may.ranked c.args.node.0 c.requires.may.known e k).0; ranked = c.requires.may.ranked; above = c.requires.may.above; wanted = c.requires.may.wanted; stands = c.requires.may.stands; goes_on = c.requires.may.goes_on }, (c.requires.carries, c.requires.verdict)))))))
+    λ κs h. (lower_reference _ _ _ t 4 refl l c.decreases, (h.0, (h.1.0, (h.1.1.0, (h.1.1.1, record { may = record { known = (c.requires.may.ranked c.args.node.0 c.requires.may.known e k).0; ranked = c.requires.may.ranked; above = c.requires.may.above; wanted = c.requires.may.wanted; stands = c.requires.may.stands; goes_on = c.requires.may.goes_on }; carries = c.requires.carries; verdict = c.requires.verdict; stands = tt })))))
 
-pub verdict::verdict_form-returns-in-Reference-clause-says : goal.verdict::verdict_form-returns-in-Reference-clause-says
-verdict::verdict_form-returns-in-Reference-clause-says g t c =
-    let ns = numbered g.K.Validate.shape c.args.engine.now.nodes.now in
-    let w = settling (g.M.Matcher.matching c.args.engine.now.matcher.now) c.args.context.now.remembered.assumptions in
-    let p = steps_to c.args.question.now.place.now in
-    let s = subject_of c.args.question.now.instance in
-    let busy = busy_at p c.args.context.now.in_progress in
-    let mode = mode_of c.args.question.now.mode in
-    let path = path_of c.args.question.now.path.now in
-    let e = edge_of c.in-Reference.edge in
-    let k = reference_edge ns c.args.node.0 e (rw c.in-Reference.is at c.requires.form) in
-    let l = falls_here g.K.Validate.words g.K.Validate.is_whole ns (length c.args.engine.now.nodes.now) w c.requires.may.ranked c.args.node.0 s busy e c.requires.may.known k in
-    rw c.in-Reference.is (if_ok_mono c.verdict_reference.result _ _ (λ b says.
-    form_reference g.K.Validate.words g.K.Validate.is_whole ns (length c.args.engine.now.nodes.now) w mode path p busy s c.args.node.0 (string_bytes c.args.entry.now.name) e (told.Truth b) (told.Truth b) _ refl l (stamps_verdict _ b) (λ root h. h)
-    says) c.verdict_reference.ensures.says)
-
-pub verdict::verdict_form-returns-in-Reference-clause-meets : goal.verdict::verdict_form-returns-in-Reference-clause-meets
-verdict::verdict_form-returns-in-Reference-clause-meets g t c =
-    let ns = numbered g.K.Validate.shape c.args.engine.now.nodes.now in
-    let w = settling (g.M.Matcher.matching c.args.engine.now.matcher.now) c.args.context.now.remembered.assumptions in
-    let p = steps_to c.args.question.now.place.now in
-    let s = subject_of c.args.question.now.instance in
-    let busy = busy_at p c.args.context.now.in_progress in
-    let mode = mode_of c.args.question.now.mode in
-    let path = path_of c.args.question.now.path.now in
-    let e = edge_of c.in-Reference.edge in
-    let k = reference_edge ns c.args.node.0 e (rw c.in-Reference.is at c.requires.form) in
-    let l = falls_here g.K.Validate.words g.K.Validate.is_whole ns (length c.args.engine.now.nodes.now) w c.requires.may.ranked c.args.node.0 s busy e c.requires.may.known k in
-    rw c.in-Reference.is (if_ok_mono c.verdict_reference.result _ _ (λ b meets.
-    meets_reference g.K.Validate.words g.K.Validate.is_whole ns (length c.args.engine.now.nodes.now) w mode path p busy s c.args.node.0 (string_bytes c.args.entry.now.name) e _ _ l meets) c.verdict_reference.ensures.meets)
-
-pub verdict::verdict_form-returns-in-Reference-clause-visits : goal.verdict::verdict_form-returns-in-Reference-clause-visits
-verdict::verdict_form-returns-in-Reference-clause-visits g t c = rw c.in-Reference.is c.verdict_reference.ensures.visits
-
-pub verdict::verdict_form-returns-in-Reference-clause-remembers : goal.verdict::verdict_form-returns-in-Reference-clause-remembers
-verdict::verdict_form-returns-in-Reference-clause-remembers g t c =
-    let q = asking c.args.question.now in
-    let e = edge_of c.in-Reference.edge in
-    if_ok_mono c.verdict_reference.result _ _ (λ b remembers.
-    reference_remembers q c.args.context.now c.verdict_reference.new.context e _ (told.Truth b) (ap (λ z. shaped_form g.K.Validate.shape (form_of z)) c.in-Reference.is) remembers) c.verdict_reference.ensures.remembers
+pub verdict::verdict_form-returns-in-Reference : goal.verdict::verdict_form-returns-in-Reference
+verdict::verdict_form-returns-in-Reference g t c = record {
+  keeps = search rules;
+  counts = search rules;
+  visits = rw c.in-Reference.is c.verdict_reference.ensures.visits;
+  says =
+      let ns = numbered g.K.Validate.shape c.args.engine.now.nodes.now in
+      let w = settling (g.M.Matcher.matching c.args.engine.now.matcher.now) c.args.context.now.remembered.assumptions in
+      let p = steps_to c.args.question.now.place.now in
+      let s = subject_of c.args.question.now.instance in
+      let busy = busy_at p c.args.context.now.in_progress in
+      let mode = mode_of c.args.question.now.mode in
+      let path = path_of c.args.question.now.path.now in
+      let e = edge_of c.in-Reference.edge in
+      let k = reference_edge ns c.args.node.0 e (rw c.in-Reference.is at c.requires.stands) in
+      let l = falls_here g.K.Validate.words g.K.Validate.is_whole ns (length c.args.engine.now.nodes.now) w c.requires.may.ranked c.args.node.0 s busy e c.requires.may.known k in
+      rw c.in-Reference.is (if_ok_mono c.verdict_reference.result _ _ (λ b says.
+      form_reference g.K.Validate.words g.K.Validate.is_whole ns (length c.args.engine.now.nodes.now) w mode path p busy s c.args.node.0 (string_bytes c.args.entry.now.name) e (told.Truth b) (told.Truth b) _ refl l (stamps_verdict _ b) (λ root h. h)
+      says) c.verdict_reference.ensures.says);
+  meets =
+      let ns = numbered g.K.Validate.shape c.args.engine.now.nodes.now in
+      let w = settling (g.M.Matcher.matching c.args.engine.now.matcher.now) c.args.context.now.remembered.assumptions in
+      let p = steps_to c.args.question.now.place.now in
+      let s = subject_of c.args.question.now.instance in
+      let busy = busy_at p c.args.context.now.in_progress in
+      let mode = mode_of c.args.question.now.mode in
+      let path = path_of c.args.question.now.path.now in
+      let e = edge_of c.in-Reference.edge in
+      let k = reference_edge ns c.args.node.0 e (rw c.in-Reference.is at c.requires.stands) in
+      let l = falls_here g.K.Validate.words g.K.Validate.is_whole ns (length c.args.engine.now.nodes.now) w c.requires.may.ranked c.args.node.0 s busy e c.requires.may.known k in
+      rw c.in-Reference.is (if_ok_mono c.verdict_reference.result _ _ (λ b meets.
+      meets_reference g.K.Validate.words g.K.Validate.is_whole ns (length c.args.engine.now.nodes.now) w mode path p busy s c.args.node.0 (string_bytes c.args.entry.now.name) e _ _ l meets) c.verdict_reference.ensures.meets);
+  stays = search rules;
+  remembers =
+      let q = asking c.args.question.now in
+      let e = edge_of c.in-Reference.edge in
+      if_ok_mono c.verdict_reference.result _ _ (λ b remembers.
+      reference_remembers q c.args.context.now c.verdict_reference.new.context e _ (told.Truth b) (ap (λ z. shaped_form g.K.Validate.shape (form_of z)) c.in-Reference.is) remembers) c.verdict_reference.ensures.remembers;
+}
 
 pub verdict::verdict_keyword-verdict_reference-requires : goal.verdict::verdict_keyword-verdict_reference-requires
 verdict::verdict_keyword-verdict_reference-requires g t c =
     let ns = numbered g.K.Validate.shape c.args.engine.now.nodes.now in
     let e = edge_of c.in-Reference.edge in
-    let k = reference_edge ns c.args.node.0 e (rw c.in-Reference.is at c.requires.form) in
+    let k = reference_edge ns c.args.node.0 e (rw c.in-Reference.is at c.requires.stands) in
     let l = falls_here g.K.Validate.words g.K.Validate.is_whole ns (length c.args.engine.now.nodes.now) (settling (g.M.Matcher.matching c.args.engine.now.matcher.now) c.args.context.now.remembered.assumptions) c.requires.may.ranked c.args.node.0 (subject_of c.args.question.now.instance) (busy_at (steps_to c.args.question.now.place.now) c.args.context.now.in_progress) e c.requires.may.known k in
-    λ κs h. (lower_reference _ _ _ t 3 refl l c.decreases, (h.0, (h.1.0, (h.1.1.0, (h.1.1.1, (record { known = (c.requires.may.ranked c.args.node.0 c.requires.may.known e k).0; ranked = c.requires.may.ranked; above = c.requires.may.above; wanted = c.requires.may.wanted; stands = c.requires.may.stands; goes_on = c.requires.may.goes_on }, (c.requires.carries, c.requires.verdict)))))))
+    λ κs h. (lower_reference _ _ _ t 3 refl l c.decreases, (h.0, (h.1.0, (h.1.1.0, (h.1.1.1, record { may = record { known = (c.requires.may.ranked c.args.node.0 c.requires.may.known e k).0; ranked = c.requires.may.ranked; above = c.requires.may.above; wanted = c.requires.may.wanted; stands = c.requires.may.stands; goes_on = c.requires.may.goes_on }; carries = c.requires.carries; verdict = c.requires.verdict; stands = tt })))))
 
-pub verdict::verdict_keyword-returns-in-Reference-clause-says : goal.verdict::verdict_keyword-returns-in-Reference-clause-says
-verdict::verdict_keyword-returns-in-Reference-clause-says g t c =
-    let ns = numbered g.K.Validate.shape c.args.engine.now.nodes.now in
-    let w = settling (g.M.Matcher.matching c.args.engine.now.matcher.now) c.args.context.now.remembered.assumptions in
-    let p = steps_to c.args.question.now.place.now in
-    let s = subject_of c.args.question.now.instance in
-    let busy = busy_at p c.args.context.now.in_progress in
-    let mode = mode_of c.args.question.now.mode in
-    let path = path_of c.args.question.now.path.now in
-    let e = edge_of c.in-Reference.edge in
-    let k = reference_edge ns c.args.node.0 e (rw c.in-Reference.is at c.requires.form) in
-    let l = falls_here g.K.Validate.words g.K.Validate.is_whole ns (length c.args.engine.now.nodes.now) w c.requires.may.ranked c.args.node.0 s busy e c.requires.may.known k in
-    rw c.in-Reference.is (if_ok_mono c.verdict_reference.result _ _ (λ b says.
-    form_reference g.K.Validate.words g.K.Validate.is_whole ns (length c.args.engine.now.nodes.now) w mode path p busy s c.args.node.0 (string_bytes c.args.entry.now.name) e (told.Truth b) (told.Truth b) _ refl l (stamps_verdict _ b) (λ root h. h)
-    says) c.verdict_reference.ensures.says)
-
-pub verdict::verdict_keyword-returns-in-Reference-clause-meets : goal.verdict::verdict_keyword-returns-in-Reference-clause-meets
-verdict::verdict_keyword-returns-in-Reference-clause-meets g t c =
-    let ns = numbered g.K.Validate.shape c.args.engine.now.nodes.now in
-    let w = settling (g.M.Matcher.matching c.args.engine.now.matcher.now) c.args.context.now.remembered.assumptions in
-    let p = steps_to c.args.question.now.place.now in
-    let s = subject_of c.args.question.now.instance in
-    let busy = busy_at p c.args.context.now.in_progress in
-    let mode = mode_of c.args.question.now.mode in
-    let path = path_of c.args.question.now.path.now in
-    let e = edge_of c.in-Reference.edge in
-    let k = reference_edge ns c.args.node.0 e (rw c.in-Reference.is at c.requires.form) in
-    let l = falls_here g.K.Validate.words g.K.Validate.is_whole ns (length c.args.engine.now.nodes.now) w c.requires.may.ranked c.args.node.0 s busy e c.requires.may.known k in
-    rw c.in-Reference.is (if_ok_mono c.verdict_reference.result _ _ (λ b meets.
-    meets_reference g.K.Validate.words g.K.Validate.is_whole ns (length c.args.engine.now.nodes.now) w mode path p busy s c.args.node.0 (string_bytes c.args.entry.now.name) e _ _ l meets) c.verdict_reference.ensures.meets)
-
-pub verdict::verdict_keyword-returns-in-Reference-clause-visits : goal.verdict::verdict_keyword-returns-in-Reference-clause-visits
-verdict::verdict_keyword-returns-in-Reference-clause-visits g t c = rw c.in-Reference.is c.verdict_reference.ensures.visits
+pub verdict::verdict_keyword-returns-in-Reference : goal.verdict::verdict_keyword-returns-in-Reference
+verdict::verdict_keyword-returns-in-Reference g t c = record {
+  keeps = search rules;
+  counts = search rules;
+  visits = rw c.in-Reference.is c.verdict_reference.ensures.visits;
+  says =
+      let ns = numbered g.K.Validate.shape c.args.engine.now.nodes.now in
+      let w = settling (g.M.Matcher.matching c.args.engine.now.matcher.now) c.args.context.now.remembered.assumptions in
+      let p = steps_to c.args.question.now.place.now in
+      let s = subject_of c.args.question.now.instance in
+      let busy = busy_at p c.args.context.now.in_progress in
+      let mode = mode_of c.args.question.now.mode in
+      let path = path_of c.args.question.now.path.now in
+      let e = edge_of c.in-Reference.edge in
+      let k = reference_edge ns c.args.node.0 e (rw c.in-Reference.is at c.requires.stands) in
+      let l = falls_here g.K.Validate.words g.K.Validate.is_whole ns (length c.args.engine.now.nodes.now) w c.requires.may.ranked c.args.node.0 s busy e c.requires.may.known k in
+      rw c.in-Reference.is (if_ok_mono c.verdict_reference.result _ _ (λ b says.
+      form_reference g.K.Validate.words g.K.Validate.is_whole ns (length c.args.engine.now.nodes.now) w mode path p busy s c.args.node.0 (string_bytes c.args.entry.now.name) e (told.Truth b) (told.Truth b) _ refl l (stamps_verdict _ b) (λ root h. h)
+      says) c.verdict_reference.ensures.says);
+  meets =
+      let ns = numbered g.K.Validate.shape c.args.engine.now.nodes.now in
+      let w = settling (g.M.Matcher.matching c.args.engine.now.matcher.now) c.args.context.now.remembered.assumptions in
+      let p = steps_to c.args.question.now.place.now in
+      let s = subject_of c.args.question.now.instance in
+      let busy = busy_at p c.args.context.now.in_progress in
+      let mode = mode_of c.args.question.now.mode in
+      let path = path_of c.args.question.now.path.now in
+      let e = edge_of c.in-Reference.edge in
+      let k = reference_edge ns c.args.node.0 e (rw c.in-Reference.is at c.requires.stands) in
+      let l = falls_here g.K.Validate.words g.K.Validate.is_whole ns (length c.args.engine.now.nodes.now) w c.requires.may.ranked c.args.node.0 s busy e c.requires.may.known k in
+      rw c.in-Reference.is (if_ok_mono c.verdict_reference.result _ _ (λ b meets.
+      meets_reference g.K.Validate.words g.K.Validate.is_whole ns (length c.args.engine.now.nodes.now) w mode path p busy s c.args.node.0 (string_bytes c.args.entry.now.name) e _ _ l meets) c.verdict_reference.ensures.meets);
+  stays = search rules;
+  remembers =
+      let q = asking c.args.question.now in
+      let e = edge_of c.in-Reference.edge in
+      if_ok_mono c.verdict_reference.result _ _ (λ b remembers.
+      reference_remembers q c.args.context.now c.verdict_reference.new.context e _ (told.Truth b) (ap (λ z. shaped_form g.K.Validate.shape (form_of z)) c.in-Reference.is) remembers) c.verdict_reference.ensures.remembers;
+}
 
 pub verdict::verdict_keyword-keyword_verdict-requires : goal.verdict::verdict_keyword-keyword_verdict-requires
 verdict::verdict_keyword-keyword_verdict-requires g t c =
-    λ κs h. (lower_same _ _ t 5 0 refl c.decreases, (h.0, (h.1.0, (h.1.1.0, (h.1.1.1, (c.requires.may, (c.requires.carries, (c.requires.verdict, rw (c.in-Keyword.is, ← c.as_slice.ensures.value) at c.requires.form))))))))
+    λ κs h. (lower_same _ _ t 5 0 refl c.decreases, (h.0, (h.1.0, (h.1.1.0, (h.1.1.1, record { may = c.requires.may; carries = c.requires.carries; verdict = c.requires.verdict; stands = rw (c.in-Keyword.is, ← c.as_slice.ensures.value) at c.requires.stands })))))
 
-pub verdict::verdict_keyword-returns-in-Keyword-clause-says : goal.verdict::verdict_keyword-returns-in-Keyword-clause-says
-verdict::verdict_keyword-returns-in-Keyword-clause-says g t c = rw (c.in-Keyword.is, ← c.as_slice.ensures.value) c.keyword_verdict.ensures.says
+pub verdict::verdict_keyword-returns-in-Keyword : goal.verdict::verdict_keyword-returns-in-Keyword
+verdict::verdict_keyword-returns-in-Keyword g t c = rw (c.in-Keyword.is, ← c.as_slice.ensures.value) c.keyword_verdict.ensures
 
-pub verdict::verdict_keyword-returns-in-Keyword-clause-visits : goal.verdict::verdict_keyword-returns-in-Keyword-clause-visits
-verdict::verdict_keyword-returns-in-Keyword-clause-visits g t c =
-    rw (c.in-Keyword.is, ← c.as_slice.ensures.value) (if_ok_mono c.keyword_verdict.result _ _ (λ b quiet. keyword_counts (numbered g.K.Validate.shape c.args.engine.now.nodes.now) (asking c.args.question.now) c.args.context.now c.keyword_verdict.new.context (g.K.Validate.shape c.in-Keyword.keyword) (map (option_map edge_of) c.as_slice.result.now) quiet) c.keyword_verdict.ensures.quiet)
-
-pub verdict::verdict_keyword-returns-in-Keyword-clause-meets : goal.verdict::verdict_keyword-returns-in-Keyword-clause-meets
-verdict::verdict_keyword-returns-in-Keyword-clause-meets g t c = rw (c.in-Keyword.is, ← c.as_slice.ensures.value) c.keyword_verdict.ensures.meets
-
-pub verdict::verdict_reference-returns-clause-meets : goal.verdict::verdict_reference-returns-clause-meets
-verdict::verdict_reference-returns-clause-meets g t c =
-    let ns = numbered g.K.Validate.shape c.args.engine.now.nodes.now in
-    let w = settling (g.M.Matcher.matching c.args.engine.now.matcher.now) c.args.context.now.remembered.assumptions in
-    let p = steps_to c.args.question.now.place.now in
-    let s = subject_of c.args.question.now.instance in
-    let busy = busy_at p c.args.context.now.in_progress in
-    let mode = mode_of c.args.question.now.mode in
-    let e = edge_of c.args.edge.now in
-    if_ok_mono c.verdict_edge.result _ _ (λ b meets.
-    subst (λ path. EdgeMeets g.K.Validate.words g.K.Validate.is_whole ns (length c.args.engine.now.nodes.now) w mode path p busy s c.args.context.now.remembered c.verdict_edge.new.context.remembered e) c.under_reference-path.ensures.same meets) c.verdict_edge.ensures.meets
+pub verdict::verdict_reference-returns : goal.verdict::verdict_reference-returns
+verdict::verdict_reference-returns g t c = record {
+  keeps = search rules;
+  counts = search rules;
+  visits = search rules;
+  says = search rules;
+  meets =
+      let ns = numbered g.K.Validate.shape c.args.engine.now.nodes.now in
+      let w = settling (g.M.Matcher.matching c.args.engine.now.matcher.now) c.args.context.now.remembered.assumptions in
+      let p = steps_to c.args.question.now.place.now in
+      let s = subject_of c.args.question.now.instance in
+      let busy = busy_at p c.args.context.now.in_progress in
+      let mode = mode_of c.args.question.now.mode in
+      let e = edge_of c.args.edge.now in
+      if_ok_mono c.verdict_edge.result _ _ (λ b meets.
+      subst (λ path. EdgeMeets g.K.Validate.words g.K.Validate.is_whole ns (length c.args.engine.now.nodes.now) w mode path p busy s c.args.context.now.remembered c.verdict_edge.new.context.remembered e) c.under_reference-path.ensures.same meets) c.verdict_edge.ensures.meets;
+  stays = search rules;
+  remembers = search rules;
+}
 
 pub verdict::verdict_node-verdict_entries-requires : goal.verdict::verdict_node-verdict_entries-requires
 verdict::verdict_node-verdict_entries-requires g t c =
     let plan = plan_is g.K.Validate.shape c.args.engine.now.nodes.now c.args.node.0 (node_of c.node.result.now) _ c.node.ensures.found (ap (option_map plan_of) c.in-Some.is ∙ ap (λ f. Some (plan_of f)) c.in-Keywords.is) in
-    λ κs h. (lower_same _ _ t 9 0 refl c.decreases, (h.0, (h.1.0, (h.1.1.0, (h.1.1.1, (c.requires.may, (c.requires.carries, (c.requires.verdict, rw c.as_slice.ensures.value (_, plan, λ y k. k)))))))))
+    λ κs h. (lower_same _ _ t 9 0 refl c.decreases, (h.0, (h.1.0, (h.1.1.0, (h.1.1.1, record { may = c.requires.may; carries = c.requires.carries; verdict = c.requires.verdict; stands = rw c.as_slice.ensures.value (_, plan, λ y k. k) })))))
 
-pub verdict::verdict_node-returns-in-None-clause-says : goal.verdict::verdict_node-returns-in-None-clause-says
-verdict::verdict_node-returns-in-None-clause-says g t c =
-    let ns = numbered g.K.Validate.shape c.args.engine.now.nodes.now in
-    let w = settling (g.M.Matcher.matching c.args.engine.now.matcher.now) c.args.context.now.remembered.assumptions in
-    let p = steps_to c.args.question.now.place.now in
-    let s = subject_of c.args.question.now.instance in
-    let busy = busy_at p c.args.context.now.in_progress in
-    let mode = mode_of c.args.question.now.mode in
-    let path = path_of c.args.question.now.path.now in
-    let plan = plan_none g.K.Validate.shape c.args.engine.now.nodes.now c.args.node.0 (node_of c.node.result.now) c.node.ensures.found (ap (option_map plan_of) c.in-None.is) in
-    node_by_plan g.K.Validate.words g.K.Validate.is_whole ns (length c.args.engine.now.nodes.now) w mode path p busy s c.args.node.0 (told.Truth true) node_always plan (λ x reads l. verdict_replies mode c.requires.verdict x true _ refl)
+pub verdict::verdict_node-returns-in-None : goal.verdict::verdict_node-returns-in-None
+verdict::verdict_node-returns-in-None g t c = record {
+  keeps = search rules;
+  counts = search rules;
+  visits =
+      let plan = plan_none g.K.Validate.shape c.args.engine.now.nodes.now c.args.node.0 (node_of c.node.result.now) c.node.ensures.found (ap (option_map plan_of) c.in-None.is) in
+      always_counts (numbered g.K.Validate.shape c.args.engine.now.nodes.now) (asking c.args.question.now) c.args.context.now c.args.context.now c.args.node.0 plan refl;
+  says =
+      let ns = numbered g.K.Validate.shape c.args.engine.now.nodes.now in
+      let w = settling (g.M.Matcher.matching c.args.engine.now.matcher.now) c.args.context.now.remembered.assumptions in
+      let p = steps_to c.args.question.now.place.now in
+      let s = subject_of c.args.question.now.instance in
+      let busy = busy_at p c.args.context.now.in_progress in
+      let mode = mode_of c.args.question.now.mode in
+      let path = path_of c.args.question.now.path.now in
+      let plan = plan_none g.K.Validate.shape c.args.engine.now.nodes.now c.args.node.0 (node_of c.node.result.now) c.node.ensures.found (ap (option_map plan_of) c.in-None.is) in
+      node_by_plan g.K.Validate.words g.K.Validate.is_whole ns (length c.args.engine.now.nodes.now) w mode path p busy s c.args.node.0 (told.Truth true) node_always plan (λ x reads l. verdict_replies mode c.requires.verdict x true _ refl);
+  meets =
+      let ns = numbered g.K.Validate.shape c.args.engine.now.nodes.now in
+      let w = settling (g.M.Matcher.matching c.args.engine.now.matcher.now) c.args.context.now.remembered.assumptions in
+      let p = steps_to c.args.question.now.place.now in
+      let s = subject_of c.args.question.now.instance in
+      let busy = busy_at p c.args.context.now.in_progress in
+      let mode = mode_of c.args.question.now.mode in
+      let path = path_of c.args.question.now.path.now in
+      let plan = plan_none g.K.Validate.shape c.args.engine.now.nodes.now c.args.node.0 (node_of c.node.result.now) c.node.ensures.found (ap (option_map plan_of) c.in-None.is) in
+      meets_by_plan g.K.Validate.words g.K.Validate.is_whole ns (length c.args.engine.now.nodes.now) w mode path p busy s c.args.node.0 _ _ node_always plan (λ texts root depth reads l. refl);
+  stays = search rules;
+  remembers = search rules;
+}
 
-pub verdict::verdict_node-returns-in-None-clause-meets : goal.verdict::verdict_node-returns-in-None-clause-meets
-verdict::verdict_node-returns-in-None-clause-meets g t c =
-    let ns = numbered g.K.Validate.shape c.args.engine.now.nodes.now in
-    let w = settling (g.M.Matcher.matching c.args.engine.now.matcher.now) c.args.context.now.remembered.assumptions in
-    let p = steps_to c.args.question.now.place.now in
-    let s = subject_of c.args.question.now.instance in
-    let busy = busy_at p c.args.context.now.in_progress in
-    let mode = mode_of c.args.question.now.mode in
-    let path = path_of c.args.question.now.path.now in
-    let plan = plan_none g.K.Validate.shape c.args.engine.now.nodes.now c.args.node.0 (node_of c.node.result.now) c.node.ensures.found (ap (option_map plan_of) c.in-None.is) in
-    meets_by_plan g.K.Validate.words g.K.Validate.is_whole ns (length c.args.engine.now.nodes.now) w mode path p busy s c.args.node.0 _ _ node_always plan (λ texts root depth reads l. refl)
+pub verdict::verdict_node-returns-in-Always : goal.verdict::verdict_node-returns-in-Always
+verdict::verdict_node-returns-in-Always g t c = record {
+  keeps = search rules;
+  counts = search rules;
+  visits =
+      let plan = plan_is g.K.Validate.shape c.args.engine.now.nodes.now c.args.node.0 (node_of c.node.result.now) _ c.node.ensures.found (ap (option_map plan_of) c.in-Some.is ∙ ap (λ f. Some (plan_of f)) c.in-Always.is) in
+      always_counts (numbered g.K.Validate.shape c.args.engine.now.nodes.now) (asking c.args.question.now) c.args.context.now c.args.context.now c.args.node.0 plan refl;
+  says =
+      let ns = numbered g.K.Validate.shape c.args.engine.now.nodes.now in
+      let w = settling (g.M.Matcher.matching c.args.engine.now.matcher.now) c.args.context.now.remembered.assumptions in
+      let p = steps_to c.args.question.now.place.now in
+      let s = subject_of c.args.question.now.instance in
+      let busy = busy_at p c.args.context.now.in_progress in
+      let mode = mode_of c.args.question.now.mode in
+      let path = path_of c.args.question.now.path.now in
+      let plan = plan_is g.K.Validate.shape c.args.engine.now.nodes.now c.args.node.0 (node_of c.node.result.now) _ c.node.ensures.found (ap (option_map plan_of) c.in-Some.is ∙ ap (λ f. Some (plan_of f)) c.in-Always.is) in
+      node_by_plan g.K.Validate.words g.K.Validate.is_whole ns (length c.args.engine.now.nodes.now) w mode path p busy s c.args.node.0 (told.Truth true) node_always plan (λ x reads l. verdict_replies mode c.requires.verdict x true _ refl);
+  meets =
+      let ns = numbered g.K.Validate.shape c.args.engine.now.nodes.now in
+      let w = settling (g.M.Matcher.matching c.args.engine.now.matcher.now) c.args.context.now.remembered.assumptions in
+      let p = steps_to c.args.question.now.place.now in
+      let s = subject_of c.args.question.now.instance in
+      let busy = busy_at p c.args.context.now.in_progress in
+      let mode = mode_of c.args.question.now.mode in
+      let path = path_of c.args.question.now.path.now in
+      let plan = plan_is g.K.Validate.shape c.args.engine.now.nodes.now c.args.node.0 (node_of c.node.result.now) _ c.node.ensures.found (ap (option_map plan_of) c.in-Some.is ∙ ap (λ f. Some (plan_of f)) c.in-Always.is) in
+      meets_by_plan g.K.Validate.words g.K.Validate.is_whole ns (length c.args.engine.now.nodes.now) w mode path p busy s c.args.node.0 _ _ node_always plan (λ texts root depth reads l. refl);
+  stays = search rules;
+  remembers = search rules;
+}
 
-pub verdict::verdict_node-returns-in-None-clause-visits : goal.verdict::verdict_node-returns-in-None-clause-visits
-verdict::verdict_node-returns-in-None-clause-visits g t c =
-    let plan = plan_none g.K.Validate.shape c.args.engine.now.nodes.now c.args.node.0 (node_of c.node.result.now) c.node.ensures.found (ap (option_map plan_of) c.in-None.is) in
-    always_counts (numbered g.K.Validate.shape c.args.engine.now.nodes.now) (asking c.args.question.now) c.args.context.now c.args.context.now c.args.node.0 plan refl
+pub verdict::verdict_node-returns-in-Never : goal.verdict::verdict_node-returns-in-Never
+verdict::verdict_node-returns-in-Never g t c = record {
+  keeps = search rules;
+  counts = search rules;
+  visits =
+      let plan = plan_is g.K.Validate.shape c.args.engine.now.nodes.now c.args.node.0 (node_of c.node.result.now) _ c.node.ensures.found (ap (option_map plan_of) c.in-Some.is ∙ ap (λ f. Some (plan_of f)) c.in-Never.is) in
+      never_counts (numbered g.K.Validate.shape c.args.engine.now.nodes.now) (asking c.args.question.now) c.args.context.now c.args.context.now c.args.node.0 plan refl;
+  says =
+      let ns = numbered g.K.Validate.shape c.args.engine.now.nodes.now in
+      let w = settling (g.M.Matcher.matching c.args.engine.now.matcher.now) c.args.context.now.remembered.assumptions in
+      let p = steps_to c.args.question.now.place.now in
+      let s = subject_of c.args.question.now.instance in
+      let busy = busy_at p c.args.context.now.in_progress in
+      let mode = mode_of c.args.question.now.mode in
+      let path = path_of c.args.question.now.path.now in
+      let plan = plan_is g.K.Validate.shape c.args.engine.now.nodes.now c.args.node.0 (node_of c.node.result.now) _ c.node.ensures.found (ap (option_map plan_of) c.in-Some.is ∙ ap (λ f. Some (plan_of f)) c.in-Never.is) in
+      node_by_plan g.K.Validate.words g.K.Validate.is_whole ns (length c.args.engine.now.nodes.now) w mode path p busy s c.args.node.0 (told.Truth false) node_never plan (λ x reads l. verdict_replies mode c.requires.verdict x false _ refl);
+  meets =
+      let ns = numbered g.K.Validate.shape c.args.engine.now.nodes.now in
+      let w = settling (g.M.Matcher.matching c.args.engine.now.matcher.now) c.args.context.now.remembered.assumptions in
+      let p = steps_to c.args.question.now.place.now in
+      let s = subject_of c.args.question.now.instance in
+      let busy = busy_at p c.args.context.now.in_progress in
+      let mode = mode_of c.args.question.now.mode in
+      let path = path_of c.args.question.now.path.now in
+      let plan = plan_is g.K.Validate.shape c.args.engine.now.nodes.now c.args.node.0 (node_of c.node.result.now) _ c.node.ensures.found (ap (option_map plan_of) c.in-Some.is ∙ ap (λ f. Some (plan_of f)) c.in-Never.is) in
+      meets_by_plan g.K.Validate.words g.K.Validate.is_whole ns (length c.args.engine.now.nodes.now) w mode path p busy s c.args.node.0 _ _ node_never plan (λ texts root depth reads l. refl);
+  stays = search rules;
+  remembers = search rules;
+}
 
-pub verdict::verdict_node-returns-in-Always-clause-says : goal.verdict::verdict_node-returns-in-Always-clause-says
-verdict::verdict_node-returns-in-Always-clause-says g t c =
-    let ns = numbered g.K.Validate.shape c.args.engine.now.nodes.now in
-    let w = settling (g.M.Matcher.matching c.args.engine.now.matcher.now) c.args.context.now.remembered.assumptions in
-    let p = steps_to c.args.question.now.place.now in
-    let s = subject_of c.args.question.now.instance in
-    let busy = busy_at p c.args.context.now.in_progress in
-    let mode = mode_of c.args.question.now.mode in
-    let path = path_of c.args.question.now.path.now in
-    let plan = plan_is g.K.Validate.shape c.args.engine.now.nodes.now c.args.node.0 (node_of c.node.result.now) _ c.node.ensures.found (ap (option_map plan_of) c.in-Some.is ∙ ap (λ f. Some (plan_of f)) c.in-Always.is) in
-    node_by_plan g.K.Validate.words g.K.Validate.is_whole ns (length c.args.engine.now.nodes.now) w mode path p busy s c.args.node.0 (told.Truth true) node_always plan (λ x reads l. verdict_replies mode c.requires.verdict x true _ refl)
-
-pub verdict::verdict_node-returns-in-Always-clause-meets : goal.verdict::verdict_node-returns-in-Always-clause-meets
-verdict::verdict_node-returns-in-Always-clause-meets g t c =
-    let ns = numbered g.K.Validate.shape c.args.engine.now.nodes.now in
-    let w = settling (g.M.Matcher.matching c.args.engine.now.matcher.now) c.args.context.now.remembered.assumptions in
-    let p = steps_to c.args.question.now.place.now in
-    let s = subject_of c.args.question.now.instance in
-    let busy = busy_at p c.args.context.now.in_progress in
-    let mode = mode_of c.args.question.now.mode in
-    let path = path_of c.args.question.now.path.now in
-    let plan = plan_is g.K.Validate.shape c.args.engine.now.nodes.now c.args.node.0 (node_of c.node.result.now) _ c.node.ensures.found (ap (option_map plan_of) c.in-Some.is ∙ ap (λ f. Some (plan_of f)) c.in-Always.is) in
-    meets_by_plan g.K.Validate.words g.K.Validate.is_whole ns (length c.args.engine.now.nodes.now) w mode path p busy s c.args.node.0 _ _ node_always plan (λ texts root depth reads l. refl)
-
-pub verdict::verdict_node-returns-in-Always-clause-visits : goal.verdict::verdict_node-returns-in-Always-clause-visits
-verdict::verdict_node-returns-in-Always-clause-visits g t c =
-    let plan = plan_is g.K.Validate.shape c.args.engine.now.nodes.now c.args.node.0 (node_of c.node.result.now) _ c.node.ensures.found (ap (option_map plan_of) c.in-Some.is ∙ ap (λ f. Some (plan_of f)) c.in-Always.is) in
-    always_counts (numbered g.K.Validate.shape c.args.engine.now.nodes.now) (asking c.args.question.now) c.args.context.now c.args.context.now c.args.node.0 plan refl
-
-pub verdict::verdict_node-returns-in-Never-clause-says : goal.verdict::verdict_node-returns-in-Never-clause-says
-verdict::verdict_node-returns-in-Never-clause-says g t c =
-    let ns = numbered g.K.Validate.shape c.args.engine.now.nodes.now in
-    let w = settling (g.M.Matcher.matching c.args.engine.now.matcher.now) c.args.context.now.remembered.assumptions in
-    let p = steps_to c.args.question.now.place.now in
-    let s = subject_of c.args.question.now.instance in
-    let busy = busy_at p c.args.context.now.in_progress in
-    let mode = mode_of c.args.question.now.mode in
-    let path = path_of c.args.question.now.path.now in
-    let plan = plan_is g.K.Validate.shape c.args.engine.now.nodes.now c.args.node.0 (node_of c.node.result.now) _ c.node.ensures.found (ap (option_map plan_of) c.in-Some.is ∙ ap (λ f. Some (plan_of f)) c.in-Never.is) in
-    node_by_plan g.K.Validate.words g.K.Validate.is_whole ns (length c.args.engine.now.nodes.now) w mode path p busy s c.args.node.0 (told.Truth false) node_never plan (λ x reads l. verdict_replies mode c.requires.verdict x false _ refl)
-
-pub verdict::verdict_node-returns-in-Never-clause-meets : goal.verdict::verdict_node-returns-in-Never-clause-meets
-verdict::verdict_node-returns-in-Never-clause-meets g t c =
-    let ns = numbered g.K.Validate.shape c.args.engine.now.nodes.now in
-    let w = settling (g.M.Matcher.matching c.args.engine.now.matcher.now) c.args.context.now.remembered.assumptions in
-    let p = steps_to c.args.question.now.place.now in
-    let s = subject_of c.args.question.now.instance in
-    let busy = busy_at p c.args.context.now.in_progress in
-    let mode = mode_of c.args.question.now.mode in
-    let path = path_of c.args.question.now.path.now in
-    let plan = plan_is g.K.Validate.shape c.args.engine.now.nodes.now c.args.node.0 (node_of c.node.result.now) _ c.node.ensures.found (ap (option_map plan_of) c.in-Some.is ∙ ap (λ f. Some (plan_of f)) c.in-Never.is) in
-    meets_by_plan g.K.Validate.words g.K.Validate.is_whole ns (length c.args.engine.now.nodes.now) w mode path p busy s c.args.node.0 _ _ node_never plan (λ texts root depth reads l. refl)
-
-pub verdict::verdict_node-returns-in-Never-clause-visits : goal.verdict::verdict_node-returns-in-Never-clause-visits
-verdict::verdict_node-returns-in-Never-clause-visits g t c =
-    let plan = plan_is g.K.Validate.shape c.args.engine.now.nodes.now c.args.node.0 (node_of c.node.result.now) _ c.node.ensures.found (ap (option_map plan_of) c.in-Some.is ∙ ap (λ f. Some (plan_of f)) c.in-Never.is) in
-    never_counts (numbered g.K.Validate.shape c.args.engine.now.nodes.now) (asking c.args.question.now) c.args.context.now c.args.context.now c.args.node.0 plan refl
-
-pub verdict::verdict_node-returns-in-Keywords-clause-says : goal.verdict::verdict_node-returns-in-Keywords-clause-says
-verdict::verdict_node-returns-in-Keywords-clause-says g t c =
-    let ns = numbered g.K.Validate.shape c.args.engine.now.nodes.now in
-    let p = steps_to c.args.question.now.place.now in
-    let plan = plan_is g.K.Validate.shape c.args.engine.now.nodes.now c.args.node.0 (node_of c.node.result.now) _ c.node.ensures.found (ap (option_map plan_of) c.in-Some.is ∙ ap (λ f. Some (plan_of f)) c.in-Keywords.is) in
-    if_ok_mono c.verdict_entries.result _ _ (λ b says. node_by_plan g.K.Validate.words g.K.Validate.is_whole ns (length c.args.engine.now.nodes.now) (settling (g.M.Matcher.matching c.args.engine.now.matcher.now) c.args.context.now.remembered.assumptions) (mode_of c.args.question.now.mode) (path_of c.args.question.now.path.now) p (busy_at p c.args.context.now.in_progress) (subject_of c.args.question.now.instance) c.args.node.0 (told.Truth b) _ plan says)
-    (rw c.as_slice.ensures.value at c.verdict_entries.ensures.says)
-
-pub verdict::verdict_node-returns-in-Keywords-clause-meets : goal.verdict::verdict_node-returns-in-Keywords-clause-meets
-verdict::verdict_node-returns-in-Keywords-clause-meets g t c =
-    let ns = numbered g.K.Validate.shape c.args.engine.now.nodes.now in
-    let w = settling (g.M.Matcher.matching c.args.engine.now.matcher.now) c.args.context.now.remembered.assumptions in
-    let p = steps_to c.args.question.now.place.now in
-    let s = subject_of c.args.question.now.instance in
-    let busy = busy_at p c.args.context.now.in_progress in
-    let plan = plan_is g.K.Validate.shape c.args.engine.now.nodes.now c.args.node.0 (node_of c.node.result.now) _ c.node.ensures.found (ap (option_map plan_of) c.in-Some.is ∙ ap (λ f. Some (plan_of f)) c.in-Keywords.is) in
-    if_ok_mono c.verdict_entries.result _ _ (λ b met. meets_these g.K.Validate.words g.K.Validate.is_whole ns (length c.args.engine.now.nodes.now) w (mode_of c.args.question.now.mode) (path_of c.args.question.now.path.now) p busy s c.args.node.0 _ _ _ plan met) (rw c.as_slice.ensures.value at c.verdict_entries.ensures.meets)
-
-pub verdict::verdict_node-returns-in-Keywords-clause-visits : goal.verdict::verdict_node-returns-in-Keywords-clause-visits
-verdict::verdict_node-returns-in-Keywords-clause-visits g t c =
-    let plan = plan_is g.K.Validate.shape c.args.engine.now.nodes.now c.args.node.0 (node_of c.node.result.now) _ c.node.ensures.found (ap (option_map plan_of) c.in-Some.is ∙ ap (λ f. Some (plan_of f)) c.in-Keywords.is) in
-    if_ok_mono c.verdict_entries.result _ _ (λ b counts. planned_counts (numbered g.K.Validate.shape c.args.engine.now.nodes.now) (asking c.args.question.now) c.args.context.now c.verdict_entries.new.context c.args.node.0 _ plan counts) (rw c.as_slice.ensures.value at c.verdict_entries.ensures.visits)
-
-pub verdict::verdict_node-returns-in-Keywords-clause-remembers : goal.verdict::verdict_node-returns-in-Keywords-clause-remembers
-verdict::verdict_node-returns-in-Keywords-clause-remembers g t c =
-    let plan = plan_is g.K.Validate.shape c.args.engine.now.nodes.now c.args.node.0 (node_of c.node.result.now) _ c.node.ensures.found (ap (option_map plan_of) c.in-Some.is ∙ ap (λ f. Some (plan_of f)) c.in-Keywords.is) in
-    if_ok_mono c.verdict_entries.result _ _ (λ b remembers. planned_remembers (asking c.args.question.now) c.args.context.now c.verdict_entries.new.context (numbered g.K.Validate.shape c.args.engine.now.nodes.now) c.args.node.0 _ (told.Truth b) plan remembers) (rw c.as_slice.ensures.value at c.verdict_entries.ensures.remembers)
+pub verdict::verdict_node-returns-in-Keywords : goal.verdict::verdict_node-returns-in-Keywords
+verdict::verdict_node-returns-in-Keywords g t c = record {
+  keeps = search rules;
+  counts = search rules;
+  visits =
+      let plan = plan_is g.K.Validate.shape c.args.engine.now.nodes.now c.args.node.0 (node_of c.node.result.now) _ c.node.ensures.found (ap (option_map plan_of) c.in-Some.is ∙ ap (λ f. Some (plan_of f)) c.in-Keywords.is) in
+      if_ok_mono c.verdict_entries.result _ _ (λ b counts. planned_counts (numbered g.K.Validate.shape c.args.engine.now.nodes.now) (asking c.args.question.now) c.args.context.now c.verdict_entries.new.context c.args.node.0 _ plan counts) (rw c.as_slice.ensures.value at c.verdict_entries.ensures.visits);
+  says =
+      let ns = numbered g.K.Validate.shape c.args.engine.now.nodes.now in
+      let p = steps_to c.args.question.now.place.now in
+      let plan = plan_is g.K.Validate.shape c.args.engine.now.nodes.now c.args.node.0 (node_of c.node.result.now) _ c.node.ensures.found (ap (option_map plan_of) c.in-Some.is ∙ ap (λ f. Some (plan_of f)) c.in-Keywords.is) in
+      if_ok_mono c.verdict_entries.result _ _ (λ b says. node_by_plan g.K.Validate.words g.K.Validate.is_whole ns (length c.args.engine.now.nodes.now) (settling (g.M.Matcher.matching c.args.engine.now.matcher.now) c.args.context.now.remembered.assumptions) (mode_of c.args.question.now.mode) (path_of c.args.question.now.path.now) p (busy_at p c.args.context.now.in_progress) (subject_of c.args.question.now.instance) c.args.node.0 (told.Truth b) _ plan says)
+      (rw c.as_slice.ensures.value at c.verdict_entries.ensures.says);
+  meets =
+      let ns = numbered g.K.Validate.shape c.args.engine.now.nodes.now in
+      let w = settling (g.M.Matcher.matching c.args.engine.now.matcher.now) c.args.context.now.remembered.assumptions in
+      let p = steps_to c.args.question.now.place.now in
+      let s = subject_of c.args.question.now.instance in
+      let busy = busy_at p c.args.context.now.in_progress in
+      let plan = plan_is g.K.Validate.shape c.args.engine.now.nodes.now c.args.node.0 (node_of c.node.result.now) _ c.node.ensures.found (ap (option_map plan_of) c.in-Some.is ∙ ap (λ f. Some (plan_of f)) c.in-Keywords.is) in
+      if_ok_mono c.verdict_entries.result _ _ (λ b met. meets_these g.K.Validate.words g.K.Validate.is_whole ns (length c.args.engine.now.nodes.now) w (mode_of c.args.question.now.mode) (path_of c.args.question.now.path.now) p busy s c.args.node.0 _ _ _ plan met) (rw c.as_slice.ensures.value at c.verdict_entries.ensures.meets);
+  stays = search rules;
+  remembers =
+      let plan = plan_is g.K.Validate.shape c.args.engine.now.nodes.now c.args.node.0 (node_of c.node.result.now) _ c.node.ensures.found (ap (option_map plan_of) c.in-Some.is ∙ ap (λ f. Some (plan_of f)) c.in-Keywords.is) in
+      if_ok_mono c.verdict_entries.result _ _ (λ b remembers. planned_remembers (asking c.args.question.now) c.args.context.now c.verdict_entries.new.context (numbered g.K.Validate.shape c.args.engine.now.nodes.now) c.args.node.0 _ (told.Truth b) plan remembers) (rw c.as_slice.ensures.value at c.verdict_entries.ensures.remembers);
+}
 
 pub verdict::verdict_entries-loop-entry-init : goal.verdict::verdict_entries-loop-entry-init
 verdict::verdict_entries-loop-entry-init g t c = record {
@@ -444,7 +462,7 @@ verdict::verdict_entries-verdict_form-requires g t c =
     let kept = c.loop-entry.invariant.kept in
     let l = ap (λ es. left ns (length c.args.engine.now.nodes.now) c.args.node.0 (subject_of c.args.question.now.instance) (busy_at p es)) kept in
     let here = part_at entry_of (shaped_part g.K.Validate.shape) c.args.entries.now c.loop-entry.entry-index c.entry-item.result c.loop-entry-test.true c.entry-item.is in
-    λ κs h. (lower_same _ _ t 7 1 l c.decreases, (h.0, (h.1.0, (h.1.1.0, (h.1.1.1, (record { known = c.requires.may.known; ranked = c.requires.may.ranked; above = subst (NoDeeper p) (sym kept) c.requires.may.above; wanted = c.requires.may.wanted; stands = stands_on c.args.context.now.root _ (asking c.args.question.now) c.loop-entry.invariant.root c.requires.may.stands; goes_on = (c.requires.may.goes_on.0, c.requires.may.goes_on.1, c.loop-entry.invariant.stays c.requires.may.goes_on.0 c.requires.may.goes_on.1 c.requires.may.goes_on.2) }, (carries_on c.args.context.now.root _ c.args.question.now.place.now c.loop-entry.invariant.root c.requires.carries, (c.requires.verdict, (c.requires.parts.0, c.requires.parts.1, shaped_part g.K.Validate.shape (entry_of c.entry-item.result), c.requires.parts.2 _ here, refl)))))))))
+    λ κs h. (lower_same _ _ t 7 1 l c.decreases, (h.0, (h.1.0, (h.1.1.0, (h.1.1.1, record { may = record { known = c.requires.may.known; ranked = c.requires.may.ranked; above = subst (NoDeeper p) (sym kept) c.requires.may.above; wanted = c.requires.may.wanted; stands = stands_on c.args.context.now.root _ (asking c.args.question.now) c.loop-entry.invariant.root c.requires.may.stands; goes_on = (c.requires.may.goes_on.0, c.requires.may.goes_on.1, c.loop-entry.invariant.stays c.requires.may.goes_on.0 c.requires.may.goes_on.1 c.requires.may.goes_on.2) }; carries = carries_on c.args.context.now.root _ c.args.question.now.place.now c.loop-entry.invariant.root c.requires.carries; verdict = c.requires.verdict; stands = (c.requires.stands.0, c.requires.stands.1, shaped_part g.K.Validate.shape (entry_of c.entry-item.result), c.requires.stands.2 _ here, refl) })))))
 
 pub verdict::verdict_entries-loop-entry-preserved : goal.verdict::verdict_entries-loop-entry-preserved
 verdict::verdict_entries-loop-entry-preserved g t c = record {
@@ -483,255 +501,250 @@ verdict::verdict_entries-loop-entry-preserved g t c = record {
       (joins_verdict true) (λ root h k. k) says (c.loop-entry.invariant.so_far x reads l);
 }
 
-pub verdict::verdict_entries-returns-then-not-valid-clause-says : goal.verdict::verdict_entries-returns-then-not-valid-clause-says
-verdict::verdict_entries-returns-then-not-valid-clause-says g t c = λ x reads l.
-    let ns = numbered g.K.Validate.shape c.args.engine.now.nodes.now in
-    let p = steps_to c.args.question.now.place.now in
-    let parts = λ (es : List (Entry g.row.K.Denot)). parts_say g.K.Validate.words ns x c.args.node.0 (path_of c.args.question.now.path.now) p (busy_at p c.args.context.now.in_progress) (map (shaped_part g.K.Validate.shape) (map entry_of es)) in
-    let says = (rw (c.loop-entry.invariant.kept, c.loop-entry.invariant.assumes) at (subst (λ v. FormSays (setting g.K.Validate.words g.K.Validate.is_whole g.K.Validate.shape g.M.Matcher.matching c.args.engine.now) (asking c.args.question.now) c.loop-entry.context c.args.node.0 (string_bytes c.entry-item.result.name) (shaped_form g.K.Validate.shape (form_of c.entry-item.result.form)) (told.Truth v)) c.if-not-valid.true c.in_ok-valid.ensures.says)) x reads l in
-    let split = ap parts (drop_at c.args.entries.now c.loop-entry.entry-index c.entry-item.result c.loop-entry-test.true c.entry-item.is) in
-    let next = one_entry g.K.Validate.words g.K.Validate.is_whole ns (length c.args.engine.now.nodes.now) (settling (g.M.Matcher.matching c.args.engine.now.matcher.now) c.args.context.now.remembered.assumptions) (mode_of c.args.question.now.mode) x (told.Truth true) (told.Truth false) (told.Truth false) _ _ (parts (drop (c.loop-entry.entry-index + 1) c.args.entries.now)) _ split
-    (joins_verdict false) (λ root h k. k) says (c.loop-entry.invariant.so_far x reads l) in
-    settled_entries g.K.Validate.words g.K.Validate.is_whole ns (length c.args.engine.now.nodes.now) (settling (g.M.Matcher.matching c.args.engine.now.matcher.now) c.args.context.now.remembered.assumptions) (mode_of c.args.question.now.mode) x (told.Truth false) _ _ refl next
+pub verdict::verdict_entries-returns-then-not-valid : goal.verdict::verdict_entries-returns-then-not-valid
+verdict::verdict_entries-returns-then-not-valid g t c = record {
+  keeps = search rules;
+  counts = no_fewer c.args.context.now.visits c.loop-entry.context.visits c.verdict_form.new.context.visits c.loop-entry.invariant.counted c.in_ok-valid.ensures.counts;
+  visits =
+      next_counts (numbered g.K.Validate.shape c.args.engine.now.nodes.now) (asking c.args.question.now) entry_of (shaped_part g.K.Validate.shape) c.args.entries.now c.loop-entry.entry-index c.entry-item.result c.loop-entry-test.true c.entry-item.is c.args.context.now c.loop-entry.context c.verdict_form.new.context c.loop-entry.invariant.first c.loop-entry.invariant.visited c.in_ok-valid.ensures.visits;
+  says = λ x reads l.
+      let ns = numbered g.K.Validate.shape c.args.engine.now.nodes.now in
+      let p = steps_to c.args.question.now.place.now in
+      let parts = λ (es : List (Entry g.row.K.Denot)). parts_say g.K.Validate.words ns x c.args.node.0 (path_of c.args.question.now.path.now) p (busy_at p c.args.context.now.in_progress) (map (shaped_part g.K.Validate.shape) (map entry_of es)) in
+      let says = (rw (c.loop-entry.invariant.kept, c.loop-entry.invariant.assumes) at (subst (λ v. FormSays (setting g.K.Validate.words g.K.Validate.is_whole g.K.Validate.shape g.M.Matcher.matching c.args.engine.now) (asking c.args.question.now) c.loop-entry.context c.args.node.0 (string_bytes c.entry-item.result.name) (shaped_form g.K.Validate.shape (form_of c.entry-item.result.form)) (told.Truth v)) c.if-not-valid.true c.in_ok-valid.ensures.says)) x reads l in
+      let split = ap parts (drop_at c.args.entries.now c.loop-entry.entry-index c.entry-item.result c.loop-entry-test.true c.entry-item.is) in
+      let next = one_entry g.K.Validate.words g.K.Validate.is_whole ns (length c.args.engine.now.nodes.now) (settling (g.M.Matcher.matching c.args.engine.now.matcher.now) c.args.context.now.remembered.assumptions) (mode_of c.args.question.now.mode) x (told.Truth true) (told.Truth false) (told.Truth false) _ _ (parts (drop (c.loop-entry.entry-index + 1) c.args.entries.now)) _ split
+      (joins_verdict false) (λ root h k. k) says (c.loop-entry.invariant.so_far x reads l) in
+      settled_entries g.K.Validate.words g.K.Validate.is_whole ns (length c.args.engine.now.nodes.now) (settling (g.M.Matcher.matching c.args.engine.now.matcher.now) c.args.context.now.remembered.assumptions) (mode_of c.args.question.now.mode) x (told.Truth false) _ _ refl next;
+  meets = λ texts root depth reads l.
+      let ns = numbered g.K.Validate.shape c.args.engine.now.nodes.now in
+      let w = settling (g.M.Matcher.matching c.args.engine.now.matcher.now) c.args.context.now.remembered.assumptions in
+      let p = steps_to c.args.question.now.place.now in
+      let busy = busy_at p c.args.context.now.in_progress in
+      let mode = mode_of c.args.question.now.mode in
+      let part = shaped_part g.K.Validate.shape (entry_of c.entry-item.result) in
+      let looked = λ (es : List (Entry g.row.K.Denot)). parts_looked g.K.Validate.words ns w texts root depth c.args.node.0 (path_of c.args.question.now.path.now) p busy (map (shaped_part g.K.Validate.shape) (map entry_of es)) in
+      let here = meets_same w.matcher _ _ _ _ (other_entry mode (part_looked g.K.Validate.words ns w texts root depth c.args.node.0 (path_of c.args.question.now.path.now) p busy part) (λ no less. absurd (no c.requires.verdict))) (moved (λ es as'. FormMeets g.K.Validate.words g.K.Validate.is_whole ns (length c.args.engine.now.nodes.now) (settling (g.M.Matcher.matching c.args.engine.now.matcher.now) as') mode (path_of c.args.question.now.path.now) p (busy_at p es) (subject_of c.args.question.now.instance) c.loop-entry.context.remembered c.verdict_form.new.context.remembered c.args.node.0 part.name part.form) c.loop-entry.invariant.kept c.loop-entry.invariant.assumes c.in_ok-valid.ensures.meets texts root depth reads l) in
+      let says = (rw (c.loop-entry.invariant.kept, c.loop-entry.invariant.assumes) at (subst (λ v. FormSays (setting g.K.Validate.words g.K.Validate.is_whole g.K.Validate.shape g.M.Matcher.matching c.args.engine.now) (asking c.args.question.now) c.loop-entry.context c.args.node.0 (string_bytes c.entry-item.result.name) (shaped_form g.K.Validate.shape (form_of c.entry-item.result.form)) (told.Truth v)) c.if-not-valid.true c.in_ok-valid.ensures.says)) (reading w texts root depth) reads l in
+      let so_far = c.loop-entry.invariant.so_far (reading w texts root depth) reads l in
+      let met = c.loop-entry.invariant.met texts root depth reads l in
+      let split = ap (λ es. plan_met mode (looked es)) (drop_at c.args.entries.now c.loop-entry.entry-index c.entry-item.result c.loop-entry-test.true c.entry-item.is) in
+      let agrees = agrees_says g.K.Validate.words ns (λ texts m s completion matcher a h. (g.met.K.Validate.function_laws texts m).agree s (matching matcher completion) a h) (reading w texts root depth) c.args.node.0 (path_of c.args.question.now.path.now) p busy part.name part.form in
+      let last = stops_at g.K.Validate.words ns w texts root depth mode c.args.node.0 (path_of c.args.question.now.path.now) p busy part (told.Truth true) (told.Truth false) (told.Truth false) so_far.0 _ agrees so_far.1 says (joins_verdict false) refl refl in
+      last_met w.matcher mode (part_looked g.K.Validate.words ns w texts root depth c.args.node.0 (path_of c.args.question.now.path.now) p busy part) (looked (drop (c.loop-entry.entry-index + 1) c.args.entries.now)) _ _ met.0 _ _ _ met.1 here met.2 split last;
+  stays = λ layout laid right. c.in_ok-valid.ensures.stays layout laid (c.loop-entry.invariant.stays layout laid right);
+  remembers =
+      alone_remembers (asking c.args.question.now) entry_of (shaped_part g.K.Validate.shape) c.args.entries.now c.loop-entry.entry-index c.entry-item.result c.loop-entry-test.true c.entry-item.is c.args.context.now c.loop-entry.context c.verdict_form.new.context (told.Truth false) c.loop-entry.invariant.first (subst (λ v. FormRemembers (asking c.args.question.now) c.loop-entry.context c.verdict_form.new.context (shaped_form g.K.Validate.shape (form_of c.entry-item.result.form)) (told.Truth v)) c.if-not-valid.true c.in_ok-valid.ensures.remembers);
+}
 
-pub verdict::verdict_entries-returns-then-not-valid-clause-meets : goal.verdict::verdict_entries-returns-then-not-valid-clause-meets
-verdict::verdict_entries-returns-then-not-valid-clause-meets g t c = λ texts root depth reads l.
-    let ns = numbered g.K.Validate.shape c.args.engine.now.nodes.now in
-    let w = settling (g.M.Matcher.matching c.args.engine.now.matcher.now) c.args.context.now.remembered.assumptions in
-    let p = steps_to c.args.question.now.place.now in
-    let busy = busy_at p c.args.context.now.in_progress in
-    let mode = mode_of c.args.question.now.mode in
-    let part = shaped_part g.K.Validate.shape (entry_of c.entry-item.result) in
-    let looked = λ (es : List (Entry g.row.K.Denot)). parts_looked g.K.Validate.words ns w texts root depth c.args.node.0 (path_of c.args.question.now.path.now) p busy (map (shaped_part g.K.Validate.shape) (map entry_of es)) in
-    let here = meets_same w.matcher _ _ _ _ (other_entry mode (part_looked g.K.Validate.words ns w texts root depth c.args.node.0 (path_of c.args.question.now.path.now) p busy part) (λ no less. absurd (no c.requires.verdict))) (moved (λ es as'. FormMeets g.K.Validate.words g.K.Validate.is_whole ns (length c.args.engine.now.nodes.now) (settling (g.M.Matcher.matching c.args.engine.now.matcher.now) as') mode (path_of c.args.question.now.path.now) p (busy_at p es) (subject_of c.args.question.now.instance) c.loop-entry.context.remembered c.verdict_form.new.context.remembered c.args.node.0 part.name part.form) c.loop-entry.invariant.kept c.loop-entry.invariant.assumes c.in_ok-valid.ensures.meets texts root depth reads l) in
-    let says = (rw (c.loop-entry.invariant.kept, c.loop-entry.invariant.assumes) at (subst (λ v. FormSays (setting g.K.Validate.words g.K.Validate.is_whole g.K.Validate.shape g.M.Matcher.matching c.args.engine.now) (asking c.args.question.now) c.loop-entry.context c.args.node.0 (string_bytes c.entry-item.result.name) (shaped_form g.K.Validate.shape (form_of c.entry-item.result.form)) (told.Truth v)) c.if-not-valid.true c.in_ok-valid.ensures.says)) (reading w texts root depth) reads l in
-    let so_far = c.loop-entry.invariant.so_far (reading w texts root depth) reads l in
-    let met = c.loop-entry.invariant.met texts root depth reads l in
-    let split = ap (λ es. plan_met mode (looked es)) (drop_at c.args.entries.now c.loop-entry.entry-index c.entry-item.result c.loop-entry-test.true c.entry-item.is) in
-    let agrees = agrees_says g.K.Validate.words ns (λ texts m s completion matcher a h. (g.met.K.Validate.function_laws texts m).agree s (matching matcher completion) a h) (reading w texts root depth) c.args.node.0 (path_of c.args.question.now.path.now) p busy part.name part.form in
-    let last = stops_at g.K.Validate.words ns w texts root depth mode c.args.node.0 (path_of c.args.question.now.path.now) p busy part (told.Truth true) (told.Truth false) (told.Truth false) so_far.0 _ agrees so_far.1 says (joins_verdict false) refl refl in
-    last_met w.matcher mode (part_looked g.K.Validate.words ns w texts root depth c.args.node.0 (path_of c.args.question.now.path.now) p busy part) (looked (drop (c.loop-entry.entry-index + 1) c.args.entries.now)) _ _ met.0 _ _ _ met.1 here met.2 split last
+pub verdict::verdict_entries-returns : goal.verdict::verdict_entries-returns
+verdict::verdict_entries-returns g t c = record {
+  keeps = search rules;
+  counts = search rules;
+  visits =
+      ended_counts (numbered g.K.Validate.shape c.args.engine.now.nodes.now) (asking c.args.question.now) entry_of (shaped_part g.K.Validate.shape) c.args.entries.now c.loop-entry.entry-index c.loop-entry-test.false c.args.context.now c.loop-entry.context c.loop-entry.invariant.first c.loop-entry.invariant.visited;
+  says = grind (arith, common_steps);
+  meets = λ texts root depth reads l.
+      let ns = numbered g.K.Validate.shape c.args.engine.now.nodes.now in
+      let w = settling (g.M.Matcher.matching c.args.engine.now.matcher.now) c.args.context.now.remembered.assumptions in
+      let p = steps_to c.args.question.now.place.now in
+      let looked = λ (es : List (Entry g.row.K.Denot)). parts_looked g.K.Validate.words ns w texts root depth c.args.node.0 (path_of c.args.question.now.path.now) p (busy_at p c.args.context.now.in_progress) (map (shaped_part g.K.Validate.shape) (map entry_of es)) in
+      end_met w.matcher (mode_of c.args.question.now.mode) (looked (drop c.loop-entry.entry-index c.args.entries.now)) (plan_met (mode_of c.args.question.now.mode) (looked c.args.entries.now)) c.args.context.now.remembered c.loop-entry.context.remembered
+      (ap looked (drop_past c.args.entries.now c.loop-entry.entry-index c.loop-entry-test.false)) (c.loop-entry.invariant.met texts root depth reads l);
+  stays = search rules;
+  remembers =
+      ended_remembers (asking c.args.question.now) entry_of (shaped_part g.K.Validate.shape) c.args.entries.now c.loop-entry.entry-index c.loop-entry-test.false c.args.context.now c.loop-entry.context (told.Truth true) c.loop-entry.invariant.remembers;
+}
 
-pub verdict::verdict_entries-returns-then-not-valid-clause-counts : goal.verdict::verdict_entries-returns-then-not-valid-clause-counts
-verdict::verdict_entries-returns-then-not-valid-clause-counts g t c = no_fewer c.args.context.now.visits c.loop-entry.context.visits c.verdict_form.new.context.visits c.loop-entry.invariant.counted c.in_ok-valid.ensures.counts
+pub verdict::verdict_edge-returns : goal.verdict::verdict_edge-returns
+verdict::verdict_edge-returns g t c = record {
+  keeps = search rules;
+  counts = search rules;
+  visits = if_ok_mono c.verdict_node.result _ _ (λ b counts. free_counts (numbered g.K.Validate.shape c.args.engine.now.nodes.now) (asking c.args.question.now) c.args.context.now (edge_of c.args.edge.now) c.verdict_node.new.context c.if-edge.false counts) c.verdict_node.ensures.visits;
+  says = search rules;
+  meets = search rules;
+  stays = search rules;
+  remembers = search rules;
+}
 
-pub verdict::verdict_entries-returns-then-not-valid-clause-stays : goal.verdict::verdict_entries-returns-then-not-valid-clause-stays
-verdict::verdict_entries-returns-then-not-valid-clause-stays g t c = λ layout laid right. c.in_ok-valid.ensures.stays layout laid (c.loop-entry.invariant.stays layout laid right)
+pub verdict::guarded_verdict-returns-in-Some : goal.verdict::guarded_verdict-returns-in-Some
+verdict::guarded_verdict-returns-in-Some g t c = record {
+  keeps = search rules;
+  counts = search rules;
+  visits =
+      let ns = numbered g.K.Validate.shape c.args.engine.now.nodes.now in
+      let q = asking c.args.question.now in
+      let p = steps_to c.args.question.now.place.now in
+      let e = edge_of c.args.edge.now in
+      let visits = ap (λ (z : Context). z.visits) c.in_ok-pair.ensures.unchanged in
+      elim (pair_known e.node c.in_ok-pair.pair.node.0 p (place_of c.in_ok-pair.pair) c.args.context.now c.new.new.context (ap (λ (n : SchemaNode). n.0) c.in_ok-pair.ensures.node) c.in_ok-pair.ensures.place c.in_ok-pair.ensures.unchanged c.in-Some.valid c.in-Some.ensures.busy c.in-Some.ensures.read) [
+        | inl h ↦ busy_counts ns q c.args.context.now e c.new.new.context c.requires.stands h.0 visits
+        | inr h ↦ read_counts ns q c.args.context.now e c.new.new.context c.in-Some.valid c.requires.stands h.0 h.1 visits
+      ];
+  says =
+      let set = setting g.K.Validate.words g.K.Validate.is_whole g.K.Validate.shape g.M.Matcher.matching c.args.engine.now in
+      let q = asking c.args.question.now in
+      let p = steps_to c.args.question.now.place.now in
+      let e = edge_of c.args.edge.now in
+      let c1 : Context = record c.args.context.now { in_progress = c.args.context.now.in_progress ++ (e.node, p) ∷ [] } in
+      elim (pair_known e.node c.in_ok-pair.pair.node.0 p (place_of c.in_ok-pair.pair) c.args.context.now c.new.new.context (ap (λ (n : SchemaNode). n.0) c.in_ok-pair.ensures.node) c.in_ok-pair.ensures.place c.in_ok-pair.ensures.unchanged c.in-Some.valid c.in-Some.ensures.busy c.in-Some.ensures.read) [
+        | inl h ↦ subst (λ (b : Bool). EdgeSays set q c.args.context.now e (told.Truth b)) (sym h.1)
+            (edge_busy g.K.Validate.words g.K.Validate.is_whole (numbered g.K.Validate.shape c.args.engine.now.nodes.now) (length c.args.engine.now.nodes.now) (settling (g.M.Matcher.matching c.args.engine.now.matcher.now) c.args.context.now.remembered.assumptions) (subject_of c.args.question.now.instance) (busy_at p c.args.context.now.in_progress) e (mode_of c.args.question.now.mode) (path_of c.args.question.now.path.now) p (told.Truth true)
+            c.requires.stands h.0 (yes_says (mode_of c.args.question.now.mode) c.requires.verdict) refl)
+        | inr h ↦ read_says set q e c.args.context.now c.requires.stands h.0 c.requires.verdict c1 c.new.new.context c.in-Some.valid refl refl (read_entered e.node p c.args.context.now c1 refl refl ∙ h.1) c.requires.may.goes_on
+      ];
+  meets =
+      let set = setting g.K.Validate.words g.K.Validate.is_whole g.K.Validate.shape g.M.Matcher.matching c.args.engine.now in
+      let ns = numbered g.K.Validate.shape c.args.engine.now.nodes.now in
+      let w = settling (g.M.Matcher.matching c.args.engine.now.matcher.now) c.args.context.now.remembered.assumptions in
+      let q = asking c.args.question.now in
+      let p = steps_to c.args.question.now.place.now in
+      let s = subject_of c.args.question.now.instance in
+      let busy = busy_at p c.args.context.now.in_progress in
+      let e = edge_of c.args.edge.now in
+      let c1 : Context = record c.args.context.now { in_progress = c.args.context.now.in_progress ++ (e.node, p) ∷ [] } in
+      let met = ap (λ (z : Context). z.remembered) c.in_ok-pair.ensures.unchanged in
+      elim (pair_known e.node c.in_ok-pair.pair.node.0 p (place_of c.in_ok-pair.pair) c.args.context.now c.new.new.context (ap (λ (n : SchemaNode). n.0) c.in_ok-pair.ensures.node) c.in_ok-pair.ensures.place c.in_ok-pair.ensures.unchanged c.in-Some.valid c.in-Some.ensures.busy c.in-Some.ensures.read) [
+        | inl h ↦ meets_busy g.K.Validate.words g.K.Validate.is_whole ns (length c.args.engine.now.nodes.now) w s busy e (mode_of c.args.question.now.mode) (path_of c.args.question.now.path.now) p _ _ c.requires.stands h.0 (sym met)
+        | inr h ↦ read_meets_edge set q e c.args.context.now c.requires.stands h.0 c.requires.verdict c1 c.new.new.context c.in-Some.valid refl refl (read_entered e.node p c.args.context.now c1 refl refl ∙ h.1) c.requires.may.goes_on met
+      ];
+  stays = search rules;
+  remembers =
+      let set = setting g.K.Validate.words g.K.Validate.is_whole g.K.Validate.shape g.M.Matcher.matching c.args.engine.now in
+      let q = asking c.args.question.now in
+      let p = steps_to c.args.question.now.place.now in
+      let e = edge_of c.args.edge.now in
+      let c1 : Context = record c.args.context.now { in_progress = c.args.context.now.in_progress ++ (e.node, p) ∷ [] } in
+      elim (pair_known e.node c.in_ok-pair.pair.node.0 p (place_of c.in_ok-pair.pair) c.args.context.now c.new.new.context (ap (λ (n : SchemaNode). n.0) c.in_ok-pair.ensures.node) c.in_ok-pair.ensures.place c.in_ok-pair.ensures.unchanged c.in-Some.valid c.in-Some.ensures.busy c.in-Some.ensures.read) [
+        | inl h ↦ λ mode guarded free. absurd (true≢false (sym h.0 ∙ free))
+        | inr h ↦ read_remembers set q e c.args.context.now c.requires.stands h.0 c.requires.verdict c1 c.new.new.context c.in-Some.valid refl refl (read_entered e.node p c.args.context.now c1 refl refl ∙ h.1) c.in_ok-pair.ensures.unchanged
+      ];
+}
 
-pub verdict::verdict_entries-returns-then-not-valid-clause-remembers : goal.verdict::verdict_entries-returns-then-not-valid-clause-remembers
-verdict::verdict_entries-returns-then-not-valid-clause-remembers g t c =
-    alone_remembers (asking c.args.question.now) entry_of (shaped_part g.K.Validate.shape) c.args.entries.now c.loop-entry.entry-index c.entry-item.result c.loop-entry-test.true c.entry-item.is c.args.context.now c.loop-entry.context c.verdict_form.new.context (told.Truth false) c.loop-entry.invariant.first (subst (λ v. FormRemembers (asking c.args.question.now) c.loop-entry.context c.verdict_form.new.context (shaped_form g.K.Validate.shape (form_of c.entry-item.result.form)) (told.Truth v)) c.if-not-valid.true c.in_ok-valid.ensures.remembers)
-
-pub verdict::verdict_entries-returns-then-not-valid-clause-visits : goal.verdict::verdict_entries-returns-then-not-valid-clause-visits
-verdict::verdict_entries-returns-then-not-valid-clause-visits g t c =
-    next_counts (numbered g.K.Validate.shape c.args.engine.now.nodes.now) (asking c.args.question.now) entry_of (shaped_part g.K.Validate.shape) c.args.entries.now c.loop-entry.entry-index c.entry-item.result c.loop-entry-test.true c.entry-item.is c.args.context.now c.loop-entry.context c.verdict_form.new.context c.loop-entry.invariant.first c.loop-entry.invariant.visited c.in_ok-valid.ensures.visits
-
-pub verdict::verdict_entries-returns-clause-meets : goal.verdict::verdict_entries-returns-clause-meets
-verdict::verdict_entries-returns-clause-meets g t c = λ texts root depth reads l.
-    let ns = numbered g.K.Validate.shape c.args.engine.now.nodes.now in
-    let w = settling (g.M.Matcher.matching c.args.engine.now.matcher.now) c.args.context.now.remembered.assumptions in
-    let p = steps_to c.args.question.now.place.now in
-    let looked = λ (es : List (Entry g.row.K.Denot)). parts_looked g.K.Validate.words ns w texts root depth c.args.node.0 (path_of c.args.question.now.path.now) p (busy_at p c.args.context.now.in_progress) (map (shaped_part g.K.Validate.shape) (map entry_of es)) in
-    end_met w.matcher (mode_of c.args.question.now.mode) (looked (drop c.loop-entry.entry-index c.args.entries.now)) (plan_met (mode_of c.args.question.now.mode) (looked c.args.entries.now)) c.args.context.now.remembered c.loop-entry.context.remembered
-    (ap looked (drop_past c.args.entries.now c.loop-entry.entry-index c.loop-entry-test.false)) (c.loop-entry.invariant.met texts root depth reads l)
-
-pub verdict::verdict_entries-returns-clause-remembers : goal.verdict::verdict_entries-returns-clause-remembers
-verdict::verdict_entries-returns-clause-remembers g t c =
-    ended_remembers (asking c.args.question.now) entry_of (shaped_part g.K.Validate.shape) c.args.entries.now c.loop-entry.entry-index c.loop-entry-test.false c.args.context.now c.loop-entry.context (told.Truth true) c.loop-entry.invariant.remembers
-
-pub verdict::verdict_entries-returns-clause-visits : goal.verdict::verdict_entries-returns-clause-visits
-verdict::verdict_entries-returns-clause-visits g t c =
-    ended_counts (numbered g.K.Validate.shape c.args.engine.now.nodes.now) (asking c.args.question.now) entry_of (shaped_part g.K.Validate.shape) c.args.entries.now c.loop-entry.entry-index c.loop-entry-test.false c.args.context.now c.loop-entry.context c.loop-entry.invariant.first c.loop-entry.invariant.visited
-
-pub verdict::verdict_edge-returns-clause-visits : goal.verdict::verdict_edge-returns-clause-visits
-verdict::verdict_edge-returns-clause-visits g t c = if_ok_mono c.verdict_node.result _ _ (λ b counts. free_counts (numbered g.K.Validate.shape c.args.engine.now.nodes.now) (asking c.args.question.now) c.args.context.now (edge_of c.args.edge.now) c.verdict_node.new.context c.if-edge.false counts) c.verdict_node.ensures.visits
-
-pub verdict::guarded_verdict-returns-in-Some-clause-says : goal.verdict::guarded_verdict-returns-in-Some-clause-says
-verdict::guarded_verdict-returns-in-Some-clause-says g t c =
-    let set = setting g.K.Validate.words g.K.Validate.is_whole g.K.Validate.shape g.M.Matcher.matching c.args.engine.now in
-    let q = asking c.args.question.now in
-    let p = steps_to c.args.question.now.place.now in
-    let e = edge_of c.args.edge.now in
-    let c1 : Context = record c.args.context.now { in_progress = c.args.context.now.in_progress ++ (e.node, p) ∷ [] } in
-    elim (pair_known e.node c.in_ok-pair.pair.node.0 p (place_of c.in_ok-pair.pair) c.args.context.now c.new.new.context (ap (λ (n : SchemaNode). n.0) c.in_ok-pair.ensures.node) c.in_ok-pair.ensures.place c.in_ok-pair.ensures.unchanged c.in-Some.valid c.in-Some.ensures.busy c.in-Some.ensures.read) [
-      | inl h ↦ subst (λ (b : Bool). EdgeSays set q c.args.context.now e (told.Truth b)) (sym h.1)
-          (edge_busy g.K.Validate.words g.K.Validate.is_whole (numbered g.K.Validate.shape c.args.engine.now.nodes.now) (length c.args.engine.now.nodes.now) (settling (g.M.Matcher.matching c.args.engine.now.matcher.now) c.args.context.now.remembered.assumptions) (subject_of c.args.question.now.instance) (busy_at p c.args.context.now.in_progress) e (mode_of c.args.question.now.mode) (path_of c.args.question.now.path.now) p (told.Truth true)
-          c.requires.guarded h.0 (yes_says (mode_of c.args.question.now.mode) c.requires.verdict) refl)
-      | inr h ↦ read_says set q e c.args.context.now c.requires.guarded h.0 c.requires.verdict c1 c.new.new.context c.in-Some.valid refl refl (read_entered e.node p c.args.context.now c1 refl refl ∙ h.1) c.requires.may.goes_on
-    ]
-
-pub verdict::guarded_verdict-returns-in-Some-clause-meets : goal.verdict::guarded_verdict-returns-in-Some-clause-meets
-verdict::guarded_verdict-returns-in-Some-clause-meets g t c =
-    let set = setting g.K.Validate.words g.K.Validate.is_whole g.K.Validate.shape g.M.Matcher.matching c.args.engine.now in
-    let ns = numbered g.K.Validate.shape c.args.engine.now.nodes.now in
-    let w = settling (g.M.Matcher.matching c.args.engine.now.matcher.now) c.args.context.now.remembered.assumptions in
-    let q = asking c.args.question.now in
-    let p = steps_to c.args.question.now.place.now in
-    let s = subject_of c.args.question.now.instance in
-    let busy = busy_at p c.args.context.now.in_progress in
-    let e = edge_of c.args.edge.now in
-    let c1 : Context = record c.args.context.now { in_progress = c.args.context.now.in_progress ++ (e.node, p) ∷ [] } in
-    let met = ap (λ (z : Context). z.remembered) c.in_ok-pair.ensures.unchanged in
-    elim (pair_known e.node c.in_ok-pair.pair.node.0 p (place_of c.in_ok-pair.pair) c.args.context.now c.new.new.context (ap (λ (n : SchemaNode). n.0) c.in_ok-pair.ensures.node) c.in_ok-pair.ensures.place c.in_ok-pair.ensures.unchanged c.in-Some.valid c.in-Some.ensures.busy c.in-Some.ensures.read) [
-      | inl h ↦ meets_busy g.K.Validate.words g.K.Validate.is_whole ns (length c.args.engine.now.nodes.now) w s busy e (mode_of c.args.question.now.mode) (path_of c.args.question.now.path.now) p _ _ c.requires.guarded h.0 (sym met)
-      | inr h ↦ read_meets_edge set q e c.args.context.now c.requires.guarded h.0 c.requires.verdict c1 c.new.new.context c.in-Some.valid refl refl (read_entered e.node p c.args.context.now c1 refl refl ∙ h.1) c.requires.may.goes_on met
-    ]
-
-pub verdict::guarded_verdict-returns-in-Some-clause-remembers : goal.verdict::guarded_verdict-returns-in-Some-clause-remembers
-verdict::guarded_verdict-returns-in-Some-clause-remembers g t c =
-    let set = setting g.K.Validate.words g.K.Validate.is_whole g.K.Validate.shape g.M.Matcher.matching c.args.engine.now in
-    let q = asking c.args.question.now in
-    let p = steps_to c.args.question.now.place.now in
-    let e = edge_of c.args.edge.now in
-    let c1 : Context = record c.args.context.now { in_progress = c.args.context.now.in_progress ++ (e.node, p) ∷ [] } in
-    elim (pair_known e.node c.in_ok-pair.pair.node.0 p (place_of c.in_ok-pair.pair) c.args.context.now c.new.new.context (ap (λ (n : SchemaNode). n.0) c.in_ok-pair.ensures.node) c.in_ok-pair.ensures.place c.in_ok-pair.ensures.unchanged c.in-Some.valid c.in-Some.ensures.busy c.in-Some.ensures.read) [
-      | inl h ↦ λ mode guarded free. absurd (true≢false (sym h.0 ∙ free))
-      | inr h ↦ read_remembers set q e c.args.context.now c.requires.guarded h.0 c.requires.verdict c1 c.new.new.context c.in-Some.valid refl refl (read_entered e.node p c.args.context.now c1 refl refl ∙ h.1) c.in_ok-pair.ensures.unchanged
-    ]
-
-pub verdict::guarded_verdict-returns-in-Some-clause-visits : goal.verdict::guarded_verdict-returns-in-Some-clause-visits
-verdict::guarded_verdict-returns-in-Some-clause-visits g t c =
-    let ns = numbered g.K.Validate.shape c.args.engine.now.nodes.now in
-    let q = asking c.args.question.now in
-    let p = steps_to c.args.question.now.place.now in
-    let e = edge_of c.args.edge.now in
-    let visits = ap (λ (z : Context). z.visits) c.in_ok-pair.ensures.unchanged in
-    elim (pair_known e.node c.in_ok-pair.pair.node.0 p (place_of c.in_ok-pair.pair) c.args.context.now c.new.new.context (ap (λ (n : SchemaNode). n.0) c.in_ok-pair.ensures.node) c.in_ok-pair.ensures.place c.in_ok-pair.ensures.unchanged c.in-Some.valid c.in-Some.ensures.busy c.in-Some.ensures.read) [
-      | inl h ↦ busy_counts ns q c.args.context.now e c.new.new.context c.requires.guarded h.0 visits
-      | inr h ↦ read_counts ns q c.args.context.now e c.new.new.context c.in-Some.valid c.requires.guarded h.0 h.1 visits
-    ]
-
-pub verdict::guarded_verdict-returns-clause-says : goal.verdict::guarded_verdict-returns-clause-says
-verdict::guarded_verdict-returns-clause-says g t c =
-    let set = setting g.K.Validate.words g.K.Validate.is_whole g.K.Validate.shape g.M.Matcher.matching c.args.engine.now in
-    let q = asking c.args.question.now in
-    let p = steps_to c.args.question.now.place.now in
-    let e = edge_of c.args.edge.now in
-    let unknown = pair_unknown e.node c.in_ok-pair.pair.node.0 p (place_of c.in_ok-pair.pair) c.args.context.now c.new.new.context (ap (λ (n : SchemaNode). n.0) c.in_ok-pair.ensures.node) c.in_ok-pair.ensures.place c.in_ok-pair.ensures.unchanged c.in_default.ensures.busy c.in_default.ensures.read in
-    let entered : (list_any (λ i. i == e.node) (busy_at p c.args.context.now.in_progress) ≡ false) × (c.enter.new.context.in_progress ≡ c.args.context.now.in_progress ++ (e.node, p) ∷ []) = (
-      unknown.0,
-      pair_entered e.node c.in_ok-pair.pair.node.0 p (place_of c.in_ok-pair.pair) c.args.context.now c.new.new.context c.enter.new.context.in_progress (ap (λ (n : SchemaNode). n.0) c.in_ok-pair.ensures.node) c.in_ok-pair.ensures.place c.in_ok-pair.ensures.unchanged c.in_ok-enter.ensures.entered,
-    ) in
-    let c2 = c.start_ref_visit-mark.new.self in
-    let pairs : c2.in_progress ≡ c.args.context.now.in_progress ++ (e.node, p) ∷ [] = ap (λ (z : Context). z.in_progress) c.start_ref_visit-mark.ensures.counted ∙ entered.1 in
-    let met : c2.remembered ≡ c.args.context.now.remembered = ap (λ (z : Context). z.remembered) c.start_ref_visit-mark.ensures.counted ∙ (c.enter.ensures.remembered ∙ ap (λ (z : Context). z.remembered) c.in_ok-pair.ensures.unchanged) in
-    let there : steps_to c.numbered_place-place.result ≡ p = c.numbered_place-place.ensures.same ∙ c.in_ok-pair.ensures.place in
-    let at_asked : (record { subject = q.subject; place = steps_to c.numbered_place-place.result; path = path_of c.across-whole.result; mode = q.mode }) ≡ asked_across set q e c.args.context.now c.requires.guarded entered.0
-    = λ i. record { subject = q.subject; place = there i; path = c.across-whole.ensures.appended i; mode = q.mode } in
-    let says = subst (λ z. NodeSays set z c2 e.node (told.Truth c.in_ok-valid.valid)) at_asked c.in_ok-valid.ensures.says in
-    computed_says set q e c.args.context.now c.requires.guarded entered.0 c2 pairs met (told.Truth c.in_ok-valid.valid) says
-
-pub verdict::guarded_verdict-returns-clause-meets : goal.verdict::guarded_verdict-returns-clause-meets
-verdict::guarded_verdict-returns-clause-meets g t c =
-    let set = setting g.K.Validate.words g.K.Validate.is_whole g.K.Validate.shape g.M.Matcher.matching c.args.engine.now in
-    let q = asking c.args.question.now in
-    let p = steps_to c.args.question.now.place.now in
-    let e = edge_of c.args.edge.now in
-    let unknown = pair_unknown e.node c.in_ok-pair.pair.node.0 p (place_of c.in_ok-pair.pair) c.args.context.now c.new.new.context (ap (λ (n : SchemaNode). n.0) c.in_ok-pair.ensures.node) c.in_ok-pair.ensures.place c.in_ok-pair.ensures.unchanged c.in_default.ensures.busy c.in_default.ensures.read in
-    let entered : (list_any (λ i. i == e.node) (busy_at p c.args.context.now.in_progress) ≡ false) × (c.enter.new.context.in_progress ≡ c.args.context.now.in_progress ++ (e.node, p) ∷ []) = (
-      unknown.0,
-      pair_entered e.node c.in_ok-pair.pair.node.0 p (place_of c.in_ok-pair.pair) c.args.context.now c.new.new.context c.enter.new.context.in_progress (ap (λ (n : SchemaNode). n.0) c.in_ok-pair.ensures.node) c.in_ok-pair.ensures.place c.in_ok-pair.ensures.unchanged c.in_ok-enter.ensures.entered,
-    ) in
-    let c2 = c.start_ref_visit-mark.new.self in
-    let c3 = c.verdict_node.new.context in
-    let pairs : c2.in_progress ≡ c.args.context.now.in_progress ++ (e.node, p) ∷ [] = ap (λ (z : Context). z.in_progress) c.start_ref_visit-mark.ensures.counted ∙ entered.1 in
-    let met : c2.remembered ≡ c.args.context.now.remembered = ap (λ (z : Context). z.remembered) c.start_ref_visit-mark.ensures.counted ∙ (c.enter.ensures.remembered ∙ ap (λ (z : Context). z.remembered) c.in_ok-pair.ensures.unchanged) in
-    let there : steps_to c.numbered_place-place.result ≡ p = c.numbered_place-place.ensures.same ∙ c.in_ok-pair.ensures.place in
-    let at_asked : (record { subject = q.subject; place = steps_to c.numbered_place-place.result; path = path_of c.across-whole.result; mode = q.mode }) ≡ asked_across set q e c.args.context.now c.requires.guarded entered.0
-    = λ i. record { subject = q.subject; place = there i; path = c.across-whole.ensures.appended i; mode = q.mode } in
-    let meets = subst (λ z. MeetsNode set z c2 c3 e.node) at_asked c.in_ok-valid.ensures.meets in
-    let met5 = c.exit.ensures.remembered ∙ ap (λ (z : Context). z.remembered) c.keep_verdict.ensures.frame in
-    computed_meets set q e c.args.context.now c.requires.guarded entered.0 c2 pairs met c3 c.exit.new.context meets met5
-
-pub verdict::guarded_verdict-returns-clause-stays : goal.verdict::guarded_verdict-returns-clause-stays
-verdict::guarded_verdict-returns-clause-stays g t c =
-    let set = setting g.K.Validate.words g.K.Validate.is_whole g.K.Validate.shape g.M.Matcher.matching c.args.engine.now in
-    let q = asking c.args.question.now in
-    let p = steps_to c.args.question.now.place.now in
-    let e = edge_of c.args.edge.now in
-    let unknown = pair_unknown e.node c.in_ok-pair.pair.node.0 p (place_of c.in_ok-pair.pair) c.args.context.now c.new.new.context (ap (λ (n : SchemaNode). n.0) c.in_ok-pair.ensures.node) c.in_ok-pair.ensures.place c.in_ok-pair.ensures.unchanged c.in_default.ensures.busy c.in_default.ensures.read in
-    let entered : (list_any (λ i. i == e.node) (busy_at p c.args.context.now.in_progress) ≡ false) × (c.enter.new.context.in_progress ≡ c.args.context.now.in_progress ++ (e.node, p) ∷ []) = (
-      unknown.0,
-      pair_entered e.node c.in_ok-pair.pair.node.0 p (place_of c.in_ok-pair.pair) c.args.context.now c.new.new.context c.enter.new.context.in_progress (ap (λ (n : SchemaNode). n.0) c.in_ok-pair.ensures.node) c.in_ok-pair.ensures.place c.in_ok-pair.ensures.unchanged c.in_ok-enter.ensures.entered,
-    ) in
-    let c2 = c.start_ref_visit-mark.new.self in
-    let c3 = c.verdict_node.new.context in
-    let pairs : c2.in_progress ≡ c.args.context.now.in_progress ++ (e.node, p) ∷ [] = ap (λ (z : Context). z.in_progress) c.start_ref_visit-mark.ensures.counted ∙ entered.1 in
-    let met : c2.remembered ≡ c.args.context.now.remembered = ap (λ (z : Context). z.remembered) c.start_ref_visit-mark.ensures.counted ∙ (c.enter.ensures.remembered ∙ ap (λ (z : Context). z.remembered) c.in_ok-pair.ensures.unchanged) in
-    let there : steps_to c.numbered_place-place.result ≡ p = c.numbered_place-place.ensures.same ∙ c.in_ok-pair.ensures.place in
-    let at_asked : (record { subject = q.subject; place = steps_to c.numbered_place-place.result; path = path_of c.across-whole.result; mode = q.mode }) ≡ asked_across set q e c.args.context.now c.requires.guarded entered.0
-    = λ i. record { subject = q.subject; place = there i; path = c.across-whole.ensures.appended i; mode = q.mode } in
-    let says = subst (λ z. NodeSays set z c2 e.node (told.Truth c.in_ok-valid.valid)) at_asked c.in_ok-valid.ensures.says in
-    let meets = subst (λ z. MeetsNode set z c2 c3 e.node) at_asked c.in_ok-valid.ensures.meets in
-    let keeps = c.in_ok-valid.ensures.keeps in
-    let read = ap (λ (z : Context). z.verdicts) c.start_ref_visit-mark.ensures.counted ∙ (c.enter.ensures.verdicts ∙ ap (λ (z : Context). z.verdicts) c.in_ok-pair.ensures.unchanged) in
-    let stays = subst (λ z. StaysRight set z c2 c3) at_asked c.in_ok-valid.ensures.stays in
-    let kept = rw (ap (λ (n : SchemaNode). n.0) c.in_ok-pair.ensures.node, c.in_ok-pair.ensures.place) at c.in_ok-keep_verdict.ensures.kept in
-    let few = rw (ap (λ (n : SchemaNode). n.0) c.in_ok-pair.ensures.node, c.in_ok-pair.ensures.place) at c.in_ok-keep_verdict.ensures.others in
-    kept_stays set q e c.args.context.now c.requires.guarded entered.0 c.requires.verdict c.enter.new.context c2 c3 c.keep_verdict.new.context c.exit.new.context c.start_ref_visit-mark.result c.in_ok-valid.valid pairs met says meets keeps
-    g.met.K.Validate.asks_verdicts kept read stays few (ap (λ (z : Context). z.remembered) c.keep_verdict.ensures.frame) c.exit.ensures.remembered c.exit.ensures.verdicts
-
-pub verdict::guarded_verdict-returns-clause-remembers : goal.verdict::guarded_verdict-returns-clause-remembers
-verdict::guarded_verdict-returns-clause-remembers g t c =
-    let set = setting g.K.Validate.words g.K.Validate.is_whole g.K.Validate.shape g.M.Matcher.matching c.args.engine.now in
-    let q = asking c.args.question.now in
-    let p = steps_to c.args.question.now.place.now in
-    let e = edge_of c.args.edge.now in
-    let unknown = pair_unknown e.node c.in_ok-pair.pair.node.0 p (place_of c.in_ok-pair.pair) c.args.context.now c.new.new.context (ap (λ (n : SchemaNode). n.0) c.in_ok-pair.ensures.node) c.in_ok-pair.ensures.place c.in_ok-pair.ensures.unchanged c.in_default.ensures.busy c.in_default.ensures.read in
-    let entered : (list_any (λ i. i == e.node) (busy_at p c.args.context.now.in_progress) ≡ false) × (c.enter.new.context.in_progress ≡ c.args.context.now.in_progress ++ (e.node, p) ∷ []) = (
-      unknown.0,
-      pair_entered e.node c.in_ok-pair.pair.node.0 p (place_of c.in_ok-pair.pair) c.args.context.now c.new.new.context c.enter.new.context.in_progress (ap (λ (n : SchemaNode). n.0) c.in_ok-pair.ensures.node) c.in_ok-pair.ensures.place c.in_ok-pair.ensures.unchanged c.in_ok-enter.ensures.entered,
-    ) in
-    let c2 = c.start_ref_visit-mark.new.self in
-    let c3 = c.verdict_node.new.context in
-    let pairs : c2.in_progress ≡ c.args.context.now.in_progress ++ (e.node, p) ∷ [] = ap (λ (z : Context). z.in_progress) c.start_ref_visit-mark.ensures.counted ∙ entered.1 in
-    let met : c2.remembered ≡ c.args.context.now.remembered = ap (λ (z : Context). z.remembered) c.start_ref_visit-mark.ensures.counted ∙ (c.enter.ensures.remembered ∙ ap (λ (z : Context). z.remembered) c.in_ok-pair.ensures.unchanged) in
-    let there : steps_to c.numbered_place-place.result ≡ p = c.numbered_place-place.ensures.same ∙ c.in_ok-pair.ensures.place in
-    let at_asked : (record { subject = q.subject; place = steps_to c.numbered_place-place.result; path = path_of c.across-whole.result; mode = q.mode }) ≡ asked_across set q e c.args.context.now c.requires.guarded entered.0
-    = λ i. record { subject = q.subject; place = there i; path = c.across-whole.ensures.appended i; mode = q.mode } in
-    let says = subst (λ z. NodeSays set z c2 e.node (told.Truth c.in_ok-valid.valid)) at_asked c.in_ok-valid.ensures.says in
-    let meets = subst (λ z. MeetsNode set z c2 c3 e.node) at_asked c.in_ok-valid.ensures.meets in
-    let keeps = c.in_ok-valid.ensures.keeps in
-    let kept = rw (ap (λ (n : SchemaNode). n.0) c.in_ok-pair.ensures.node, c.in_ok-pair.ensures.place) at c.in_ok-keep_verdict.ensures.kept in
-    let none = read_entered e.node p c.args.context.now c.enter.new.context entered.1 (c.enter.ensures.verdicts ∙ ap (λ (z : Context). z.verdicts) c.in_ok-pair.ensures.unchanged) ∙ unknown.1 in
-    let left = ap (λ (z : Context). z.in_progress) c.keep_verdict.ensures.frame ∙ keeps.in_progress in
-    let back = pairs_back set q e c.args.context.now c.requires.guarded entered.0 c2 c.exit.new.context pairs (sym left ∙ rw (ap (λ (n : SchemaNode). n.0) c.in_ok-pair.ensures.node, c.in_ok-pair.ensures.place) at c.exit.ensures.left) in
-    let visits = c.exit.ensures.visits ∙ ap (λ (z : Context). z.visits) c.keep_verdict.ensures.frame in
-    let counted = ap (λ (z : Context). z.visits) c.start_ref_visit-mark.ensures.counted ∙ ap one_more (c.enter.ensures.visits ∙ ap (λ (z : Context). z.visits) c.in_ok-pair.ensures.unchanged) in
-    let more = subst (λ z. z ≤ c3.visits) counted c.in_ok-valid.ensures.counts in
-    kept_remembers set q e c.args.context.now c.requires.guarded entered.0 c.requires.verdict c.enter.new.context c2 c3 c.keep_verdict.new.context c.exit.new.context c.start_ref_visit-mark.result c.in_ok-valid.valid pairs met says meets keeps
-    g.met.K.Validate.asks_verdicts kept entered.1 (c.enter.ensures.verdicts ∙ ap (λ (z : Context). z.verdicts) c.in_ok-pair.ensures.unchanged) none (c.start_ref_visit-mark.ensures.mark ∙ (c.enter.ensures.visits ∙ ap (λ (z : Context). z.visits) c.in_ok-pair.ensures.unchanged)) back visits more c.exit.ensures.verdicts
-
-pub verdict::guarded_verdict-returns-clause-counts : goal.verdict::guarded_verdict-returns-clause-counts
-verdict::guarded_verdict-returns-clause-counts g t c =
-    let visits = c.exit.ensures.visits ∙ ap (λ (z : Context). z.visits) c.keep_verdict.ensures.frame in
-    let before = subst (λ z. z ≤ c.start_ref_visit-mark.new.self.visits) (c.enter.ensures.visits ∙ ap (λ (z : Context). z.visits) c.in_ok-pair.ensures.unchanged) c.start_ref_visit-mark.ensures.more in
-    let after = subst (λ z. c.start_ref_visit-mark.new.self.visits ≤ z) (sym visits) c.in_ok-valid.ensures.counts in
-    no_fewer c.args.context.now.visits c.start_ref_visit-mark.new.self.visits c.exit.new.context.visits before after
-
-pub verdict::guarded_verdict-returns-clause-visits : goal.verdict::guarded_verdict-returns-clause-visits
-verdict::guarded_verdict-returns-clause-visits g t c =
-    let ns = (numbered g.K.Validate.shape c.args.engine.now.nodes.now) in
-    let q = asking c.args.question.now in
-    let p = steps_to c.args.question.now.place.now in
-    let e = edge_of c.args.edge.now in
-    let unknown = pair_unknown e.node c.in_ok-pair.pair.node.0 p (place_of c.in_ok-pair.pair) c.args.context.now c.new.new.context (ap (λ (n : SchemaNode). n.0) c.in_ok-pair.ensures.node) c.in_ok-pair.ensures.place c.in_ok-pair.ensures.unchanged c.in_default.ensures.busy c.in_default.ensures.read in
-    let c1 = c.enter.new.context in
-    let c2 = c.start_ref_visit-mark.new.self in
-    let c3 = c.verdict_node.new.context in
-    let entered : (list_any (λ i. i == e.node) (busy_at p c.args.context.now.in_progress) ≡ false) × (c.enter.new.context.in_progress ≡ c.args.context.now.in_progress ++ (e.node, p) ∷ []) = (
-      unknown.0,
-      pair_entered e.node c.in_ok-pair.pair.node.0 p (place_of c.in_ok-pair.pair) c.args.context.now c.new.new.context c.enter.new.context.in_progress (ap (λ (n : SchemaNode). n.0) c.in_ok-pair.ensures.node) c.in_ok-pair.ensures.place c.in_ok-pair.ensures.unchanged c.in_ok-enter.ensures.entered,
-    ) in
-    let pairs : c2.in_progress ≡ c.args.context.now.in_progress ++ (e.node, p) ∷ [] = ap (λ (z : Context). z.in_progress) c.start_ref_visit-mark.ensures.counted ∙ entered.1 in
-    let read = ap (λ (z : Context). z.verdicts) c.start_ref_visit-mark.ensures.counted ∙ (c.enter.ensures.verdicts ∙ ap (λ (z : Context). z.verdicts) c.in_ok-pair.ensures.unchanged) in
-    let counted = ap (λ (z : Context). z.visits) c.start_ref_visit-mark.ensures.counted ∙ ap one_more (c.enter.ensures.visits ∙ ap (λ (z : Context). z.visits) c.in_ok-pair.ensures.unchanged) in
-    let there : steps_to c.numbered_place-place.result ≡ p = c.numbered_place-place.ensures.same ∙ c.in_ok-pair.ensures.place in
-    let none = read_entered e.node p c.args.context.now c.enter.new.context entered.1 (c.enter.ensures.verdicts ∙ ap (λ (z : Context). z.verdicts) c.in_ok-pair.ensures.unchanged) ∙ unknown.1 in
-    let node_counts = subst (λ z. NodeCounts ns (record { subject = q.subject; place = z; path = path_of c.across-whole.result; mode = q.mode }) c2 c3 e.node) there c.in_ok-valid.ensures.visits in
-    let visits = c.exit.ensures.visits ∙ ap (λ (z : Context). z.visits) c.keep_verdict.ensures.frame in
-    computed_counts ns q c.args.context.now e c2 c3 c.exit.new.context c.requires.guarded entered.0
-    (sym (read_entered e.node p c.args.context.now c1 entered.1 (c.enter.ensures.verdicts ∙ ap (λ (z : Context). z.verdicts) c.in_ok-pair.ensures.unchanged)) ∙ none) pairs read counted node_counts visits
+pub verdict::guarded_verdict-returns : goal.verdict::guarded_verdict-returns
+verdict::guarded_verdict-returns g t c = record {
+  keeps = grind (arith, common_steps);
+  counts =
+      let visits = c.exit.ensures.visits ∙ ap (λ (z : Context). z.visits) c.keep_verdict.ensures.frame in
+      let before = subst (λ z. z ≤ c.start_ref_visit-mark.new.self.visits) (c.enter.ensures.visits ∙ ap (λ (z : Context). z.visits) c.in_ok-pair.ensures.unchanged) c.start_ref_visit-mark.ensures.more in
+      let after = subst (λ z. c.start_ref_visit-mark.new.self.visits ≤ z) (sym visits) c.in_ok-valid.ensures.counts in
+      no_fewer c.args.context.now.visits c.start_ref_visit-mark.new.self.visits c.exit.new.context.visits before after;
+  visits =
+      let ns = (numbered g.K.Validate.shape c.args.engine.now.nodes.now) in
+      let q = asking c.args.question.now in
+      let p = steps_to c.args.question.now.place.now in
+      let e = edge_of c.args.edge.now in
+      let unknown = pair_unknown e.node c.in_ok-pair.pair.node.0 p (place_of c.in_ok-pair.pair) c.args.context.now c.new.new.context (ap (λ (n : SchemaNode). n.0) c.in_ok-pair.ensures.node) c.in_ok-pair.ensures.place c.in_ok-pair.ensures.unchanged c.in_default.ensures.busy c.in_default.ensures.read in
+      let c1 = c.enter.new.context in
+      let c2 = c.start_ref_visit-mark.new.self in
+      let c3 = c.verdict_node.new.context in
+      let entered : (list_any (λ i. i == e.node) (busy_at p c.args.context.now.in_progress) ≡ false) × (c.enter.new.context.in_progress ≡ c.args.context.now.in_progress ++ (e.node, p) ∷ []) = (
+        unknown.0,
+        pair_entered e.node c.in_ok-pair.pair.node.0 p (place_of c.in_ok-pair.pair) c.args.context.now c.new.new.context c.enter.new.context.in_progress (ap (λ (n : SchemaNode). n.0) c.in_ok-pair.ensures.node) c.in_ok-pair.ensures.place c.in_ok-pair.ensures.unchanged c.in_ok-enter.ensures.entered,
+      ) in
+      let pairs : c2.in_progress ≡ c.args.context.now.in_progress ++ (e.node, p) ∷ [] = ap (λ (z : Context). z.in_progress) c.start_ref_visit-mark.ensures.counted ∙ entered.1 in
+      let read = ap (λ (z : Context). z.verdicts) c.start_ref_visit-mark.ensures.counted ∙ (c.enter.ensures.verdicts ∙ ap (λ (z : Context). z.verdicts) c.in_ok-pair.ensures.unchanged) in
+      let counted = ap (λ (z : Context). z.visits) c.start_ref_visit-mark.ensures.counted ∙ ap one_more (c.enter.ensures.visits ∙ ap (λ (z : Context). z.visits) c.in_ok-pair.ensures.unchanged) in
+      let there : steps_to c.numbered_place-place.result ≡ p = c.numbered_place-place.ensures.same ∙ c.in_ok-pair.ensures.place in
+      let none = read_entered e.node p c.args.context.now c.enter.new.context entered.1 (c.enter.ensures.verdicts ∙ ap (λ (z : Context). z.verdicts) c.in_ok-pair.ensures.unchanged) ∙ unknown.1 in
+      let node_counts = subst (λ z. NodeCounts ns (record { subject = q.subject; place = z; path = path_of c.across-whole.result; mode = q.mode }) c2 c3 e.node) there c.in_ok-valid.ensures.visits in
+      let visits = c.exit.ensures.visits ∙ ap (λ (z : Context). z.visits) c.keep_verdict.ensures.frame in
+      computed_counts ns q c.args.context.now e c2 c3 c.exit.new.context c.requires.stands entered.0
+      (sym (read_entered e.node p c.args.context.now c1 entered.1 (c.enter.ensures.verdicts ∙ ap (λ (z : Context). z.verdicts) c.in_ok-pair.ensures.unchanged)) ∙ none) pairs read counted node_counts visits;
+  says =
+      let set = setting g.K.Validate.words g.K.Validate.is_whole g.K.Validate.shape g.M.Matcher.matching c.args.engine.now in
+      let q = asking c.args.question.now in
+      let p = steps_to c.args.question.now.place.now in
+      let e = edge_of c.args.edge.now in
+      let unknown = pair_unknown e.node c.in_ok-pair.pair.node.0 p (place_of c.in_ok-pair.pair) c.args.context.now c.new.new.context (ap (λ (n : SchemaNode). n.0) c.in_ok-pair.ensures.node) c.in_ok-pair.ensures.place c.in_ok-pair.ensures.unchanged c.in_default.ensures.busy c.in_default.ensures.read in
+      let entered : (list_any (λ i. i == e.node) (busy_at p c.args.context.now.in_progress) ≡ false) × (c.enter.new.context.in_progress ≡ c.args.context.now.in_progress ++ (e.node, p) ∷ []) = (
+        unknown.0,
+        pair_entered e.node c.in_ok-pair.pair.node.0 p (place_of c.in_ok-pair.pair) c.args.context.now c.new.new.context c.enter.new.context.in_progress (ap (λ (n : SchemaNode). n.0) c.in_ok-pair.ensures.node) c.in_ok-pair.ensures.place c.in_ok-pair.ensures.unchanged c.in_ok-enter.ensures.entered,
+      ) in
+      let c2 = c.start_ref_visit-mark.new.self in
+      let pairs : c2.in_progress ≡ c.args.context.now.in_progress ++ (e.node, p) ∷ [] = ap (λ (z : Context). z.in_progress) c.start_ref_visit-mark.ensures.counted ∙ entered.1 in
+      let met : c2.remembered ≡ c.args.context.now.remembered = ap (λ (z : Context). z.remembered) c.start_ref_visit-mark.ensures.counted ∙ (c.enter.ensures.remembered ∙ ap (λ (z : Context). z.remembered) c.in_ok-pair.ensures.unchanged) in
+      let there : steps_to c.numbered_place-place.result ≡ p = c.numbered_place-place.ensures.same ∙ c.in_ok-pair.ensures.place in
+      let at_asked : (record { subject = q.subject; place = steps_to c.numbered_place-place.result; path = path_of c.across-whole.result; mode = q.mode }) ≡ asked_across set q e c.args.context.now c.requires.stands entered.0
+      = λ i. record { subject = q.subject; place = there i; path = c.across-whole.ensures.appended i; mode = q.mode } in
+      let says = subst (λ z. NodeSays set z c2 e.node (told.Truth c.in_ok-valid.valid)) at_asked c.in_ok-valid.ensures.says in
+      computed_says set q e c.args.context.now c.requires.stands entered.0 c2 pairs met (told.Truth c.in_ok-valid.valid) says;
+  meets =
+      let set = setting g.K.Validate.words g.K.Validate.is_whole g.K.Validate.shape g.M.Matcher.matching c.args.engine.now in
+      let q = asking c.args.question.now in
+      let p = steps_to c.args.question.now.place.now in
+      let e = edge_of c.args.edge.now in
+      let unknown = pair_unknown e.node c.in_ok-pair.pair.node.0 p (place_of c.in_ok-pair.pair) c.args.context.now c.new.new.context (ap (λ (n : SchemaNode). n.0) c.in_ok-pair.ensures.node) c.in_ok-pair.ensures.place c.in_ok-pair.ensures.unchanged c.in_default.ensures.busy c.in_default.ensures.read in
+      let entered : (list_any (λ i. i == e.node) (busy_at p c.args.context.now.in_progress) ≡ false) × (c.enter.new.context.in_progress ≡ c.args.context.now.in_progress ++ (e.node, p) ∷ []) = (
+        unknown.0,
+        pair_entered e.node c.in_ok-pair.pair.node.0 p (place_of c.in_ok-pair.pair) c.args.context.now c.new.new.context c.enter.new.context.in_progress (ap (λ (n : SchemaNode). n.0) c.in_ok-pair.ensures.node) c.in_ok-pair.ensures.place c.in_ok-pair.ensures.unchanged c.in_ok-enter.ensures.entered,
+      ) in
+      let c2 = c.start_ref_visit-mark.new.self in
+      let c3 = c.verdict_node.new.context in
+      let pairs : c2.in_progress ≡ c.args.context.now.in_progress ++ (e.node, p) ∷ [] = ap (λ (z : Context). z.in_progress) c.start_ref_visit-mark.ensures.counted ∙ entered.1 in
+      let met : c2.remembered ≡ c.args.context.now.remembered = ap (λ (z : Context). z.remembered) c.start_ref_visit-mark.ensures.counted ∙ (c.enter.ensures.remembered ∙ ap (λ (z : Context). z.remembered) c.in_ok-pair.ensures.unchanged) in
+      let there : steps_to c.numbered_place-place.result ≡ p = c.numbered_place-place.ensures.same ∙ c.in_ok-pair.ensures.place in
+      let at_asked : (record { subject = q.subject; place = steps_to c.numbered_place-place.result; path = path_of c.across-whole.result; mode = q.mode }) ≡ asked_across set q e c.args.context.now c.requires.stands entered.0
+      = λ i. record { subject = q.subject; place = there i; path = c.across-whole.ensures.appended i; mode = q.mode } in
+      let meets = subst (λ z. MeetsNode set z c2 c3 e.node) at_asked c.in_ok-valid.ensures.meets in
+      let met5 = c.exit.ensures.remembered ∙ ap (λ (z : Context). z.remembered) c.keep_verdict.ensures.frame in
+      computed_meets set q e c.args.context.now c.requires.stands entered.0 c2 pairs met c3 c.exit.new.context meets met5;
+  stays =
+      let set = setting g.K.Validate.words g.K.Validate.is_whole g.K.Validate.shape g.M.Matcher.matching c.args.engine.now in
+      let q = asking c.args.question.now in
+      let p = steps_to c.args.question.now.place.now in
+      let e = edge_of c.args.edge.now in
+      let unknown = pair_unknown e.node c.in_ok-pair.pair.node.0 p (place_of c.in_ok-pair.pair) c.args.context.now c.new.new.context (ap (λ (n : SchemaNode). n.0) c.in_ok-pair.ensures.node) c.in_ok-pair.ensures.place c.in_ok-pair.ensures.unchanged c.in_default.ensures.busy c.in_default.ensures.read in
+      let entered : (list_any (λ i. i == e.node) (busy_at p c.args.context.now.in_progress) ≡ false) × (c.enter.new.context.in_progress ≡ c.args.context.now.in_progress ++ (e.node, p) ∷ []) = (
+        unknown.0,
+        pair_entered e.node c.in_ok-pair.pair.node.0 p (place_of c.in_ok-pair.pair) c.args.context.now c.new.new.context c.enter.new.context.in_progress (ap (λ (n : SchemaNode). n.0) c.in_ok-pair.ensures.node) c.in_ok-pair.ensures.place c.in_ok-pair.ensures.unchanged c.in_ok-enter.ensures.entered,
+      ) in
+      let c2 = c.start_ref_visit-mark.new.self in
+      let c3 = c.verdict_node.new.context in
+      let pairs : c2.in_progress ≡ c.args.context.now.in_progress ++ (e.node, p) ∷ [] = ap (λ (z : Context). z.in_progress) c.start_ref_visit-mark.ensures.counted ∙ entered.1 in
+      let met : c2.remembered ≡ c.args.context.now.remembered = ap (λ (z : Context). z.remembered) c.start_ref_visit-mark.ensures.counted ∙ (c.enter.ensures.remembered ∙ ap (λ (z : Context). z.remembered) c.in_ok-pair.ensures.unchanged) in
+      let there : steps_to c.numbered_place-place.result ≡ p = c.numbered_place-place.ensures.same ∙ c.in_ok-pair.ensures.place in
+      let at_asked : (record { subject = q.subject; place = steps_to c.numbered_place-place.result; path = path_of c.across-whole.result; mode = q.mode }) ≡ asked_across set q e c.args.context.now c.requires.stands entered.0
+      = λ i. record { subject = q.subject; place = there i; path = c.across-whole.ensures.appended i; mode = q.mode } in
+      let says = subst (λ z. NodeSays set z c2 e.node (told.Truth c.in_ok-valid.valid)) at_asked c.in_ok-valid.ensures.says in
+      let meets = subst (λ z. MeetsNode set z c2 c3 e.node) at_asked c.in_ok-valid.ensures.meets in
+      let keeps = c.in_ok-valid.ensures.keeps in
+      let read = ap (λ (z : Context). z.verdicts) c.start_ref_visit-mark.ensures.counted ∙ (c.enter.ensures.verdicts ∙ ap (λ (z : Context). z.verdicts) c.in_ok-pair.ensures.unchanged) in
+      let stays = subst (λ z. StaysRight set z c2 c3) at_asked c.in_ok-valid.ensures.stays in
+      let kept = rw (ap (λ (n : SchemaNode). n.0) c.in_ok-pair.ensures.node, c.in_ok-pair.ensures.place) at c.in_ok-keep_verdict.ensures.kept in
+      let few = rw (ap (λ (n : SchemaNode). n.0) c.in_ok-pair.ensures.node, c.in_ok-pair.ensures.place) at c.in_ok-keep_verdict.ensures.others in
+      kept_stays set q e c.args.context.now c.requires.stands entered.0 c.requires.verdict c.enter.new.context c2 c3 c.keep_verdict.new.context c.exit.new.context c.start_ref_visit-mark.result c.in_ok-valid.valid pairs met says meets keeps
+      g.met.K.Validate.asks_verdicts kept read stays few (ap (λ (z : Context). z.remembered) c.keep_verdict.ensures.frame) c.exit.ensures.remembered c.exit.ensures.verdicts;
+  remembers =
+      let set = setting g.K.Validate.words g.K.Validate.is_whole g.K.Validate.shape g.M.Matcher.matching c.args.engine.now in
+      let q = asking c.args.question.now in
+      let p = steps_to c.args.question.now.place.now in
+      let e = edge_of c.args.edge.now in
+      let unknown = pair_unknown e.node c.in_ok-pair.pair.node.0 p (place_of c.in_ok-pair.pair) c.args.context.now c.new.new.context (ap (λ (n : SchemaNode). n.0) c.in_ok-pair.ensures.node) c.in_ok-pair.ensures.place c.in_ok-pair.ensures.unchanged c.in_default.ensures.busy c.in_default.ensures.read in
+      let entered : (list_any (λ i. i == e.node) (busy_at p c.args.context.now.in_progress) ≡ false) × (c.enter.new.context.in_progress ≡ c.args.context.now.in_progress ++ (e.node, p) ∷ []) = (
+        unknown.0,
+        pair_entered e.node c.in_ok-pair.pair.node.0 p (place_of c.in_ok-pair.pair) c.args.context.now c.new.new.context c.enter.new.context.in_progress (ap (λ (n : SchemaNode). n.0) c.in_ok-pair.ensures.node) c.in_ok-pair.ensures.place c.in_ok-pair.ensures.unchanged c.in_ok-enter.ensures.entered,
+      ) in
+      let c2 = c.start_ref_visit-mark.new.self in
+      let c3 = c.verdict_node.new.context in
+      let pairs : c2.in_progress ≡ c.args.context.now.in_progress ++ (e.node, p) ∷ [] = ap (λ (z : Context). z.in_progress) c.start_ref_visit-mark.ensures.counted ∙ entered.1 in
+      let met : c2.remembered ≡ c.args.context.now.remembered = ap (λ (z : Context). z.remembered) c.start_ref_visit-mark.ensures.counted ∙ (c.enter.ensures.remembered ∙ ap (λ (z : Context). z.remembered) c.in_ok-pair.ensures.unchanged) in
+      let there : steps_to c.numbered_place-place.result ≡ p = c.numbered_place-place.ensures.same ∙ c.in_ok-pair.ensures.place in
+      let at_asked : (record { subject = q.subject; place = steps_to c.numbered_place-place.result; path = path_of c.across-whole.result; mode = q.mode }) ≡ asked_across set q e c.args.context.now c.requires.stands entered.0
+      = λ i. record { subject = q.subject; place = there i; path = c.across-whole.ensures.appended i; mode = q.mode } in
+      let says = subst (λ z. NodeSays set z c2 e.node (told.Truth c.in_ok-valid.valid)) at_asked c.in_ok-valid.ensures.says in
+      let meets = subst (λ z. MeetsNode set z c2 c3 e.node) at_asked c.in_ok-valid.ensures.meets in
+      let keeps = c.in_ok-valid.ensures.keeps in
+      let kept = rw (ap (λ (n : SchemaNode). n.0) c.in_ok-pair.ensures.node, c.in_ok-pair.ensures.place) at c.in_ok-keep_verdict.ensures.kept in
+      let none = read_entered e.node p c.args.context.now c.enter.new.context entered.1 (c.enter.ensures.verdicts ∙ ap (λ (z : Context). z.verdicts) c.in_ok-pair.ensures.unchanged) ∙ unknown.1 in
+      let left = ap (λ (z : Context). z.in_progress) c.keep_verdict.ensures.frame ∙ keeps.in_progress in
+      let back = pairs_back set q e c.args.context.now c.requires.stands entered.0 c2 c.exit.new.context pairs (sym left ∙ rw (ap (λ (n : SchemaNode). n.0) c.in_ok-pair.ensures.node, c.in_ok-pair.ensures.place) at c.exit.ensures.left) in
+      let visits = c.exit.ensures.visits ∙ ap (λ (z : Context). z.visits) c.keep_verdict.ensures.frame in
+      let counted = ap (λ (z : Context). z.visits) c.start_ref_visit-mark.ensures.counted ∙ ap one_more (c.enter.ensures.visits ∙ ap (λ (z : Context). z.visits) c.in_ok-pair.ensures.unchanged) in
+      let more = subst (λ z. z ≤ c3.visits) counted c.in_ok-valid.ensures.counts in
+      kept_remembers set q e c.args.context.now c.requires.stands entered.0 c.requires.verdict c.enter.new.context c2 c3 c.keep_verdict.new.context c.exit.new.context c.start_ref_visit-mark.result c.in_ok-valid.valid pairs met says meets keeps
+      g.met.K.Validate.asks_verdicts kept entered.1 (c.enter.ensures.verdicts ∙ ap (λ (z : Context). z.verdicts) c.in_ok-pair.ensures.unchanged) none (c.start_ref_visit-mark.ensures.mark ∙ (c.enter.ensures.visits ∙ ap (λ (z : Context). z.visits) c.in_ok-pair.ensures.unchanged)) back visits more c.exit.ensures.verdicts;
+}
 
 pub verdict::guarded_verdict-verdict_node-requires : goal.verdict::guarded_verdict-verdict_node-requires
 verdict::guarded_verdict-verdict_node-requires g t c =
@@ -747,7 +760,7 @@ verdict::guarded_verdict-verdict_node-requires g t c =
     let pairs = ap (λ (z : Context). z.in_progress) c.start_ref_visit-mark.ensures.counted in
     let new : c.start_ref_visit-mark.new.self.in_progress ≡ c.args.context.now.in_progress ++ (e.node, p) ∷ [] = pairs ∙ entered.1 in
     let busy : busy_at p c.start_ref_visit-mark.new.self.in_progress ≡ e.node ∷ busy_at p c.args.context.now.in_progress = ap (busy_at p) new ∙ busy-pushed p e.node c.args.context.now.in_progress in
-    let needs = needs_of_entered g.K.Validate.words g.K.Validate.is_whole ns (length c.args.engine.now.nodes.now) (settling (g.M.Matcher.matching c.args.engine.now.matcher.now) c.args.context.now.remembered.assumptions) s (busy_at p c.args.context.now.in_progress) e c.requires.guarded entered.0 in
+    let needs = needs_of_entered g.K.Validate.words g.K.Validate.is_whole ns (length c.args.engine.now.nodes.now) (settling (g.M.Matcher.matching c.args.engine.now.matcher.now) c.args.context.now.remembered.assumptions) s (busy_at p c.args.context.now.in_progress) e c.requires.stands entered.0 in
     let there : steps_to c.numbered_place-place.result ≡ p = c.numbered_place-place.ensures.same ∙ c.in_ok-pair.ensures.place in
     let l = ap (λ q. left ns (length c.args.engine.now.nodes.now) e.node s (busy_at q c.start_ref_visit-mark.new.self.in_progress)) there ∙ ap (left ns (length c.args.engine.now.nodes.now) e.node s) busy in
     let deeper = subst (λ q. NoDeeper q c.start_ref_visit-mark.new.self.in_progress) (sym there) (subst (NoDeeper p) (sym new) (deeper-pushed p e.node c.args.context.now.in_progress c.requires.may.above)) in
@@ -759,7 +772,7 @@ verdict::guarded_verdict-verdict_node-requires g t c =
     let right' = right_same set layout c.args.context.now c.start_ref_visit-mark.new.self met read right in
     let root = ap (λ (z : Context). z.root) c.start_ref_visit-mark.ensures.counted ∙ c.enter.ensures.root ∙ ap (λ (z : Context). z.root) c.in_ok-pair.ensures.unchanged in
     let carries = carries_on c.args.context.now.root c.start_ref_visit-mark.new.self.root c.numbered_place-place.result root (c.numbered_place-place.ensures.carries c.args.context.now c.in_ok-pair.ensures.numbered) in
-    λ κs h. (lower_entered _ _ _ t l needs c.decreases, (h.0, (h.1.0, (h.1.1.0, (h.1.1.1, (record { known = c.requires.may.known; ranked = c.requires.may.ranked; above = deeper; wanted = c.requires.may.wanted; stands = stands_at c.args.context.now.root _ (asking c.args.question.now) _ root there c.requires.may.stands; goes_on = (layout, laid', right') }, (carries, c.requires.verdict)))))))
+    λ κs h. (lower_entered _ _ _ t l needs c.decreases, (h.0, (h.1.0, (h.1.1.0, (h.1.1.1, record { may = record { known = c.requires.may.known; ranked = c.requires.may.ranked; above = deeper; wanted = c.requires.may.wanted; stands = stands_at c.args.context.now.root _ (asking c.args.question.now) _ root there c.requires.may.stands; goes_on = (layout, laid', right') }; carries = carries; verdict = c.requires.verdict; stands = tt })))))
 
 pub verdict_turns::keyword_verdict-take_turns-turned-requires : goal.verdict_turns::keyword_verdict-take_turns-turned-requires
 verdict_turns::keyword_verdict-take_turns-turned-requires g t c =
@@ -771,44 +784,40 @@ verdict_turns::keyword_verdict-take_turns-turned-requires g t c =
     = λ texts. ap ((g.K.Validate.words texts).begin m s) c.requires.verdict ∙ c.in_ok-run.ensures.begins texts ∙ ap (λ a. (c.in_ok-run.run', a)) (sym (c.in_ok-answer.ensures.fresh texts)) in
     let kept = c.set_aside-aside.ensures.in_progress in
     let l = ap (λ es. left ns (length c.args.engine.now.nodes.now) c.args.node.0 s (busy_at p es)) kept in
-    λ κs h. (lower_same _ _ t 4 0 l c.decreases, (h.0, (h.1.0, (h.1.1.0, (h.1.1.1, (record { known = c.requires.may.known; ranked = c.requires.may.ranked; above = subst (NoDeeper p) (sym kept) c.requires.may.above; wanted = c.requires.may.wanted; stands = stands_on c.args.context.now.root _ (asking c.args.question.now) c.set_aside-aside.ensures.root c.requires.may.stands; goes_on = (c.requires.may.goes_on.0, c.requires.may.goes_on.1, right_same (setting g.K.Validate.words g.K.Validate.is_whole g.K.Validate.shape g.M.Matcher.matching c.args.engine.now) c.requires.may.goes_on.0 c.args.context.now c.set_aside-aside.new.self c.set_aside-aside.ensures.remembered c.set_aside-aside.ensures.verdicts c.requires.may.goes_on.2) }, (carries_on c.args.context.now.root _ c.args.question.now.place.now c.set_aside-aside.ensures.root c.requires.carries, (c.requires.verdict, (c.requires.form, (begun, c.set_aside-aside.ensures.none))))))))))
+    λ κs h. (lower_same _ _ t 4 0 l c.decreases, (h.0, (h.1.0, (h.1.1.0, (h.1.1.1, (record { may = record { known = c.requires.may.known; ranked = c.requires.may.ranked; above = subst (NoDeeper p) (sym kept) c.requires.may.above; wanted = c.requires.may.wanted; stands = stands_on c.args.context.now.root _ (asking c.args.question.now) c.set_aside-aside.ensures.root c.requires.may.stands; goes_on = (c.requires.may.goes_on.0, c.requires.may.goes_on.1, right_same (setting g.K.Validate.words g.K.Validate.is_whole g.K.Validate.shape g.M.Matcher.matching c.args.engine.now) c.requires.may.goes_on.0 c.args.context.now c.set_aside-aside.new.self c.set_aside-aside.ensures.remembered c.set_aside-aside.ensures.verdicts c.requires.may.goes_on.2) }; carries = carries_on c.args.context.now.root _ c.args.question.now.place.now c.set_aside-aside.ensures.root c.requires.carries; verdict = c.requires.verdict; stands = c.requires.stands }, (begun, c.set_aside-aside.ensures.none)))))))
 
-pub verdict_turns::keyword_verdict-returns-in-Ok-clause-says : goal.verdict_turns::keyword_verdict-returns-in-Ok-clause-says
-verdict_turns::keyword_verdict-returns-in-Ok-clause-says g t c =
-    let set = setting g.K.Validate.words g.K.Validate.is_whole g.K.Validate.shape g.M.Matcher.matching c.args.engine.now in
-    let ns = numbered g.K.Validate.shape c.args.engine.now.nodes.now in
-    let w = settling (g.M.Matcher.matching c.args.engine.now.matcher.now) c.args.context.now.remembered.assumptions in
-    let p = steps_to c.args.question.now.place.now in
-    let s = subject_of c.args.question.now.instance in
-    let busy = busy_at p c.args.context.now.in_progress in
-    let mode = mode_of c.args.question.now.mode in
-    let path = path_of c.args.question.now.path.now in
-    let m = g.K.Validate.shape c.args.keyword.now.keyword.now in
-    let es = map (option_map edge_of) c.args.keyword.now.children.now in
-    let answer = c.take_turns-turned.new.answer in
-    let right = finds_moved set (asking c.args.question.now) c.args.context.now c.set_aside-aside.new.self c.set_aside-aside.ensures.in_progress (ap (λ (r : Remembered). r.assumptions) c.set_aside-aside.ensures.remembered) c.args.node.0 es m answer (rw c.in-Ok.is at c.take_turns-turned.ensures.right) in
-    keyword_replies mode c.requires.verdict g.K.Validate.words g.K.Validate.is_whole ns (length c.args.engine.now.nodes.now) w path p busy s c.args.node.0 (string_bytes c.args.keyword.now.name.now) m es c.verdict_of.result (λ x reads l.
-    let answers = child_says g.K.Validate.words ns x path p busy es in
-    let units = child_unit g.K.Validate.words ns x path p busy es in
-    c.verdict_of.ensures.verdict x.texts ∙ subst (λ z. IsRight (g.K.Validate.words x.texts) m s (matching x.matcher x.completion) answers units (same_edge es) z (answer_of x.texts answer)) c.requires.verdict (right x reads l))
-
-pub verdict_turns::keyword_verdict-returns-in-Ok-clause-meets : goal.verdict_turns::keyword_verdict-returns-in-Ok-clause-meets
-verdict_turns::keyword_verdict-returns-in-Ok-clause-meets g t c = rw (c.set_aside-aside.ensures.in_progress, c.set_aside-aside.ensures.remembered, ← c.put_back.ensures.remembered) at (rw c.in-Ok.is at c.take_turns-turned.ensures.meets)
-
-pub verdict_turns::keyword_verdict-returns-in-Ok-clause-stays : goal.verdict_turns::keyword_verdict-returns-in-Ok-clause-stays
-verdict_turns::keyword_verdict-returns-in-Ok-clause-stays g t c = λ layout laid right.
-    let set = setting g.K.Validate.words g.K.Validate.is_whole g.K.Validate.shape g.M.Matcher.matching c.args.engine.now in
-    let right1 = right_same set layout c.args.context.now c.set_aside-aside.new.self c.set_aside-aside.ensures.remembered c.set_aside-aside.ensures.verdicts right in
-    let stays = rw c.in-Ok.is at c.take_turns-turned.ensures.stays in
-    right_same set layout c.take_turns-turned.new.context c.put_back.new.self c.put_back.ensures.remembered c.put_back.ensures.verdicts (stays layout laid right1)
-
-pub verdict_turns::keyword_verdict-returns-in-Ok-clause-counts : goal.verdict_turns::keyword_verdict-returns-in-Ok-clause-counts
-verdict_turns::keyword_verdict-returns-in-Ok-clause-counts g t c = rw (c.set_aside-aside.ensures.visits, ← c.put_back.ensures.visits) at (rw c.in-Ok.is at c.take_turns-turned.ensures.counts)
-
-pub verdict_turns::keyword_verdict-returns-in-Ok-clause-quiet : goal.verdict_turns::keyword_verdict-returns-in-Ok-clause-quiet
-verdict_turns::keyword_verdict-returns-in-Ok-clause-quiet g t c = λ none.
-    let quiet = rw c.in-Ok.is at c.take_turns-turned.ensures.quiet in
-    c.put_back.ensures.visits ∙ quiet none ∙ c.set_aside-aside.ensures.visits
+pub verdict_turns::keyword_verdict-returns-in-Ok : goal.verdict_turns::keyword_verdict-returns-in-Ok
+verdict_turns::keyword_verdict-returns-in-Ok g t c = record {
+  keeps = search rules;
+  counts = rw (c.set_aside-aside.ensures.visits, ← c.put_back.ensures.visits) at (rw c.in-Ok.is at c.take_turns-turned.ensures.counts);
+  visits = keyword_counts (numbered g.K.Validate.shape c.args.engine.now.nodes.now) (asking c.args.question.now) c.args.context.now c.put_back.new.self (g.K.Validate.shape c.args.keyword.now.keyword.now) (map (option_map edge_of) c.args.keyword.now.children.now) (λ none.
+      let quiet = rw c.in-Ok.is at c.take_turns-turned.ensures.quiet in
+      c.put_back.ensures.visits ∙ quiet none ∙ c.set_aside-aside.ensures.visits);
+  says =
+      let set = setting g.K.Validate.words g.K.Validate.is_whole g.K.Validate.shape g.M.Matcher.matching c.args.engine.now in
+      let ns = numbered g.K.Validate.shape c.args.engine.now.nodes.now in
+      let w = settling (g.M.Matcher.matching c.args.engine.now.matcher.now) c.args.context.now.remembered.assumptions in
+      let p = steps_to c.args.question.now.place.now in
+      let s = subject_of c.args.question.now.instance in
+      let busy = busy_at p c.args.context.now.in_progress in
+      let mode = mode_of c.args.question.now.mode in
+      let path = path_of c.args.question.now.path.now in
+      let m = g.K.Validate.shape c.args.keyword.now.keyword.now in
+      let es = map (option_map edge_of) c.args.keyword.now.children.now in
+      let answer = c.take_turns-turned.new.answer in
+      let right = finds_moved set (asking c.args.question.now) c.args.context.now c.set_aside-aside.new.self c.set_aside-aside.ensures.in_progress (ap (λ (r : Remembered). r.assumptions) c.set_aside-aside.ensures.remembered) c.args.node.0 es m answer (rw c.in-Ok.is at c.take_turns-turned.ensures.right) in
+      keyword_replies mode c.requires.verdict g.K.Validate.words g.K.Validate.is_whole ns (length c.args.engine.now.nodes.now) w path p busy s c.args.node.0 (string_bytes c.args.keyword.now.name.now) m es c.verdict_of.result (λ x reads l.
+      let answers = child_says g.K.Validate.words ns x path p busy es in
+      let units = child_unit g.K.Validate.words ns x path p busy es in
+      c.verdict_of.ensures.verdict x.texts ∙ subst (λ z. IsRight (g.K.Validate.words x.texts) m s (matching x.matcher x.completion) answers units (same_edge es) z (answer_of x.texts answer)) c.requires.verdict (right x reads l));
+  meets = rw (c.set_aside-aside.ensures.in_progress, c.set_aside-aside.ensures.remembered, ← c.put_back.ensures.remembered) at (rw c.in-Ok.is at c.take_turns-turned.ensures.meets);
+  stays = λ layout laid right.
+      let set = setting g.K.Validate.words g.K.Validate.is_whole g.K.Validate.shape g.M.Matcher.matching c.args.engine.now in
+      let right1 = right_same set layout c.args.context.now c.set_aside-aside.new.self c.set_aside-aside.ensures.remembered c.set_aside-aside.ensures.verdicts right in
+      let stays = rw c.in-Ok.is at c.take_turns-turned.ensures.stays in
+      right_same set layout c.take_turns-turned.new.context c.put_back.new.self c.put_back.ensures.remembered c.put_back.ensures.verdicts (stays layout laid right1);
+  remembers = λ e is. cc;
+}
 
 pub verdict_turns::take_turns-turns-init : goal.verdict_turns::take_turns-turns-init
 verdict_turns::take_turns-turns-init g t c =
@@ -826,7 +835,7 @@ verdict_turns::take_turns-turns-init g t c =
       assumes = refl;
       stays = λ layout laid right. right;
       can = subst (g.K.Validate.can_be false m s) (c.requires.begun false) ((g.met.K.Validate.turn_laws false m).starts s (mode_of c.args.question.now.mode));
-      asks = asks_begun (g.K.Validate.words false) m (g.K.Validate.absorbed m) (g.K.Validate.remaining m) (g.K.Validate.can_be false m) (g.K.Validate.ends false m) (g.K.Validate.fits false m) (g.met.K.Validate.turn_laws false m) s (g.met.K.Validate.asks_verdicts false) (mode_of c.args.question.now.mode) c.requires.verdict (c.args.run.now, answer_of false c.args.answer.now) (c.requires.begun false);
+      asks = asks_begun (g.K.Validate.words false) m (g.K.Validate.absorbed m) (g.K.Validate.remaining m) (g.K.Validate.can_be false m) (g.K.Validate.ends false m) (g.K.Validate.fits false m) (g.met.K.Validate.turn_laws false m) s (g.met.K.Validate.asks_verdicts false) (mode_of c.args.question.now.mode) c.requires.asked.verdict (c.args.run.now, answer_of false c.args.answer.now) (c.requires.begun false);
       quiet = λ none. refl;
       counted = as_many c.args.context.now.visits c.args.context.now.visits refl;
       leads = λ x reads l. begins_on (g.K.Validate.words x.texts) m (g.K.Validate.absorbed m) (g.K.Validate.remaining m) (g.K.Validate.can_be x.texts m) (g.K.Validate.ends x.texts m) (g.K.Validate.fits x.texts m) (g.met.K.Validate.turn_laws x.texts m) s x (mode_of c.args.question.now.mode) (child_says g.K.Validate.words ns x (path_of c.args.question.now.path.now) p busy es) (child_unit g.K.Validate.words ns x (path_of c.args.question.now.path.now) p busy es) (same_edge es) c.args.context.now.marking (c.args.run.now, answer_of x.texts c.args.answer.now) c.requires.no_marks
@@ -856,24 +865,50 @@ verdict_turns::take_turns-verdict_child-requires g t c =
     let l = ap (λ es. left ns (length c.args.engine.now.nodes.now) c.args.node.0 s (busy_at p es)) kept in
     let q : Question = record { child = c.in-Ask.child; below = below_of c.in-Ask.below } in
     let there = asks_there (g.K.Validate.words false) m (g.K.Validate.absorbed m) (g.K.Validate.remaining m) (g.K.Validate.can_be false m) (g.K.Validate.ends false m) (g.K.Validate.fits false m) (g.met.K.Validate.turn_laws false m) s (c.turns.run, answer_of false c.turns.answer) told q (mode_of c.in-Ask.wanted) c.turns.invariant.can ((g.met.K.Validate.function_laws false m).present s) step in
-    λ κs h. (lower_same _ _ t 2 1 l c.decreases, (h.0, (h.1.0, (h.1.1.0, (h.1.1.1, (record { known = c.requires.may.known; ranked = c.requires.may.ranked; above = subst (NoDeeper p) (sym kept) c.requires.may.above; wanted = c.requires.may.wanted; stands = stands_on c.args.context.now.root _ (asking c.args.question.now) c.turns.invariant.root c.requires.may.stands; goes_on = (c.requires.may.goes_on.0, c.requires.may.goes_on.1, c.turns.invariant.stays c.requires.may.goes_on.0 c.requires.may.goes_on.1 c.requires.may.goes_on.2) }, (carries_on c.args.context.now.root _ c.args.question.now.place.now c.turns.invariant.root c.requires.carries, (c.requires.verdict, (keyword_children ns c.args.node.0 m es c.requires.form, there)))))))))
+    λ κs h. (lower_same _ _ t 2 1 l c.decreases, (h.0, (h.1.0, (h.1.1.0, (h.1.1.1, record { may = record { known = c.requires.asked.may.known; ranked = c.requires.asked.may.ranked; above = subst (NoDeeper p) (sym kept) c.requires.asked.may.above; wanted = c.requires.asked.may.wanted; stands = stands_on c.args.context.now.root _ (asking c.args.question.now) c.turns.invariant.root c.requires.asked.may.stands; goes_on = (c.requires.asked.may.goes_on.0, c.requires.asked.may.goes_on.1, c.turns.invariant.stays c.requires.asked.may.goes_on.0 c.requires.asked.may.goes_on.1 c.requires.asked.may.goes_on.2) }; carries = carries_on c.args.context.now.root _ c.args.question.now.place.now c.turns.invariant.root c.requires.asked.carries; verdict = c.requires.asked.verdict; stands = (keyword_children ns c.args.node.0 m es c.requires.asked.stands, there) })))))
 
-pub verdict_turns::take_turns-returns-in-Done-clause-right : goal.verdict_turns::take_turns-returns-in-Done-clause-right
-verdict_turns::take_turns-returns-in-Done-clause-right g t c = λ x reads l.
-    let ns = numbered g.K.Validate.shape c.args.engine.now.nodes.now in
-    let p = steps_to c.args.question.now.place.now in
-    let s = subject_of c.args.question.now.instance in
-    let m = g.K.Validate.shape c.args.keyword.now.keyword.now in
-    let turned : (texts : Bool) → Tells texts (g.K.Validate.is_whole m) s → (g.K.Validate.words texts).turn m s (c.turns.run, answer_of texts c.turns.answer) (told_reply c.turns.told) ≡ (c.turn.new.run, answer_of texts c.turn.new.answer)
-    = λ texts tells. turned_by (g.K.Validate.words texts) m (g.K.Validate.absorbed m) (g.K.Validate.remaining m) (g.K.Validate.can_be texts m) (g.K.Validate.ends texts m) (g.K.Validate.fits texts m) (g.met.K.Validate.turn_laws texts m) s (c.turns.run, answer_of texts c.turns.answer) (c.turn.new.run, answer_of texts c.turn.new.answer) (reply_of texts c.reply_with-reply.result) (told_reply c.turns.told) (c.reply_with-reply.ensures.told texts) (c.in_ok-step.ensures.turns texts tells) in
-    let stepped : (texts : Bool) → Tells texts (g.K.Validate.is_whole m) s → (g.K.Validate.words texts).step m s (c.turns.run, answer_of texts c.turns.answer) (told_reply c.turns.told) ≡ turn_of c.in_ok-step.step
-    = λ texts tells. stepped_by (g.K.Validate.words texts) m (g.K.Validate.absorbed m) (g.K.Validate.remaining m) (g.K.Validate.can_be texts m) (g.K.Validate.ends texts m) (g.K.Validate.fits texts m) (g.met.K.Validate.turn_laws texts m) s (c.turns.run, answer_of texts c.turns.answer) (reply_of texts c.reply_with-reply.result) (told_reply c.turns.told) (turn_of c.in_ok-step.step) (c.reply_with-reply.ensures.told texts) (c.in_ok-step.ensures.steps texts tells) in
-    let es = map (option_map edge_of) c.args.keyword.now.children.now in
-    let busy = busy_at p c.args.context.now.in_progress in
-    let tells = tells_keyword g.K.Validate.is_whole ns (length c.args.engine.now.nodes.now) (settling (g.M.Matcher.matching c.args.engine.now.matcher.now) c.args.context.now.remembered.assumptions) p s x c.args.node.0 m es c.requires.may.known reads c.requires.form in
-    let answers = child_says g.K.Validate.words ns x (path_of c.args.question.now.path.now) p busy es in
-    let units = child_unit g.K.Validate.words ns x (path_of c.args.question.now.path.now) p busy es in
-    ended_on (g.K.Validate.words x.texts) m (g.K.Validate.absorbed m) (g.K.Validate.remaining m) (g.K.Validate.can_be x.texts m) (g.K.Validate.ends x.texts m) (g.K.Validate.fits x.texts m) (g.met.K.Validate.turn_laws x.texts m) s x (mode_of c.args.question.now.mode) answers units (same_edge es) c.turns.context.marking (c.turns.run, answer_of x.texts c.turns.answer) (c.turn.new.run, answer_of x.texts c.turn.new.answer) (told_reply c.turns.told) (answer_of x.texts c.turn.new.answer) (c.turns.invariant.leads x reads l) (turned x.texts tells) (g.met.K.Validate.answers x.texts c.turn.new.run (answer_of x.texts c.turn.new.answer)) (rw c.in-Done.is at (stepped x.texts tells))
+pub verdict_turns::take_turns-returns-in-Done : goal.verdict_turns::take_turns-returns-in-Done
+verdict_turns::take_turns-returns-in-Done g t c = record {
+  root = search rules;
+  kept = search rules;
+  assumes = search rules;
+  counts = search rules;
+  quiet = search rules;
+  right = λ x reads l.
+      let ns = numbered g.K.Validate.shape c.args.engine.now.nodes.now in
+      let p = steps_to c.args.question.now.place.now in
+      let s = subject_of c.args.question.now.instance in
+      let m = g.K.Validate.shape c.args.keyword.now.keyword.now in
+      let turned : (texts : Bool) → Tells texts (g.K.Validate.is_whole m) s → (g.K.Validate.words texts).turn m s (c.turns.run, answer_of texts c.turns.answer) (told_reply c.turns.told) ≡ (c.turn.new.run, answer_of texts c.turn.new.answer)
+      = λ texts tells. turned_by (g.K.Validate.words texts) m (g.K.Validate.absorbed m) (g.K.Validate.remaining m) (g.K.Validate.can_be texts m) (g.K.Validate.ends texts m) (g.K.Validate.fits texts m) (g.met.K.Validate.turn_laws texts m) s (c.turns.run, answer_of texts c.turns.answer) (c.turn.new.run, answer_of texts c.turn.new.answer) (reply_of texts c.reply_with-reply.result) (told_reply c.turns.told) (c.reply_with-reply.ensures.told texts) (c.in_ok-step.ensures.turns texts tells) in
+      let stepped : (texts : Bool) → Tells texts (g.K.Validate.is_whole m) s → (g.K.Validate.words texts).step m s (c.turns.run, answer_of texts c.turns.answer) (told_reply c.turns.told) ≡ turn_of c.in_ok-step.step
+      = λ texts tells. stepped_by (g.K.Validate.words texts) m (g.K.Validate.absorbed m) (g.K.Validate.remaining m) (g.K.Validate.can_be texts m) (g.K.Validate.ends texts m) (g.K.Validate.fits texts m) (g.met.K.Validate.turn_laws texts m) s (c.turns.run, answer_of texts c.turns.answer) (reply_of texts c.reply_with-reply.result) (told_reply c.turns.told) (turn_of c.in_ok-step.step) (c.reply_with-reply.ensures.told texts) (c.in_ok-step.ensures.steps texts tells) in
+      let es = map (option_map edge_of) c.args.keyword.now.children.now in
+      let busy = busy_at p c.args.context.now.in_progress in
+      let tells = tells_keyword g.K.Validate.is_whole ns (length c.args.engine.now.nodes.now) (settling (g.M.Matcher.matching c.args.engine.now.matcher.now) c.args.context.now.remembered.assumptions) p s x c.args.node.0 m es c.requires.asked.may.known reads c.requires.asked.stands in
+      let answers = child_says g.K.Validate.words ns x (path_of c.args.question.now.path.now) p busy es in
+      let units = child_unit g.K.Validate.words ns x (path_of c.args.question.now.path.now) p busy es in
+      ended_on (g.K.Validate.words x.texts) m (g.K.Validate.absorbed m) (g.K.Validate.remaining m) (g.K.Validate.can_be x.texts m) (g.K.Validate.ends x.texts m) (g.K.Validate.fits x.texts m) (g.met.K.Validate.turn_laws x.texts m) s x (mode_of c.args.question.now.mode) answers units (same_edge es) c.turns.context.marking (c.turns.run, answer_of x.texts c.turns.answer) (c.turn.new.run, answer_of x.texts c.turn.new.answer) (told_reply c.turns.told) (answer_of x.texts c.turn.new.answer) (c.turns.invariant.leads x reads l) (turned x.texts tells) (g.met.K.Validate.answers x.texts c.turn.new.run (answer_of x.texts c.turn.new.answer)) (rw c.in-Done.is at (stepped x.texts tells));
+  meets = λ texts root depth reads l.
+      let ns = numbered g.K.Validate.shape c.args.engine.now.nodes.now in
+      let w = settling (g.M.Matcher.matching c.args.engine.now.matcher.now) c.args.context.now.remembered.assumptions in
+      let p = steps_to c.args.question.now.place.now in
+      let s = subject_of c.args.question.now.instance in
+      let m = g.K.Validate.shape c.args.keyword.now.keyword.now in
+      let turned : (texts : Bool) → Tells texts (g.K.Validate.is_whole m) s → (g.K.Validate.words texts).turn m s (c.turns.run, answer_of texts c.turns.answer) (told_reply c.turns.told) ≡ (c.turn.new.run, answer_of texts c.turn.new.answer)
+      = λ texts tells. turned_by (g.K.Validate.words texts) m (g.K.Validate.absorbed m) (g.K.Validate.remaining m) (g.K.Validate.can_be texts m) (g.K.Validate.ends texts m) (g.K.Validate.fits texts m) (g.met.K.Validate.turn_laws texts m) s (c.turns.run, answer_of texts c.turns.answer) (c.turn.new.run, answer_of texts c.turn.new.answer) (reply_of texts c.reply_with-reply.result) (told_reply c.turns.told) (c.reply_with-reply.ensures.told texts) (c.in_ok-step.ensures.turns texts tells) in
+      let stepped : (texts : Bool) → Tells texts (g.K.Validate.is_whole m) s → (g.K.Validate.words texts).step m s (c.turns.run, answer_of texts c.turns.answer) (told_reply c.turns.told) ≡ turn_of c.in_ok-step.step
+      = λ texts tells. stepped_by (g.K.Validate.words texts) m (g.K.Validate.absorbed m) (g.K.Validate.remaining m) (g.K.Validate.can_be texts m) (g.K.Validate.ends texts m) (g.K.Validate.fits texts m) (g.met.K.Validate.turn_laws texts m) s (c.turns.run, answer_of texts c.turns.answer) (reply_of texts c.reply_with-reply.result) (told_reply c.turns.told) (turn_of c.in_ok-step.step) (c.reply_with-reply.ensures.told texts) (c.in_ok-step.ensures.steps texts tells) in
+      let es = map (option_map edge_of) c.args.keyword.now.children.now in
+      let busy = busy_at p c.args.context.now.in_progress in
+      let name = string_bytes c.args.keyword.now.name.now in
+      let told = told_reply c.turns.told in
+      let turn = turned false (tells_nothing (g.K.Validate.is_whole m) s) in
+      let tells = tells_keyword g.K.Validate.is_whole ns (length c.args.engine.now.nodes.now) w p s (reading w texts root depth) c.args.node.0 m es c.requires.asked.may.known reads c.requires.asked.stands in
+      let all = meets_all (g.K.Validate.words texts) w.matcher w.assumptions (node_at (g.K.Validate.words texts) w.matcher ns (subject_in root) c.args.node.0 (path_of c.args.question.now.path.now) p) s (child_run g.K.Validate.words ns w texts root depth (path_of c.args.question.now.path.now) p busy es) (same_edge es) name m (g.K.Validate.remaining m s) _ _ c.turns.context.remembered c.turns.context.marking (c.turns.run, answer_of texts c.turns.answer) (told_reply c.turns.told) (rw c.in-Done.is at (stepped texts tells)) (c.turns.invariant.met texts root depth reads l) in
+      meets_same w.matcher _ _ _ _ (ap (λ v. keyword_met (g.K.Validate.words texts) w.matcher w.assumptions (node_at (g.K.Validate.words texts) w.matcher ns (subject_in root) c.args.node.0 (path_of c.args.question.now.path.now) p) v (child_run g.K.Validate.words ns w texts root depth (path_of c.args.question.now.path.now) p busy es) (same_edge es) name m (mode_of c.args.question.now.mode)) (sym (stands_in root p s reads.stands))) all;
+  stays = search rules;
+}
 
 pub verdict_turns::take_turns-turns-smaller-in-Ask : goal.verdict_turns::take_turns-turns-smaller-in-Ask
 verdict_turns::take_turns-turns-smaller-in-Ask g t c =
@@ -915,7 +950,7 @@ verdict_turns::take_turns-turns-preserved-in-Ask g t c =
     let said = moved (λ es' as'. ChildReplies g.K.Validate.words g.K.Validate.is_whole ns (length c.args.engine.now.nodes.now) (settling (g.M.Matcher.matching c.args.engine.now.matcher.now) as') (mode_of c.args.question.now.mode) (path_of c.args.question.now.path.now) p (busy_at p es') s c.args.node.0 es q (told.Truth c.in_ok-valid-in-Ask.valid)) c.turns.invariant.kept c.turns.invariant.assumes c.in_ok-valid-in-Ask.ensures.says in
     let says : (x : Reading) → Reads g.K.Validate.is_whole ns (length c.args.engine.now.nodes.now) w p s x → left ns (length c.args.engine.now.nodes.now) c.args.node.0 s busy ≤ x.depth
     → truth c.in_ok-valid-in-Ask.valid ≡ reply_with (mode_of c.in-Ask.wanted) (child_says g.K.Validate.words ns x (path_of c.args.question.now.path.now) p busy es q) (child_unit g.K.Validate.words ns x (path_of c.args.question.now.path.now) p busy es q)
-    = λ x reads l. verdict_told (mode_of c.args.question.now.mode) (mode_of c.in-Ask.wanted) c.in_ok-valid-in-Ask.valid _ _ c.requires.verdict wanted (said x reads l).same in
+    = λ x reads l. verdict_told (mode_of c.args.question.now.mode) (mode_of c.in-Ask.wanted) c.in_ok-valid-in-Ask.valid _ _ c.requires.asked.verdict wanted (said x reads l).same in
     record {
       root = c.in_ok-valid-in-Ask.ensures.keeps.root ∙ c.turns.invariant.root;
       kept = c.in_ok-valid-in-Ask.ensures.keeps.in_progress ∙ c.turns.invariant.kept;
@@ -924,19 +959,19 @@ verdict_turns::take_turns-turns-preserved-in-Ask g t c =
       can = can_after (g.K.Validate.words false) m (g.K.Validate.absorbed m) (g.K.Validate.remaining m) (g.K.Validate.can_be false m) (g.K.Validate.ends false m) (g.K.Validate.fits false m) (g.met.K.Validate.turn_laws false m) s (c.turns.run, answer_of false c.turns.answer) (c.turn.new.run, answer_of false c.turn.new.answer) told_now c.turns.invariant.can turn;
       asks = asks_on (g.K.Validate.words false) m (g.K.Validate.absorbed m) (g.K.Validate.remaining m) (g.K.Validate.can_be false m) (g.K.Validate.ends false m) (g.K.Validate.fits false m) (g.met.K.Validate.turn_laws false m) s (c.turns.run, answer_of false c.turns.answer) (c.turn.new.run, answer_of false c.turn.new.answer) told_now (truth c.in_ok-valid-in-Ask.valid) (ask q (mode_of c.in-Ask.wanted)) c.turns.invariant.can turn step (ask_goes_on q (mode_of c.in-Ask.wanted)) c.turns.invariant.asks;
       counted = no_fewer c.args.context.now.visits c.turns.context.visits c.verdict_child.new.context.visits c.turns.invariant.counted c.in_ok-valid-in-Ask.ensures.counts;
-      quiet = λ none. c.in_ok-valid-in-Ask.ensures.quiet none ∙ c.turns.invariant.quiet none;
+      quiet = λ none. c.in_ok-valid-in-Ask.ensures.visits none ∙ c.turns.invariant.quiet none;
       leads = λ x reads l.
-          let tells = tells_keyword g.K.Validate.is_whole ns (length c.args.engine.now.nodes.now) (settling (g.M.Matcher.matching c.args.engine.now.matcher.now) c.args.context.now.remembered.assumptions) p s x c.args.node.0 m es c.requires.may.known reads c.requires.form in
+          let tells = tells_keyword g.K.Validate.is_whole ns (length c.args.engine.now.nodes.now) (settling (g.M.Matcher.matching c.args.engine.now.matcher.now) c.args.context.now.remembered.assumptions) p s x c.args.node.0 m es c.requires.asked.may.known reads c.requires.asked.stands in
           asked_on (g.K.Validate.words x.texts) m (g.K.Validate.absorbed m) (g.K.Validate.remaining m) (g.K.Validate.can_be x.texts m) (g.K.Validate.ends x.texts m) (g.K.Validate.fits x.texts m) (g.met.K.Validate.turn_laws x.texts m) s x (mode_of c.args.question.now.mode) (child_says g.K.Validate.words ns x (path_of c.args.question.now.path.now) p busy es) (child_unit g.K.Validate.words ns x (path_of c.args.question.now.path.now) p busy es) (same_edge es) c.turns.context.marking c.verdict_child.new.context.marking (c.turns.run, answer_of x.texts c.turns.answer) (c.turn.new.run, answer_of x.texts c.turn.new.answer)
           (told_reply c.turns.told) (truth c.in_ok-valid-in-Ask.valid) q (mode_of c.in-Ask.wanted) c.in_ok-valid-in-Ask.ensures.keeps.marking (c.turns.invariant.leads x reads l) (turned x.texts tells) (rw c.in-Ask.is at (stepped x.texts tells)) (says x reads l ∙ answer_is (g.K.Validate.words x.texts) m s (matching x.matcher x.completion) (child_says g.K.Validate.words ns x (path_of c.args.question.now.path.now) p busy es) (child_unit g.K.Validate.words ns x (path_of c.args.question.now.path.now) p busy es) (same_edge es) (mode_of c.in-Ask.wanted) q);
       met = λ texts root depth reads l.
-          let tells = tells_keyword g.K.Validate.is_whole ns (length c.args.engine.now.nodes.now) w p s (reading w texts root depth) c.args.node.0 m es c.requires.may.known reads c.requires.form in
+          let tells = tells_keyword g.K.Validate.is_whole ns (length c.args.engine.now.nodes.now) w p s (reading w texts root depth) c.args.node.0 m es c.requires.asked.may.known reads c.requires.asked.stands in
           let step' = rw c.in-Ask.is at (stepped texts tells) in
           let turn' = turned texts tells in
           let falls = falls_turned (g.K.Validate.words texts) m (g.K.Validate.absorbed m) (g.K.Validate.remaining m) (g.K.Validate.can_be texts m) (g.K.Validate.ends texts m) (g.K.Validate.fits texts m) (g.met.K.Validate.turn_laws texts m) s (c.turns.run, answer_of texts c.turns.answer) (c.turn.new.run, answer_of texts c.turn.new.answer) (told_reply c.turns.told) (ask q (mode_of c.in-Ask.wanted)) (c.turns.invariant.leads (reading w texts root depth) reads l).can turn' step' (ask_goes_on q (mode_of c.in-Ask.wanted)) in
           let replied = says (reading w texts root depth) reads l ∙ told_is g.K.Validate.words ns w texts root depth (mode_of c.in-Ask.wanted) (path_of c.args.question.now.path.now) p busy es q in
           let met_now = moved (λ es' as'. ChildMeets g.K.Validate.words g.K.Validate.is_whole ns (length c.args.engine.now.nodes.now) (settling (g.M.Matcher.matching c.args.engine.now.matcher.now) as') (mode_of c.args.question.now.mode) (path_of c.args.question.now.path.now) p (busy_at p es') s c.turns.context.remembered c.verdict_child.new.context.remembered c.args.node.0 es q) c.turns.invariant.kept c.turns.invariant.assumes c.in_ok-valid-in-Ask.ensures.meets in
-          let met = subst (λ z. ChildMeets g.K.Validate.words g.K.Validate.is_whole ns (length c.args.engine.now.nodes.now) w z (path_of c.args.question.now.path.now) p busy s c.turns.context.remembered c.verdict_child.new.context.remembered c.args.node.0 es q) (c.requires.verdict ∙ sym wanted) met_now texts root depth reads l in
+          let met = subst (λ z. ChildMeets g.K.Validate.words g.K.Validate.is_whole ns (length c.args.engine.now.nodes.now) w z (path_of c.args.question.now.path.now) p busy s c.turns.context.remembered c.verdict_child.new.context.remembered c.args.node.0 es q) (c.requires.asked.verdict ∙ sym wanted) met_now texts root depth reads l in
           meets_asked (g.K.Validate.words texts) w.matcher w.assumptions (node_at (g.K.Validate.words texts) w.matcher ns (subject_in root) c.args.node.0 (path_of c.args.question.now.path.now) p) s (child_run g.K.Validate.words ns w texts root depth (path_of c.args.question.now.path.now) p busy es) (same_edge es) name m (g.K.Validate.remaining m s) _ _ _ _ _ _ _ _ _ _ q (mode_of c.in-Ask.wanted) c.in_ok-valid-in-Ask.ensures.keeps.marking turn' step' falls replied met (c.turns.invariant.met texts root depth reads l);
     }
 
@@ -1033,12 +1068,12 @@ verdict_turns::take_turns-turns-preserved-in-Match g t c =
       counted = no_fewer c.args.context.now.visits c.turns.context.visits c.step_match.new.context.visits c.turns.invariant.counted (as_many _ _ c.step_match.ensures.visits);
       quiet = λ none. c.step_match.ensures.visits ∙ c.turns.invariant.quiet none;
       leads = λ x reads l.
-          let tells = tells_keyword g.K.Validate.is_whole ns (length c.args.engine.now.nodes.now) w p s x c.args.node.0 m es c.requires.may.known reads c.requires.form in
+          let tells = tells_keyword g.K.Validate.is_whole ns (length c.args.engine.now.nodes.now) w p s x c.args.node.0 m es c.requires.asked.may.known reads c.requires.asked.stands in
           let is = ap truth (out ∙ ap (λ b. settled b answer) (sym (reads.completes a)) ∙ ap (λ (o : Matcher). settled (completed x.completion a) (o.is_match a.pattern a.subject)) (sym reads.matcher)) in
           matched_on (g.K.Validate.words x.texts) m (g.K.Validate.absorbed m) (g.K.Validate.remaining m) (g.K.Validate.can_be x.texts m) (g.K.Validate.ends x.texts m) (g.K.Validate.fits x.texts m) (g.met.K.Validate.turn_laws x.texts m) s x (mode_of c.args.question.now.mode) (child_says g.K.Validate.words ns x (path_of c.args.question.now.path.now) p busy es) (child_unit g.K.Validate.words ns x (path_of c.args.question.now.path.now) p busy es) (same_edge es) c.turns.context.marking c.step_match.new.context.marking (c.turns.run, answer_of x.texts c.turns.answer) (c.turn.new.run, answer_of x.texts c.turn.new.answer)
           (told_reply c.turns.told) (truth c.in_ok-matches-in-Match.matches) a point c.step_match.ensures.marking (c.turns.invariant.leads x reads l) (turned x.texts tells) (stepped x.texts tells ∙ asked.2) is;
       met = λ texts root depth reads l.
-          let tells = tells_keyword g.K.Validate.is_whole ns (length c.args.engine.now.nodes.now) w p s (reading w texts root depth) c.args.node.0 m es c.requires.may.known reads c.requires.form in
+          let tells = tells_keyword g.K.Validate.is_whole ns (length c.args.engine.now.nodes.now) w p s (reading w texts root depth) c.args.node.0 m es c.requires.asked.may.known reads c.requires.asked.stands in
           let step' = stepped texts tells ∙ asked.2 in
           let turn' = turned texts tells in
           let falls = falls_turned (g.K.Validate.words texts) m (g.K.Validate.absorbed m) (g.K.Validate.remaining m) (g.K.Validate.can_be texts m) (g.K.Validate.ends texts m) (g.K.Validate.fits texts m) (g.met.K.Validate.turn_laws texts m) s (c.turns.run, answer_of texts c.turns.answer) (c.turn.new.run, answer_of texts c.turn.new.answer) (told_reply c.turns.told) (match_text a point) (c.turns.invariant.leads (reading w texts root depth) reads l).can turn' step' (match_goes_on a point) in
@@ -1076,37 +1111,17 @@ verdict_turns::take_turns-turns-preserved-in-Ecma g t c =
       quiet = c.turns.invariant.quiet;
       counted = c.turns.invariant.counted;
       leads = λ x reads l.
-          let tells = tells_keyword g.K.Validate.is_whole ns (length c.args.engine.now.nodes.now) w p s x c.args.node.0 m es c.requires.may.known reads c.requires.form in
+          let tells = tells_keyword g.K.Validate.is_whole ns (length c.args.engine.now.nodes.now) w p s x c.args.node.0 m es c.requires.asked.may.known reads c.requires.asked.stands in
           let is = ap truth (c.in_ok-valid-in-Ecma.ensures.valid ∙ ap (λ (o : Matcher). o.is_ecma text) (sym reads.matcher)) in
           told_pattern_on (g.K.Validate.words x.texts) m (g.K.Validate.absorbed m) (g.K.Validate.remaining m) (g.K.Validate.can_be x.texts m) (g.K.Validate.ends x.texts m) (g.K.Validate.fits x.texts m) (g.met.K.Validate.turn_laws x.texts m) s x (mode_of c.args.question.now.mode) (child_says g.K.Validate.words ns x (path_of c.args.question.now.path.now) p busy es) (child_unit g.K.Validate.words ns x (path_of c.args.question.now.path.now) p busy es) (same_edge es) c.turns.context.marking c.turns.context.marking (c.turns.run, answer_of x.texts c.turns.answer) (c.turn.new.run, answer_of x.texts c.turn.new.answer)
           (told_reply c.turns.told) (truth c.in_ok-valid-in-Ecma.valid) text refl (c.turns.invariant.leads x reads l) (turned x.texts tells) (rw c.in-Ecma.is at (stepped x.texts tells)) is;
       met = λ texts root depth reads l.
-          let tells = tells_keyword g.K.Validate.is_whole ns (length c.args.engine.now.nodes.now) w p s (reading w texts root depth) c.args.node.0 m es c.requires.may.known reads c.requires.form in
+          let tells = tells_keyword g.K.Validate.is_whole ns (length c.args.engine.now.nodes.now) w p s (reading w texts root depth) c.args.node.0 m es c.requires.asked.may.known reads c.requires.asked.stands in
           let step' = rw c.in-Ecma.is at (stepped texts tells) in
           let turn' = turned texts tells in
           let falls = falls_turned (g.K.Validate.words texts) m (g.K.Validate.absorbed m) (g.K.Validate.remaining m) (g.K.Validate.can_be texts m) (g.K.Validate.ends texts m) (g.K.Validate.fits texts m) (g.met.K.Validate.turn_laws texts m) s (c.turns.run, answer_of texts c.turns.answer) (c.turn.new.run, answer_of texts c.turn.new.answer) (told_reply c.turns.told) (ecma text) (c.turns.invariant.leads (reading w texts root depth) reads l).can turn' step' (ecma_goes_on text) in
           meets_nothing (g.K.Validate.words texts) w.matcher w.assumptions (node_at (g.K.Validate.words texts) w.matcher ns (subject_in root) c.args.node.0 (path_of c.args.question.now.path.now) p) s (child_run g.K.Validate.words ns w texts root depth (path_of c.args.question.now.path.now) p busy es) (same_edge es) name m (g.K.Validate.remaining m s) _ _ _ _ _ _ _ _ _ _ text refl turn' step' falls (ap truth c.in_ok-valid-in-Ecma.ensures.valid) refl (c.turns.invariant.met texts root depth reads l);
     }
-
-pub verdict_turns::take_turns-returns-in-Done-clause-meets : goal.verdict_turns::take_turns-returns-in-Done-clause-meets
-verdict_turns::take_turns-returns-in-Done-clause-meets g t c = λ texts root depth reads l.
-    let ns = numbered g.K.Validate.shape c.args.engine.now.nodes.now in
-    let w = settling (g.M.Matcher.matching c.args.engine.now.matcher.now) c.args.context.now.remembered.assumptions in
-    let p = steps_to c.args.question.now.place.now in
-    let s = subject_of c.args.question.now.instance in
-    let m = g.K.Validate.shape c.args.keyword.now.keyword.now in
-    let turned : (texts : Bool) → Tells texts (g.K.Validate.is_whole m) s → (g.K.Validate.words texts).turn m s (c.turns.run, answer_of texts c.turns.answer) (told_reply c.turns.told) ≡ (c.turn.new.run, answer_of texts c.turn.new.answer)
-    = λ texts tells. turned_by (g.K.Validate.words texts) m (g.K.Validate.absorbed m) (g.K.Validate.remaining m) (g.K.Validate.can_be texts m) (g.K.Validate.ends texts m) (g.K.Validate.fits texts m) (g.met.K.Validate.turn_laws texts m) s (c.turns.run, answer_of texts c.turns.answer) (c.turn.new.run, answer_of texts c.turn.new.answer) (reply_of texts c.reply_with-reply.result) (told_reply c.turns.told) (c.reply_with-reply.ensures.told texts) (c.in_ok-step.ensures.turns texts tells) in
-    let stepped : (texts : Bool) → Tells texts (g.K.Validate.is_whole m) s → (g.K.Validate.words texts).step m s (c.turns.run, answer_of texts c.turns.answer) (told_reply c.turns.told) ≡ turn_of c.in_ok-step.step
-    = λ texts tells. stepped_by (g.K.Validate.words texts) m (g.K.Validate.absorbed m) (g.K.Validate.remaining m) (g.K.Validate.can_be texts m) (g.K.Validate.ends texts m) (g.K.Validate.fits texts m) (g.met.K.Validate.turn_laws texts m) s (c.turns.run, answer_of texts c.turns.answer) (reply_of texts c.reply_with-reply.result) (told_reply c.turns.told) (turn_of c.in_ok-step.step) (c.reply_with-reply.ensures.told texts) (c.in_ok-step.ensures.steps texts tells) in
-    let es = map (option_map edge_of) c.args.keyword.now.children.now in
-    let busy = busy_at p c.args.context.now.in_progress in
-    let name = string_bytes c.args.keyword.now.name.now in
-    let told = told_reply c.turns.told in
-    let turn = turned false (tells_nothing (g.K.Validate.is_whole m) s) in
-    let tells = tells_keyword g.K.Validate.is_whole ns (length c.args.engine.now.nodes.now) w p s (reading w texts root depth) c.args.node.0 m es c.requires.may.known reads c.requires.form in
-    let all = meets_all (g.K.Validate.words texts) w.matcher w.assumptions (node_at (g.K.Validate.words texts) w.matcher ns (subject_in root) c.args.node.0 (path_of c.args.question.now.path.now) p) s (child_run g.K.Validate.words ns w texts root depth (path_of c.args.question.now.path.now) p busy es) (same_edge es) name m (g.K.Validate.remaining m s) _ _ c.turns.context.remembered c.turns.context.marking (c.turns.run, answer_of texts c.turns.answer) (told_reply c.turns.told) (rw c.in-Done.is at (stepped texts tells)) (c.turns.invariant.met texts root depth reads l) in
-    meets_same w.matcher _ _ _ _ (ap (λ v. keyword_met (g.K.Validate.words texts) w.matcher w.assumptions (node_at (g.K.Validate.words texts) w.matcher ns (subject_in root) c.args.node.0 (path_of c.args.question.now.path.now) p) v (child_run g.K.Validate.words ns w texts root depth (path_of c.args.question.now.path.now) p busy es) (same_edge es) name m (mode_of c.args.question.now.mode)) (sym (stands_in root p s reads.stands))) all
 
 pub verdict_turns::take_turns-turns-smaller-in-Mark : goal.verdict_turns::take_turns-turns-smaller-in-Mark
 verdict_turns::take_turns-turns-smaller-in-Mark g t c =
@@ -1148,11 +1163,11 @@ verdict_turns::take_turns-turns-preserved-in-Mark g t c =
       counted = no_fewer c.args.context.now.visits c.turns.context.visits c.enter_marking.new.self.visits c.turns.invariant.counted (as_many _ _ c.enter_marking.ensures.visits);
       quiet = λ none. c.enter_marking.ensures.visits ∙ c.turns.invariant.quiet none;
       leads = λ x reads l.
-          let tells = tells_keyword g.K.Validate.is_whole ns (length c.args.engine.now.nodes.now) w p s x c.args.node.0 m es c.requires.may.known reads c.requires.form in
+          let tells = tells_keyword g.K.Validate.is_whole ns (length c.args.engine.now.nodes.now) w p s x c.args.node.0 m es c.requires.asked.may.known reads c.requires.asked.stands in
           marked_on (g.K.Validate.words x.texts) m (g.K.Validate.absorbed m) (g.K.Validate.remaining m) (g.K.Validate.can_be x.texts m) (g.K.Validate.ends x.texts m) (g.K.Validate.fits x.texts m) (g.met.K.Validate.turn_laws x.texts m) s x (mode_of c.args.question.now.mode) (child_says g.K.Validate.words ns x (path_of c.args.question.now.path.now) p busy es) (child_unit g.K.Validate.words ns x (path_of c.args.question.now.path.now) p busy es) (same_edge es) c.turns.context.marking c.enter_marking.new.self.marking (c.turns.run, answer_of x.texts c.turns.answer) (c.turn.new.run, answer_of x.texts c.turn.new.answer)
           (told_reply c.turns.told) (truth c.in_ok-held-in-Mark.held) (marked_of c.in-Mark.marked) c.in_ok-held-in-Mark.ensures.marks (c.turns.invariant.leads x reads l) (turned x.texts tells) (rw c.in-Mark.is at (stepped x.texts tells)) (ap truth c.in_ok-held-in-Mark.ensures.held);
       met = λ texts root depth reads l.
-          let tells = tells_keyword g.K.Validate.is_whole ns (length c.args.engine.now.nodes.now) w p s (reading w texts root depth) c.args.node.0 m es c.requires.may.known reads c.requires.form in
+          let tells = tells_keyword g.K.Validate.is_whole ns (length c.args.engine.now.nodes.now) w p s (reading w texts root depth) c.args.node.0 m es c.requires.asked.may.known reads c.requires.asked.stands in
           let step' = rw c.in-Mark.is at (stepped texts tells) in
           let turn' = turned texts tells in
           let falls = falls_turned (g.K.Validate.words texts) m (g.K.Validate.absorbed m) (g.K.Validate.remaining m) (g.K.Validate.can_be texts m) (g.K.Validate.ends texts m) (g.K.Validate.fits texts m) (g.met.K.Validate.turn_laws texts m) s (c.turns.run, answer_of texts c.turns.answer) (c.turn.new.run, answer_of texts c.turn.new.answer) (told_reply c.turns.told) (mark (marked_of c.in-Mark.marked)) (c.turns.invariant.leads (reading w texts root depth) reads l).can turn' step' (mark_goes_on (marked_of c.in-Mark.marked)) in
@@ -1199,11 +1214,11 @@ verdict_turns::take_turns-turns-preserved g t c =
       counted = no_fewer c.args.context.now.visits c.turns.context.visits c.exit_marking.new.self.visits c.turns.invariant.counted (as_many _ _ c.exit_marking.ensures.visits);
       quiet = λ none. c.exit_marking.ensures.visits ∙ c.turns.invariant.quiet none;
       leads = λ x reads l.
-          let tells = tells_keyword g.K.Validate.is_whole ns (length c.args.engine.now.nodes.now) w p s x c.args.node.0 m es c.requires.may.known reads c.requires.form in
+          let tells = tells_keyword g.K.Validate.is_whole ns (length c.args.engine.now.nodes.now) w p s x c.args.node.0 m es c.requires.asked.may.known reads c.requires.asked.stands in
           mark_taken_on (g.K.Validate.words x.texts) m (g.K.Validate.absorbed m) (g.K.Validate.remaining m) (g.K.Validate.can_be x.texts m) (g.K.Validate.ends x.texts m) (g.K.Validate.fits x.texts m) (g.met.K.Validate.turn_laws x.texts m) s x (mode_of c.args.question.now.mode) (child_says g.K.Validate.words ns x (path_of c.args.question.now.path.now) p busy es) (child_unit g.K.Validate.words ns x (path_of c.args.question.now.path.now) p busy es) (same_edge es) c.turns.context.marking c.exit_marking.new.self.marking (c.turns.run, answer_of x.texts c.turns.answer) (c.turn.new.run, answer_of x.texts c.turn.new.answer)
           (told_reply c.turns.told) no_reply c.exit_marking.ensures.left (c.turns.invariant.leads x reads l) (turned x.texts tells) (rw c.in-Unmark.is at (stepped x.texts tells)) refl;
       met = λ texts root depth reads l.
-          let tells = tells_keyword g.K.Validate.is_whole ns (length c.args.engine.now.nodes.now) w p s (reading w texts root depth) c.args.node.0 m es c.requires.may.known reads c.requires.form in
+          let tells = tells_keyword g.K.Validate.is_whole ns (length c.args.engine.now.nodes.now) w p s (reading w texts root depth) c.args.node.0 m es c.requires.asked.may.known reads c.requires.asked.stands in
           let step' = rw c.in-Unmark.is at (stepped texts tells) in
           let turn' = turned texts tells in
           let falls = falls_turned (g.K.Validate.words texts) m (g.K.Validate.absorbed m) (g.K.Validate.remaining m) (g.K.Validate.can_be texts m) (g.K.Validate.ends texts m) (g.K.Validate.fits texts m) (g.met.K.Validate.turn_laws texts m) s (c.turns.run, answer_of texts c.turns.answer) (c.turn.new.run, answer_of texts c.turn.new.answer) (told_reply c.turns.told) unmark (c.turns.invariant.leads (reading w texts root depth) reads l).can turn' step' unmark_goes_on in

@@ -1,4 +1,4 @@
-use Rattle.std.proofs.Common.{◌≡◌, ◌∙◌, ◌+◌, ◌*◌, ◌<◌, ◌≤◌, ◌||◌, not, ℕ, Bool, suc, arith, sym, refl, ap, ap₂, subst, drop, map, option_map, string_bytes, length, Some, None, false, true, List, [], ◌∷◌, ◌++◌}
+use Rattle.std.proofs.Common.{◌≡◌, ◌∙◌, ◌+◌, ◌*◌, ◌<◌, ◌≤◌, ◌||◌, not, ℕ, Bool, suc, arith, sym, refl, rules, ap, ap₂, subst, drop, map, option_map, string_bytes, length, Some, None, false, true, List, [], ◌∷◌, ◌++◌}
 use Rattle.std.specs.Prelude.{◌⊎◌}
 use Rattle.serde_json.specs.View.{view}
 use Rattle.schema_definitions.specs.Keywords.{down, here, Answer, Question, ask, done, ecma, mark, match_text, no_reply, truth, unmark}
@@ -21,7 +21,7 @@ use Rattle.schema_answers.specs.EvaluationPlaces.{CarriesItsNumber, steps_to}
 use Rattle.schema_answers.proofs.NodeParts.{part_at, plan_is, reference_edge, keyword_children}
 use Rattle.schema_solving.specs.Says.{EdgeSays, FormSays, parts_under}
 use Rattle.schema_solving.proofs.Says.{child_some, edge_below, node_says_parts}
-use Rattle.schema_solver.specs.Asked.{is_followed_in, solver_of}
+use Rattle.schema_solver.specs.Asked.{is_followed_in, solver_by}
 use Rattle.schema_pairs.specs.Contexts.{found_of, has_pair, solver_places}
 use Rattle.schema_solver.specs.Needs.{SaysTheRest}
 use Rattle.schema_pairs.specs.Answering.{AssumesBeside, Begins, Refuses, SettlesAlone}
@@ -56,16 +56,20 @@ lower_free a c t l e = omega (arith, l, e)
 lower_entered : (a c t : ℕ) → c ≡ suc a → 20 * c ≡ t → 20 * a + 10 < t
 lower_entered a c t l e = omega (arith, l, e)
 
-pub edges::solve_pair-returns-in-Some-clause-goes : goal.edges::solve_pair-returns-in-Some-clause-goes
-edges::solve_pair-returns-in-Some-clause-goes g t c =
-    let set = solver_of g.K.Validate.words g.K.Validate.is_whole g.K.Validate.shape g.M.Matcher.matching c.args.engine.now in
-    let p = steps_to c.args.question.now.place.now in
-    let old = c.args.context.now in
-    subst (Goes set p old) (sym c.in_ok-pair.ensures.unchanged) (goes_none set p old c.requires.may.sound)
+pub edges::solve_pair-returns-in-Some : goal.edges::solve_pair-returns-in-Some
+edges::solve_pair-returns-in-Some g t c = record {
+  goes =
+      let set = solver_by g.K.Validate g.M.Matcher c.args.engine.now in
+      let p = steps_to c.args.question.now.place.now in
+      let old = c.args.context.now in
+      subst (Goes set p old) (sym c.in_ok-pair.ensures.unchanged) (goes_none set p old c.requires.may.sound);
+  marking = search rules;
+  says = search rules;
+}
 
 pub edges::solve_pair-solve_node-requires : goal.edges::solve_pair-solve_node-requires
 edges::solve_pair-solve_node-requires g t c =
-    let set = solver_of g.K.Validate.words g.K.Validate.is_whole g.K.Validate.shape g.M.Matcher.matching c.args.engine.now in
+    let set = solver_by g.K.Validate g.M.Matcher c.args.engine.now in
     let ns = numbered g.K.Validate.shape c.args.engine.now.nodes.now in
     let p = steps_to c.args.question.now.place.now in
     let s = subject_of c.args.question.now.instance in
@@ -78,15 +82,15 @@ edges::solve_pair-solve_node-requires g t c =
     let begins : Begins c.args.node.0 p old c.enter.new.context = at_pair (λ k z d. Begins k z d c.enter.new.context) node place same c.in_ok-mark.ensures.begins in
     let idle = at_pair (λ k z d. has_pair d.in_progress k z ≡ false) node place same (c.state.ensures.idle none) in
     let there : steps_to c.numbered_place-place.result ≡ p = c.numbered_place-place.ensures.same ∙ place in
-    let new = pair_new set old p c.args.node.0 c.in_ok-pair.pair.node.0 (place_of c.in_ok-pair.pair) c.new.new.context node place same (c.state.ensures.unknown none) (c.state.ensures.idle none) (c.state.ensures.free none) c.in_ok-pair.pair.number c.in_ok-pair.ensures.numbered c.in_ok-pair.ensures.own c.requires.among in
+    let new = pair_new set old p c.args.node.0 c.in_ok-pair.pair.node.0 (place_of c.in_ok-pair.pair) c.new.new.context node place same (c.state.ensures.unknown none) (c.state.ensures.idle none) (c.state.ensures.free none) c.in_ok-pair.pair.number c.in_ok-pair.ensures.numbered c.in_ok-pair.ensures.own c.requires.stands in
     let may = subst (λ z. MaySolve set c.enter.new.context s z c.args.node.0) (sym there) (begun_may set laws old c.enter.new.context s p c.args.node.0 c.requires.may new begins) in
     let falls = falls_entered set old s p c.args.node.0 c.requires.may c.enter.new.context begins idle ∙ ap (λ z. suc (left ns (length c.args.engine.now.nodes.now) c.args.node.0 s (busy_at z c.enter.new.context.in_progress))) (sym there) in
     let carries : CarriesItsNumber (solver_places c.enter.new.context) c.numbered_place-place.result = subst (λ v. CarriesItsNumber (root_places v) c.numbered_place-place.result) (sym begins.root) (c.numbered_place-place.ensures.carries old c.in_ok-pair.ensures.numbered) in
-    λ κs h. (lower_entered _ _ t falls c.decreases, (h.0, (h.1.0, (h.1.1.0, (h.1.1.1, (may, carries))))))
+    λ κs h. (lower_entered _ _ t falls c.decreases, (h.0, (h.1.0, (h.1.1.0, (h.1.1.1, record { may = may; carries = carries; stands = tt })))))
 
 pub edges::solve_pair-keep_answer-requires-clause-apart : goal.edges::solve_pair-keep_answer-requires-clause-apart
 edges::solve_pair-keep_answer-requires-clause-apart g t c =
-    let set = solver_of g.K.Validate.words g.K.Validate.is_whole g.K.Validate.shape g.M.Matcher.matching c.args.engine.now in
+    let set = solver_by g.K.Validate g.M.Matcher c.args.engine.now in
     let p = steps_to c.args.question.now.place.now in
     let s = subject_of c.args.question.now.instance in
     let old = c.args.context.now in
@@ -96,57 +100,58 @@ edges::solve_pair-keep_answer-requires-clause-apart g t c =
     let none : c.state.result ≡ None = c.in_default.is in
     let laws : (texts : Bool) → EachKeeps (g.K.Validate.words texts) = λ texts m. (g.K.Validate.absorbed m, keeps_of_turns (g.K.Validate.words texts) m (g.K.Validate.absorbed m) (g.K.Validate.remaining m) (g.K.Validate.can_be texts m) (g.K.Validate.ends texts m) (g.K.Validate.fits texts m) (g.met.K.Validate.turn_laws texts m) (g.met.K.Validate.function_laws texts m)) in
     let ran = pair_ran set old p c.args.node.0 c.in_ok-pair.pair.node.0 (place_of c.in_ok-pair.pair) (steps_to c.numbered_place-place.result) c.new.new.context c.enter.new.context c.solve_node.new.context c.exit.new.context c.in_ok-mark.mark c.in_ok-valid.valid
-    node place same c.numbered_place-place.ensures.same (c.state.ensures.unknown none) (c.state.ensures.idle none) (c.state.ensures.free none) c.in_ok-pair.pair.number c.in_ok-pair.ensures.numbered c.in_ok-pair.ensures.own c.requires.among
+    node place same c.numbered_place-place.ensures.same (c.state.ensures.unknown none) (c.state.ensures.idle none) (c.state.ensures.free none) c.in_ok-pair.pair.number c.in_ok-pair.ensures.numbered c.in_ok-pair.ensures.own c.requires.stands
     c.in_ok-mark.ensures.begins c.in_ok-valid.ensures.goes c.in_ok-valid.ensures.says c.in_ok-mark.ensures.mark c.exit.ensures.left c.exit.ensures.root c.exit.ensures.assumed c.exit.ensures.verdicts c.exit.ensures.marking c.exit.ensures.begun in
     apart_mark set old p c.args.node.0 c.enter.new.context c.solve_node.new.context c.exit.new.context c.in_ok-mark.mark c.in_ok-valid.valid ran
 
-pub edges::solve_pair-returns-clause-goes : goal.edges::solve_pair-returns-clause-goes
-edges::solve_pair-returns-clause-goes g t c =
-    let set = solver_of g.K.Validate.words g.K.Validate.is_whole g.K.Validate.shape g.M.Matcher.matching c.args.engine.now in
-    let p = steps_to c.args.question.now.place.now in
-    let s = subject_of c.args.question.now.instance in
-    let old = c.args.context.now in
-    let node : c.in_ok-pair.pair.node.0 ≡ c.args.node.0 = ap (λ (n : SchemaNode). n.0) c.in_ok-pair.ensures.node in
-    let place = c.in_ok-pair.ensures.place in
-    let same = c.in_ok-pair.ensures.unchanged in
-    let none : c.state.result ≡ None = c.in_default.is in
-    let laws : (texts : Bool) → EachKeeps (g.K.Validate.words texts) = λ texts m. (g.K.Validate.absorbed m, keeps_of_turns (g.K.Validate.words texts) m (g.K.Validate.absorbed m) (g.K.Validate.remaining m) (g.K.Validate.can_be texts m) (g.K.Validate.ends texts m) (g.K.Validate.fits texts m) (g.met.K.Validate.turn_laws texts m) (g.met.K.Validate.function_laws texts m)) in
-    let ran = pair_ran set old p c.args.node.0 c.in_ok-pair.pair.node.0 (place_of c.in_ok-pair.pair) (steps_to c.numbered_place-place.result) c.new.new.context c.enter.new.context c.solve_node.new.context c.exit.new.context c.in_ok-mark.mark c.in_ok-valid.valid
-    node place same c.numbered_place-place.ensures.same (c.state.ensures.unknown none) (c.state.ensures.idle none) (c.state.ensures.free none) c.in_ok-pair.pair.number c.in_ok-pair.ensures.numbered c.in_ok-pair.ensures.own c.requires.among
-    c.in_ok-mark.ensures.begins c.in_ok-valid.ensures.goes c.in_ok-valid.ensures.says c.in_ok-mark.ensures.mark c.exit.ensures.left c.exit.ensures.root c.exit.ensures.assumed c.exit.ensures.verdicts c.exit.ensures.marking c.exit.ensures.begun in
-    let x = c.exit.new.context in
-    let n = c.keep_answer.new.context in
-    let mark = c.in_ok-mark.mark in
-    let valid = c.in_ok-valid.valid in
-    let as_no = at_pair (λ k z d. valid ≡ false → Refuses k z mark x n) node place same c.in_ok-keep_answer.ensures.refused in
-    let as_yes = at_pair (λ k z d. valid ≡ true → SettlesAlone k z mark x n ⊎ AssumesBeside k z x n) node place same c.in_ok-keep_answer.ensures.accepted in
-    ran_goes set laws old s p c.args.node.0 c.requires.may c.enter.new.context c.solve_node.new.context x mark valid ran n c.keep_answer.ensures.root c.keep_answer.ensures.in_progress c.keep_answer.ensures.marking c.keep_answer.ensures.begun as_no as_yes
-
-pub edges::solve_pair-returns-clause-says : goal.edges::solve_pair-returns-clause-says
-edges::solve_pair-returns-clause-says g t c =
-    let set = solver_of g.K.Validate.words g.K.Validate.is_whole g.K.Validate.shape g.M.Matcher.matching c.args.engine.now in
-    let p = steps_to c.args.question.now.place.now in
-    let s = subject_of c.args.question.now.instance in
-    let old = c.args.context.now in
-    let node : c.in_ok-pair.pair.node.0 ≡ c.args.node.0 = ap (λ (n : SchemaNode). n.0) c.in_ok-pair.ensures.node in
-    let place = c.in_ok-pair.ensures.place in
-    let same = c.in_ok-pair.ensures.unchanged in
-    let none : c.state.result ≡ None = c.in_default.is in
-    let laws : (texts : Bool) → EachKeeps (g.K.Validate.words texts) = λ texts m. (g.K.Validate.absorbed m, keeps_of_turns (g.K.Validate.words texts) m (g.K.Validate.absorbed m) (g.K.Validate.remaining m) (g.K.Validate.can_be texts m) (g.K.Validate.ends texts m) (g.K.Validate.fits texts m) (g.met.K.Validate.turn_laws texts m) (g.met.K.Validate.function_laws texts m)) in
-    let ran = pair_ran set old p c.args.node.0 c.in_ok-pair.pair.node.0 (place_of c.in_ok-pair.pair) (steps_to c.numbered_place-place.result) c.new.new.context c.enter.new.context c.solve_node.new.context c.exit.new.context c.in_ok-mark.mark c.in_ok-valid.valid
-    node place same c.numbered_place-place.ensures.same (c.state.ensures.unknown none) (c.state.ensures.idle none) (c.state.ensures.free none) c.in_ok-pair.pair.number c.in_ok-pair.ensures.numbered c.in_ok-pair.ensures.own c.requires.among
-    c.in_ok-mark.ensures.begins c.in_ok-valid.ensures.goes c.in_ok-valid.ensures.says c.in_ok-mark.ensures.mark c.exit.ensures.left c.exit.ensures.root c.exit.ensures.assumed c.exit.ensures.verdicts c.exit.ensures.marking c.exit.ensures.begun in
-    let x = c.exit.new.context in
-    let n = c.keep_answer.new.context in
-    let mark = c.in_ok-mark.mark in
-    let valid = c.in_ok-valid.valid in
-    let as_no = at_pair (λ k z d. valid ≡ false → Refuses k z mark x n) node place same c.in_ok-keep_answer.ensures.refused in
-    let as_yes = at_pair (λ k z d. valid ≡ true → SettlesAlone k z mark x n ⊎ AssumesBeside k z x n) node place same c.in_ok-keep_answer.ensures.accepted in
-    λ texts tells. ran_says_pair set laws old s p c.args.node.0 c.requires.may c.enter.new.context c.solve_node.new.context x mark valid ran n c.keep_answer.ensures.root c.keep_answer.ensures.in_progress c.keep_answer.ensures.marking c.keep_answer.ensures.begun as_no as_yes
+pub edges::solve_pair-returns : goal.edges::solve_pair-returns
+edges::solve_pair-returns g t c = record {
+  goes =
+      let set = solver_by g.K.Validate g.M.Matcher c.args.engine.now in
+      let p = steps_to c.args.question.now.place.now in
+      let s = subject_of c.args.question.now.instance in
+      let old = c.args.context.now in
+      let node : c.in_ok-pair.pair.node.0 ≡ c.args.node.0 = ap (λ (n : SchemaNode). n.0) c.in_ok-pair.ensures.node in
+      let place = c.in_ok-pair.ensures.place in
+      let same = c.in_ok-pair.ensures.unchanged in
+      let none : c.state.result ≡ None = c.in_default.is in
+      let laws : (texts : Bool) → EachKeeps (g.K.Validate.words texts) = λ texts m. (g.K.Validate.absorbed m, keeps_of_turns (g.K.Validate.words texts) m (g.K.Validate.absorbed m) (g.K.Validate.remaining m) (g.K.Validate.can_be texts m) (g.K.Validate.ends texts m) (g.K.Validate.fits texts m) (g.met.K.Validate.turn_laws texts m) (g.met.K.Validate.function_laws texts m)) in
+      let ran = pair_ran set old p c.args.node.0 c.in_ok-pair.pair.node.0 (place_of c.in_ok-pair.pair) (steps_to c.numbered_place-place.result) c.new.new.context c.enter.new.context c.solve_node.new.context c.exit.new.context c.in_ok-mark.mark c.in_ok-valid.valid
+      node place same c.numbered_place-place.ensures.same (c.state.ensures.unknown none) (c.state.ensures.idle none) (c.state.ensures.free none) c.in_ok-pair.pair.number c.in_ok-pair.ensures.numbered c.in_ok-pair.ensures.own c.requires.stands
+      c.in_ok-mark.ensures.begins c.in_ok-valid.ensures.goes c.in_ok-valid.ensures.says c.in_ok-mark.ensures.mark c.exit.ensures.left c.exit.ensures.root c.exit.ensures.assumed c.exit.ensures.verdicts c.exit.ensures.marking c.exit.ensures.begun in
+      let x = c.exit.new.context in
+      let n = c.keep_answer.new.context in
+      let mark = c.in_ok-mark.mark in
+      let valid = c.in_ok-valid.valid in
+      let as_no = at_pair (λ k z d. valid ≡ false → Refuses k z mark x n) node place same c.in_ok-keep_answer.ensures.refused in
+      let as_yes = at_pair (λ k z d. valid ≡ true → SettlesAlone k z mark x n ⊎ AssumesBeside k z x n) node place same c.in_ok-keep_answer.ensures.accepted in
+      ran_goes set laws old s p c.args.node.0 c.requires.may c.enter.new.context c.solve_node.new.context x mark valid ran n c.keep_answer.ensures.root c.keep_answer.ensures.in_progress c.keep_answer.ensures.marking c.keep_answer.ensures.begun as_no as_yes;
+  marking = search rules;
+  says =
+      let set = solver_by g.K.Validate g.M.Matcher c.args.engine.now in
+      let p = steps_to c.args.question.now.place.now in
+      let s = subject_of c.args.question.now.instance in
+      let old = c.args.context.now in
+      let node : c.in_ok-pair.pair.node.0 ≡ c.args.node.0 = ap (λ (n : SchemaNode). n.0) c.in_ok-pair.ensures.node in
+      let place = c.in_ok-pair.ensures.place in
+      let same = c.in_ok-pair.ensures.unchanged in
+      let none : c.state.result ≡ None = c.in_default.is in
+      let laws : (texts : Bool) → EachKeeps (g.K.Validate.words texts) = λ texts m. (g.K.Validate.absorbed m, keeps_of_turns (g.K.Validate.words texts) m (g.K.Validate.absorbed m) (g.K.Validate.remaining m) (g.K.Validate.can_be texts m) (g.K.Validate.ends texts m) (g.K.Validate.fits texts m) (g.met.K.Validate.turn_laws texts m) (g.met.K.Validate.function_laws texts m)) in
+      let ran = pair_ran set old p c.args.node.0 c.in_ok-pair.pair.node.0 (place_of c.in_ok-pair.pair) (steps_to c.numbered_place-place.result) c.new.new.context c.enter.new.context c.solve_node.new.context c.exit.new.context c.in_ok-mark.mark c.in_ok-valid.valid
+      node place same c.numbered_place-place.ensures.same (c.state.ensures.unknown none) (c.state.ensures.idle none) (c.state.ensures.free none) c.in_ok-pair.pair.number c.in_ok-pair.ensures.numbered c.in_ok-pair.ensures.own c.requires.stands
+      c.in_ok-mark.ensures.begins c.in_ok-valid.ensures.goes c.in_ok-valid.ensures.says c.in_ok-mark.ensures.mark c.exit.ensures.left c.exit.ensures.root c.exit.ensures.assumed c.exit.ensures.verdicts c.exit.ensures.marking c.exit.ensures.begun in
+      let x = c.exit.new.context in
+      let n = c.keep_answer.new.context in
+      let mark = c.in_ok-mark.mark in
+      let valid = c.in_ok-valid.valid in
+      let as_no = at_pair (λ k z d. valid ≡ false → Refuses k z mark x n) node place same c.in_ok-keep_answer.ensures.refused in
+      let as_yes = at_pair (λ k z d. valid ≡ true → SettlesAlone k z mark x n ⊎ AssumesBeside k z x n) node place same c.in_ok-keep_answer.ensures.accepted in
+      λ texts tells. ran_says_pair set laws old s p c.args.node.0 c.requires.may c.enter.new.context c.solve_node.new.context x mark valid ran n c.keep_answer.ensures.root c.keep_answer.ensures.in_progress c.keep_answer.ensures.marking c.keep_answer.ensures.begun as_no as_yes;
+}
 
 pub edges::solve_edge-solve_pair-requires : goal.edges::solve_edge-solve_pair-requires
 edges::solve_edge-solve_pair-requires g t c =
-    let set = solver_of g.K.Validate.words g.K.Validate.is_whole g.K.Validate.shape g.M.Matcher.matching c.args.engine.now in
+    let set = solver_by g.K.Validate g.M.Matcher c.args.engine.now in
     let ns = numbered g.K.Validate.shape c.args.engine.now.nodes.now in
     let p = steps_to c.args.question.now.place.now in
     let s = subject_of c.args.question.now.instance in
@@ -157,11 +162,11 @@ edges::solve_edge-solve_pair-requires g t c =
       | edges::solve_edge-then-edge-via-then-edge w ↦ or_left _ _ w.if-edge.true
       | edges::solve_edge-then-edge-via-else-edge+then-not-is_followed w ↦ or_right e.guarded _ (ap not (sym w.is_followed.ensures.followed ∙ w.if-not-is_followed.true))
     ] in
-    λ κs h. (lower_pair _ _ t (needs_of_cut ns count (is_cut (is_followed_in c.args.engine.now.followed.now)) e s (busy_at p old.in_progress) cut) c.decreases, (h.0, (h.1.0, (h.1.1.0, (h.1.1.1, (c.requires.may, (c.requires.carries, edge_among set e c.requires.edge cut)))))))
+    λ κs h. (lower_pair _ _ t (needs_of_cut ns count (is_cut (is_followed_in c.args.engine.now.followed.now)) e s (busy_at p old.in_progress) cut) c.decreases, (h.0, (h.1.0, (h.1.1.0, (h.1.1.1, record { may = c.requires.may; carries = c.requires.carries; stands = edge_among set e c.requires.stands cut })))))
 
 pub edges::solve_edge-solve_node-requires : goal.edges::solve_edge-solve_node-requires
 edges::solve_edge-solve_node-requires g t c =
-    let set = solver_of g.K.Validate.words g.K.Validate.is_whole g.K.Validate.shape g.M.Matcher.matching c.args.engine.now in
+    let set = solver_by g.K.Validate g.M.Matcher c.args.engine.now in
     let ns = numbered g.K.Validate.shape c.args.engine.now.nodes.now in
     let p = steps_to c.args.question.now.place.now in
     let s = subject_of c.args.question.now.instance in
@@ -170,32 +175,32 @@ edges::solve_edge-solve_node-requires g t c =
     let count = length c.args.engine.now.nodes.now in
     let settled = sym c.is_followed.ensures.followed in
     let free : is_cut (is_followed_in c.args.engine.now.followed.now) e ≡ false = ap₂ (λ x y. x || not y) c.if-edge.false (settled ∙ c.if-not-is_followed.false) in
-    λ κs h. (lower_free _ _ t (needs_of_free ns count (is_cut (is_followed_in c.args.engine.now.followed.now)) e s (busy_at p old.in_progress) free) c.decreases, (h.0, (h.1.0, (h.1.1.0, (h.1.1.1, (c.requires.may, c.requires.carries))))))
+    λ κs h. (lower_free _ _ t (needs_of_free ns count (is_cut (is_followed_in c.args.engine.now.followed.now)) e s (busy_at p old.in_progress) free) c.decreases, (h.0, (h.1.0, (h.1.1.0, (h.1.1.1, record { may = c.requires.may; carries = c.requires.carries; stands = tt })))))
 
 pub edges::solve_child-solve_edge-requires : goal.edges::solve_child-solve_edge-requires
 edges::solve_child-solve_edge-requires g t c =
-    let set = solver_of g.K.Validate.words g.K.Validate.is_whole g.K.Validate.shape g.M.Matcher.matching c.args.engine.now in
+    let set = solver_by g.K.Validate g.M.Matcher c.args.engine.now in
     let ns = numbered g.K.Validate.shape c.args.engine.now.nodes.now in
     let p = steps_to c.args.question.now.place.now in
     let s = subject_of c.args.question.now.instance in
     let old = c.args.context.now in
     let e = edge_of c.in-Some.edge.now in
     let count = length c.args.engine.now.nodes.now in
-    let k = c.requires.children c.args.child e (sym c.in-Some.ensures.edge) in
+    let k = c.requires.stands.0 c.args.child e (sym c.in-Some.ensures.edge) in
     let cut = is_cut (is_followed_in c.args.engine.now.followed.now) in
     let l = falls_across ns count cut (cut_guards (is_followed_in c.args.engine.now.followed.now)) c.requires.may.ranked c.args.node.0 s (busy_at p old.in_progress) e c.requires.may.known k in
-    λ κs h. (lower_across _ _ t 0 l c.decreases, (h.0, (h.1.0, (h.1.1.0, (h.1.1.1, (may_cross set old s p c.args.node.0 e c.requires.may k, (c.requires.carries, (c.args.node.0, c.requires.may.known, k))))))))
+    λ κs h. (lower_across _ _ t 0 l c.decreases, (h.0, (h.1.0, (h.1.1.0, (h.1.1.1, record { may = may_cross set old s p c.args.node.0 e c.requires.may k; carries = c.requires.carries; stands = (c.args.node.0, c.requires.may.known, k) })))))
 
 pub edges::solve_child-solve_edge-requires-in-Some-one_below : goal.edges::solve_child-solve_edge-requires-in-Some-one_below
 edges::solve_child-solve_edge-requires-in-Some-one_below g t c =
-    let set = solver_of g.K.Validate.words g.K.Validate.is_whole g.K.Validate.shape g.M.Matcher.matching c.args.engine.now in
+    let set = solver_by g.K.Validate g.M.Matcher c.args.engine.now in
     let ns = numbered g.K.Validate.shape c.args.engine.now.nodes.now in
     let p = steps_to c.args.question.now.place.now in
     let s = subject_of c.args.question.now.instance in
     let old = c.args.context.now in
     let e = edge_of c.in-Some.edge.now in
     let count = length c.args.engine.now.nodes.now in
-    let k = c.requires.children c.args.child e (sym c.in-Some.ensures.edge) in
+    let k = c.requires.stands.0 c.args.child e (sym c.in-Some.ensures.edge) in
     let cut = is_cut (is_followed_in c.args.engine.now.followed.now) in
     let step = step_of c.in-Some-one_below.step in
     let q = steps_to c.below-lower.result in
@@ -203,43 +208,48 @@ edges::solve_child-solve_edge-requires-in-Some-one_below g t c =
     let none : busy_at q old.in_progress ≡ [] = ap (λ z. busy_at z old.in_progress) c.below-lower.ensures.below ∙ busy-below p step old.in_progress c.requires.may.above in
     let l = falls_across_below ns count cut (cut_guards (is_followed_in c.args.engine.now.followed.now)) c.requires.may.ranked c.args.node.0 s (busy_at p old.in_progress) e c.requires.may.known k inner step (busy_at q old.in_progress) none c.in-Some-one_below.ensures.below.1 in
     let may = subst (λ z. MaySolve set old inner z e.node) (sym c.below-lower.ensures.below) (may_go_below set old s p e.node step inner c.in-Some-one_below.ensures.below.1 (may_cross set old s p c.args.node.0 e c.requires.may k)) in
-    λ κs h. (lower_across _ _ t 0 l c.decreases, (h.0, (h.1.0, (h.1.1.0, (h.1.1.1, (may, (c.below-lower.ensures.carries (solver_places old) c.requires.carries, (c.args.node.0, c.requires.may.known, k))))))))
+    λ κs h. (lower_across _ _ t 0 l c.decreases, (h.0, (h.1.0, (h.1.1.0, (h.1.1.1, record { may = may; carries = c.below-lower.ensures.carries (solver_places old) c.requires.carries; stands = (c.args.node.0, c.requires.may.known, k) })))))
 
-pub edges::solve_child-returns-in-None-clause-goes : goal.edges::solve_child-returns-in-None-clause-goes
-edges::solve_child-returns-in-None-clause-goes g t c =
-    let set = solver_of g.K.Validate.words g.K.Validate.is_whole g.K.Validate.shape g.M.Matcher.matching c.args.engine.now in
-    goes_none set (steps_to c.args.question.now.place.now) c.args.context.now c.requires.may.sound
+pub edges::solve_child-returns-in-None : goal.edges::solve_child-returns-in-None
+edges::solve_child-returns-in-None g t c = record {
+  goes =
+      let set = solver_by g.K.Validate g.M.Matcher c.args.engine.now in
+      goes_none set (steps_to c.args.question.now.place.now) c.args.context.now c.requires.may.sound;
+  marking = search rules;
+  says = search rules;
+}
 
-pub edges::solve_child-returns-in-Some-one_below-clause-goes : goal.edges::solve_child-returns-in-Some-one_below-clause-goes
-edges::solve_child-returns-in-Some-one_below-clause-goes g t c =
-    let set = solver_of g.K.Validate.words g.K.Validate.is_whole g.K.Validate.shape g.M.Matcher.matching c.args.engine.now in
-    let p = steps_to c.args.question.now.place.now in
-    let old = c.args.context.now in
-    let step = step_of c.in-Some-one_below.step in
-    let q = steps_to c.below-lower.result in
-    let inner = subject_of c.in-Some-one_below.inner in
-    if_ok_mono c.solve_edge-in-Some-one_below.result _ _ (λ b went. goes_below set p (down step) old c.solve_edge-in-Some-one_below.new.context (subst (λ z. Goes set z old c.solve_edge-in-Some-one_below.new.context) c.below-lower.ensures.below went)) c.solve_edge-in-Some-one_below.ensures.goes
-
-pub edges::solve_child-returns-in-Some-one_below-clause-says : goal.edges::solve_child-returns-in-Some-one_below-clause-says
-edges::solve_child-returns-in-Some-one_below-clause-says g t c =
-    let set = solver_of g.K.Validate.words g.K.Validate.is_whole g.K.Validate.shape g.M.Matcher.matching c.args.engine.now in
-    let p = steps_to c.args.question.now.place.now in
-    let old = c.args.context.now in
-    let step = step_of c.in-Some-one_below.step in
-    let q = steps_to c.below-lower.result in
-    let inner = subject_of c.in-Some-one_below.inner in
-    let new = c.solve_edge-in-Some-one_below.new.context in
-    let e = edge_of c.in-Some.edge.now in
-    let es = map (option_map edge_of) c.args.children.now in
-    if_ok_mono c.solve_edge-in-Some-one_below.result _ _ (λ b says texts tells.
-    let w = solving_in set (view new.root) texts in
-    let there : EdgeSays w (p ++ step ∷ []) (found_of new) e here b = subst (λ z. EdgeSays w z (found_of new) e here b) c.below-lower.ensures.below (says texts tells) in
-    let down_there : EdgeSays w p (found_of new) e (below_of c.args.below) b = subst (λ z. EdgeSays w p (found_of new) e z b) (sym c.in-Some-one_below.ensures.below.0) (edge_below w (found_of new) p e step b there) in
-    child_some w (found_of new) p es (record { child = c.args.child; below = below_of c.args.below }) e b (sym c.in-Some.ensures.edge) down_there) c.solve_edge-in-Some-one_below.ensures.says
+pub edges::solve_child-returns-in-Some-one_below : goal.edges::solve_child-returns-in-Some-one_below
+edges::solve_child-returns-in-Some-one_below g t c = record {
+  goes =
+      let set = solver_by g.K.Validate g.M.Matcher c.args.engine.now in
+      let p = steps_to c.args.question.now.place.now in
+      let old = c.args.context.now in
+      let step = step_of c.in-Some-one_below.step in
+      let q = steps_to c.below-lower.result in
+      let inner = subject_of c.in-Some-one_below.inner in
+      if_ok_mono c.solve_edge-in-Some-one_below.result _ _ (λ b went. goes_below set p (down step) old c.solve_edge-in-Some-one_below.new.context (subst (λ z. Goes set z old c.solve_edge-in-Some-one_below.new.context) c.below-lower.ensures.below went)) c.solve_edge-in-Some-one_below.ensures.goes;
+  marking = search rules;
+  says =
+      let set = solver_by g.K.Validate g.M.Matcher c.args.engine.now in
+      let p = steps_to c.args.question.now.place.now in
+      let old = c.args.context.now in
+      let step = step_of c.in-Some-one_below.step in
+      let q = steps_to c.below-lower.result in
+      let inner = subject_of c.in-Some-one_below.inner in
+      let new = c.solve_edge-in-Some-one_below.new.context in
+      let e = edge_of c.in-Some.edge.now in
+      let es = map (option_map edge_of) c.args.children.now in
+      if_ok_mono c.solve_edge-in-Some-one_below.result _ _ (λ b says texts tells.
+      let w = solving_in set (view new.root) texts in
+      let there : EdgeSays w (p ++ step ∷ []) (found_of new) e here b = subst (λ z. EdgeSays w z (found_of new) e here b) c.below-lower.ensures.below (says texts tells) in
+      let down_there : EdgeSays w p (found_of new) e (below_of c.args.below) b = subst (λ z. EdgeSays w p (found_of new) e z b) (sym c.in-Some-one_below.ensures.below.0) (edge_below w (found_of new) p e step b there) in
+      child_some w (found_of new) p es (record { child = c.args.child; below = below_of c.args.below }) e b (sym c.in-Some.ensures.edge) down_there) c.solve_edge-in-Some-one_below.ensures.says;
+}
 
 pub entries::solve_entries-loop-entry-init : goal.entries::solve_entries-loop-entry-init
 entries::solve_entries-loop-entry-init g t c =
-    let set = solver_of g.K.Validate.words g.K.Validate.is_whole g.K.Validate.shape g.M.Matcher.matching c.args.engine.now in
+    let set = solver_by g.K.Validate g.M.Matcher c.args.engine.now in
     record {
       goes = goes_none set (steps_to c.args.question.now.place.now) c.args.context.now c.requires.may.sound;
       marking = refl;
@@ -248,7 +258,7 @@ entries::solve_entries-loop-entry-init g t c =
 
 pub entries::solve_entries-solve_form-requires : goal.entries::solve_entries-solve_form-requires
 entries::solve_entries-solve_form-requires g t c =
-    let set = solver_of g.K.Validate.words g.K.Validate.is_whole g.K.Validate.shape g.M.Matcher.matching c.args.engine.now in
+    let set = solver_by g.K.Validate g.M.Matcher c.args.engine.now in
     let ns = numbered g.K.Validate.shape c.args.engine.now.nodes.now in
     let p = steps_to c.args.question.now.place.now in
     let s = subject_of c.args.question.now.instance in
@@ -256,34 +266,32 @@ entries::solve_entries-solve_form-requires g t c =
     let went = c.loop-entry.invariant.goes in
     let l = ap (λ es. left ns (length c.args.engine.now.nodes.now) c.args.node.0 s (busy_at p es)) went.in_progress in
     let here = part_at entry_of (shaped_part g.K.Validate.shape) c.args.entries.now c.loop-entry.entry-index c.entry-item.result c.loop-entry-test.true c.entry-item.is in
-    λ κs h. (lower_same _ _ t 7 1 l c.decreases, (h.0, (h.1.0, (h.1.1.0, (h.1.1.1, (may_after set p old c.loop-entry.context s c.args.node.0 c.requires.may went, (carries_on old c.loop-entry.context c.args.question.now.place.now went.root c.requires.carries, (c.requires.parts.0, c.requires.parts.1, shaped_part g.K.Validate.shape (entry_of c.entry-item.result), c.requires.parts.2 _ here, refl))))))))
+    λ κs h. (lower_same _ _ t 7 1 l c.decreases, (h.0, (h.1.0, (h.1.1.0, (h.1.1.1, record { may = may_after set p old c.loop-entry.context s c.args.node.0 c.requires.may went; carries = carries_on old c.loop-entry.context c.args.question.now.place.now went.root c.requires.carries; stands = (c.requires.stands.0, c.requires.stands.1, shaped_part g.K.Validate.shape (entry_of c.entry-item.result), c.requires.stands.2 _ here, refl) })))))
 
-pub entries::solve_entries-returns-then-not-valid-clause-goes : goal.entries::solve_entries-returns-then-not-valid-clause-goes
-entries::solve_entries-returns-then-not-valid-clause-goes g t c =
-    let set = solver_of g.K.Validate.words g.K.Validate.is_whole g.K.Validate.shape g.M.Matcher.matching c.args.engine.now in
-    let p = steps_to c.args.question.now.place.now in
-    goes_on set p c.args.context.now c.loop-entry.context c.solve_form.new.context c.loop-entry.invariant.goes c.in_ok-valid.ensures.goes
-
-pub entries::solve_entries-returns-then-not-valid-clause-marking : goal.entries::solve_entries-returns-then-not-valid-clause-marking
-entries::solve_entries-returns-then-not-valid-clause-marking g t c =
-    c.in_ok-valid.ensures.marking ∙ c.loop-entry.invariant.marking
-
-pub entries::solve_entries-returns-then-not-valid-clause-says : goal.entries::solve_entries-returns-then-not-valid-clause-says
-entries::solve_entries-returns-then-not-valid-clause-says g t c =
-    let set = solver_of g.K.Validate.words g.K.Validate.is_whole g.K.Validate.shape g.M.Matcher.matching c.args.engine.now in
-    let p = steps_to c.args.question.now.place.now in
-    let parts = λ (es : List (Entry g.row.K.Denot)). map (shaped_part g.K.Validate.shape) (map entry_of es) in
-    let here = c.loop-entry.context in
-    let next = c.solve_form.new.context in
-    let x = shaped_part g.K.Validate.shape (entry_of c.entry-item.result) in
-    let rest = parts (drop (c.loop-entry.entry-index + 1) c.args.entries.now) in
-    let split = ap parts (drop_at c.args.entries.now c.loop-entry.entry-index c.entry-item.result c.loop-entry-test.true c.entry-item.is) in
-    let so_far : InEach set (view here.root) (λ texts w. SaysTheRest w p (found_of here) (parts c.args.entries.now) (x ∷ rest)) = subst (λ left. InEach set (view here.root) (λ texts w. SaysTheRest w p (found_of here) (parts c.args.entries.now) left)) split c.loop-entry.invariant.leads in
-    entry_refuses set p here next c.in_ok-valid.ensures.goes (parts c.args.entries.now) x rest so_far (subst (λ b. InEach set (view next.root) (λ texts w. FormSays w p (found_of next) x.form b)) c.if-not-valid.true c.in_ok-valid.ensures.says)
+pub entries::solve_entries-returns-then-not-valid : goal.entries::solve_entries-returns-then-not-valid
+entries::solve_entries-returns-then-not-valid g t c = record {
+  goes =
+      let set = solver_by g.K.Validate g.M.Matcher c.args.engine.now in
+      let p = steps_to c.args.question.now.place.now in
+      goes_on set p c.args.context.now c.loop-entry.context c.solve_form.new.context c.loop-entry.invariant.goes c.in_ok-valid.ensures.goes;
+  marking =
+      c.in_ok-valid.ensures.marking ∙ c.loop-entry.invariant.marking;
+  says =
+      let set = solver_by g.K.Validate g.M.Matcher c.args.engine.now in
+      let p = steps_to c.args.question.now.place.now in
+      let parts = λ (es : List (Entry g.row.K.Denot)). map (shaped_part g.K.Validate.shape) (map entry_of es) in
+      let here = c.loop-entry.context in
+      let next = c.solve_form.new.context in
+      let x = shaped_part g.K.Validate.shape (entry_of c.entry-item.result) in
+      let rest = parts (drop (c.loop-entry.entry-index + 1) c.args.entries.now) in
+      let split = ap parts (drop_at c.args.entries.now c.loop-entry.entry-index c.entry-item.result c.loop-entry-test.true c.entry-item.is) in
+      let so_far : InEach set (view here.root) (λ texts w. SaysTheRest w p (found_of here) (parts c.args.entries.now) (x ∷ rest)) = subst (λ left. InEach set (view here.root) (λ texts w. SaysTheRest w p (found_of here) (parts c.args.entries.now) left)) split c.loop-entry.invariant.leads in
+      entry_refuses set p here next c.in_ok-valid.ensures.goes (parts c.args.entries.now) x rest so_far (subst (λ b. InEach set (view next.root) (λ texts w. FormSays w p (found_of next) x.form b)) c.if-not-valid.true c.in_ok-valid.ensures.says);
+}
 
 pub entries::solve_entries-loop-entry-preserved : goal.entries::solve_entries-loop-entry-preserved
 entries::solve_entries-loop-entry-preserved g t c =
-    let set = solver_of g.K.Validate.words g.K.Validate.is_whole g.K.Validate.shape g.M.Matcher.matching c.args.engine.now in
+    let set = solver_by g.K.Validate g.M.Matcher c.args.engine.now in
     let p = steps_to c.args.question.now.place.now in
     let parts = λ (es : List (Entry g.row.K.Denot)). map (shaped_part g.K.Validate.shape) (map entry_of es) in
     let here = c.loop-entry.context in
@@ -298,115 +306,134 @@ entries::solve_entries-loop-entry-preserved g t c =
       leads = entry_accepts set p here next c.in_ok-valid.ensures.goes (parts c.args.entries.now) x rest so_far (subst (λ b. InEach set (view next.root) (λ texts w. FormSays w p (found_of next) x.form b)) c.if-not-valid.false c.in_ok-valid.ensures.says);
     }
 
-pub entries::solve_entries-returns-clause-goes : goal.entries::solve_entries-returns-clause-goes
-entries::solve_entries-returns-clause-goes g t c =
-    c.loop-entry.invariant.goes
+pub entries::solve_entries-returns : goal.entries::solve_entries-returns
+entries::solve_entries-returns g t c = record {
+  goes =
+      c.loop-entry.invariant.goes;
+  marking =
+      c.loop-entry.invariant.marking;
+  says =
+      let set = solver_by g.K.Validate g.M.Matcher c.args.engine.now in
+      let p = steps_to c.args.question.now.place.now in
+      let parts = λ (es : List (Entry g.row.K.Denot)). map (shaped_part g.K.Validate.shape) (map entry_of es) in
+      let none = ap parts (drop_past c.args.entries.now c.loop-entry.entry-index c.loop-entry-test.false) in
+      λ texts tells inside between. c.loop-entry.invariant.leads texts tells inside between ∙ ap (parts_under (solving_in set (view c.loop-entry.context.root) texts) p inside) none;
+}
 
-pub entries::solve_entries-returns-clause-marking : goal.entries::solve_entries-returns-clause-marking
-entries::solve_entries-returns-clause-marking g t c =
-    c.loop-entry.invariant.marking
-
-pub entries::solve_entries-returns-clause-says : goal.entries::solve_entries-returns-clause-says
-entries::solve_entries-returns-clause-says g t c =
-    let set = solver_of g.K.Validate.words g.K.Validate.is_whole g.K.Validate.shape g.M.Matcher.matching c.args.engine.now in
-    let p = steps_to c.args.question.now.place.now in
-    let parts = λ (es : List (Entry g.row.K.Denot)). map (shaped_part g.K.Validate.shape) (map entry_of es) in
-    let none = ap parts (drop_past c.args.entries.now c.loop-entry.entry-index c.loop-entry-test.false) in
-    λ texts tells inside between. c.loop-entry.invariant.leads texts tells inside between ∙ ap (parts_under (solving_in set (view c.loop-entry.context.root) texts) p inside) none
-
-pub entries::solve_form-returns-in-Some-clause-goes : goal.entries::solve_form-returns-in-Some-clause-goes
-entries::solve_form-returns-in-Some-clause-goes g t c =
-    let set = solver_of g.K.Validate.words g.K.Validate.is_whole g.K.Validate.shape g.M.Matcher.matching c.args.engine.now in
-    goes_none set (steps_to c.args.question.now.place.now) c.args.context.now c.requires.may.sound
-
-pub entries::solve_form-returns-in-Some-clause-says : goal.entries::solve_form-returns-in-Some-clause-says
-entries::solve_form-returns-in-Some-clause-says g t c =
-    let set = solver_of g.K.Validate.words g.K.Validate.is_whole g.K.Validate.shape g.M.Matcher.matching c.args.engine.now in
-    let p = steps_to c.args.question.now.place.now in
-    let s = subject_of c.args.question.now.instance in
-    let old = c.args.context.now in
-    let laws : (texts : Bool) → EachKeeps (g.K.Validate.words texts) = λ texts m. (g.K.Validate.absorbed m, keeps_of_turns (g.K.Validate.words texts) m (g.K.Validate.absorbed m) (g.K.Validate.remaining m) (g.K.Validate.can_be texts m) (g.K.Validate.ends texts m) (g.K.Validate.fits texts m) (g.met.K.Validate.turn_laws texts m) (g.met.K.Validate.function_laws texts m)) in
-    let m = g.K.Validate.shape c.in-Keyword.keyword in
-    let es = map (option_map edge_of) c.in-Keyword.field-1.items in
-    let form = rw c.in-Keyword.is at c.requires.form in
-    rw c.in-Keyword.is (says_at_once set laws old s p c.args.node.0 c.requires.may m es form (g.K.Validate.absorbed m) (g.K.Validate.remaining m) (λ texts. g.K.Validate.can_be texts m) (λ texts. g.K.Validate.ends texts m) (λ texts. g.K.Validate.fits texts m) (λ texts. g.met.K.Validate.turn_laws texts m) c.in-Some.valid c.in-Some.ensures.at_once)
+pub entries::solve_form-returns-in-Some : goal.entries::solve_form-returns-in-Some
+entries::solve_form-returns-in-Some g t c = record {
+  goes =
+      let set = solver_by g.K.Validate g.M.Matcher c.args.engine.now in
+      goes_none set (steps_to c.args.question.now.place.now) c.args.context.now c.requires.may.sound;
+  marking = search rules;
+  says =
+      let set = solver_by g.K.Validate g.M.Matcher c.args.engine.now in
+      let p = steps_to c.args.question.now.place.now in
+      let s = subject_of c.args.question.now.instance in
+      let old = c.args.context.now in
+      let laws : (texts : Bool) → EachKeeps (g.K.Validate.words texts) = λ texts m. (g.K.Validate.absorbed m, keeps_of_turns (g.K.Validate.words texts) m (g.K.Validate.absorbed m) (g.K.Validate.remaining m) (g.K.Validate.can_be texts m) (g.K.Validate.ends texts m) (g.K.Validate.fits texts m) (g.met.K.Validate.turn_laws texts m) (g.met.K.Validate.function_laws texts m)) in
+      let m = g.K.Validate.shape c.in-Keyword.keyword in
+      let es = map (option_map edge_of) c.in-Keyword.field-1.items in
+      let form = rw c.in-Keyword.is at c.requires.stands in
+      rw c.in-Keyword.is (says_at_once set laws old s p c.args.node.0 c.requires.may m es form (g.K.Validate.absorbed m) (g.K.Validate.remaining m) (λ texts. g.K.Validate.can_be texts m) (λ texts. g.K.Validate.ends texts m) (λ texts. g.K.Validate.fits texts m) (λ texts. g.met.K.Validate.turn_laws texts m) c.in-Some.valid c.in-Some.ensures.at_once);
+}
 
 pub entries::solve_form-solve_keyword-requires : goal.entries::solve_form-solve_keyword-requires
 entries::solve_form-solve_keyword-requires g t c =
-    λ κs h. (lower_same _ _ t 6 0 refl c.decreases, (h.0, (h.1.0, (h.1.1.0, (h.1.1.1, (c.requires.may, (c.requires.carries, c.requires.form)))))))
+    λ κs h. (lower_same _ _ t 6 0 refl c.decreases, (h.0, (h.1.0, (h.1.1.0, (h.1.1.1, c.requires)))))
 
 pub entries::solve_form-solve_edge-requires : goal.entries::solve_form-solve_edge-requires
 entries::solve_form-solve_edge-requires g t c =
-    let set = solver_of g.K.Validate.words g.K.Validate.is_whole g.K.Validate.shape g.M.Matcher.matching c.args.engine.now in
+    let set = solver_by g.K.Validate g.M.Matcher c.args.engine.now in
     let ns = numbered g.K.Validate.shape c.args.engine.now.nodes.now in
     let p = steps_to c.args.question.now.place.now in
     let s = subject_of c.args.question.now.instance in
     let old = c.args.context.now in
     let e = edge_of c.in-Reference.edge in
     let count = length c.args.engine.now.nodes.now in
-    let k = reference_edge ns c.args.node.0 e (rw c.in-Reference.is at c.requires.form) in
+    let k = reference_edge ns c.args.node.0 e (rw c.in-Reference.is at c.requires.stands) in
     let cut = is_cut (is_followed_in c.args.engine.now.followed.now) in
     let l = falls_across ns count cut (cut_guards (is_followed_in c.args.engine.now.followed.now)) c.requires.may.ranked c.args.node.0 s (busy_at p old.in_progress) e c.requires.may.known k in
-    λ κs h. (lower_across _ _ t 5 l c.decreases, (h.0, (h.1.0, (h.1.1.0, (h.1.1.1, (may_cross set old s p c.args.node.0 e c.requires.may k, (c.requires.carries, (c.args.node.0, c.requires.may.known, k))))))))
+    λ κs h. (lower_across _ _ t 5 l c.decreases, (h.0, (h.1.0, (h.1.1.0, (h.1.1.1, record { may = may_cross set old s p c.args.node.0 e c.requires.may k; carries = c.requires.carries; stands = (c.args.node.0, c.requires.may.known, k) })))))
 
 pub entries::solve_keyword-solver_answer-requires : goal.entries::solve_keyword-solver_answer-requires
 entries::solve_keyword-solver_answer-requires g t c =
-    λ κs h. (lower_same _ _ t 5 0 refl c.decreases, (h.0, (h.1.0, (h.1.1.0, (h.1.1.1, (c.requires.may, (c.requires.carries, rw (c.in-Keyword.is, ← c.as_slice.ensures.value) at c.requires.form)))))))
+    λ κs h. (lower_same _ _ t 5 0 refl c.decreases, (h.0, (h.1.0, (h.1.1.0, (h.1.1.1, record { may = c.requires.may; carries = c.requires.carries; stands = rw (c.in-Keyword.is, ← c.as_slice.ensures.value) at c.requires.stands })))))
 
-pub entries::solve_keyword-returns-in-Keyword-clause-says : goal.entries::solve_keyword-returns-in-Keyword-clause-says
-entries::solve_keyword-returns-in-Keyword-clause-says g t c = rw (c.in-Keyword.is, ← c.as_slice.ensures.value) c.solver_answer.ensures.says
+pub entries::solve_keyword-returns-in-Keyword : goal.entries::solve_keyword-returns-in-Keyword
+entries::solve_keyword-returns-in-Keyword g t c = record {
+  goes = search rules;
+  marking = search rules;
+  says = rw (c.in-Keyword.is, ← c.as_slice.ensures.value) c.solver_answer.ensures.says;
+}
 
 pub entries::solve_keyword-solve_edge-requires : goal.entries::solve_keyword-solve_edge-requires
 entries::solve_keyword-solve_edge-requires g t c =
-    let set = solver_of g.K.Validate.words g.K.Validate.is_whole g.K.Validate.shape g.M.Matcher.matching c.args.engine.now in
+    let set = solver_by g.K.Validate g.M.Matcher c.args.engine.now in
     let ns = numbered g.K.Validate.shape c.args.engine.now.nodes.now in
     let p = steps_to c.args.question.now.place.now in
     let s = subject_of c.args.question.now.instance in
     let old = c.args.context.now in
     let e = edge_of c.in-Reference.edge in
     let count = length c.args.engine.now.nodes.now in
-    let k = reference_edge ns c.args.node.0 e (rw c.in-Reference.is at c.requires.form) in
+    let k = reference_edge ns c.args.node.0 e (rw c.in-Reference.is at c.requires.stands) in
     let cut = is_cut (is_followed_in c.args.engine.now.followed.now) in
     let l = falls_across ns count cut (cut_guards (is_followed_in c.args.engine.now.followed.now)) c.requires.may.ranked c.args.node.0 s (busy_at p old.in_progress) e c.requires.may.known k in
-    λ κs h. (lower_across _ _ t 4 l c.decreases, (h.0, (h.1.0, (h.1.1.0, (h.1.1.1, (may_cross set old s p c.args.node.0 e c.requires.may k, (c.requires.carries, (c.args.node.0, c.requires.may.known, k))))))))
+    λ κs h. (lower_across _ _ t 4 l c.decreases, (h.0, (h.1.0, (h.1.1.0, (h.1.1.1, record { may = may_cross set old s p c.args.node.0 e c.requires.may k; carries = c.requires.carries; stands = (c.args.node.0, c.requires.may.known, k) })))))
 
 pub entries::solve_node-solve_entries-requires : goal.entries::solve_node-solve_entries-requires
 entries::solve_node-solve_entries-requires g t c =
     let plan = plan_is g.K.Validate.shape c.args.engine.now.nodes.now c.args.node.0 (node_of c.node.result.now) _ c.node.ensures.found (ap (option_map plan_of) c.in-Some.is ∙ ap (λ f. Some (plan_of f)) c.in-Keywords.is) in
-    λ κs h. (lower_same _ _ t 9 0 refl c.decreases, (h.0, (h.1.0, (h.1.1.0, (h.1.1.1, (c.requires.may, (c.requires.carries, rw c.as_slice.ensures.value (_, plan, λ y k. k))))))))
+    λ κs h. (lower_same _ _ t 9 0 refl c.decreases, (h.0, (h.1.0, (h.1.1.0, (h.1.1.1, record { may = c.requires.may; carries = c.requires.carries; stands = rw c.as_slice.ensures.value (_, plan, λ y k. k) })))))
 
-pub entries::solve_node-returns-in-None-clause-goes : goal.entries::solve_node-returns-in-None-clause-goes
-entries::solve_node-returns-in-None-clause-goes g t c =
-    let set = solver_of g.K.Validate.words g.K.Validate.is_whole g.K.Validate.shape g.M.Matcher.matching c.args.engine.now in
-    goes_none set (steps_to c.args.question.now.place.now) c.args.context.now c.requires.may.sound
+pub entries::solve_node-returns-in-None : goal.entries::solve_node-returns-in-None
+entries::solve_node-returns-in-None g t c = record {
+  goes =
+      let set = solver_by g.K.Validate g.M.Matcher c.args.engine.now in
+      goes_none set (steps_to c.args.question.now.place.now) c.args.context.now c.requires.may.sound;
+  marking = search rules;
+  says = search rules;
+}
 
-pub entries::solve_node-returns-in-Always-clause-goes : goal.entries::solve_node-returns-in-Always-clause-goes
-entries::solve_node-returns-in-Always-clause-goes g t c =
-    let set = solver_of g.K.Validate.words g.K.Validate.is_whole g.K.Validate.shape g.M.Matcher.matching c.args.engine.now in
-    goes_none set (steps_to c.args.question.now.place.now) c.args.context.now c.requires.may.sound
+pub entries::solve_node-returns-in-Always : goal.entries::solve_node-returns-in-Always
+entries::solve_node-returns-in-Always g t c = record {
+  goes =
+      let set = solver_by g.K.Validate g.M.Matcher c.args.engine.now in
+      goes_none set (steps_to c.args.question.now.place.now) c.args.context.now c.requires.may.sound;
+  marking = search rules;
+  says = search rules;
+}
 
-pub entries::solve_node-returns-in-Never-clause-goes : goal.entries::solve_node-returns-in-Never-clause-goes
-entries::solve_node-returns-in-Never-clause-goes g t c =
-    let set = solver_of g.K.Validate.words g.K.Validate.is_whole g.K.Validate.shape g.M.Matcher.matching c.args.engine.now in
-    goes_none set (steps_to c.args.question.now.place.now) c.args.context.now c.requires.may.sound
+pub entries::solve_node-returns-in-Never : goal.entries::solve_node-returns-in-Never
+entries::solve_node-returns-in-Never g t c = record {
+  goes =
+      let set = solver_by g.K.Validate g.M.Matcher c.args.engine.now in
+      goes_none set (steps_to c.args.question.now.place.now) c.args.context.now c.requires.may.sound;
+  marking = search rules;
+  says = search rules;
+}
 
-pub entries::solve_node-returns-in-Keywords-clause-says : goal.entries::solve_node-returns-in-Keywords-clause-says
-entries::solve_node-returns-in-Keywords-clause-says g t c =
-    let set = solver_of g.K.Validate.words g.K.Validate.is_whole g.K.Validate.shape g.M.Matcher.matching c.args.engine.now in
-    let p = steps_to c.args.question.now.place.now in
-    let s = subject_of c.args.question.now.instance in
-    let old = c.args.context.now in
-    let laws : (texts : Bool) → EachKeeps (g.K.Validate.words texts) = λ texts m. (g.K.Validate.absorbed m, keeps_of_turns (g.K.Validate.words texts) m (g.K.Validate.absorbed m) (g.K.Validate.remaining m) (g.K.Validate.can_be texts m) (g.K.Validate.ends texts m) (g.K.Validate.fits texts m) (g.met.K.Validate.turn_laws texts m) (g.met.K.Validate.function_laws texts m)) in
-    let plan = plan_is g.K.Validate.shape c.args.engine.now.nodes.now c.args.node.0 (node_of c.node.result.now) _ c.node.ensures.found (ap (option_map plan_of) c.in-Some.is ∙ ap (λ f. Some (plan_of f)) c.in-Keywords.is) in
-    let new = c.solve_entries.new.context in
-    if_ok_mono c.solve_entries.result _ _ (λ b says texts tells. node_says_parts (solving_in set (view new.root) texts) (found_of new) p (solvable_here set laws old s p c.args.node.0 c.requires.may (view new.root) texts) c.args.node.0 c.requires.may.known _ b plan (says texts tells))
-    (rw c.as_slice.ensures.value at c.solve_entries.ensures.says)
+pub entries::solve_node-returns-in-Keywords : goal.entries::solve_node-returns-in-Keywords
+entries::solve_node-returns-in-Keywords g t c = record {
+  goes = search rules;
+  marking = search rules;
+  says =
+      let set = solver_by g.K.Validate g.M.Matcher c.args.engine.now in
+      let p = steps_to c.args.question.now.place.now in
+      let s = subject_of c.args.question.now.instance in
+      let old = c.args.context.now in
+      let laws : (texts : Bool) → EachKeeps (g.K.Validate.words texts) = λ texts m. (g.K.Validate.absorbed m, keeps_of_turns (g.K.Validate.words texts) m (g.K.Validate.absorbed m) (g.K.Validate.remaining m) (g.K.Validate.can_be texts m) (g.K.Validate.ends texts m) (g.K.Validate.fits texts m) (g.met.K.Validate.turn_laws texts m) (g.met.K.Validate.function_laws texts m)) in
+      let plan = plan_is g.K.Validate.shape c.args.engine.now.nodes.now c.args.node.0 (node_of c.node.result.now) _ c.node.ensures.found (ap (option_map plan_of) c.in-Some.is ∙ ap (λ f. Some (plan_of f)) c.in-Keywords.is) in
+      let new = c.solve_entries.new.context in
+      if_ok_mono c.solve_entries.result _ _ (λ b says texts tells. node_says_parts (solving_in set (view new.root) texts) (found_of new) p (solvable_here set laws old s p c.args.node.0 c.requires.may (view new.root) texts) c.args.node.0 c.requires.may.known _ b plan (says texts tells))
+      (rw c.as_slice.ensures.value at c.solve_entries.ensures.says);
+}
 
 -- ---- the turns of a keyword's run
 
 pub turns::solver_answer-solver_turns-turned-requires : goal.turns::solver_answer-solver_turns-turned-requires
 turns::solver_answer-solver_turns-turned-requires g t c =
-    let set = solver_of g.K.Validate.words g.K.Validate.is_whole g.K.Validate.shape g.M.Matcher.matching c.args.engine.now in
+    let set = solver_by g.K.Validate g.M.Matcher c.args.engine.now in
     let p = steps_to c.args.question.now.place.now in
     let s = subject_of c.args.question.now.instance in
     let aside = c.set_aside-aside.new.self in
@@ -414,50 +441,51 @@ turns::solver_answer-solver_turns-turned-requires g t c =
     let e = c.set_aside-aside.ensures in
     let went = goes_marked set p c.args.context.now aside c.requires.may.sound e.root e.in_progress e.assumed e.verdicts e.begun in
     let l = ap (λ es. left (numbered g.K.Validate.shape c.args.engine.now.nodes.now) (length c.args.engine.now.nodes.now) c.args.node.0 s (busy_at p es)) e.in_progress in
-    λ κs h. (lower_same _ _ t 4 0 l c.decreases, (h.0, (h.1.0, (h.1.1.0, (h.1.1.1, (may_after set p c.args.context.now aside s c.args.node.0 c.requires.may went, (carries_on c.args.context.now aside c.args.question.now.place.now e.root c.requires.carries, (c.requires.form, (begun, e.none)))))))))
+    λ κs h. (lower_same _ _ t 4 0 l c.decreases, (h.0, (h.1.0, (h.1.1.0, (h.1.1.1, (record { may = may_after set p c.args.context.now aside s c.args.node.0 c.requires.may went; carries = carries_on c.args.context.now aside c.args.question.now.place.now e.root c.requires.carries; stands = c.requires.stands }, (begun, e.none)))))))
 
-pub turns::solver_answer-returns-in-Ok-clause-goes : goal.turns::solver_answer-returns-in-Ok-clause-goes
-turns::solver_answer-returns-in-Ok-clause-goes g t c =
-    let set = solver_of g.K.Validate.words g.K.Validate.is_whole g.K.Validate.shape g.M.Matcher.matching c.args.engine.now in
-    let p = steps_to c.args.question.now.place.now in
-    let aside = c.set_aside-aside.new.self in
-    let end = c.solver_turns-turned.new.context in
-    let e = c.set_aside-aside.ensures in
-    let b = c.put_back.ensures in
-    let turns : Goes set p aside end = rw c.in-Ok.is at c.solver_turns-turned.ensures.goes in
-    let before = goes_marked set p c.args.context.now aside c.requires.may.sound e.root e.in_progress e.assumed e.verdicts e.begun in
-    let after = goes_marked set p end c.put_back.new.self turns.sound b.root b.in_progress b.assumed b.verdicts b.begun in
-    goes_on set p c.args.context.now end c.put_back.new.self (goes_on set p c.args.context.now aside end before turns) after
-
-pub turns::solver_answer-returns-in-Ok-clause-says : goal.turns::solver_answer-returns-in-Ok-clause-says
-turns::solver_answer-returns-in-Ok-clause-says g t c =
-    let set = solver_of g.K.Validate.words g.K.Validate.is_whole g.K.Validate.shape g.M.Matcher.matching c.args.engine.now in
-    let p = steps_to c.args.question.now.place.now in
-    let aside = c.set_aside-aside.new.self in
-    let end = c.solver_turns-turned.new.context in
-    let b = c.put_back.ensures in
-    let turns : Goes set p aside end = rw c.in-Ok.is at c.solver_turns-turned.ensures.goes in
-    let after = goes_marked set p end c.put_back.new.self turns.sound b.root b.in_progress b.assumed b.verdicts b.begun in
-    says_after set p end c.put_back.new.self after p (form_at_work g.K.Validate.shape c.args.keyword.now) _ (λ texts. (answer_of texts c.solver_turns-turned.new.answer).verdict) c.verdict_of.ensures.verdict (rw c.in-Ok.is at c.solver_turns-turned.ensures.says)
+pub turns::solver_answer-returns-in-Ok : goal.turns::solver_answer-returns-in-Ok
+turns::solver_answer-returns-in-Ok g t c = record {
+  goes =
+      let set = solver_by g.K.Validate g.M.Matcher c.args.engine.now in
+      let p = steps_to c.args.question.now.place.now in
+      let aside = c.set_aside-aside.new.self in
+      let end = c.solver_turns-turned.new.context in
+      let e = c.set_aside-aside.ensures in
+      let b = c.put_back.ensures in
+      let turns : Goes set p aside end = rw c.in-Ok.is at c.solver_turns-turned.ensures.goes in
+      let before = goes_marked set p c.args.context.now aside c.requires.may.sound e.root e.in_progress e.assumed e.verdicts e.begun in
+      let after = goes_marked set p end c.put_back.new.self turns.sound b.root b.in_progress b.assumed b.verdicts b.begun in
+      goes_on set p c.args.context.now end c.put_back.new.self (goes_on set p c.args.context.now aside end before turns) after;
+  marking = search rules;
+  says =
+      let set = solver_by g.K.Validate g.M.Matcher c.args.engine.now in
+      let p = steps_to c.args.question.now.place.now in
+      let aside = c.set_aside-aside.new.self in
+      let end = c.solver_turns-turned.new.context in
+      let b = c.put_back.ensures in
+      let turns : Goes set p aside end = rw c.in-Ok.is at c.solver_turns-turned.ensures.goes in
+      let after = goes_marked set p end c.put_back.new.self turns.sound b.root b.in_progress b.assumed b.verdicts b.begun in
+      says_after set p end c.put_back.new.self after p (form_at_work g.K.Validate.shape c.args.keyword.now) _ (λ texts. (answer_of texts c.solver_turns-turned.new.answer).verdict) c.verdict_of.ensures.verdict (rw c.in-Ok.is at c.solver_turns-turned.ensures.says);
+}
 
 pub turns::solver_turns-turns-init : goal.turns::solver_turns-turns-init
 turns::solver_turns-turns-init g t c =
-    let set = solver_of g.K.Validate.words g.K.Validate.is_whole g.K.Validate.shape g.M.Matcher.matching c.args.engine.now in
+    let set = solver_by g.K.Validate g.M.Matcher c.args.engine.now in
     let p = steps_to c.args.question.now.place.now in
     let s = subject_of c.args.question.now.instance in
     let m = g.K.Validate.shape c.args.keyword.now.keyword.now in
     let es = map (option_map edge_of) c.args.keyword.now.children.now in
     let keeps : (texts : Bool) → EachKeeps (g.K.Validate.words texts) = (λ texts k. (g.K.Validate.absorbed k, keeps_of_turns (g.K.Validate.words texts) k (g.K.Validate.absorbed k) (g.K.Validate.remaining k) (g.K.Validate.can_be texts k) (g.K.Validate.ends texts k) (g.K.Validate.fits texts k) (g.met.K.Validate.turn_laws texts k) (g.met.K.Validate.function_laws texts k))) in
     record {
-      goes = goes_none set p c.args.context.now c.requires.may.sound;
+      goes = goes_none set p c.args.context.now c.requires.may_ask.may.sound;
       can = can_begun set m (g.K.Validate.absorbed m) (g.K.Validate.remaining m) (λ texts. g.K.Validate.can_be texts m) (λ texts. g.K.Validate.ends texts m) (λ texts. g.K.Validate.fits texts m) (λ texts. g.met.K.Validate.turn_laws texts m) s (c.args.run.now, answer_of false c.args.answer.now) (c.requires.begun false);
       asks = asks_begun set m (g.K.Validate.absorbed m) (g.K.Validate.remaining m) (λ texts. g.K.Validate.can_be texts m) (λ texts. g.K.Validate.ends texts m) (λ texts. g.K.Validate.fits texts m) (λ texts. g.met.K.Validate.turn_laws texts m) s (g.met.K.Validate.asks_verdicts false) (c.args.run.now, answer_of false c.args.answer.now) (c.requires.begun false);
-      leads = leads_begun set m (g.K.Validate.absorbed m) (g.K.Validate.remaining m) (λ texts. g.K.Validate.can_be texts m) (λ texts. g.K.Validate.ends texts m) (λ texts. g.K.Validate.fits texts m) (λ texts. g.met.K.Validate.turn_laws texts m) s keeps c.args.context.now p c.args.node.0 c.requires.may es c.requires.form c.args.context.now.marking (λ texts. (c.args.run.now, answer_of texts c.args.answer.now)) c.requires.no_marks c.requires.begun;
+      leads = leads_begun set m (g.K.Validate.absorbed m) (g.K.Validate.remaining m) (λ texts. g.K.Validate.can_be texts m) (λ texts. g.K.Validate.ends texts m) (λ texts. g.K.Validate.fits texts m) (λ texts. g.met.K.Validate.turn_laws texts m) s keeps c.args.context.now p c.args.node.0 c.requires.may_ask.may es c.requires.may_ask.stands c.args.context.now.marking (λ texts. (c.args.run.now, answer_of texts c.args.answer.now)) c.requires.no_marks c.requires.begun;
     }
 
 pub turns::solver_turns-solve_child-requires : goal.turns::solver_turns-solve_child-requires
 turns::solver_turns-solve_child-requires g t c =
-    let set = solver_of g.K.Validate.words g.K.Validate.is_whole g.K.Validate.shape g.M.Matcher.matching c.args.engine.now in
+    let set = solver_by g.K.Validate g.M.Matcher c.args.engine.now in
     let p = steps_to c.args.question.now.place.now in
     let s = subject_of c.args.question.now.instance in
     let m = g.K.Validate.shape c.args.keyword.now.keyword.now in
@@ -470,31 +498,34 @@ turns::solver_turns-solve_child-requires g t c =
     let ns = numbered g.K.Validate.shape c.args.engine.now.nodes.now in
     let l = ap (λ es. left ns (length c.args.engine.now.nodes.now) c.args.node.0 s (busy_at p es)) went.in_progress in
     let there = asks_there (g.K.Validate.words false) m (g.K.Validate.absorbed m) (g.K.Validate.remaining m) (g.K.Validate.can_be false m) (g.K.Validate.ends false m) (g.K.Validate.fits false m) (g.met.K.Validate.turn_laws false m) s (c.turns.run, answer_of false c.turns.answer) told q (mode_of c.in-Ask.wanted) c.turns.invariant.can ((g.met.K.Validate.function_laws false m).present s) step in
-    λ κs h. (lower_same _ _ t 2 1 l c.decreases, (h.0, (h.1.0, (h.1.1.0, (h.1.1.1, (may_after set p c.args.context.now c.turns.context s c.args.node.0 c.requires.may went, (carries_on c.args.context.now c.turns.context c.args.question.now.place.now went.root c.requires.carries, (keyword_children ns c.args.node.0 m es c.requires.form, there))))))))
+    λ κs h. (lower_same _ _ t 2 1 l c.decreases, (h.0, (h.1.0, (h.1.1.0, (h.1.1.1, record { may = may_after set p c.args.context.now c.turns.context s c.args.node.0 c.requires.may_ask.may went; carries = carries_on c.args.context.now c.turns.context c.args.question.now.place.now went.root c.requires.may_ask.carries; stands = (keyword_children ns c.args.node.0 m es c.requires.may_ask.stands, there) })))))
 
 pub turns::solver_turns-finished_match-requires : goal.turns::solver_turns-finished_match-requires
-turns::solver_turns-finished_match-requires g t c = record { finishes = c.requires.may.finishes }
+turns::solver_turns-finished_match-requires g t c = record { finishes = c.requires.may_ask.may.finishes }
 
 pub turns::solver_turns-finished_match-requires-in-MatchAt : goal.turns::solver_turns-finished_match-requires-in-MatchAt
-turns::solver_turns-finished_match-requires-in-MatchAt g t c = record { finishes = c.requires.may.finishes }
+turns::solver_turns-finished_match-requires-in-MatchAt g t c = record { finishes = c.requires.may_ask.may.finishes }
 
-pub turns::solver_turns-returns-in-Done-clause-says : goal.turns::solver_turns-returns-in-Done-clause-says
-turns::solver_turns-returns-in-Done-clause-says g t c =
-    let set = solver_of g.K.Validate.words g.K.Validate.is_whole g.K.Validate.shape g.M.Matcher.matching c.args.engine.now in
-    let p = steps_to c.args.question.now.place.now in
-    let s = subject_of c.args.question.now.instance in
-    let m = g.K.Validate.shape c.args.keyword.now.keyword.now in
-    let es = map (option_map edge_of) c.args.keyword.now.children.now in
-    let keeps : (texts : Bool) → EachKeeps (g.K.Validate.words texts) = (λ texts k. (g.K.Validate.absorbed k, keeps_of_turns (g.K.Validate.words texts) k (g.K.Validate.absorbed k) (g.K.Validate.remaining k) (g.K.Validate.can_be texts k) (g.K.Validate.ends texts k) (g.K.Validate.fits texts k) (g.met.K.Validate.turn_laws texts k) (g.met.K.Validate.function_laws texts k))) in
-    let turned = turned_by set s m (λ texts. (c.turns.run, answer_of texts c.turns.answer)) (λ texts. (c.turn.new.run, answer_of texts c.turn.new.answer)) (λ texts. reply_of texts c.reply_with-reply.result) (λ texts. told_reply c.turns.told) c.reply_with-reply.ensures.told c.in_ok-step.ensures.turns in
-    let stepped = stepped_by set s m (λ texts. (c.turns.run, answer_of texts c.turns.answer)) (λ texts. reply_of texts c.reply_with-reply.result) (λ texts. told_reply c.turns.told) (turn_of c.in_ok-step.step) (done) c.reply_with-reply.ensures.told (ap turn_of c.in-Done.is) c.in_ok-step.ensures.steps in
-    leads_ended set m (g.K.Validate.absorbed m) (g.K.Validate.remaining m) (λ texts. g.K.Validate.can_be texts m) (λ texts. g.K.Validate.ends texts m) (λ texts. g.K.Validate.fits texts m) (λ texts. g.met.K.Validate.turn_laws texts m) s keeps c.args.context.now p c.args.node.0 c.requires.may es c.requires.form c.turns.context c.turns.invariant.goes.root c.turns.context.marking (λ texts. (c.turns.run, answer_of texts c.turns.answer)) (λ texts. (c.turn.new.run, answer_of texts c.turn.new.answer)) (λ texts. told_reply c.turns.told)
-    (λ texts. (answer_of texts c.turn.new.answer).verdict) turned stepped
-    (λ texts. ap (λ (a : Answer). a.verdict) (g.met.K.Validate.answers texts c.turn.new.run (answer_of texts c.turn.new.answer))) c.turns.invariant.leads
+pub turns::solver_turns-returns-in-Done : goal.turns::solver_turns-returns-in-Done
+turns::solver_turns-returns-in-Done g t c = record {
+  goes = search rules;
+  says =
+      let set = solver_by g.K.Validate g.M.Matcher c.args.engine.now in
+      let p = steps_to c.args.question.now.place.now in
+      let s = subject_of c.args.question.now.instance in
+      let m = g.K.Validate.shape c.args.keyword.now.keyword.now in
+      let es = map (option_map edge_of) c.args.keyword.now.children.now in
+      let keeps : (texts : Bool) → EachKeeps (g.K.Validate.words texts) = (λ texts k. (g.K.Validate.absorbed k, keeps_of_turns (g.K.Validate.words texts) k (g.K.Validate.absorbed k) (g.K.Validate.remaining k) (g.K.Validate.can_be texts k) (g.K.Validate.ends texts k) (g.K.Validate.fits texts k) (g.met.K.Validate.turn_laws texts k) (g.met.K.Validate.function_laws texts k))) in
+      let turned = turned_by set s m (λ texts. (c.turns.run, answer_of texts c.turns.answer)) (λ texts. (c.turn.new.run, answer_of texts c.turn.new.answer)) (λ texts. reply_of texts c.reply_with-reply.result) (λ texts. told_reply c.turns.told) c.reply_with-reply.ensures.told c.in_ok-step.ensures.turns in
+      let stepped = stepped_by set s m (λ texts. (c.turns.run, answer_of texts c.turns.answer)) (λ texts. reply_of texts c.reply_with-reply.result) (λ texts. told_reply c.turns.told) (turn_of c.in_ok-step.step) (done) c.reply_with-reply.ensures.told (ap turn_of c.in-Done.is) c.in_ok-step.ensures.steps in
+      leads_ended set m (g.K.Validate.absorbed m) (g.K.Validate.remaining m) (λ texts. g.K.Validate.can_be texts m) (λ texts. g.K.Validate.ends texts m) (λ texts. g.K.Validate.fits texts m) (λ texts. g.met.K.Validate.turn_laws texts m) s keeps c.args.context.now p c.args.node.0 c.requires.may_ask.may es c.requires.may_ask.stands c.turns.context c.turns.invariant.goes.root c.turns.context.marking (λ texts. (c.turns.run, answer_of texts c.turns.answer)) (λ texts. (c.turn.new.run, answer_of texts c.turn.new.answer)) (λ texts. told_reply c.turns.told)
+      (λ texts. (answer_of texts c.turn.new.answer).verdict) turned stepped
+      (λ texts. ap (λ (a : Answer). a.verdict) (g.met.K.Validate.answers texts c.turn.new.run (answer_of texts c.turn.new.answer))) c.turns.invariant.leads;
+}
 
 pub turns::solver_turns-turns-smaller-in-Ask : goal.turns::solver_turns-turns-smaller-in-Ask
 turns::solver_turns-turns-smaller-in-Ask g t c =
-    let set = solver_of g.K.Validate.words g.K.Validate.is_whole g.K.Validate.shape g.M.Matcher.matching c.args.engine.now in
+    let set = solver_by g.K.Validate g.M.Matcher c.args.engine.now in
     let s = subject_of c.args.question.now.instance in
     let m = g.K.Validate.shape c.args.keyword.now.keyword.now in
     let told = told_reply c.turns.told in
@@ -507,7 +538,7 @@ turns::solver_turns-turns-smaller-in-Ask g t c =
 
 pub turns::solver_turns-turns-preserved-in-Ask : goal.turns::solver_turns-turns-preserved-in-Ask
 turns::solver_turns-turns-preserved-in-Ask g t c =
-    let set = solver_of g.K.Validate.words g.K.Validate.is_whole g.K.Validate.shape g.M.Matcher.matching c.args.engine.now in
+    let set = solver_by g.K.Validate g.M.Matcher c.args.engine.now in
     let p = steps_to c.args.question.now.place.now in
     let s = subject_of c.args.question.now.instance in
     let m = g.K.Validate.shape c.args.keyword.now.keyword.now in
@@ -526,13 +557,13 @@ turns::solver_turns-turns-preserved-in-Ask g t c =
       goes = goes_on set p c.args.context.now c.turns.context next went c.in_ok-valid-in-Ask.ensures.goes;
       can = can_after (g.K.Validate.words false) m (g.K.Validate.absorbed m) (g.K.Validate.remaining m) (g.K.Validate.can_be false m) (g.K.Validate.ends false m) (g.K.Validate.fits false m) (g.met.K.Validate.turn_laws false m) s (c.turns.run, answer_of false c.turns.answer) (c.turn.new.run, answer_of false c.turn.new.answer) told c.turns.invariant.can turn;
       asks = asks_on set m (g.K.Validate.absorbed m) (g.K.Validate.remaining m) (λ texts. g.K.Validate.can_be texts m) (λ texts. g.K.Validate.ends texts m) (λ texts. g.K.Validate.fits texts m) (λ texts. g.met.K.Validate.turn_laws texts m) s (c.turns.run, answer_of false c.turns.answer) (c.turn.new.run, answer_of false c.turn.new.answer) told (truth c.in_ok-valid-in-Ask.valid) (ask q (mode_of c.in-Ask.wanted)) c.turns.invariant.can turn step (ask_goes_on q (mode_of c.in-Ask.wanted)) c.turns.invariant.asks;
-      leads = leads_asked set m (g.K.Validate.absorbed m) (g.K.Validate.remaining m) (λ texts. g.K.Validate.can_be texts m) (λ texts. g.K.Validate.ends texts m) (λ texts. g.K.Validate.fits texts m) (λ texts. g.met.K.Validate.turn_laws texts m) s keeps c.args.context.now p c.args.node.0 c.requires.may es c.requires.form c.turns.context next c.in_ok-valid-in-Ask.ensures.goes went.root c.turns.context.marking next.marking c.in_ok-valid-in-Ask.ensures.marking
+      leads = leads_asked set m (g.K.Validate.absorbed m) (g.K.Validate.remaining m) (λ texts. g.K.Validate.can_be texts m) (λ texts. g.K.Validate.ends texts m) (λ texts. g.K.Validate.fits texts m) (λ texts. g.met.K.Validate.turn_laws texts m) s keeps c.args.context.now p c.args.node.0 c.requires.may_ask.may es c.requires.may_ask.stands c.turns.context next c.in_ok-valid-in-Ask.ensures.goes went.root c.turns.context.marking next.marking c.in_ok-valid-in-Ask.ensures.marking
           (λ texts. (c.turns.run, answer_of texts c.turns.answer)) (λ texts. (c.turn.new.run, answer_of texts c.turn.new.answer)) (λ texts. told_reply c.turns.told) q (mode_of c.in-Ask.wanted) c.in_ok-valid-in-Ask.valid turned stepped wanted c.in_ok-valid-in-Ask.ensures.says c.turns.invariant.leads;
     }
 
 pub turns::solver_turns-turns-smaller-in-Match : goal.turns::solver_turns-turns-smaller-in-Match
 turns::solver_turns-turns-smaller-in-Match g t c =
-    let set = solver_of g.K.Validate.words g.K.Validate.is_whole g.K.Validate.shape g.M.Matcher.matching c.args.engine.now in
+    let set = solver_by g.K.Validate g.M.Matcher c.args.engine.now in
     let s = subject_of c.args.question.now.instance in
     let m = g.K.Validate.shape c.args.keyword.now.keyword.now in
     let told = told_reply c.turns.told in
@@ -546,7 +577,7 @@ turns::solver_turns-turns-smaller-in-Match g t c =
 
 pub turns::solver_turns-turns-preserved-in-Match : goal.turns::solver_turns-turns-preserved-in-Match
 turns::solver_turns-turns-preserved-in-Match g t c =
-    let set = solver_of g.K.Validate.words g.K.Validate.is_whole g.K.Validate.shape g.M.Matcher.matching c.args.engine.now in
+    let set = solver_by g.K.Validate g.M.Matcher c.args.engine.now in
     let p = steps_to c.args.question.now.place.now in
     let s = subject_of c.args.question.now.instance in
     let m = g.K.Validate.shape c.args.keyword.now.keyword.now in
@@ -564,13 +595,13 @@ turns::solver_turns-turns-preserved-in-Match g t c =
       goes = went;
       can = can_after (g.K.Validate.words false) m (g.K.Validate.absorbed m) (g.K.Validate.remaining m) (g.K.Validate.can_be false m) (g.K.Validate.ends false m) (g.K.Validate.fits false m) (g.met.K.Validate.turn_laws false m) s (c.turns.run, answer_of false c.turns.answer) (c.turn.new.run, answer_of false c.turn.new.answer) told c.turns.invariant.can turn;
       asks = asks_on set m (g.K.Validate.absorbed m) (g.K.Validate.remaining m) (λ texts. g.K.Validate.can_be texts m) (λ texts. g.K.Validate.ends texts m) (λ texts. g.K.Validate.fits texts m) (λ texts. g.met.K.Validate.turn_laws texts m) s (c.turns.run, answer_of false c.turns.answer) (c.turn.new.run, answer_of false c.turn.new.answer) told (truth c.in_ok-matches-in-Match.matches) (match_text a point) c.turns.invariant.can turn step (match_goes_on a point) c.turns.invariant.asks;
-      leads = leads_matched set m (g.K.Validate.absorbed m) (g.K.Validate.remaining m) (λ texts. g.K.Validate.can_be texts m) (λ texts. g.K.Validate.ends texts m) (λ texts. g.K.Validate.fits texts m) (λ texts. g.met.K.Validate.turn_laws texts m) s keeps c.args.context.now p c.args.node.0 c.requires.may es c.requires.form c.turns.context c.turns.context.marking
+      leads = leads_matched set m (g.K.Validate.absorbed m) (g.K.Validate.remaining m) (λ texts. g.K.Validate.can_be texts m) (λ texts. g.K.Validate.ends texts m) (λ texts. g.K.Validate.fits texts m) (λ texts. g.met.K.Validate.turn_laws texts m) s keeps c.args.context.now p c.args.node.0 c.requires.may_ask.may es c.requires.may_ask.stands c.turns.context c.turns.context.marking
           (λ texts. (c.turns.run, answer_of texts c.turns.answer)) (λ texts. (c.turn.new.run, answer_of texts c.turn.new.answer)) (λ texts. told_reply c.turns.told) a point c.in_ok-matches-in-Match.matches turned stepped c.in_ok-matches-in-Match.ensures.answer c.turns.invariant.leads;
     }
 
 pub turns::solver_turns-turns-smaller-in-MatchAt : goal.turns::solver_turns-turns-smaller-in-MatchAt
 turns::solver_turns-turns-smaller-in-MatchAt g t c =
-    let set = solver_of g.K.Validate.words g.K.Validate.is_whole g.K.Validate.shape g.M.Matcher.matching c.args.engine.now in
+    let set = solver_by g.K.Validate g.M.Matcher c.args.engine.now in
     let s = subject_of c.args.question.now.instance in
     let m = g.K.Validate.shape c.args.keyword.now.keyword.now in
     let told = told_reply c.turns.told in
@@ -584,7 +615,7 @@ turns::solver_turns-turns-smaller-in-MatchAt g t c =
 
 pub turns::solver_turns-turns-preserved-in-MatchAt : goal.turns::solver_turns-turns-preserved-in-MatchAt
 turns::solver_turns-turns-preserved-in-MatchAt g t c =
-    let set = solver_of g.K.Validate.words g.K.Validate.is_whole g.K.Validate.shape g.M.Matcher.matching c.args.engine.now in
+    let set = solver_by g.K.Validate g.M.Matcher c.args.engine.now in
     let p = steps_to c.args.question.now.place.now in
     let s = subject_of c.args.question.now.instance in
     let m = g.K.Validate.shape c.args.keyword.now.keyword.now in
@@ -603,13 +634,13 @@ turns::solver_turns-turns-preserved-in-MatchAt g t c =
       goes = went;
       can = can_after (g.K.Validate.words false) m (g.K.Validate.absorbed m) (g.K.Validate.remaining m) (g.K.Validate.can_be false m) (g.K.Validate.ends false m) (g.K.Validate.fits false m) (g.met.K.Validate.turn_laws false m) s (c.turns.run, answer_of false c.turns.answer) (c.turn.new.run, answer_of false c.turn.new.answer) told c.turns.invariant.can turn;
       asks = asks_on set m (g.K.Validate.absorbed m) (g.K.Validate.remaining m) (λ texts. g.K.Validate.can_be texts m) (λ texts. g.K.Validate.ends texts m) (λ texts. g.K.Validate.fits texts m) (λ texts. g.met.K.Validate.turn_laws texts m) s (c.turns.run, answer_of false c.turns.answer) (c.turn.new.run, answer_of false c.turn.new.answer) told (truth c.in_ok-matches-in-MatchAt.matches) (match_text a point) c.turns.invariant.can turn step (match_goes_on a point) c.turns.invariant.asks;
-      leads = leads_matched set m (g.K.Validate.absorbed m) (g.K.Validate.remaining m) (λ texts. g.K.Validate.can_be texts m) (λ texts. g.K.Validate.ends texts m) (λ texts. g.K.Validate.fits texts m) (λ texts. g.met.K.Validate.turn_laws texts m) s keeps c.args.context.now p c.args.node.0 c.requires.may es c.requires.form c.turns.context c.turns.context.marking
+      leads = leads_matched set m (g.K.Validate.absorbed m) (g.K.Validate.remaining m) (λ texts. g.K.Validate.can_be texts m) (λ texts. g.K.Validate.ends texts m) (λ texts. g.K.Validate.fits texts m) (λ texts. g.met.K.Validate.turn_laws texts m) s keeps c.args.context.now p c.args.node.0 c.requires.may_ask.may es c.requires.may_ask.stands c.turns.context c.turns.context.marking
           (λ texts. (c.turns.run, answer_of texts c.turns.answer)) (λ texts. (c.turn.new.run, answer_of texts c.turn.new.answer)) (λ texts. told_reply c.turns.told) a point c.in_ok-matches-in-MatchAt.matches turned stepped matched c.turns.invariant.leads;
     }
 
 pub turns::solver_turns-turns-smaller-in-Ecma : goal.turns::solver_turns-turns-smaller-in-Ecma
 turns::solver_turns-turns-smaller-in-Ecma g t c =
-    let set = solver_of g.K.Validate.words g.K.Validate.is_whole g.K.Validate.shape g.M.Matcher.matching c.args.engine.now in
+    let set = solver_by g.K.Validate g.M.Matcher c.args.engine.now in
     let s = subject_of c.args.question.now.instance in
     let m = g.K.Validate.shape c.args.keyword.now.keyword.now in
     let told = told_reply c.turns.told in
@@ -622,7 +653,7 @@ turns::solver_turns-turns-smaller-in-Ecma g t c =
 
 pub turns::solver_turns-turns-preserved-in-Ecma : goal.turns::solver_turns-turns-preserved-in-Ecma
 turns::solver_turns-turns-preserved-in-Ecma g t c =
-    let set = solver_of g.K.Validate.words g.K.Validate.is_whole g.K.Validate.shape g.M.Matcher.matching c.args.engine.now in
+    let set = solver_by g.K.Validate g.M.Matcher c.args.engine.now in
     let p = steps_to c.args.question.now.place.now in
     let s = subject_of c.args.question.now.instance in
     let m = g.K.Validate.shape c.args.keyword.now.keyword.now in
@@ -639,13 +670,13 @@ turns::solver_turns-turns-preserved-in-Ecma g t c =
       goes = went;
       can = can_after (g.K.Validate.words false) m (g.K.Validate.absorbed m) (g.K.Validate.remaining m) (g.K.Validate.can_be false m) (g.K.Validate.ends false m) (g.K.Validate.fits false m) (g.met.K.Validate.turn_laws false m) s (c.turns.run, answer_of false c.turns.answer) (c.turn.new.run, answer_of false c.turn.new.answer) told c.turns.invariant.can turn;
       asks = asks_on set m (g.K.Validate.absorbed m) (g.K.Validate.remaining m) (λ texts. g.K.Validate.can_be texts m) (λ texts. g.K.Validate.ends texts m) (λ texts. g.K.Validate.fits texts m) (λ texts. g.met.K.Validate.turn_laws texts m) s (c.turns.run, answer_of false c.turns.answer) (c.turn.new.run, answer_of false c.turn.new.answer) told (truth c.in_ok-valid-in-Ecma.valid) (ecma text) c.turns.invariant.can turn step (ecma_goes_on text) c.turns.invariant.asks;
-      leads = leads_told set m (g.K.Validate.absorbed m) (g.K.Validate.remaining m) (λ texts. g.K.Validate.can_be texts m) (λ texts. g.K.Validate.ends texts m) (λ texts. g.K.Validate.fits texts m) (λ texts. g.met.K.Validate.turn_laws texts m) s keeps c.args.context.now p c.args.node.0 c.requires.may es c.requires.form c.turns.context c.turns.context.marking
+      leads = leads_told set m (g.K.Validate.absorbed m) (g.K.Validate.remaining m) (λ texts. g.K.Validate.can_be texts m) (λ texts. g.K.Validate.ends texts m) (λ texts. g.K.Validate.fits texts m) (λ texts. g.met.K.Validate.turn_laws texts m) s keeps c.args.context.now p c.args.node.0 c.requires.may_ask.may es c.requires.may_ask.stands c.turns.context c.turns.context.marking
           (λ texts. (c.turns.run, answer_of texts c.turns.answer)) (λ texts. (c.turn.new.run, answer_of texts c.turn.new.answer)) (λ texts. told_reply c.turns.told) text c.in_ok-valid-in-Ecma.valid turned stepped c.in_ok-valid-in-Ecma.ensures.valid c.turns.invariant.leads;
     }
 
 pub turns::solver_turns-turns-smaller-in-Mark : goal.turns::solver_turns-turns-smaller-in-Mark
 turns::solver_turns-turns-smaller-in-Mark g t c =
-    let set = solver_of g.K.Validate.words g.K.Validate.is_whole g.K.Validate.shape g.M.Matcher.matching c.args.engine.now in
+    let set = solver_by g.K.Validate g.M.Matcher c.args.engine.now in
     let s = subject_of c.args.question.now.instance in
     let m = g.K.Validate.shape c.args.keyword.now.keyword.now in
     let told = told_reply c.turns.told in
@@ -658,7 +689,7 @@ turns::solver_turns-turns-smaller-in-Mark g t c =
 
 pub turns::solver_turns-turns-preserved-in-Mark : goal.turns::solver_turns-turns-preserved-in-Mark
 turns::solver_turns-turns-preserved-in-Mark g t c =
-    let set = solver_of g.K.Validate.words g.K.Validate.is_whole g.K.Validate.shape g.M.Matcher.matching c.args.engine.now in
+    let set = solver_by g.K.Validate g.M.Matcher c.args.engine.now in
     let p = steps_to c.args.question.now.place.now in
     let s = subject_of c.args.question.now.instance in
     let m = g.K.Validate.shape c.args.keyword.now.keyword.now in
@@ -678,13 +709,13 @@ turns::solver_turns-turns-preserved-in-Mark g t c =
       goes = goes_on set p c.args.context.now c.turns.context next went stays;
       can = can_after (g.K.Validate.words false) m (g.K.Validate.absorbed m) (g.K.Validate.remaining m) (g.K.Validate.can_be false m) (g.K.Validate.ends false m) (g.K.Validate.fits false m) (g.met.K.Validate.turn_laws false m) s (c.turns.run, answer_of false c.turns.answer) (c.turn.new.run, answer_of false c.turn.new.answer) told c.turns.invariant.can turn;
       asks = asks_on set m (g.K.Validate.absorbed m) (g.K.Validate.remaining m) (λ texts. g.K.Validate.can_be texts m) (λ texts. g.K.Validate.ends texts m) (λ texts. g.K.Validate.fits texts m) (λ texts. g.met.K.Validate.turn_laws texts m) s (c.turns.run, answer_of false c.turns.answer) (c.turn.new.run, answer_of false c.turn.new.answer) told (truth c.in_ok-held-in-Mark.held) (mark k) c.turns.invariant.can turn step (mark_goes_on k) c.turns.invariant.asks;
-      leads = leads_marked set m (g.K.Validate.absorbed m) (g.K.Validate.remaining m) (λ texts. g.K.Validate.can_be texts m) (λ texts. g.K.Validate.ends texts m) (λ texts. g.K.Validate.fits texts m) (λ texts. g.met.K.Validate.turn_laws texts m) s keeps c.args.context.now p c.args.node.0 c.requires.may es c.requires.form c.turns.context next stays c.turns.context.marking next.marking
+      leads = leads_marked set m (g.K.Validate.absorbed m) (g.K.Validate.remaining m) (λ texts. g.K.Validate.can_be texts m) (λ texts. g.K.Validate.ends texts m) (λ texts. g.K.Validate.fits texts m) (λ texts. g.met.K.Validate.turn_laws texts m) s keeps c.args.context.now p c.args.node.0 c.requires.may_ask.may es c.requires.may_ask.stands c.turns.context next stays c.turns.context.marking next.marking
           (λ texts. (c.turns.run, answer_of texts c.turns.answer)) (λ texts. (c.turn.new.run, answer_of texts c.turn.new.answer)) (λ texts. told_reply c.turns.told) k c.in_ok-held-in-Mark.held turned stepped c.in_ok-held-in-Mark.ensures.marks c.in_ok-held-in-Mark.ensures.held c.turns.invariant.leads;
     }
 
 pub turns::solver_turns-turns-smaller : goal.turns::solver_turns-turns-smaller
 turns::solver_turns-turns-smaller g t c =
-    let set = solver_of g.K.Validate.words g.K.Validate.is_whole g.K.Validate.shape g.M.Matcher.matching c.args.engine.now in
+    let set = solver_by g.K.Validate g.M.Matcher c.args.engine.now in
     let s = subject_of c.args.question.now.instance in
     let m = g.K.Validate.shape c.args.keyword.now.keyword.now in
     let told = told_reply c.turns.told in
@@ -696,7 +727,7 @@ turns::solver_turns-turns-smaller g t c =
 
 pub turns::solver_turns-turns-preserved : goal.turns::solver_turns-turns-preserved
 turns::solver_turns-turns-preserved g t c =
-    let set = solver_of g.K.Validate.words g.K.Validate.is_whole g.K.Validate.shape g.M.Matcher.matching c.args.engine.now in
+    let set = solver_by g.K.Validate g.M.Matcher c.args.engine.now in
     let p = steps_to c.args.question.now.place.now in
     let s = subject_of c.args.question.now.instance in
     let m = g.K.Validate.shape c.args.keyword.now.keyword.now in
@@ -715,6 +746,6 @@ turns::solver_turns-turns-preserved g t c =
       goes = goes_on set p c.args.context.now c.turns.context next went stays;
       can = can_after (g.K.Validate.words false) m (g.K.Validate.absorbed m) (g.K.Validate.remaining m) (g.K.Validate.can_be false m) (g.K.Validate.ends false m) (g.K.Validate.fits false m) (g.met.K.Validate.turn_laws false m) s (c.turns.run, answer_of false c.turns.answer) (c.turn.new.run, answer_of false c.turn.new.answer) told c.turns.invariant.can turn;
       asks = asks_on set m (g.K.Validate.absorbed m) (g.K.Validate.remaining m) (λ texts. g.K.Validate.can_be texts m) (λ texts. g.K.Validate.ends texts m) (λ texts. g.K.Validate.fits texts m) (λ texts. g.met.K.Validate.turn_laws texts m) s (c.turns.run, answer_of false c.turns.answer) (c.turn.new.run, answer_of false c.turn.new.answer) told no_reply (unmark) c.turns.invariant.can turn step (unmark_goes_on) c.turns.invariant.asks;
-      leads = leads_unmarked set m (g.K.Validate.absorbed m) (g.K.Validate.remaining m) (λ texts. g.K.Validate.can_be texts m) (λ texts. g.K.Validate.ends texts m) (λ texts. g.K.Validate.fits texts m) (λ texts. g.met.K.Validate.turn_laws texts m) s keeps c.args.context.now p c.args.node.0 c.requires.may es c.requires.form c.turns.context next stays c.turns.context.marking next.marking
+      leads = leads_unmarked set m (g.K.Validate.absorbed m) (g.K.Validate.remaining m) (λ texts. g.K.Validate.can_be texts m) (λ texts. g.K.Validate.ends texts m) (λ texts. g.K.Validate.fits texts m) (λ texts. g.met.K.Validate.turn_laws texts m) s keeps c.args.context.now p c.args.node.0 c.requires.may_ask.may es c.requires.may_ask.stands c.turns.context next stays c.turns.context.marking next.marking
           (λ texts. (c.turns.run, answer_of texts c.turns.answer)) (λ texts. (c.turn.new.run, answer_of texts c.turn.new.answer)) (λ texts. told_reply c.turns.told) turned stepped e.left c.turns.invariant.leads;
     }

@@ -7,7 +7,7 @@ use Rattle.schema_contexts.specs.Progress.{busy_at}
 use Rattle.schema_nodes.specs.NodeTable.{numbered, shaped_part}
 use Rattle.schema_nodes.specs.NodeViews.{entry_of}
 use Rattle.schema_answers.specs.EvaluationPlaces.{steps_to}
-use Rattle.schema_solver.specs.Asked.{is_followed_in, solver_of}
+use Rattle.schema_solver.specs.Asked.{is_followed_in, solver_by}
 use Rattle.schema_pairs.specs.Contexts.{found_of}
 use Rattle.schema_solver.specs.Needs.{SaysTheRest, edge_needs, pair_needs}
 use Rattle.schema_solver.specs.Solving.{Goes, InEach, is_cut}
@@ -46,7 +46,7 @@ decreases-turns::solver_turns g l = 20 * left (numbered g.K.Validate.shape l.eng
 abbrev pub invariant-entries::solve_entries-loop-entry :
     goal.invariant-entries::solve_entries-loop-entry
 invariant-entries::solve_entries-loop-entry g l =
-    let set = solver_of g.K.Validate.words g.K.Validate.is_whole g.K.Validate.shape g.M.Matcher.matching l.engine in
+    let set = solver_by g.K.Validate g.M.Matcher l.engine in
     let p = steps_to l.question.place.now in
     record {
       goes : Goes set p l.initial.context l.context;
@@ -56,7 +56,7 @@ invariant-entries::solve_entries-loop-entry g l =
 
 abbrev pub invariant-turns::solver_turns-turns : goal.invariant-turns::solver_turns-turns
 invariant-turns::solver_turns-turns g l =
-    let set = solver_of g.K.Validate.words g.K.Validate.is_whole g.K.Validate.shape g.M.Matcher.matching l.engine in
+    let set = solver_by g.K.Validate g.M.Matcher l.engine in
     let p = steps_to l.question.place.now in
     let s = subject_of l.question.instance in
     let m = g.K.Validate.shape l.keyword.keyword.now in

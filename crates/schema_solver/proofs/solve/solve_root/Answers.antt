@@ -13,18 +13,19 @@ use Rattle.schema_solver.specs.Solving.{Goes, InEach, MaySolve}
 use Rattle.schema_solver.proofs.Going.{end_few, end_says, fresh_may}
 use Rattle.schema_solver.proofs.solve.solve_root.Goals as goal
 
-pub solve_node-requires-clause-may : goal.solve_node-requires-clause-may
-solve_node-requires-clause-may g c =
+pub solve_node-requires : goal.solve_node-requires
+solve_node-requires g c =
     let set = solver_of g.K.Validate.words g.K.Validate.is_whole g.K.Validate.shape g.M.Matcher.matching c.args.engine.now in
     let v = c.args.instance.now in
     let ranked = ranked_table g.K.Validate.shape c.args.engine.now.nodes.now c.len-count.ensures.ordered.0 c.len-count.ensures.ordered.1 in
     let begins : c.args.context.now ≡ fresh v = c.requires.fresh in
     let place : steps_to c.given-place.result ≡ [] = c.given-place.ensures.same ∙ c.root-root.ensures.root in
     let s = a_value (view v) in
-    subst (λ p. MaySolve set c.args.context.now s p c.args.node.0) (sym place) (subst (λ z. MaySolve set z s [] c.args.node.0) (sym begins) (fresh_may set v c.args.node.0 c.requires.known ranked c.requires.monotone c.requires.finishes))
-
-pub solve_node-requires-clause-carries : goal.solve_node-requires-clause-carries
-solve_node-requires-clause-carries g c = c.given-place.ensures.carries (solver_places c.args.context.now)
+    record {
+      may = subst (λ p. MaySolve set c.args.context.now s p c.args.node.0) (sym place) (subst (λ z. MaySolve set z s [] c.args.node.0) (sym begins) (fresh_may set v c.args.node.0 c.requires.known ranked c.requires.monotone c.requires.finishes));
+      carries = c.given-place.ensures.carries (solver_places c.args.context.now);
+      stands = tt;
+    }
 
 pub returns-clause-says : goal.returns-clause-says
 returns-clause-says g c =

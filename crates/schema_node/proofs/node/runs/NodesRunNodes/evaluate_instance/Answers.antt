@@ -48,7 +48,7 @@ returns-clause-gives g c =
     if_ok_mono c.evaluate_node.result _ _ (λ u gives root texts at_place tells once n enough.
     gives (reading w texts root n) (record { stands = at_place; tells = tells; matcher = refl; completes = completes_once as' once }) enough
     ∙ sym (runs_say_outcomes (g.K.Validate.words texts) w.matcher (numbered g.K.Validate.shape c.args.self.now) (subject_in root) as' n c.args.node.0 c.args.path.now c.args.place.now (busy_at c.args.place.now c.args.context.now.in_progress)).1)
-    (rw (c.given-path.ensures.same, c.given-place.ensures.same, c.forget_verdicts.ensures.forgotten) at c.evaluate_node.ensures.gives)
+    (rw (c.given-path.ensures.same, c.given-place.ensures.same, c.forget_verdicts.ensures.forgotten) at c.evaluate_node.ensures.says)
 
 pub returns-clause-meets : goal.returns-clause-meets
 returns-clause-meets g c =

@@ -1,0 +1,202 @@
+-- What the functions of a run for the verdict are asked, and what they are answered: one record for each.
+use Rattle.std.specs.Prelude.{◌≡◌, ◌≤◌, ℕ, Bool, IfOk, List, Option, Result, map, option_map, string_bytes, true}
+use Rattle.schema_definitions.specs.Instance.{Text}
+use Rattle.schema_definitions.specs.Guarded.{Children, NodeEdge, NodeForm, NodePart}
+use Rattle.schema_definitions.specs.Keywords.{Answer, Below, Question as ChildQuestion, for_verdict}
+use Rattle.schema_definitions.specs.Laws.{IsPresent, steps_below}
+use Rattle.schema_reports.specs.InstanceViews.{subject_of}
+use Rattle.schema_parts.specs.EdgeViews.{edge_of}
+use Rattle.schema_parts.specs.KeywordViews.{mode_of}
+use Rattle.schema_parts.specs.declared.keyword.Answer as code_answer
+use Rattle.schema_parts.specs.declared.keyword.Validate as keyword
+use Rattle.schema_parts.specs.declared.matcher.Matcher as matcher
+use Rattle.schema_parts.specs.declared.keyword.Reply as code
+use Rattle.schema_parts.specs.declared.keyword.Reply.TheVariants as told
+use Rattle.schema_parts.specs.declared.numbers.Edge.{Edge}
+use Rattle.schema_contexts.specs.Progress.{Context, places_in}
+use Rattle.schema_nodes.specs.NodeTable.{shaped_form, shaped_part}
+use Rattle.schema_nodes.specs.NodeViews.{entry_of, form_of}
+use Rattle.schema_nodes.specs.declared.node.Entry.{Entry}
+use Rattle.schema_answers.specs.Askings.{Asking, asking}
+use Rattle.schema_answers.specs.EvaluationPlaces.{CarriesItsNumber}
+use Rattle.schema_answers.specs.NodeRuns.{HasChildren, HasForm, HasParts, form_at_work}
+use Rattle.schema_reports.specs.declared.evaluation.EvaluationNode.{EvaluationNode}
+use Rattle.schema_answers.specs.declared.evaluation_order.EntryUnits.{EntryUnits}
+use Rattle.schema_answers.specs.declared.question.Engine.{Engine}
+use Rattle.schema_answers.specs.declared.question.NamedKeyword.{NamedKeyword}
+use Rattle.schema_answers.specs.declared.question.Question.{Question}
+use Rattle.schema_node.specs.RunStates.{ChildSays, EdgeRemembers, EdgeSays, FormRemembers, FormSays, Keeps, MayRun, MeetsChild, MeetsEdge, MeetsEntry, MeetsForm, MeetsNode, MeetsParts, NodeRemembers, NodeSays, PartsRemember, PartsSay, Setting, StaysRight, setting}
+use Rattle.schema_node.specs.UnitStates.{ChildGives, EdgeGives, FindsRightly, FormGives, NodeGives, PartsGive}
+use Rattle.schema_node.specs.Visits.{EdgeCounts, FormCounts, LeadsNowhere, NodeCounts, PartsCount}
+
+-- what a run is made with, by all that a keyword's type and a matcher's say of themselves
+abbrev pub setting_by : {C R K M : Type 0} → keyword.Ghosts C R K → matcher.Ghosts M → Engine C M → Setting K (R × Answer)
+setting_by k m e = setting k.words k.is_whole k.shape m.matching e
+
+-- what is asked: a number; entries of one, the form of an entry, a keyword's child; and what an edge leads to, which may have to be guarded
+pub data Wanted (K : Type 0) : Type 0 where
+  a_node : ℕ → Wanted K
+  some_parts : ℕ → List (NodePart K) → Wanted K
+  a_form : ℕ → Text → NodeForm K → Wanted K
+  an_entry : ℕ → NodePart K → Wanted K
+  a_child : ℕ → Children → ChildQuestion → Wanted K
+  an_edge a_guarded : NodeEdge → Wanted K
+
+-- the number that it is asked of
+abbrev pub number_in : {K : Type 0} → Wanted K → ℕ
+number_in (a_node i) = i
+number_in (some_parts i xs) = i
+number_in (a_form i name form) = i
+number_in (an_entry i x) = i
+number_in (a_child i es k) = i
+number_in (an_edge e) = e.node
+number_in (a_guarded e) = e.node
+
+module _ {K R : Type 0} (g : Setting K R) (q : Asking) where
+  -- it stands in the table, and a child's place in the subject
+  abbrev pub StandsIn : Wanted K → Type 0
+  StandsIn (a_node i) = Unit {0}
+  StandsIn (some_parts i xs) = HasParts g.nodes i xs
+  StandsIn (a_form i name form) = HasForm g.nodes i form
+  StandsIn (an_entry i x) = HasForm g.nodes i x.form
+  StandsIn (a_child i es k) = HasChildren g.nodes i es × IsPresent q.subject (steps_below k.below)
+  StandsIn (an_edge e) = Unit {0}
+  StandsIn (a_guarded e) = e.guarded ≡ true
+
+  module _ (c c' : Context) where
+    abbrev pub counts_of : Wanted K → Type 0
+    counts_of (a_node i) = NodeCounts g.nodes q c c' i
+    counts_of (some_parts i xs) = PartsCount g.nodes q c c' xs
+    counts_of (a_form i name form) = FormCounts g.nodes q c c' form
+    counts_of (an_entry i x) = FormCounts g.nodes q c c' x.form
+    counts_of (a_child i es k) = LeadsNowhere es → c'.visits ≡ c.visits
+    counts_of (an_edge e) = EdgeCounts g.nodes q c c' e
+    counts_of (a_guarded e) = EdgeCounts g.nodes q c c' e
+
+    abbrev pub says_of : Wanted K → Bool → Type 0
+    says_of (a_node i) b = NodeSays g q c i (told.Truth b)
+    says_of (some_parts i xs) b = PartsSay g q c i xs (told.Truth b)
+    says_of (a_form i name form) b = FormSays g q c i name form (told.Truth b)
+    says_of (an_entry i x) b = FormSays g q c i x.name x.form (told.Truth b)
+    says_of (a_child i es k) b = ChildSays g q c i es k (told.Truth b)
+    says_of (an_edge e) b = EdgeSays g q c e (told.Truth b)
+    says_of (a_guarded e) b = EdgeSays g q c e (told.Truth b)
+
+    abbrev pub meets_of : Wanted K → Type 0
+    meets_of (a_node i) = MeetsNode g q c c' i
+    meets_of (some_parts i xs) = MeetsParts g q c c' i xs
+    meets_of (a_form i name form) = MeetsForm g q c c' i name form
+    meets_of (an_entry i x) = MeetsEntry g q c c' i x
+    meets_of (a_child i es k) = MeetsChild g q c c' i es k
+    meets_of (an_edge e) = MeetsEdge g q c c' e
+    meets_of (a_guarded e) = MeetsEdge g q c c' e
+
+    abbrev pub remembers_of : Wanted K → Bool → Type 0
+    remembers_of (a_node i) b = NodeRemembers q c c' g.nodes i (told.Truth b)
+    remembers_of (some_parts i xs) b = PartsRemember q c c' xs (told.Truth b)
+    remembers_of (a_form i name form) b = FormRemembers q c c' form (told.Truth b)
+    remembers_of (an_entry i x) b = FormRemembers q c c' x.form (told.Truth b)
+    remembers_of (a_child i es k) b = Unit {0}
+    remembers_of (an_edge e) b = EdgeRemembers q c c' e (told.Truth b)
+    remembers_of (a_guarded e) b = EdgeRemembers q c c' e (told.Truth b)
+
+-- it may be asked for its verdict
+pub record IsAsked {K R : Type 0} (g : Setting K R) (q : Question) (a : Wanted K) (c : Context) : Type 0 where
+  pub may : MayRun g (asking q) c (number_in a)
+  pub carries : CarriesItsNumber (places_in c) q.place.now
+  pub verdict : mode_of q.mode ≡ for_verdict
+  pub stands : StandsIn g (asking q) a
+
+-- what a result leaves, counts, says, meets and remembers
+pub record Answered {K R T E : Type 0} (g : Setting K R) (q : Asking) (c c' : Context) (result : Result T E) (Counts : Type 0) (Says : T → Type 0) (Meets : Type 0) (Remembers : T → Type 0) : Type 0 where
+  pub keeps : IfOk result (λ _. Keeps c c')
+  pub counts : IfOk result (λ _. c.visits ≤ c'.visits)
+  pub visits : IfOk result (λ _. Counts)
+  pub says : IfOk result Says
+  pub meets : IfOk result (λ _. Meets)
+  pub stays : IfOk result (λ _. StaysRight g q c c')
+  pub remembers : IfOk result Remembers
+
+-- what was asked is answered
+abbrev pub Answers : {K R E : Type 0} → Setting K R → Question → Wanted K → Context → Context → Result Bool E → Type 0
+Answers g q a c c' result = Answered g (asking q) c c' result (counts_of g (asking q) c c' a) (says_of g (asking q) c c' a) (meets_of g (asking q) c c' a) (remembers_of g (asking q) c c' a)
+
+-- what turns leave, which leave marks: the keyword's answer is found
+pub record Turned {K R T E : Type 0} (g : Setting K (R × Answer)) (q : Asking) (c c' : Context) (result : Result T E) (i : ℕ) (name : Text) (form : NodeForm K) (es : Children) (m : K) (answer : code_answer.Answer) : Type 0 where
+  pub root : IfOk result (λ _. c'.root ≡ c.root)
+  pub kept : IfOk result (λ _. c'.in_progress ≡ c.in_progress)
+  pub assumes : IfOk result (λ _. c'.remembered.assumptions ≡ c.remembered.assumptions)
+  pub counts : IfOk result (λ _. c.visits ≤ c'.visits)
+  pub quiet : IfOk result (λ _. LeadsNowhere es → c'.visits ≡ c.visits)
+  pub right : IfOk result (λ _. FindsRightly g q c i es m answer)
+  pub meets : IfOk result (λ _. MeetsForm g q c c' i name form)
+  pub stays : IfOk result (λ _. StaysRight g q c c')
+
+abbrev pub Turns : {C R K T E : Type 0} → (C → K) → Setting K (R × Answer) → Question → ℕ → NamedKeyword C → Context → Context → Result T E → code_answer.Answer → Type 0
+Turns shape g q i k c c' result answer = Turned g (asking q) c c' result i (string_bytes k.name.now) (form_at_work shape k) (map (option_map edge_of) k.children.now) (shape k.keyword.now) answer
+
+-- ---- where errors or units are wanted
+
+pub record Replied {K R T E : Type 0} (g : Setting K R) (q : Asking) (c c' : Context) (result : Result T E) (Says : T → Type 0) (Meets : Type 0) : Type 0 where
+  pub keeps : IfOk result (λ _. Keeps c c')
+  pub counts : IfOk result (λ _. c.visits ≤ c'.visits)
+  pub says : IfOk result Says
+  pub meets : IfOk result (λ _. Meets)
+  pub stays : IfOk result (λ _. StaysRight g q c c')
+
+-- a child that leads nowhere makes no visit
+pub record RepliedQuietly {K R T E : Type 0} (g : Setting K R) (q : Asking) (c c' : Context) (result : Result T E) (es : Children) (Says : T → Type 0) (Meets : Type 0) : Type 0 where
+  pub keeps : IfOk result (λ _. Keeps c c')
+  pub counts : IfOk result (λ _. c.visits ≤ c'.visits)
+  pub quiet : IfOk result (λ _. LeadsNowhere es → c'.visits ≡ c.visits)
+  pub says : IfOk result Says
+  pub meets : IfOk result (λ _. Meets)
+  pub stays : IfOk result (λ _. StaysRight g q c c')
+
+module _ {K R E : Type 0} (g : Setting K R) (q : Question) where
+  abbrev pub NodeReplied : ℕ → Context → Context → Result code.Reply E → Type 0
+  NodeReplied i c c' result = Replied g (asking q) c c' result (NodeSays g (asking q) c i) (MeetsNode g (asking q) c c' i)
+
+  abbrev pub PartsReplied : ℕ → List (NodePart K) → Context → Context → Result code.Reply E → Type 0
+  PartsReplied i xs c c' result = Replied g (asking q) c c' result (PartsSay g (asking q) c i xs) (MeetsParts g (asking q) c c' i xs)
+
+  abbrev pub EntryReplied : ℕ → NodePart K → Context → Context → Result code.Reply E → Type 0
+  EntryReplied i x c c' result = Replied g (asking q) c c' result (FormSays g (asking q) c i x.name x.form) (MeetsEntry g (asking q) c c' i x)
+
+  abbrev pub FormReplied : ℕ → Text → NodeForm K → Context → Context → Result code.Reply E → Type 0
+  FormReplied i name form c c' result = Replied g (asking q) c c' result (FormSays g (asking q) c i name form) (MeetsForm g (asking q) c c' i name form)
+
+  abbrev pub ChildReplied : ℕ → Children → ChildQuestion → Context → Context → Result code.Reply E → Type 0
+  ChildReplied i es k c c' result = RepliedQuietly g (asking q) c c' result es (ChildSays g (asking q) c i es k) (MeetsChild g (asking q) c c' i es k)
+
+  abbrev pub EdgeReplied : NodeEdge → Context → Context → Result code.Reply E → Type 0
+  EdgeReplied e c c' result = Replied g (asking q) c c' result (EdgeSays g (asking q) c e) (MeetsEdge g (asking q) c c' e)
+
+  abbrev pub NodeGiven : ℕ → Context → Context → Result EvaluationNode E → Type 0
+  NodeGiven i c c' result = Replied g (asking q) c c' result (NodeGives g (asking q) c i) (MeetsNode g (asking q) c c' i)
+
+  abbrev pub PartsGiven : ℕ → List (NodePart K) → Context → Context → Result (List EvaluationNode) E → Type 0
+  PartsGiven i xs c c' result = Replied g (asking q) c c' result (PartsGive g (asking q) c i xs) (MeetsParts g (asking q) c c' i xs)
+
+  abbrev pub FormGiven : ℕ → Text → NodeForm K → Context → Context → Result EntryUnits E → Type 0
+  FormGiven i name form c c' result = Replied g (asking q) c c' result (FormGives g (asking q) c i name form) (MeetsForm g (asking q) c c' i name form)
+
+  abbrev pub ChildGiven : ℕ → Children → ChildQuestion → Context → Context → Result EvaluationNode E → Type 0
+  ChildGiven i es k c c' result = RepliedQuietly g (asking q) c c' result es (ChildGives g (asking q) c i es k) (MeetsChild g (asking q) c c' i es k)
+
+  abbrev pub EdgeGiven : NodeEdge → Context → Context → Result EvaluationNode E → Type 0
+  EdgeGiven e c c' result = Replied g (asking q) c c' result (EdgeGives g (asking q) c e) (MeetsEdge g (asking q) c c' e)
+
+-- ---- what is asked, by the values of the program
+
+abbrev pub the_entries : {C K : Type 0} → (C → K) → ℕ → List (Entry C) → Wanted K
+the_entries shape i es = some_parts i (map (shaped_part shape) (map entry_of es))
+
+abbrev pub the_entry : {C K : Type 0} → (C → K) → ℕ → Entry C → Wanted K
+the_entry shape i e = a_form i (string_bytes e.name) (shaped_form shape (form_of e.form))
+
+abbrev pub the_keyword : {C K : Type 0} → (C → K) → ℕ → NamedKeyword C → Wanted K
+the_keyword shape i k = a_form i (string_bytes k.name.now) (form_at_work shape k)
+
+abbrev pub the_child : {K : Type 0} → ℕ → List (Option Edge) → ℕ → Below → Wanted K
+the_child i es n below = a_child i (map (option_map edge_of) es) (record { child = n; below = below })
