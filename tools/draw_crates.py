@@ -37,7 +37,7 @@ WAYS = [
         [
             ("schema_keywords", "schema_reports"),
             "schema_parts",
-            "schema_nodes",
+            "node_table",
             "schema_keys",
             "schema_check",
             "schema_compiler",
@@ -52,7 +52,7 @@ WAYS = [
             "schema_engine",
             "schema_validator",
             "schema_node",
-            "schema_answers",
+            "run_steps",
             "schema_contexts",
             "schema_matches",
             "schema_search",

@@ -1,5 +1,4 @@
 pub mod Makers
 pub mod MakerLaws
-pub mod ByValue
 pub mod BenchMatching
 pub mod BenchMeta

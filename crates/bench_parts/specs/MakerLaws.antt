@@ -8,17 +8,18 @@ use Rattle.schema_definitions.specs.Drafts.{Draft, Vocabularies}
 use Rattle.schema_definitions.specs.Making.{Script, a_keyword}
 use Rattle.schema_parts.specs.MakerViews.{MakesRightly}
 use Rattle.schema_applicators.specs.ApplicatorShape.{has_all_of, has_any_of, has_if, has_one_of}
-use Rattle.schema_applicators.specs.Branches.{has_branch}
-use Rattle.schema_applicators.specs.BranchLaws.{if_rightly}
-use Rattle.schema_applicators.specs.Making.{makes_if}
-use Rattle.schema_applicators.specs.MakingLaws.{IsPlainIf, asked_rightly, either_rightly, list_rightly, made_rightly, member_whole}
+use Rattle.keyword_makers.specs.Branches.{has_branch}
+use Rattle.keyword_makers.specs.BranchLaws.{if_rightly}
+use Rattle.keyword_makers.specs.Making.{makes_if}
+use Rattle.keyword_makers.specs.MakingLaws.{IsPlainIf, asked_rightly, either_rightly, list_rightly, made_rightly, member_whole}
 use Rattle.bench_keywords.specs.BenchShape.{BenchShape, applies, has_count, has_prefix_items, has_properties, has_type, has_types, is_whole, requires}
 use Rattle.bench_keywords.specs.declared.counts.CountKind.{CountKind}
 use Rattle.bench_keywords.specs.declared.type_names.TypeName.{TypeName}
 use Rattle.bench_keywords.specs.declared.counts.CountKind.TheVariants.{MaxLength, MinLength, MinProperties}
 use Rattle.bench_keywords.specs.Laws.{none_absorbed}
-use Rattle.bench_parts.specs.ByValue.{values_lie_below}
-use Rattle.bench_parts.specs.Makers.{bench_script, count_shape, is_older_list, items_script, member_script, names_of, pattern_shape, properties_script, required_shape, schema_script, texts_of, type_named, type_shape, types_of, value_script, values_below}
+use Rattle.keyword_makers.specs.ByValue.{values_lie_below}
+use Rattle.keyword_makers.specs.Members.{names_of, values_below}
+use Rattle.bench_parts.specs.Makers.{bench_script, count_shape, is_older_list, items_script, member_script, pattern_shape, properties_script, required_shape, schema_script, texts_of, type_named, type_shape, types_of, value_script}
 
 abbrev pub Rightly : Members → Script BenchShape → Type 0
 Rightly = MakesRightly none_absorbed is_whole

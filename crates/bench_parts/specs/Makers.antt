@@ -1,15 +1,16 @@
 -- What the maker of each keyword asks for, and how it ends.
 use Rattle.std.specs.Prelude.{Bool, List, None, Option, Some, [], bytes_eq, codes, false, if◌then◌else◌, is_some, not, option_and_then, option_map, true, ℕ, ◌&&◌, ◌∷◌}
-use Rattle.serde_json.specs.Data.{Data, Items, Members, array, item, member, no_items, no_members, object, string}
+use Rattle.serde_json.specs.Data.{Data, Items, Members, array, item, no_items, object, string}
 use Rattle.serde_json.specs.Written.{compact_text, has_float}
 use Rattle.serde_json.specs.Find.{as_array, as_number, as_u64, get_member}
-use Rattle.schema_definitions.specs.Instance.{Place, Text, to_member}
+use Rattle.schema_definitions.specs.Instance.{Text}
 use Rattle.schema_definitions.specs.Drafts.{Draft, Vocabularies, draft_2020_12, draft_unknown}
 use Rattle.schema_definitions.specs.Making.{Script, a_keyword, nothing, then_end}
 use Rattle.keyword_ways.specs.Items.{count_in}
 use Rattle.schema_applicators.specs.ApplicatorShape.{has_all_of, has_any_of, has_if, has_not, has_one_of}
-use Rattle.schema_applicators.specs.Branches.{has_branch, if_script}
-use Rattle.schema_applicators.specs.Making.{asks_for, list_script, makes_if, malformed, only_child}
+use Rattle.keyword_makers.specs.Branches.{has_branch, if_script}
+use Rattle.keyword_makers.specs.Members.{names_of, values_below}
+use Rattle.keyword_makers.specs.Making.{asks_for, list_script, makes_if, malformed, only_child}
 use Rattle.bench_keywords.specs.declared.type_names.TypeName.{TypeName}
 use Rattle.bench_keywords.specs.declared.type_names.TypeName.TheVariants as type
 use Rattle.bench_keywords.specs.BenchShape.{BenchShape, applies, has_count, has_items, has_pattern, has_prefix_items, has_properties, has_property_names, has_type, has_types, requires}
@@ -61,15 +62,6 @@ required_shape (array ds) = option_map requires (texts_of ds)
 required_shape _ = None
 
 -- ---- properties
-
-abbrev pub names_of : Members → List Text
-names_of no_members = []
-names_of (member k d ms) = k ∷ names_of ms
-
--- the value at each name
-abbrev pub values_below : Text → List Text → List Place
-values_below name [] = []
-values_below name (k ∷ ks) = (to_member name ∷ to_member k ∷ []) ∷ values_below name ks
 
 abbrev pub properties_script : Text → Data → Script BenchShape
 properties_script name (object ms) = asks_for (values_below name (names_of ms)) (a_keyword (has_properties (names_of ms)) [])

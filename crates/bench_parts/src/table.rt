@@ -4,7 +4,7 @@ ghost use Rattle.serde_json.specs.Find.{get_member};
 ghost use Rattle.serde_json.specs.View.{members_view, view};
 ghost use Rattle.schema_keywords.specs.KeywordViews.{draft_of};
 ghost use Rattle.schema_parts.specs.MakerViews as makers;
-ghost use Rattle.schema_applicators.specs.MakerViews.{waiting_of};
+ghost use Rattle.keyword_makers.specs.MakerViews.{waiting_of};
 ghost use Rattle.bench_parts.specs.Makers.{items_script, later_script, member_script, properties_script, schema_script, value_script};
 ghost use Rattle.bench_keywords.specs.Shapes.{shape_of};
 
@@ -12,16 +12,17 @@ pub mod keyword_values;
 pub mod schema_values;
 
 use crate::table::keyword_values::{
-    count_keyword, names_of, pattern_keyword, required_keyword, type_keyword, values_below,
+    count_keyword, pattern_keyword, required_keyword, type_keyword,
 };
 use crate::table::schema_values::{is_older_list, items_before};
 use bench_keywords::counts::CountKind;
 use bench_keywords::keyword::BenchKeyword;
-use schema_applicators::making::branches::branches_of;
-use schema_applicators::making::lists::{each_schema, list_length};
-use schema_applicators::making::maker::{Ending, PathsMaker, asks_for, ends, only_child};
-use schema_applicators::making::paths::value_in;
-use schema_applicators::making::refusals::{makes_if, malformed};
+use keyword_makers::branches::branches_of;
+use keyword_makers::lists::{each_schema, list_length};
+use keyword_makers::maker::{Ending, PathsMaker, asks_for, ends, only_child};
+use keyword_makers::members::{names_of, values_below};
+use keyword_makers::paths::value_in;
+use keyword_makers::refusals::{makes_if, malformed};
 use schema_keywords::keywords::{Draft, VocabularySet};
 use schema_parts::table::{KeywordOrigin, KeywordTable, MakerReply, MakerStep};
 use schema_reports::location::OutOfMemory;

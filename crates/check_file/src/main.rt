@@ -1,18 +1,19 @@
-//! `check_file SCHEMA INSTANCE`: checks the instance in one JSON file by the schema in another, by the keywords of `string_keywords`
-//! and `array_keywords` beside those of the bench. It prints a line for each error, with the instance path, the schema path and the
+//! `check_file SCHEMA INSTANCE`: checks the instance in one JSON file by the schema in another, by the keywords of `example_keywords`
+//! and its `arrays` beside those of the bench. It prints a line for each error, with the instance path, the schema path and the
 //! text, and a tab between.
 //! It ends with 0 where the instance is accepted, with 1 where it is refused, and with 2 where there is no answer: then a line on
 //! standard error says why.
 #![tactic(auto)]
 
 use anyhow::Context;
-use array_keywords::{ArrayKeyword, ArrayTable};
 use bench_keywords::keyword::BenchKeyword;
-use bench_parts::by_value::TableByValue;
+use keyword_makers::by_value::TableByValue;
 use bench_parts::matcher::BenchMatcher;
 use bench_parts::meta::BenchMeta;
 use bench_parts::table::BenchTable;
 use bench_resolver::resolver::BenchResolver;
+use example_keywords::arrays::{ArrayKeyword, ArrayTable};
+use example_keywords::strings::{StringKeyword, StringTable};
 use joined_keywords::both::Both;
 use joined_keywords::table::BothTable;
 use keyword_ways::planned::Planned;
@@ -23,7 +24,6 @@ use serde_json::Value;
 use std::alloc::Global;
 use std::process::ExitCode;
 use std::{env, fs};
-use string_keywords::{StringKeyword, StringTable};
 
 type Families = Both<Planned<StringKeyword>, Both<Planned<ArrayKeyword>, BenchKeyword>>;
 

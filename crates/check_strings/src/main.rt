@@ -5,11 +5,12 @@
 
 use anyhow::Context;
 use bench_keywords::keyword::BenchKeyword;
-use bench_parts::by_value::TableByValue;
+use keyword_makers::by_value::TableByValue;
 use bench_parts::matcher::BenchMatcher;
 use bench_parts::meta::BenchMeta;
 use bench_parts::table::BenchTable;
 use bench_resolver::resolver::BenchResolver;
+use example_keywords::strings::{StringKeyword, StringTable};
 use joined_keywords::both::Both;
 use joined_keywords::table::BothTable;
 use keyword_ways::planned::Planned;
@@ -21,7 +22,6 @@ use std::alloc::Global;
 use std::fmt::{Display, Write};
 use std::process::ExitCode;
 use std::{env, fs};
-use string_keywords::{StringKeyword, StringTable};
 
 type Checker = Validator<Both<Planned<StringKeyword>, BenchKeyword>, BenchMatcher>;
 

@@ -2,9 +2,9 @@
 use Rattle.std.specs.Prelude.{bytes_eq, codes, if◌then◌else◌, ⊤}
 use Rattle.serde_json.specs.Data.{Data}
 use Rattle.schema_definitions.specs.Instance.{Text}
-use Rattle.bench_parts.specs.ByValue.{MadeMember}
-use Rattle.bench_parts.specs.declared.by_value.Children.TheVariants as children
-use Rattle.bench_parts.specs.declared.by_value.MemberKeyword.TheVariants.{Keyword, Nothing}
+use Rattle.keyword_makers.specs.ByValue.{MadeMember}
+use Rattle.keyword_makers.specs.declared.by_value.Children.TheVariants as children
+use Rattle.keyword_makers.specs.declared.by_value.MemberKeyword.TheVariants.{Keyword, Nothing}
 
 -- every other member makes nothing
 abbrev pub made : Text → Data → MadeMember ⊤

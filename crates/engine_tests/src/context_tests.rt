@@ -42,7 +42,7 @@ fn key_of<R: Resolver>(
 ) -> Result<Option<SchemaKey<R::State>>, OutOfMemory> {
     let vocabularies = VocabularySet::new(alloc).with(vocabulary_of(text_at(row, 4)))?;
     let location = Location::from_escaped(alloc, text_at(row, 6))?;
-    let base = Location::from_escaped(alloc, text_at(row, 7))?;
+    let resource_base = Location::from_escaped(alloc, text_at(row, 7))?;
     match resolver.root(alloc, text_at(row, 2))? {
         None => Ok(None),
         Some((state, place)) => Ok(Some(SchemaKey {
@@ -51,8 +51,8 @@ fn key_of<R: Resolver>(
             draft: draft_of(number_at(row, 3)),
             vocabularies,
             location,
-            base,
-            start: number_at(row, 8).unwrap_or(0),
+            resource_base,
+            resource_start: number_at(row, 8).unwrap_or(0),
         })),
     }
 }

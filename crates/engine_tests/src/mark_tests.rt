@@ -1,6 +1,6 @@
 //! A keyword type of its own that marks its children, with its table, run by the engine: its marks are its own. The rows of
 //! `check_rows` have no such table.
-use bench_parts::by_value::{Children, MakesByValue, MemberKeyword};
+use keyword_makers::by_value::{Children, MakesByValue, MemberKeyword};
 use law_tests::both_once::BothOnce;
 use schema_reports::location::OutOfMemory;
 use serde_json::Value;
@@ -12,7 +12,7 @@ pub(crate) struct MarkingTable {}
 
 impl MakesByValue<BothOnce> for MarkingTable {
     ghost use Rattle.std.specs.Prelude.{false, refl};
-    ghost use Rattle.bench_parts.specs.ByValue.{right_where_whole};
+    ghost use Rattle.keyword_makers.specs.ByValue.{right_where_whole};
     ghost use Rattle.engine_tests.specs.MarkingTable.{made};
 
     ghost owned = { λ t name. false };

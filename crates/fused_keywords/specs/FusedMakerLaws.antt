@@ -10,12 +10,12 @@ use Rattle.schema_definitions.specs.Making.{Made, Making, Script, a_keyword, aft
 use Rattle.schema_parts.specs.MakerViews.{MakesRightly, begun, waits}
 use Rattle.bench_keywords.specs.BenchShape.{BenchShape, is_whole}
 use Rattle.bench_keywords.specs.Laws.{none_absorbed}
-use Rattle.bench_parts.specs.ByValue.{IsRightMember, makes_by_value}
+use Rattle.keyword_makers.specs.ByValue.{IsRightMember, makes_by_value}
 use Rattle.bench_parts.specs.MakerLaws.{makes_rightly}
-use Rattle.bench_parts.specs.declared.by_value.MemberKeyword.TheVariants.{Nothing}
+use Rattle.keyword_makers.specs.declared.by_value.MemberKeyword.TheVariants.{Nothing}
 use Rattle.bench_parts.specs.Makers.{bench_script}
-use Rattle.schema_applicators.specs.Making.{asks_for, waiting_in}
-use Rattle.schema_applicators.specs.MakingLaws.{either_rightly}
+use Rattle.keyword_makers.specs.Making.{asks_for, waiting_in}
+use Rattle.keyword_makers.specs.MakingLaws.{either_rightly}
 use Rattle.fused_keywords.specs.FusedScripts.{are_known, fused_limit, fused_script, is_absorbed, least_in, least_keyword, least_made, limit_of, made_among, plain_script, script_among, script_by, waiting_among}
 use Rattle.fused_keywords.specs.FusedShape.{FusedShape, absorbed_by, is_free, of_bench}
 

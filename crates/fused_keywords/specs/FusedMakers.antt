@@ -1,6 +1,6 @@
 -- The code's makers, as the definitions have them.
 use Rattle.schema_parts.specs.MakerViews.{Waiting, begun, ended, waits}
-use Rattle.schema_applicators.specs.MakerViews.{waiting_of}
+use Rattle.keyword_makers.specs.MakerViews.{waiting_of}
 use Rattle.fused_keywords.specs.FusedScripts.{asks_fused, ends_fused}
 use Rattle.fused_keywords.specs.FusedShape.{FusedShape}
 use Rattle.fused_keywords.specs.FusedShapes.{fused_shape}

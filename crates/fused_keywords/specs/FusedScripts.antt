@@ -8,10 +8,10 @@ use Rattle.schema_definitions.specs.Drafts.{Draft, Vocabularies}
 use Rattle.schema_keywords.specs.KeywordTable.{builtin_in}
 use Rattle.schema_definitions.specs.Making.{Made, Script, a_keyword, nothing, refused, then_compile, then_end, then_pending, then_refer, then_reserve}
 use Rattle.schema_parts.specs.MakerViews.{Waiting, begun, ended, wants_pending, wants_reserved, waits}
-use Rattle.bench_parts.specs.ByValue.{MadeMember, script_at}
+use Rattle.keyword_makers.specs.ByValue.{MadeMember, script_at}
 use Rattle.bench_parts.specs.Makers.{bench_script, items_before}
-use Rattle.bench_parts.specs.declared.by_value.Children.TheVariants as children
-use Rattle.bench_parts.specs.declared.by_value.MemberKeyword.TheVariants.{Keyword, Malformed, Nothing}
+use Rattle.keyword_makers.specs.declared.by_value.Children.TheVariants as children
+use Rattle.keyword_makers.specs.declared.by_value.MemberKeyword.TheVariants.{Keyword, Malformed, Nothing}
 use Rattle.fused_keywords.specs.FusedShape.{FusedShape, of_array, of_bench}
 use Rattle.fused_keywords.specs.Openings.{absorbs}
 use Rattle.fused_keywords.specs.declared.array.ArrayKeyword.{ArrayKeyword}

@@ -1,4 +1,4 @@
-//! Tests of `schema_contexts`, `schema_nodes`, `schema_parts`, `joined_keywords` and the bench's keywords and parts: their public
+//! Tests of `schema_contexts`, `node_table`, `schema_parts`, `joined_keywords` and the bench's keywords and parts: their public
 //! calls.
 //! Nothing stands on this crate.
 #![tactic(auto)]

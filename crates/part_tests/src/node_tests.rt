@@ -2,7 +2,7 @@
 ghost use Rattle.std.specs.Prelude.{◌≡◌, ◌<◌, [], length};
 
 use crate::words::{all_hold, push_path};
-use schema_nodes::node::{Entry, EntryForm, NodeForm, Nodes};
+use node_table::node::{Entry, EntryForm, NodeForm, Nodes};
 use schema_parts::numbers::SchemaNode;
 use schema_parts::schema_place::{SchemaPath, SchemaPlace, SchemaStep};
 use schema_reports::location::{Location, LocationSegment, OutOfMemory};

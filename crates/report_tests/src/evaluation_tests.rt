@@ -1,6 +1,6 @@
 //! What evaluations give, and in which order the units of a schema's entries come: worked values from outside.
 use crate::fixtures::{Rows, described, is_yes, owned, unit_at, wrong};
-use schema_answers::evaluation_order::{AbsorbedUnit, EntryUnits, UnitsInOrder};
+use run_steps::evaluation_order::{AbsorbedUnit, EntryUnits, UnitsInOrder};
 use schema_reports::evaluation::{Annotations, ChildList, ErrorDescription, EvaluationNode};
 use schema_reports::evaluation_result::{AbsorbedResult, EvaluationResult, accepts};
 use serde_json::Value;

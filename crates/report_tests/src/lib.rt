@@ -1,5 +1,5 @@
 //! Tests of the public calls of `schema_keywords`, `schema_reports`, `schema_places`, `schema_matches`, `schema_search` and
-//! `schema_output`, and of the order of units in `schema_answers`. Nothing stands on this crate.
+//! `schema_output`, and of the order of units in `run_steps`. Nothing stands on this crate.
 #![tactic(auto)]
 
 #[cfg(test)]

@@ -1,3 +1,2 @@
-mod Pointers
 mod Counting
 mod Meant

@@ -2,11 +2,6 @@ pub mod ApplicatorShape
 pub mod Words
 pub mod Laws
 pub mod Shapes
-pub mod Making
-pub mod MakerViews
-pub mod MakingLaws
-pub mod Branches
-pub mod BranchLaws
 pub mod Makers
 pub mod MakerLaws
 pub mod OwnErrors

@@ -10,10 +10,10 @@ use Rattle.schema_definitions.specs.Making.{Script}
 use Rattle.schema_parts.specs.MakerViews.{MakesRightly}
 use Rattle.keyword_ways.specs.WayWords.{nothing_absorbed}
 use Rattle.schema_applicators.specs.ApplicatorShape.{ApplicatorShape, has_all_of, has_any_of, has_if, has_not, has_one_of, is_whole}
-use Rattle.schema_applicators.specs.Branches.{has_branch}
-use Rattle.schema_applicators.specs.BranchLaws.{if_rightly}
+use Rattle.keyword_makers.specs.Branches.{has_branch}
+use Rattle.keyword_makers.specs.BranchLaws.{if_rightly}
 use Rattle.schema_applicators.specs.Makers.{applicator_script, member_script, value_script}
-use Rattle.schema_applicators.specs.MakingLaws.{either_rightly, list_rightly, member_whole, only_rightly}
+use Rattle.keyword_makers.specs.MakingLaws.{either_rightly, list_rightly, member_whole, only_rightly}
 use Rattle.schema_applicators.specs.Words.{way}
 
 abbrev pub Rightly : Members → Script ApplicatorShape → Type 0

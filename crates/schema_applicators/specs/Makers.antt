@@ -7,8 +7,8 @@ use Rattle.schema_definitions.specs.Instance.{Text}
 use Rattle.schema_definitions.specs.Drafts.{Draft, Vocabularies}
 use Rattle.schema_definitions.specs.Making.{Script, nothing, then_end}
 use Rattle.schema_applicators.specs.ApplicatorShape.{ApplicatorShape, has_all_of, has_any_of, has_if, has_not, has_one_of}
-use Rattle.schema_applicators.specs.Branches.{has_branch, if_script}
-use Rattle.schema_applicators.specs.Making.{list_script, only_child}
+use Rattle.keyword_makers.specs.Branches.{has_branch, if_script}
+use Rattle.keyword_makers.specs.Making.{list_script, only_child}
 
 -- the object is the one whose member is made
 

@@ -21,8 +21,8 @@ use Rattle.schema_meaning.specs.MapPointers.{required_in, stands_in}
 use Rattle.schema_meaning.specs.Refusals.{Cause, Stands, is_required, referred_by, stands_at, the_root, undeclared, unsupported_vocabulary}
 use Rattle.schema_definitions.specs.Guarded.{Children, NodeEdge, NodeForm, NodePart, NodePlan, Nodes, node_always, node_child, node_keyword, node_never, node_reference, node_these}
 use Rattle.schema_meaning.specs.Numbered.{IsNumber, Ranked, SameEdge, SameForm, SameParts, SamePlan, StandsFor}
-use Rattle.schema_nodes.specs.NodeTable.{IsOrdered, NodeEntry, absolute_in, numbered, shaped, shaped_form, plan_in}
-use Rattle.schema_nodes.proofs.RankedTable.{ranked_table}
+use Rattle.node_table.specs.NodeTable.{IsOrdered, NodeEntry, absolute_in, numbered, shaped, shaped_form, plan_in}
+use Rattle.node_table.proofs.RankedTable.{ranked_table}
 use Rattle.schema_keys.specs.Compiling.{Each, In, Settled, StandsBelow, parts_of}
 use Rattle.schema_keys.specs.Refusing.{AreDistinct, IsRefusal}
 use Rattle.schema_compiler.specs.Finding.{FindsAll, GuardsByStanding, standing_of}

@@ -8,7 +8,7 @@ use Rattle.schema_definitions.specs.Guarded.{NodePlan}
 use Rattle.schema_definitions.specs.Parts.{Parts}
 use Rattle.schema_definitions.specs.Plan.{Edge, Key}
 use Rattle.schema_meaning.specs.Reach.{asked_edges}
-use Rattle.schema_nodes.specs.NodeTable.{NodeEntry, filled_count}
+use Rattle.node_table.specs.NodeTable.{NodeEntry, filled_count}
 use Rattle.schema_keys.specs.Refusing.{AreDistinct}
 use Rattle.schema_compiler.specs.Finding.{Course, Finds, FindsAll, Standing, Visits, WorksOff, and_then, at_end, at_root, begun, closed, formed, formed_count, in_a_round, is_opened, is_put, no_more, passed, passes_over, put, round_begun, standing_of, waits, was_found}
 use Rattle.schema_keys.proofs.Lists.{length-more, set-length, some_is}

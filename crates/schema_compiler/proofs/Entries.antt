@@ -9,7 +9,7 @@ use Rattle.schema_definitions.specs.Plan.{Edge, Key, Part, option_list, part, pa
 use Rattle.schema_meaning.specs.Reach.{members_edges}
 use Rattle.schema_meaning.specs.Refusals.{Cause, members_causes}
 use Rattle.schema_definitions.specs.Guarded.{NodeEdge, NodePart, form_edges, node_edges, node_these}
-use Rattle.schema_nodes.specs.NodeTable.{NodeEntry}
+use Rattle.node_table.specs.NodeTable.{NodeEntry}
 use Rattle.schema_keys.specs.Compiling.{Each, member_causes, member_edges}
 use Rattle.schema_compiler.specs.Ordering.{placed_after}
 use Rattle.schema_keys.specs.Refusing.{Refused}

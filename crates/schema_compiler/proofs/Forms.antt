@@ -8,8 +8,8 @@ use Rattle.schema_meaning.specs.Reach.{asked_edges}
 use Rattle.schema_meaning.specs.Refusals.{Cause, causes, not_a_schema, schema_causes}
 use Rattle.schema_definitions.specs.Units.{annotations_of, object_annotations}
 use Rattle.schema_definitions.specs.Guarded.{NodePlan, node_edges}
-use Rattle.schema_nodes.specs.NodeTable.{NodeEntry}
-use Rattle.schema_nodes.specs.NodeViews.{boolean_plan}
+use Rattle.node_table.specs.NodeTable.{NodeEntry}
+use Rattle.node_table.specs.NodeViews.{boolean_plan}
 use Rattle.schema_keys.specs.Compiling.{object_edges}
 use Rattle.schema_keys.specs.Refusing.{Names, Refused}
 use Rattle.schema_compiler.specs.Filling.{IsPlan, IsTable}

@@ -10,7 +10,7 @@ use Rattle.schema_definitions.specs.Plan.{Edge, Form, Key, Part, Plan, always, k
 use Rattle.schema_meaning.specs.Reach.{Reached, asked_by, asked_edges, asked_for, at_first}
 use Rattle.schema_meaning.specs.Refusals.{Cause, causes, undeclared}
 use Rattle.schema_definitions.specs.Guarded.{NodeEdge, NodeForm, NodePart, NodePlan, Children, node_always, node_keyword, node_never, node_reference, node_these}
-use Rattle.schema_nodes.specs.NodeTable.{NodeEntry}
+use Rattle.node_table.specs.NodeTable.{NodeEntry}
 use Rattle.schema_keys.specs.Compiling.{Blames, Each, In, ReachedFrom, Settled, StandsBelow}
 use Rattle.schema_keys.specs.Refusing.{AreDistinct, IsRefusal, Names, Refused}
 use Rattle.schema_compiler.specs.Filling.{AreChildren, AreParts, HasFormOrWaits, IsForm, IsGrown, IsNode, IsPart, IsPlan, IsPlanned, IsStep, IsTable, LeadsTo}

@@ -14,7 +14,7 @@ use Rattle.schema_definitions.specs.Units.{absorbed_by, annotating, object_annot
 use Rattle.schema_definitions.specs.Guarded.{NodeEdge, NodePart, NodePlan, form_edges, node_edges, node_reference, node_these}
 use Rattle.serde_json.specs.View.{view}
 use Rattle.serde_json.specs.declared.value.Value.{Value}
-use Rattle.schema_nodes.specs.NodeTable.{NodeEntry}
+use Rattle.node_table.specs.NodeTable.{NodeEntry}
 use Rattle.schema_keys.specs.Compiling.{member_causes, member_edges, object_edges, reference_asked}
 use Rattle.schema_keys.specs.Refusing.{Names, Refused}
 use Rattle.schema_compiler.specs.Filling.{IsMadePart, IsPlan, LeadsTo}

@@ -8,8 +8,8 @@ use Rattle.std.proofs.lemmas.Bool.Decides.{leb_tells}
 use Rattle.schema_definitions.specs.Parts.{Parts}
 use Rattle.schema_definitions.specs.Plan.{Key, Part, placed, sorted}
 use Rattle.schema_definitions.specs.Guarded.{NodePart}
-use Rattle.schema_nodes.specs.NodeViews.{entry_of}
-use Rattle.schema_nodes.specs.declared.node.Entry.{Entry}
+use Rattle.node_table.specs.NodeViews.{entry_of}
+use Rattle.node_table.specs.declared.node.Entry.{Entry}
 use Rattle.schema_compiler.specs.Ordering.{placed_after}
 use Rattle.schema_compiler.specs.Filling.{AreParts, IsPart}
 

@@ -8,7 +8,7 @@ use Rattle.schema_definitions.specs.Making.{compile}
 use Rattle.schema_definitions.specs.Plan.{Edge, Key, Reference, found, is_self, ok_of, reference_edge, subschema, to_ref, to_dynamic, to_recursive, option_list}
 use Rattle.schema_meaning.specs.Reach.{Reached, reference_edges}
 use Rattle.schema_meaning.specs.Refusals.{Cause, lookup_causes, request_causes, undeclared}
-use Rattle.schema_nodes.specs.NodeTable.{NodeEntry}
+use Rattle.node_table.specs.NodeTable.{NodeEntry}
 use Rattle.schema_keys.specs.Compiling.{IsDeclared, Settled, reference_asked, StandsBelow}
 use Rattle.schema_keys.specs.Refusing.{IsRefusal, Names, Refused}
 use Rattle.schema_compiler.specs.Filling.{IsGrown, IsStep, IsTable, LeadsTo}

@@ -8,7 +8,7 @@ use Rattle.schema_definitions.specs.Parts.{Parts}
 use Rattle.schema_definitions.specs.Units.{annotations_of}
 use Rattle.schema_definitions.specs.Plan.{Key}
 use Rattle.schema_definitions.specs.Guarded.{NodePlan}
-use Rattle.schema_nodes.specs.NodeTable.{Begins, Fills, NodeEntry, Waits, begun_in, filled, filled_count}
+use Rattle.node_table.specs.NodeTable.{Begins, Fills, NodeEntry, Waits, begun_in, filled, filled_count}
 use Rattle.schema_keys.specs.Refusing.{AreDistinct}
 use Rattle.schema_keys.specs.ShownBases.{shown_base}
 use Rattle.schema_compiler.specs.Filling.{Finishes, HasFormOrWaits, IsGrown, IsNode, IsPlanned, IsTable}

@@ -9,8 +9,8 @@ use Rattle.schema_definitions.specs.Parts.{Parts}
 use Rattle.schema_definitions.specs.Plan.{Key, plan}
 use Rattle.schema_definitions.specs.Guarded.{NodeEdge, NodePlan, Nodes, node_always, node_edges}
 use Rattle.schema_meaning.specs.Numbered.{IsNumber, StandsFor}
-use Rattle.schema_nodes.proofs.RankedTable.{node_edges-shaped}
-use Rattle.schema_nodes.specs.NodeTable.{NodeEntry, absolute_in, numbered, plan_in, shaped}
+use Rattle.node_table.proofs.RankedTable.{node_edges-shaped}
+use Rattle.node_table.specs.NodeTable.{NodeEntry, absolute_in, numbered, plan_in, shaped}
 use Rattle.schema_keys.specs.Compiling.{In}
 use Rattle.schema_compiler.specs.Compilation.{IsCompilation}
 use Rattle.schema_compiler.specs.Finding.{Standing, standing_of}

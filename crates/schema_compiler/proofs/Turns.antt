@@ -20,7 +20,7 @@ use Rattle.schema_definitions.specs.Reports.{told_error}
 use Rattle.schema_reports.specs.ReportViews.{owned_error_of}
 use Rattle.schema_reports.specs.declared.reports.OwnedError.{OwnedError}
 use Rattle.schema_definitions.specs.Guarded.{Children, NodeEdge, form_edges, node_keyword}
-use Rattle.schema_nodes.specs.NodeTable.{NodeEntry}
+use Rattle.node_table.specs.NodeTable.{NodeEntry}
 use Rattle.schema_parts.specs.MakerViews.{IsStepOf, MakesRightly, PendingChangesNothing, TakesTurn, Told, Waiting, a_reserved, a_skip, begun, ended, none_pending, nothing_yet, one_pending, purpose_of, the_number, waits, wants_pending, wants_reserved}
 use Rattle.schema_parts.specs.declared.table.MakerStep.{MakerStep}
 use Rattle.schema_parts.specs.declared.table.MakerStep.TheVariants.{Compile, Refer, Pending, Reserve, Keyword, Nothing, Refuse}

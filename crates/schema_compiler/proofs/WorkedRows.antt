@@ -13,7 +13,7 @@ use Rattle.schema_definitions.specs.Plan.{Key}
 use Rattle.schema_meaning.specs.Reach.{asked_edges}
 use Rattle.schema_definitions.specs.Guarded.{NodeEdge, NodePlan, node_edges}
 use Rattle.schema_meaning.specs.RowsBench.{Word}
-use Rattle.schema_nodes.specs.NodeTable.{NodeEntry}
+use Rattle.node_table.specs.NodeTable.{NodeEntry}
 use Rattle.schema_keys.specs.Compiling.{In}
 use Rattle.schema_compiler.specs.Finding.{GuardsByStanding, Standing, guards_edge, nests, standing_of, waits}
 use Rattle.schema_compiler.specs.Rows as row

@@ -7,7 +7,7 @@ use Rattle.schema_definitions.specs.Plan.{Edge, Key}
 use Rattle.schema_meaning.specs.Reach.{Reached, asked_edges, at_first}
 use Rattle.schema_meaning.specs.Refusals.{causes}
 use Rattle.schema_definitions.specs.Guarded.{NodePlan, node_edges}
-use Rattle.schema_nodes.specs.NodeTable.{Begins, Fills, IsBegun, IsFilled, MayBeFilled, NodeEntry, Waits, begun_in, filled, filled_count}
+use Rattle.node_table.specs.NodeTable.{Begins, Fills, IsBegun, IsFilled, MayBeFilled, NodeEntry, Waits, begun_in, filled, filled_count}
 use Rattle.schema_keys.specs.Compiling.{Blames, Each, ReachedFrom, StandsBelow}
 use Rattle.schema_keys.specs.Refusing.{Refused}
 use Rattle.schema_compiler.specs.Filling.{HasFormOrWaits, IsGrown}

@@ -6,7 +6,7 @@ use Rattle.schema_definitions.specs.Matching.{Assumptions}
 use Rattle.schema_definitions.specs.Parts.{Parts}
 use Rattle.schema_definitions.specs.Plan.{Key}
 use Rattle.schema_definitions.specs.Guarded.{NodeForm, NodePart, NodePlan, Nodes, guarded_node, guarded_sense, guarded_within, node_always, node_child, node_keyword, node_never, node_reference, node_these, yes_run}
-use Rattle.schema_nodes.specs.NodeTable.{NodeEntry, numbered}
+use Rattle.node_table.specs.NodeTable.{NodeEntry, numbered}
 use Rattle.schema_compiler.specs.Compilation.{IsCompilation}
 use Rattle.schema_compiler.specs.Finding.{FindsAll, Standing, standing_of}
 

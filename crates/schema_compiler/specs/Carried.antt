@@ -13,7 +13,7 @@ use Rattle.schema_meaning.specs.Reach.{Reached, asked_edges, maker_edges, member
 use Rattle.schema_meaning.specs.Refusals.{Cause, causes, lookup_causes, maker_causes, members_causes, reference_causes, request_causes, schema_causes, undeclared}
 use Rattle.schema_definitions.specs.Units.{absorbed_by, annotating, annotations_of, object_annotations}
 use Rattle.schema_definitions.specs.Guarded.{NodeEdge, NodePart, NodePlan}
-use Rattle.schema_nodes.specs.NodeTable.{NodeEntry}
+use Rattle.node_table.specs.NodeTable.{NodeEntry}
 use Rattle.schema_keys.specs.KeyViews.{key_of}
 use Rattle.schema_compiler.specs.Options.{given_parts}
 use Rattle.schema_keys.specs.Compiling.{StandsBelow, member_causes, member_edges, object_edges, reference_asked}
@@ -23,8 +23,8 @@ use Rattle.schema_compiler.specs.Reserving.{Reserved}
 use Rattle.schema_compiler.specs.Steps.{IsAnswered, IsEdgeTo, IsNumbered, MakesPart, MakesParts, MakesPlan}
 use Rattle.schema_keys.specs.declared.error.BuildError.{BuildError}
 use Rattle.schema_keys.specs.declared.key.SchemaKey.{SchemaKey}
-use Rattle.schema_compiler.specs.declared.compiler.given.Given.{Given}
-use Rattle.schema_compiler.specs.declared.compiler.compiled.Compiled.{Compiled}
+use Rattle.schema_compiler.specs.declared.compiler.setup.Compiler.{Compiler}
+use Rattle.schema_compiler.specs.declared.compiler.compilation.Compilation.{Compilation}
 
 -- what is given, as parts, with the shape of keywords, the limit on keys, and how many targets may nest
 pub record Task (S K C : Type 0) : Type 0 where
@@ -44,7 +44,7 @@ pub record Table (S C : Type 0) : Type 0 where
   pub reserved : List Reserved
 
 -- what is given, by the senses of resolver, table and keywords
-abbrev pub task : {R T S K C : Type 0} → (R → Resolver S) → (T → Text → Bool) → (T → Bool → Text → Members → Draft → Vocabularies → Bool → Script K) → (C → K) → Given R T → Task S K C
+abbrev pub task : {R T S K C : Type 0} → (R → Resolver S) → (T → Text → Bool) → (T → Bool → Text → Members → Draft → Vocabularies → Bool → Script K) → (C → K) → Compiler R T → Task S K C
 task resolving owned script shape g = record {
   parts = given_parts (resolving g.resolver.now) (owned g.table.now) (script g.table.now) g.options.now;
   shape = shape;
@@ -53,7 +53,7 @@ task resolving owned script shape g = record {
 }
 
 -- what is filled so far, by the sense of the resolver's states
-abbrev pub filled : {S P C : Type 0} → (S → P) → Compiled S C → Table P C
+abbrev pub filled : {S P C : Type 0} → (S → P) → Compilation S C → Table P C
 filled point c = record {
   keys = map (key_of point) c.keys;
   nodes = c.nodes;

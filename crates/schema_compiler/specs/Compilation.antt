@@ -17,7 +17,7 @@ use Rattle.schema_meaning.specs.Refusals.{Cause, Stands, keyword_refused, lookup
 use Rattle.schema_reports.specs.ReportViews.{owned_error_of}
 use Rattle.schema_definitions.specs.Guarded.{NodePlan}
 use Rattle.schema_meaning.specs.Numbered.{AreNumbered, Ranked}
-use Rattle.schema_nodes.specs.NodeTable.{NodeEntry, numbered}
+use Rattle.node_table.specs.NodeTable.{NodeEntry, numbered}
 use Rattle.schema_compiler.specs.Finding.{FindsAll, GuardsByStanding, standing_of}
 use Rattle.schema_keys.specs.Alone.{RefusesVocabularies}
 use Rattle.schema_keys.specs.declared.error.BuildError.{BuildError}

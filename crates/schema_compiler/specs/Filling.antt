@@ -9,7 +9,7 @@ use Rattle.schema_definitions.specs.Units.{annotations_of}
 use Rattle.schema_meaning.specs.Reach.{asked_edges}
 use Rattle.schema_meaning.specs.Refusals.{Cause, causes}
 use Rattle.schema_definitions.specs.Guarded.{NodeEdge, NodeForm, NodePart, NodePlan, node_always, node_keyword, node_never, node_reference, node_these, Children}
-use Rattle.schema_nodes.specs.NodeTable.{NodeEntry}
+use Rattle.node_table.specs.NodeTable.{NodeEntry}
 use Rattle.schema_keys.specs.Compiling.{Each, ReachedFrom, Settled}
 use Rattle.schema_keys.specs.ShownBases.{shown_base}
 use Rattle.schema_keys.specs.Refusing.{AreDistinct}

@@ -6,7 +6,7 @@ use Rattle.schema_definitions.specs.Parts.{Parts}
 use Rattle.schema_definitions.specs.Plan.{Edge, Key}
 use Rattle.schema_meaning.specs.Reach.{asked_edges}
 use Rattle.schema_definitions.specs.Guarded.{NodeEdge, NodePlan, node_edges}
-use Rattle.schema_nodes.specs.NodeTable.{NodeEntry}
+use Rattle.node_table.specs.NodeTable.{NodeEntry}
 use Rattle.schema_keys.specs.Compiling.{In}
 
 -- how a number stands that was found: it waits; it is open, in the round that began with this number; or it has its form,

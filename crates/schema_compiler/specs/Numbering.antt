@@ -5,9 +5,9 @@ use Rattle.schema_keys.specs.KeyViews.{key_of}
 use Rattle.schema_compiler.specs.Carried.{IsWell, Task, filled}
 use Rattle.schema_compiler.specs.Passing.{Numbered}
 use Rattle.schema_compiler.specs.UnderWay.{IsUnderWay}
-use Rattle.schema_compiler.specs.declared.compiler.compiled.Compiled.{Compiled}
+use Rattle.schema_compiler.specs.declared.compiler.compilation.Compilation.{Compilation}
 
-module _ {S P K C : Type 0} (g : Task P K C) (point : S → P) (old new : Compiled S C) (k : Key P) where
+module _ {S P K C : Type 0} (g : Task P K C) (point : S → P) (old new : Compilation S C) (k : Key P) where
   -- the key has this number, with a node in progress in this round, or waiting; all else is as it was
   pub record TakesNext (round : Option ℕ) (n : ℕ) : Type 0 where
     pub table : IsWell g (filled point new)

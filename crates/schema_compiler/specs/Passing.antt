@@ -1,7 +1,7 @@
 -- What one step does to the table: a number is added, and an edge is made.
 use Rattle.std.specs.Prelude.{Bool, List, None, Option, Some, [], not, slice_get, ℕ, ◌++◌, ◌||◌, ◌∷◌, ◌≡◌}
-use Rattle.schema_nodes.specs.NodeTable.{NodeEntry, guards_at, is_settled_entry}
-use Rattle.schema_compiler.specs.declared.compiler.compiled.Progress.{Progress}
+use Rattle.node_table.specs.NodeTable.{NodeEntry, guards_at, is_settled_entry}
+use Rattle.schema_compiler.specs.declared.compiler.compilation.Progress.{Progress}
 
 -- a node without a form has come at the end, in this round, or waiting
 abbrev pub Numbered : {C : Type 0} → List (NodeEntry C) → Option ℕ → List (NodeEntry C) → Type 0

@@ -9,7 +9,7 @@ use Rattle.schema_definitions.specs.Plan.{Edge, Key}
 use Rattle.schema_meaning.specs.Reach.{asked_edges}
 use Rattle.schema_definitions.specs.Guarded.{NodeEdge, NodePlan, node_edges}
 use Rattle.schema_meaning.specs.RowsBench.{Running, Word, bench, one_member, ref_to, root_of, text, two_members}
-use Rattle.schema_nodes.specs.NodeTable.{NodeEntry}
+use Rattle.node_table.specs.NodeTable.{NodeEntry}
 use Rattle.schema_keys.specs.Compiling.{In}
 use Rattle.schema_compiler.specs.Finding.{FindsAll, GuardsByStanding, Standing, is_formed, standing_of}
 

@@ -7,7 +7,7 @@ use Rattle.schema_definitions.specs.Plan.{Edge, Key, Part, Plan, option_list}
 use Rattle.schema_meaning.specs.Reach.{Reached}
 use Rattle.schema_meaning.specs.Refusals.{Cause}
 use Rattle.schema_definitions.specs.Guarded.{NodeEdge, NodePart, NodePlan, form_edges, node_always, node_these}
-use Rattle.schema_nodes.specs.NodeTable.{NodeEntry}
+use Rattle.node_table.specs.NodeTable.{NodeEntry}
 use Rattle.schema_compiler.specs.Filling.{AreParts, IsGrown, IsMadePart, IsPlan, IsStep, IsTable, LeadsTo}
 
 -- the edges of a part, if there is one

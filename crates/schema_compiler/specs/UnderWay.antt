@@ -5,7 +5,7 @@ use Rattle.schema_definitions.specs.Instance.{Place, Text}
 use Rattle.schema_definitions.specs.Plan.{Edge, Key, Reference, making, option_list, subschema}
 use Rattle.schema_meaning.specs.Reach.{asked_edges, maker_edges, members_edges, reference_edges}
 use Rattle.schema_definitions.specs.Guarded.{NodeEdge, NodePart, NodePlan, node_edges, node_these}
-use Rattle.schema_nodes.specs.NodeTable.{NodeEntry, filled_count, guards_at, is_settled_entry}
+use Rattle.node_table.specs.NodeTable.{NodeEntry, filled_count, guards_at, is_settled_entry}
 use Rattle.schema_keys.specs.Compiling.{Each, In, member_edges, object_edges, reference_asked}
 use Rattle.schema_compiler.specs.Finding.{Course, Finds, GuardsByStanding, Visits, nests, standing_of}
 use Rattle.schema_compiler.specs.Carried.{Table, Task}

@@ -2,7 +2,7 @@
 use Rattle.std.specs.Prelude.{Some, [], length, slice_get, ℕ, ◌<◌, ◌≡◌, ◌≤◌}
 use Rattle.schema_definitions.specs.Plan.{Key}
 use Rattle.schema_meaning.specs.Reach.{Reached}
-use Rattle.schema_nodes.specs.NodeTable.{IsFilled, NodeEntry}
+use Rattle.node_table.specs.NodeTable.{IsFilled, NodeEntry}
 use Rattle.schema_keys.specs.Compiling.{Each, StandsBelow}
 use Rattle.schema_compiler.specs.Reserving.{IsGivenUp}
 use Rattle.schema_keys.specs.Refusing.{IsRefusal}

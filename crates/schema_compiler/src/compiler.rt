@@ -2,7 +2,7 @@
 //! own node is filled.
 //!
 //! What it is given is in `given`, what it fills in `compiled`. Keys, the contexts where they stand, subschemas and the targets
-//! of references are of `schema_keys`, the check by meta validators is `schema_check`'s; both are handed on. The steps are in
+//! of references are of `schema_keys`, the check by meta validators is `schema_keys`'s; both are handed on. The steps are in
 //! `vocabularies`, `makers`, `targets`, `entries` and `annotations`, references are in `ref_`.
 ghost use Rattle.std.specs.Prelude.{◌≡◌, ◌≢◌, ◌<◌, ◌++◌, ℕ, IfErr, IfOk, Option, Some, [], flat_map, map, option_map};
 ghost use Rattle.std.specs.Prelude.{MatchResult, slice_get, string_bytes, true};
@@ -13,7 +13,7 @@ ghost use Rattle.schema_definitions.specs.Drafts as drafts;
 ghost use Rattle.schema_definitions.specs.Matching as matching;
 ghost use Rattle.schema_definitions.specs.Keywords as words;
 ghost use Rattle.schema_parts.specs.EdgeViews.{edge_of};
-ghost use Rattle.schema_nodes.specs.NodeViews.{entry_of as entry_view, plan_of};
+ghost use Rattle.node_table.specs.NodeViews.{entry_of as entry_view, plan_of};
 ghost use Rattle.schema_keys.specs.KeyViews.{key_of, kind_of};
 ghost use Rattle.schema_parts.specs.ResolverViews.{place_of};
 ghost use Rattle.schema_keys.specs.Builtins.{builtin};
@@ -34,11 +34,12 @@ ghost use Rattle.schema_compiler.specs.UnderWay.{GoesChild, GoesMaker, GoesMembe
 ghost use Rattle.schema_compiler.specs.UnderWay.{GoesObject, GoesRefer, GoesTo, IsUnderWay, Reaches};
 
 use crate::compiler::annotations::{absorb, object_of, without};
-use crate::compiler::compiled::{Compiled, PlannedNode};
+use crate::compiler::compilation::{Compilation, PlannedNode};
 use crate::compiler::entries::{entry_named, insert_by_priority, node_alone};
-use crate::compiler::given::Given;
 use crate::compiler::makers::keep_edge;
 use crate::compiler::reservations::ReservedNode;
+use crate::compiler::setup::Compiler;
+use node_table::node::{Entry, EntryForm, NodeForm};
 use schema_keys::context::Context;
 use schema_keys::error::BuildError;
 use schema_keys::key::SchemaKey;
@@ -48,7 +49,6 @@ use schema_keys::references::{ReferenceKind, reference_kind};
 use schema_keys::values;
 use schema_keys::values::{Reading, value_of};
 use schema_keywords::keywords::priorities::{CUSTOM_PRIORITY, REF_PRIORITY};
-use schema_nodes::node::{Entry, EntryForm, NodeForm};
 use schema_parts::keyword::Validate;
 use schema_parts::numbers::Edge;
 use schema_parts::resolver::Resolver;
@@ -60,17 +60,16 @@ use std::alloc::Global;
 use std::rc::Rc;
 
 mod annotations;
-pub mod compiled;
+pub mod compilation;
 pub(crate) mod entries;
-pub mod given;
 mod makers;
 pub mod reservations;
+pub mod setup;
 mod targets;
 mod vocabularies;
 mod worklist;
 
-pub use schema_check::check;
-pub use schema_keys::{context, error, key};
+pub use schema_keys::{check, context, error, key};
 
 /// Compiles the schema of a key and every schema that it reaches through subschemas and references. Returns their keys and
 /// nodes, one number for each key, the given key's being 0. At most `nested_limit` targets of `$ref` and `$dynamicRef` are
@@ -90,7 +89,7 @@ pub fn compile<R: Resolver, K: Validate, T: KeywordTable<K>>(
     options: &CompileOptions,
     nested_limit: usize,
     root: SchemaKey<R::State>,
-) -> Result<Compiled<R::State, K>, BuildError>
+) -> Result<Compilation<R::State, K>, BuildError>
     ensures compiled { IfOk result (λ m. (matcher : matching.Matcher)
         (keywords : words.Keywords K.Shape (K.Run × words.Answer)) (draft : Option drafts.Draft)
         (base : Option Text) → IsCompilation (all_parts (R.resolving resolver.now)
@@ -141,14 +140,14 @@ pub fn check_vocabularies<R: Resolver, K: Validate, T: KeywordTable<K>>(
         options.now.formats (map string_bytes options.now.declared.items)
         matcher keywords draft base) (key_of R.point root.now) e) }
 {
-    let given = Given {
+    let compiler = Compiler {
         alloc,
         resolver,
         table,
         options,
         nested_limit: 0,
     };
-    given.check_declared(&root.vocabularies)?;
+    compiler.check_declared(&root.vocabularies)?;
     Ok(())
 }
 
@@ -165,7 +164,7 @@ pub fn compile_subschema<R: Resolver, K: Validate, T: KeywordTable<K>>(
     options: &CompileOptions,
     nested_limit: usize,
     root: SchemaKey<R::State>,
-) -> Result<Compiled<R::State, K>, BuildError>
+) -> Result<Compilation<R::State, K>, BuildError>
     ensures compiled { IfOk result (λ m. (matcher : matching.Matcher)
         (keywords : words.Keywords K.Shape (K.Run × words.Answer)) (draft : Option drafts.Draft)
         (base : Option Text) → IsCompilationAlone (all_parts (R.resolving resolver.now)
@@ -181,14 +180,14 @@ pub fn compile_subschema<R: Resolver, K: Validate, T: KeywordTable<K>>(
         options.now.formats (map string_bytes options.now.declared.items)
         matcher keywords draft base) options.now.node_limit (key_of R.point root) e) }
 {
-    let given = Given {
+    let compiler = Compiler {
         alloc,
         resolver,
         table,
         options,
         nested_limit,
     };
-    let compiled = given.compiled_alone(root)?;
+    let compiled = compiler.compiled_alone(root)?;
     // (the call says that the table is ordered)
     let count = compiled.nodes.len();
     let _ordered = count;
@@ -202,14 +201,14 @@ struct ObjectKeywords<K> {
     annotating: Map<String, Value>,
 }
 
-impl<'p, R: Resolver, T> Given<'p, R, T> {
+impl<'p, R: Resolver, T> Compiler<'p, R, T> {
     /// The edge to the node of a key, which is compiled first where it has no number, or put on the list where it nests and as
     /// many targets as may nest are open. The value at the key's place is read only where the node is compiled and it was not
     /// read already.
     #[cycle(compile)]
     fn edge_to<K: Validate>(
         &self,
-        compiled: &mut Compiled<R::State, K>,
+        compiled: &mut Compilation<R::State, K>,
         key: SchemaKey<R::State>,
         reading: Reading<'p>,
         nests: bool,
@@ -239,7 +238,7 @@ impl<'p, R: Resolver, T> Given<'p, R, T> {
     #[cycle(compile)]
     fn number_of<K: Validate>(
         &self,
-        compiled: &mut Compiled<R::State, K>,
+        compiled: &mut Compilation<R::State, K>,
         key: SchemaKey<R::State>,
         reading: Reading<'p>,
         nests: bool,
@@ -274,7 +273,7 @@ impl<'p, R: Resolver, T> Given<'p, R, T> {
     #[cycle(compile)]
     fn compiled_number<K: Validate>(
         &self,
-        compiled: &mut Compiled<R::State, K>,
+        compiled: &mut Compilation<R::State, K>,
         key: &Rc<SchemaKey<R::State>>,
         reading: Reading<'p>,
         nests: bool,
@@ -312,7 +311,7 @@ impl<'p, R: Resolver, T> Given<'p, R, T> {
     #[cycle(compile)]
     fn planned_node<K: Validate>(
         &self,
-        compiled: &mut Compiled<R::State, K>,
+        compiled: &mut Compilation<R::State, K>,
         key: &SchemaKey<R::State>,
         reading: Reading<'p>,
     ) -> Result<PlannedNode<K>, BuildError>
@@ -352,7 +351,7 @@ impl<'p, R: Resolver, T> Given<'p, R, T> {
     #[cycle(compile)]
     fn planned_object<K: Validate>(
         &self,
-        compiled: &mut Compiled<R::State, K>,
+        compiled: &mut Compilation<R::State, K>,
         key: &SchemaKey<R::State>,
         members: &'p Map<String, Value>,
     ) -> Result<PlannedNode<K>, BuildError>
@@ -406,7 +405,7 @@ impl<'p, R: Resolver, T> Given<'p, R, T> {
     #[cycle(compile)]
     fn keywords_of<K: Validate>(
         &self,
-        compiled: &mut Compiled<R::State, K>,
+        compiled: &mut Compilation<R::State, K>,
         key: &SchemaKey<R::State>,
         members: &'p Map<String, Value>,
     ) -> Result<ObjectKeywords<K>, BuildError>
@@ -449,7 +448,7 @@ impl<'p, R: Resolver, T> Given<'p, R, T> {
     #[cycle(compile)]
     fn entry_of<K: Validate>(
         &self,
-        compiled: &mut Compiled<R::State, K>,
+        compiled: &mut Compilation<R::State, K>,
         key: &SchemaKey<R::State>,
         members: &'p Map<String, Value>,
         name: &String,
@@ -519,7 +518,7 @@ impl<'p, R: Resolver, T> Given<'p, R, T> {
     #[cycle(compile)]
     fn made_entry<K: Validate>(
         &self,
-        compiled: &mut Compiled<R::State, K>,
+        compiled: &mut Compilation<R::State, K>,
         key: &SchemaKey<R::State>,
         members: &'p Map<String, Value>,
         own: bool,
@@ -594,7 +593,7 @@ impl<'p, R: Resolver, T> Given<'p, R, T> {
     #[cycle(compile)]
     fn child_edge<K: Validate>(
         &self,
-        compiled: &mut Compiled<R::State, K>,
+        compiled: &mut Compilation<R::State, K>,
         key: &SchemaKey<R::State>,
         members: &'p Map<String, Value>,
         path: &SchemaPath,
@@ -631,7 +630,7 @@ impl<'p, R: Resolver, T> Given<'p, R, T> {
     #[cycle(compile)]
     pub(crate) fn reference_edge<K: Validate>(
         &self,
-        compiled: &mut Compiled<R::State, K>,
+        compiled: &mut Compilation<R::State, K>,
         key: &SchemaKey<R::State>,
         name: &String,
         kind: ReferenceKind,

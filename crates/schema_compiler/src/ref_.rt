@@ -2,25 +2,25 @@
 ghost use Rattle.std.specs.Prelude.{IfOk, IfErr, MatchResult, Ok, not, option_map, string_bytes};
 ghost use Rattle.serde_json.specs.View.{view};
 ghost use Rattle.schema_definitions.specs.Plan.{to_dynamic, to_recursive, to_ref};
-ghost use Rattle.schema_nodes.specs.NodeViews.{entry_of as entry_view};
+ghost use Rattle.node_table.specs.NodeViews.{entry_of as entry_view};
 ghost use Rattle.schema_keys.specs.KeyViews.{key_of, kind_of};
 ghost use Rattle.schema_compiler.specs.Carried.{IsWell, MakesReference, RefusesReference, filled, task};
 ghost use Rattle.schema_compiler.specs.UnderWay.{GoesReference, IsUnderWay};
 
-use crate::compiler::compiled::Compiled;
+use crate::compiler::compilation::Compilation;
 use crate::compiler::entries::entry_named;
-use crate::compiler::given::Given;
+use crate::compiler::setup::Compiler;
+use node_table::node::{Entry, EntryForm};
 use schema_keys::context::Context;
 use schema_keys::error::BuildError;
 use schema_keys::key::SchemaKey;
 pub use schema_keys::references::{RefTarget, ReferenceKind};
-use schema_nodes::node::{Entry, EntryForm};
 use schema_parts::keyword::Validate;
 use schema_parts::resolver::Resolver;
 use schema_parts::table::KeywordTable;
 use serde_json::Value;
 
-impl<'p, R: Resolver, T> Given<'p, R, T> {
+impl<'p, R: Resolver, T> Compiler<'p, R, T> {
     /// Compiles the `$ref` with this value that stands in a key's schema under a keyword of this name, and what it leads to.
     /// Returns its keyword; none if it leads to the very object that holds it.
     ///
@@ -30,7 +30,7 @@ impl<'p, R: Resolver, T> Given<'p, R, T> {
     /// if a schema that is reached cannot be compiled or is one too many, or if memory cannot be allocated.
     pub fn compile_ref<K: Validate>(
         &self,
-        compiled: &mut Compiled<R::State, K>,
+        compiled: &mut Compilation<R::State, K>,
         key: &SchemaKey<R::State>,
         name: &String,
         priority: u8,
@@ -66,7 +66,7 @@ impl<'p, R: Resolver, T> Given<'p, R, T> {
     /// if a schema that is reached cannot be compiled or is one too many, or if memory cannot be allocated.
     pub fn compile_dynamic_ref<K: Validate>(
         &self,
-        compiled: &mut Compiled<R::State, K>,
+        compiled: &mut Compilation<R::State, K>,
         key: &SchemaKey<R::State>,
         name: &String,
         priority: u8,
@@ -102,7 +102,7 @@ impl<'p, R: Resolver, T> Given<'p, R, T> {
     /// if a schema that is reached cannot be compiled or is one too many, or if memory cannot be allocated.
     pub fn compile_recursive_ref<K: Validate>(
         &self,
-        compiled: &mut Compiled<R::State, K>,
+        compiled: &mut Compilation<R::State, K>,
         key: &SchemaKey<R::State>,
         name: &String,
         priority: u8,
@@ -140,7 +140,7 @@ impl<'p, R: Resolver, T> Given<'p, R, T> {
     #[cycle(compile)]
     pub(crate) fn reference_by<K: Validate>(
         &self,
-        compiled: &mut Compiled<R::State, K>,
+        compiled: &mut Compilation<R::State, K>,
         key: &SchemaKey<R::State>,
         name: &String,
         priority: u8,

@@ -1,9 +1,9 @@
 //! The context of a run: what is in progress, what is marked, and what is remembered and kept.
 #![tactic(auto)]
 
+pub mod bit_rows;
 pub mod evaluation_path;
 pub mod kept_paths;
 pub mod marks;
 pub mod numbered_pairs;
-pub mod rows;
 pub mod validation;

@@ -20,11 +20,11 @@ ghost use Rattle.schema_contexts.specs.Progress.{Adds, Distinct, Enters, EndsWit
 ghost use Rattle.schema_contexts.specs.Verdicts.{MayKeep, Remembers, is_alone, is_container, one_more, read_verdict};
 ghost use Rattle.schema_reports.specs.InstanceViews.{subject_of};
 
+use crate::bit_rows::{Rows, row_words};
 use crate::evaluation_path::EvaluationPath;
 use crate::kept_paths::KeptPaths;
 use crate::marks::Marks;
 use crate::numbered_pairs::{NumberedPair, count_at, make_counts, push_within};
-use crate::rows::{Rows, row_words};
 use schema_matches::assumptions::MatchAssumptions;
 use schema_matches::site::{Match, MatchSite, Reason};
 use schema_parts::keyword::Marked;

@@ -17,7 +17,7 @@ use Rattle.schema_meaning.specs.Reach.{IsReach, Reached, ReachesMoreThan, differ
 use Rattle.schema_meaning.specs.Refusals.{Cause, Stands}
 use Rattle.schema_definitions.specs.Resolving.{Resolver}
 use Rattle.schema_meaning.specs.Root.{base_of, root_draft}
-use Rattle.schema_check.specs.Checking.{EachAccepted, FollowsAccepted, IsAccepted, MetaChecks, RefusesOne, documents_at}
+use Rattle.schema_keys.specs.Checking.{EachAccepted, FollowsAccepted, IsAccepted, MetaChecks, RefusesOne, documents_at}
 use Rattle.schema_keys.specs.Compiling.{resolving_parts}
 use Rattle.schema_keys.specs.declared.error.BuildError.{BuildError}
 use Rattle.schema_keys.specs.declared.error.BuildError.TheVariants.{KeywordRefused, Lookup, MetaSchema, MissingRoot}

@@ -14,7 +14,7 @@ use Rattle.schema_meaning.specs.Numbered.{Ranked, subject_in}
 use Rattle.schema_definitions.specs.Reports.{Unit_}
 use Rattle.schema_definitions.specs.Runs.{Run}
 use Rattle.schema_meaning.proofs.NodeRuns.{runs_say_outcomes}
-use Rattle.schema_nodes.specs.NodeTable.{NodeEntry, numbered}
+use Rattle.node_table.specs.NodeTable.{NodeEntry, numbered}
 use Rattle.schema_compiler.specs.Agreeing.{AlikeForm, AlikeParts, AlikePlan, AreAlike}
 use Rattle.schema_compiler.specs.Compilation.{IsCompilation}
 use Rattle.schema_keys.specs.Compiling.{no_keywords, no_matcher}

@@ -13,7 +13,7 @@ use Rattle.schema_search.specs.SharedResults.{is_empty}
 use Rattle.schema_reports.specs.UnitViews.{unit_of}
 use Rattle.schema_reports.specs.declared.evaluation.EvaluationNode.{EvaluationNode}
 use Rattle.schema_reports.specs.declared.reports.ValidationError.{ValidationError}
-use Rattle.schema_nodes.specs.NodeTable.{numbered}
+use Rattle.node_table.specs.NodeTable.{numbered}
 use Rattle.schema_parts.specs.declared.keyword.Validate.{Ghosts as KeywordMembers}
 use Rattle.schema_parts.specs.declared.matcher.Matcher.{Ghosts as MatcherMembers}
 use Rattle.schema_validator.specs.Asked.{DecidesFromSomeDepth, ErrorsFromSomeDepth, EvaluatesFromSomeDepth, FirstFromSomeDepth, UnitsFromSomeDepth}

@@ -20,7 +20,7 @@ use Rattle.schema_parts.specs.declared.keyword.Validate.{Ghosts as KeywordMember
 use Rattle.schema_parts.specs.declared.matcher.Matcher.{Ghosts as MatcherMembers}
 use Rattle.schema_parts.specs.declared.resolver.Resolver.{Ghosts as ResolverMembers}
 use Rattle.schema_parts.specs.declared.table.KeywordTable.{Ghosts as TableMembers}
-use Rattle.schema_nodes.specs.NodeTable.{numbered}
+use Rattle.node_table.specs.NodeTable.{numbered}
 use Rattle.schema_validator.specs.Called.{PointingOf}
 use Rattle.schema_validator.specs.Greatest.{AcceptsAsSchema, DecidesAccepted, NodesAccept, NodesAreMonotone, SaysAccepted, parts}
 use Rattle.schema_validator.specs.Handed.{Handed, Options}

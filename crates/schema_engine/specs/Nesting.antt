@@ -20,7 +20,7 @@ use Rattle.schema_parts.specs.declared.matcher.Matcher.{Ghosts as MatcherMembers
 use Rattle.schema_parts.specs.declared.resolver.Resolver.{Ghosts as ResolverMembers}
 use Rattle.schema_parts.specs.declared.table.KeywordTable.{Ghosts as TableMembers}
 use Rattle.schema_output.specs.ErrorUnits.{errors_unit}
-use Rattle.schema_check.specs.Checking.{MetaChecks}
+use Rattle.schema_keys.specs.Checking.{MetaChecks}
 use Rattle.schema_keys.specs.declared.error.BuildError.{BuildError}
 use Rattle.schema_keys.specs.declared.error.BuildError.TheVariants.{OutOfMemory}
 use Rattle.schema_validator.specs.Asked.{DecidesInEverySense, ErrorsInEverySense, EvaluatesInEverySense, FirstInEverySense, UnitsInEverySense}

@@ -1,5 +1,5 @@
 //! Locations and instances, errors, and evaluations with all that they show.
-pub use schema_answers::evaluation_order::{AbsorbedUnit, EntryUnits, UnitsInOrder};
+pub use run_steps::evaluation_order::{AbsorbedUnit, EntryUnits, UnitsInOrder};
 pub use schema_output::error_units::unit_of_errors;
 pub use schema_output::errors::{ErrorEntry, EvaluationErrors};
 pub use schema_output::evaluation::Evaluation;

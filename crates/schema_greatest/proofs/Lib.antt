@@ -3,3 +3,13 @@ pub mod Edges
 pub mod NumbersSay
 pub mod ReachedSay
 mod WorkedRows
+mod Computed
+pub mod Under
+pub mod Between
+pub mod Pairs
+pub mod Steps
+pub mod Solved
+pub mod Says
+pub mod Turning
+pub mod Work
+pub mod Bounds

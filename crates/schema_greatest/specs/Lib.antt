@@ -2,3 +2,10 @@ pub mod Solutions
 pub mod NodesSay
 pub mod NumbersSay
 pub mod Rows
+pub mod Cycles
+pub mod Under
+pub mod Found
+pub mod Solved
+pub mod Says
+pub mod Turning
+pub mod Work

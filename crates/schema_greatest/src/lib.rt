@@ -2,5 +2,6 @@
 //! target and a place that stands by itself. Each function states laws, and does nothing.
 #![tactic(auto)]
 
+pub mod cycle_rows;
 pub mod rows;
 pub mod solutions;

@@ -62,9 +62,9 @@ module _ {S P : Type 0} (point : S → P) (input : S → List Text) (alike : (s 
   -- one key has one hash
   same_hash : (a : SchemaKey S) → key_of point a ≡ key_of point k → hash_of input a ≡ hash_of input k
   same_hash a e =
-      let parts : hash_of input a ≡ hash_of_parts k.place.document k.location k.base (input a.state) = ap (λ (q : Key P). hash_of_parts q.target.place.document q.location q.base (input a.state)) e in
+      let parts : hash_of input a ≡ hash_of_parts k.place.document k.location k.resource_base (input a.state) = ap (λ (q : Key P). hash_of_parts q.target.place.document q.location q.base (input a.state)) e in
       let states : input a.state ≡ input k.state = alike a.state k.state (ap (λ (q : Key P). q.target.state) e) in
-      parts ∙ ap (hash_of_parts k.place.document k.location k.base) states
+      parts ∙ ap (hash_of_parts k.place.document k.location k.resource_base) states
 
   hash_at : (j : ℕ) → slice_get (map (key_of point) ks) j ≡ Some (key_of point k) → slice_get (map (hash_of input) ks) j ≡ Some (hash_of input k)
   hash_at j e =

@@ -6,3 +6,5 @@ pub mod Members
 pub mod CustomVocabularies
 pub mod DocumentPlaces
 pub mod PlaceNames
+pub mod MaskedDocuments
+pub mod CheckedDocuments

@@ -11,7 +11,7 @@ unfoldable pub hash_of_parts : ℕ → Text → Text → List Text → ℕ
 hash_of_parts document location base state = finish (fold write (write (write (fold write initial (usize document)) location) base) state)
 
 abbrev pub hash_of : {S : Type 0} → (S → List Text) → SchemaKey S → ℕ
-hash_of input k = hash_of_parts k.place.document k.location k.base (input k.state)
+hash_of input k = hash_of_parts k.place.document k.location k.resource_base (input k.state)
 
 -- the last number below n with this hash; none where no number below n has it
 abbrev pub IsLastBelow : List ℕ → ℕ → ℕ → Option ℕ → Type 0

@@ -10,8 +10,8 @@ abbrev pub key_of : {S P : Type 0} → (S → P) → SchemaKey S → plan.Key P
 key_of point k = record {
   target = record { place = place_of k.place; state = point k.state; draft = draft_of k.draft; vocabularies = k.vocabularies };
   location = k.location;
-  base = k.base;
-  start = k.start;
+  base = k.resource_base;
+  start = k.resource_start;
 }
 
 abbrev pub kind_of : ReferenceKind → plan.Reference

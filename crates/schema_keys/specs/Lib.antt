@@ -9,3 +9,5 @@ pub mod Dialects
 pub mod Readings
 pub mod ShownBases
 pub mod DocumentSchemas
+pub mod Checking
+pub mod CutViews

@@ -18,8 +18,8 @@ ghost use Rattle.schema_keys.specs.KeyViews.{key_of};
 use crate::key::SchemaKey;
 use crate::options::CompileOptions;
 use crate::text::{has_own_scheme, text_before_fragment};
+use node_table::node::absolute::push_fragment;
 use schema_keywords::keywords::{BuiltinRow, Draft, Vocabulary, builtin_row, has_vocabulary};
-use schema_nodes::node::absolute::push_fragment;
 use schema_parts::resolver::Resolver;
 use schema_reports::location::{Location, LocationSegment, OutOfMemory};
 use serde_json::{Map, Value};
@@ -80,12 +80,12 @@ impl<'p, 'c, R: Resolver> Context<'p, 'c, R> {
     /// not begin with that part.
     pub fn suffix(&self) -> Option<&str>
         ensures suffix { MatchOption result
-            ((rest : Text) → self.now.key.now.location ≢ self.now.key.now.base ++ rest)
-            (λ rest. self.now.key.now.location ≡ self.now.key.now.base ++ rest.now) }
+            ((rest : Text) → self.now.key.now.location ≢ self.now.key.now.resource_base ++ rest)
+            (λ rest. self.now.key.now.location ≡ self.now.key.now.resource_base ++ rest.now) }
     {
         self.location()
             .as_str()
-            .strip_prefix(self.key.base.as_str())
+            .strip_prefix(self.key.resource_base.as_str())
     }
 
     /// Returns the URI that absolute locations in the schema's resource begin with; none if its scheme is `json-schema`.
@@ -110,13 +110,13 @@ impl<'p, 'c, R: Resolver> Context<'p, 'c, R> {
         ensures base { IfOk result (λ o. option_map (λ d. string_bytes d.base) o ≡
             shown_base (resolving_parts (R.resolving self.now.resolver.now))
             (key_of R.point self.now.key.now)) }
-        ensures start { IfOk result (λ o. IfSome o (λ d. d.resource_start ≡ self.now.key.now.start)) }
+        ensures start { IfOk result (λ o. IfSome o (λ d. d.resource_start ≡ self.now.key.now.resource_start)) }
     {
         match self.base_uri()? {
             None => Ok(None),
             Some(base) => Ok(Some(DeferredAbsoluteLocation {
                 base,
-                resource_start: self.key.start,
+                resource_start: self.key.resource_start,
             })),
         }
     }
@@ -132,7 +132,7 @@ impl<'p, 'c, R: Resolver> Context<'p, 'c, R> {
             None => Ok(None),
             Some(base) => {
                 let mut text = base;
-                push_fragment(&mut text, location.as_str(), self.key.start)?;
+                push_fragment(&mut text, location.as_str(), self.key.resource_start)?;
                 Ok(Some(text))
             }
         }

@@ -22,9 +22,9 @@ pub struct SchemaKey<S> {
     /// The pointer by which errors name the schema: that of the last reference, and what was passed since.
     pub location: Location,
     /// The part of `location` that the last reference gave.
-    pub base: Location,
+    pub resource_base: Location,
     /// How many bytes of `location` lie outside the schema's resource.
-    pub start: usize,
+    pub resource_start: usize,
 }
 
 /// Whether both are one key.
@@ -46,10 +46,10 @@ pub(crate) fn same_key<R: Resolver>(left: &SchemaKey<R::State>, right: &SchemaKe
     if !same_location(&left.location, &right.location) {
         return false;
     }
-    if !same_location(&left.base, &right.base) {
+    if !same_location(&left.resource_base, &right.resource_base) {
         return false;
     }
-    left.start == right.start
+    left.resource_start == right.resource_start
 }
 
 // Whether both are one pointer.

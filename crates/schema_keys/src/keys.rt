@@ -110,7 +110,7 @@ fn hash_of<S: Hash>(key: &SchemaKey<S>) -> u64
     let mut hasher = FoldHasher::default();
     hasher.write_usize(key.place.document);
     hasher.write(key.location.as_str().as_bytes());
-    hasher.write(key.base.as_str().as_bytes());
+    hasher.write(key.resource_base.as_str().as_bytes());
     key.state.hash(&mut hasher);
     hasher.finish()
 }

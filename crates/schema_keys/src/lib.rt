@@ -1,6 +1,7 @@
 //! Keys of schemas: what a node is compiled for, where it stands, and the keys that it leads to.
 #![tactic(auto)]
 
+pub mod check;
 pub mod context;
 pub mod error;
 pub mod key;

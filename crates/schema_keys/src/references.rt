@@ -275,9 +275,9 @@ impl<'p, 'c, R: Resolver> Context<'p, 'c, R> {
             state: target.state,
             draft: target.draft,
             vocabularies,
-            base: stands.location.clone()?,
+            resource_base: stands.location.clone()?,
             location: stands.location,
-            start: stands.start,
+            resource_start: stands.start,
         })
     }
 

@@ -88,12 +88,12 @@ impl<'p, 'c, R: Resolver> Context<'p, 'c, R> {
             (key_of R.point self.now.key.now) path.now (R.point below.state) (draft_of below.draft)) }
     {
         let location = self.location_below(path)?;
-        let base = self.key.base.clone()?;
+        let resource_base = self.key.resource_base.clone()?;
         let vocabularies = self.vocabularies_inside(&below)?;
-        let start = if has_id {
+        let resource_start = if has_id {
             location.as_str().len()
         } else {
-            self.key.start
+            self.key.resource_start
         };
         Ok(SchemaKey {
             place: below.place,
@@ -101,8 +101,8 @@ impl<'p, 'c, R: Resolver> Context<'p, 'c, R> {
             draft: below.draft,
             vocabularies,
             location,
-            base,
-            start,
+            resource_base,
+            resource_start,
         })
     }
 
@@ -203,8 +203,8 @@ impl<'p, 'c, R: Resolver> Context<'p, 'c, R> {
             draft: below.draft,
             vocabularies,
             location: Location::new(self.alloc),
-            base: Location::new(self.alloc),
-            start: 0,
+            resource_base: Location::new(self.alloc),
+            resource_start: 0,
         })
     }
 }

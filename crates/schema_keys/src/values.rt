@@ -5,7 +5,7 @@ ghost use Rattle.serde_json.specs.Find.{as_bool, as_object, as_str};
 ghost use Rattle.serde_json.specs.View.{view, members_view};
 ghost use Rattle.schema_definitions.specs.Pointer.{joined};
 ghost use Rattle.schema_meaning.specs.Refusals.{not_a_schema, reference_not_text};
-ghost use Rattle.schema_nodes.specs.NodeViews.{boolean_plan, plan_of};
+ghost use Rattle.node_table.specs.NodeViews.{boolean_plan, plan_of};
 ghost use Rattle.schema_parts.specs.ResolverViews.{place_of};
 ghost use Rattle.schema_keys.specs.Readings.{IsReading};
 ghost use Rattle.schema_keys.specs.Refusing.{Names};
@@ -13,7 +13,7 @@ ghost use Rattle.schema_keys.specs.Refusing.{Names};
 use crate::context::Context;
 use crate::error::BuildError;
 use crate::key::SchemaKey;
-use schema_nodes::node::NodeForm;
+use node_table::node::NodeForm;
 use schema_parts::resolver::Resolver;
 use serde_json::{Map, Value};
 

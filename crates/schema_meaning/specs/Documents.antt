@@ -31,23 +31,23 @@ module _ {S K R : Type 0} (w : Parts S K R) where
 
   -- the value at a place, with `{}` at the cuts
   abbrev mutual
-    pub blanked : List Cut → SchemaPlace → Data → Data
-    blanked qs p null = null
-    blanked qs p (boolean b) = boolean b
-    blanked qs p (number n) = number n
-    blanked qs p (string s) = string s
-    blanked qs p (array ds) = array (blanked_items qs p 0 ds)
-    blanked qs p (object ms) = object (blanked_members qs p ms)
+    pub masked : List Cut → SchemaPlace → Data → Data
+    masked qs p null = null
+    masked qs p (boolean b) = boolean b
+    masked qs p (number n) = number n
+    masked qs p (string s) = string s
+    masked qs p (array ds) = array (masked_items qs p 0 ds)
+    masked qs p (object ms) = object (masked_members qs p ms)
 
-    pub blanked_items : List Cut → SchemaPlace → ℕ → Items → Items
-    blanked_items qs p n no_items = no_items
-    blanked_items qs p n (item d ds) = let q = record p { path = p.path ++ to_item n ∷ [] } in
-        item (if is_cut qs q then object no_members else blanked qs q d) (blanked_items qs p (n + 1) ds)
+    pub masked_items : List Cut → SchemaPlace → ℕ → Items → Items
+    masked_items qs p n no_items = no_items
+    masked_items qs p n (item d ds) = let q = record p { path = p.path ++ to_item n ∷ [] } in
+        item (if is_cut qs q then object no_members else masked qs q d) (masked_items qs p (n + 1) ds)
 
-    pub blanked_members : List Cut → SchemaPlace → Members → Members
-    blanked_members qs p no_members = no_members
-    blanked_members qs p (member k d ms) = let q = record p { path = p.path ++ to_member k ∷ [] } in
-        member k (if is_cut qs q then object no_members else blanked qs q d) (blanked_members qs p ms)
+    pub masked_members : List Cut → SchemaPlace → Members → Members
+    masked_members qs p no_members = no_members
+    masked_members qs p (member k d ms) = let q = record p { path = p.path ++ to_member k ∷ [] } in
+        member k (if is_cut qs q then object no_members else masked qs q d) (masked_members qs p ms)
 
   pub record Document : Type 0 where
     pub place : SchemaPlace
@@ -63,7 +63,7 @@ module _ {S K R : Type 0} (w : Parts S K R) where
   abbrev pub documents : ℕ → Draft → SchemaPlace → List Document
   documents zero draft p = []
   documents (suc h) draft p = let qs = cuts (suc (depth (schema_at w p))) draft draft p in
-      (if passes_unseen (schema_at w p) then [] else record { place = p; draft = draft; value = blanked qs p (schema_at w p) } ∷ [])
+      (if passes_unseen (schema_at w p) then [] else record { place = p; draft = draft; value = masked qs p (schema_at w p) } ∷ [])
       ++ flat_map (λ q. documents h q.draft q.place) qs
 
   abbrev pub checked : Draft → SchemaPlace → List Document

@@ -18,11 +18,11 @@ use Rattle.schema_contexts.specs.Matches.{MeetsEach, Settling}
 use Rattle.schema_node.specs.NodeMeets.{ChildMeets, EdgeMeets, FormMeets, NodeMeets, PartsMeet, child_run, deep_run, edge_run, entry_met, part_holds, part_looked, parts_looked, reading}
 use Rattle.schema_parts.specs.KeywordViews.{reply_of}
 use Rattle.schema_parts.specs.declared.keyword.Reply as code
-use Rattle.schema_answers.specs.ReplyModes.{Joins, accepts, refuses, reply_by}
-use Rattle.schema_answers.specs.NodeRuns.{Reads, Replies, child_says, edge_needs, edge_says, form_says}
+use Rattle.run_steps.specs.ReplyModes.{Joins, accepts, refuses, reply_by}
+use Rattle.run_steps.specs.NodeRuns.{Reads, Replies, child_says, edge_needs, edge_says, form_says}
 use Rattle.schema_contexts.proofs.Matches.{meets_append, meets_same}
 use Rattle.schema_node.proofs.NodeOutcomes.{across_is, outcome_is}
-use Rattle.schema_answers.proofs.NodeRuns.{busy_case, entered_case, needs_of_entered, some_case}
+use Rattle.run_steps.proofs.NodeRuns.{busy_case, entered_case, needs_of_entered, some_case}
 
 module _ {K R : Type 0} (words : Bool → Keywords K R) (is_whole : K → Bool) (nodes : Nodes K) (count : ℕ) (w : Settling) where
   -- ---- edges

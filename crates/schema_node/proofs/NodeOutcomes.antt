@@ -8,7 +8,7 @@ use Rattle.schema_definitions.specs.Keywords.{Below, Keywords, Mode, for_all, fo
 use Rattle.schema_definitions.specs.Meaning.{place_below}
 use Rattle.schema_definitions.specs.Runs.{Run, reply_in}
 use Rattle.schema_definitions.specs.Guarded.{NodeEdge, Nodes, across, guarded_node, guarded_within, node_outcome, progress_below, yes_outcome, yes_run}
-use Rattle.schema_answers.specs.ReplyModes.{reply_by}
+use Rattle.run_steps.specs.ReplyModes.{reply_by}
 
 module _ {K R : Type 0} (keywords : Keywords K R) (matcher : Matcher) (nodes : Nodes K) (subject_of : Place → Subject) (as' : Assumptions) where
   abbrev runs : ℕ → ℕ → Text → Place → List ℕ → Run

@@ -16,23 +16,23 @@ use Rattle.schema_definitions.specs.UnitOrder.{Placed, all_placed, each_placed, 
 use Rattle.schema_meaning.specs.UnitsOrdered.{placed_in_order}
 use Rattle.schema_reports.specs.UnitViews.{unit_of}
 use Rattle.schema_definitions.specs.Unfinished.{Remembered}
-use Rattle.schema_answers.specs.EntryUnits.{entry_units_of}
+use Rattle.run_steps.specs.EntryUnits.{entry_units_of}
 use Rattle.schema_reports.specs.declared.evaluation.EvaluationNode.{EvaluationNode}
-use Rattle.schema_answers.specs.declared.evaluation_order.EntryUnits.{EntryUnits}
+use Rattle.run_steps.specs.declared.evaluation_order.EntryUnits.{EntryUnits}
 use Rattle.schema_meaning.proofs.Falls.{from_below}
 use Rattle.schema_parts.specs.KeywordViews.{answer_of}
 use Rattle.schema_contexts.specs.Matches.{settling}
 use Rattle.schema_node.specs.NodeMeets.{NodeMeets}
-use Rattle.schema_answers.specs.NodeRuns.{Reading, Reads, child_says, edge_needs}
+use Rattle.run_steps.specs.NodeRuns.{Reading, Reads, child_says, edge_needs}
 use Rattle.schema_contexts.specs.Progress.{Context, Pairs}
-use Rattle.schema_answers.specs.Askings.{Asking}
+use Rattle.run_steps.specs.Askings.{Asking}
 use Rattle.schema_node.specs.RunStates.{MeetsEdge, MeetsNode, Setting, busy, settled_by}
 use Rattle.schema_node.specs.UnitStates.{ChildGives, ChildTells, EdgeGives, FindsRightly, FindsUnits, FormGives, NodeGives, PartsGive, child_unit, deep_unit, edge_unit, parts_units}
 use Rattle.schema_parts.specs.declared.keyword.Answer as code_answer
 use Rattle.schema_parts.specs.declared.keyword.Reply as code_reply
 use Rattle.schema_contexts.proofs.Matches.{moved}
 use Rattle.schema_node.proofs.NodeMeets.{meets_entered}
-use Rattle.schema_answers.proofs.NodeRuns.{busy_case, entered_case, free_case, none_case, some_case, stands_in}
+use Rattle.run_steps.proofs.NodeRuns.{busy_case, entered_case, free_case, none_case, some_case, stands_in}
 
 module _ {K R : Type 0} (g : Setting K R) (q : Asking) (c : Context) where
   -- ---- edges

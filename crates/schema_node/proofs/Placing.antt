@@ -11,9 +11,9 @@ use Rattle.schema_definitions.specs.Instance.{Place, Step, Subject, a_value, aft
 use Rattle.schema_meaning.proofs.Falls.{from_below}
 use Rattle.schema_contexts.specs.Progress.{Context, Pairs, busy_at, root_places}
 use Rattle.schema_contexts.specs.Verdicts.{read_verdict}
-use Rattle.schema_answers.specs.Askings.{Asking, IsAskedOf}
-use Rattle.schema_answers.specs.EvaluationPlaces.{CarriesItsNumber}
-use Rattle.schema_answers.specs.declared.evaluation_place.EvaluationPlace.{EvaluationPlace}
+use Rattle.run_steps.specs.Askings.{Asking, IsAskedOf}
+use Rattle.run_steps.specs.EvaluationPlaces.{CarriesItsNumber}
+use Rattle.run_steps.specs.declared.evaluation_place.EvaluationPlace.{EvaluationPlace}
 
 -- one step below
 pub stands_below : (root : Data) (p : Place) (s t : Subject) (step : Step) (lower : Place) → subject_at root p ≡ Some s → lower ≡ p ++ step ∷ [] → after_step step s ≡ Some t → subject_at root lower ≡ Some t

@@ -5,8 +5,8 @@ use Rattle.schema_definitions.specs.Keywords.{Answer, Keywords, Mode, Question, 
 use Rattle.schema_definitions.specs.Remembering.{AlwaysAsksVerdict, AsksVerdict, EachAsksVerdicts}
 use Rattle.schema_definitions.specs.Reports.{Outcome, Unit_}
 use Rattle.schema_definitions.specs.Turns.{Standing, TurnLaws}
-use Rattle.schema_answers.specs.ReplyModes.{reply_by}
-use Rattle.schema_answers.proofs.KeywordTurns.{falls_turned}
+use Rattle.run_steps.specs.ReplyModes.{reply_by}
+use Rattle.run_steps.proofs.KeywordTurns.{falls_turned}
 use Rattle.schema_node.specs.UnitStates.{reply_with}
 use Rattle.schema_node.specs.VerdictTurns.{AsksVerdictsOn}
 

@@ -12,9 +12,9 @@ use Rattle.schema_reports.specs.ReportViews.{BorrowsItsPlace}
 use Rattle.schema_contexts.specs.Matches.{Settling}
 use Rattle.schema_parts.specs.KeywordViews.{reply_of}
 use Rattle.schema_parts.specs.declared.keyword.Reply.TheVariants as told
-use Rattle.schema_answers.specs.ReplyModes.{Joins, Stamps, reply_by}
-use Rattle.schema_answers.specs.NodeRuns.{FormReplies, Reading, Reads, Replies, child_says}
-use Rattle.schema_answers.proofs.NodeRuns.{stands_in}
+use Rattle.run_steps.specs.ReplyModes.{Joins, Stamps, reply_by}
+use Rattle.run_steps.specs.NodeRuns.{FormReplies, Reading, Reads, Replies, child_says}
+use Rattle.run_steps.proofs.NodeRuns.{stands_in}
 
 -- a yes changes no verdict that it is joined with
 pub joins_verdict : (b texts : Bool) → Joins (reply_of texts (told.Truth true)) (reply_of texts (told.Truth b)) (reply_of texts (told.Truth b))

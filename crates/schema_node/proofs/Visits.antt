@@ -6,7 +6,7 @@ use Rattle.schema_definitions.specs.Keywords.{for_verdict}
 use Rattle.schema_definitions.specs.Guarded.{Children, NodeEdge, NodeForm, NodePart, NodePlan, Nodes, node_always, node_keyword, node_never, node_reference}
 use Rattle.schema_contexts.specs.Progress.{Context, busy_at}
 use Rattle.schema_contexts.specs.Verdicts.{one_more, read_verdict}
-use Rattle.schema_answers.specs.Askings.{Asking}
+use Rattle.run_steps.specs.Askings.{Asking}
 use Rattle.schema_node.specs.Visits.{EachLeadsNowhere, EdgeCounts, EdgeTakes, FormCounts, FormLeadsNowhere, FormTakes, LeadsNowhere, NodeCounts, PartsCount, PlanCounts, PlanTakes, TakesAcross, more_visits}
 
 module _ {K : Type 0} (nodes : Nodes K) (q : Asking) where

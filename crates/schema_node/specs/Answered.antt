@@ -14,17 +14,17 @@ use Rattle.schema_parts.specs.declared.keyword.Reply as code
 use Rattle.schema_parts.specs.declared.keyword.Reply.TheVariants as told
 use Rattle.schema_parts.specs.declared.numbers.Edge.{Edge}
 use Rattle.schema_contexts.specs.Progress.{Context, places_in}
-use Rattle.schema_nodes.specs.NodeTable.{shaped_form, shaped_part}
-use Rattle.schema_nodes.specs.NodeViews.{entry_of, form_of}
-use Rattle.schema_nodes.specs.declared.node.Entry.{Entry}
-use Rattle.schema_answers.specs.Askings.{Asking, asking}
-use Rattle.schema_answers.specs.EvaluationPlaces.{CarriesItsNumber}
-use Rattle.schema_answers.specs.NodeRuns.{HasChildren, HasForm, HasParts, form_at_work}
+use Rattle.node_table.specs.NodeTable.{shaped_form, shaped_part}
+use Rattle.node_table.specs.NodeViews.{entry_of, form_of}
+use Rattle.node_table.specs.declared.node.Entry.{Entry}
+use Rattle.run_steps.specs.Askings.{Asking, asking}
+use Rattle.run_steps.specs.EvaluationPlaces.{CarriesItsNumber}
+use Rattle.run_steps.specs.NodeRuns.{HasChildren, HasForm, HasParts, form_at_work}
 use Rattle.schema_reports.specs.declared.evaluation.EvaluationNode.{EvaluationNode}
-use Rattle.schema_answers.specs.declared.evaluation_order.EntryUnits.{EntryUnits}
-use Rattle.schema_answers.specs.declared.question.Engine.{Engine}
-use Rattle.schema_answers.specs.declared.question.NamedKeyword.{NamedKeyword}
-use Rattle.schema_answers.specs.declared.question.Question.{Question}
+use Rattle.run_steps.specs.declared.evaluation_order.EntryUnits.{EntryUnits}
+use Rattle.run_steps.specs.declared.question.Engine.{Engine}
+use Rattle.run_steps.specs.declared.question.NamedKeyword.{NamedKeyword}
+use Rattle.run_steps.specs.declared.question.Question.{Question}
 use Rattle.schema_node.specs.RunStates.{ChildSays, EdgeRemembers, EdgeSays, FormRemembers, FormSays, Keeps, MayRun, MeetsChild, MeetsEdge, MeetsEntry, MeetsForm, MeetsNode, MeetsParts, NodeRemembers, NodeSays, PartsRemember, PartsSay, Setting, StaysRight, setting}
 use Rattle.schema_node.specs.UnitStates.{ChildGives, EdgeGives, FindsRightly, FormGives, NodeGives, PartsGive}
 use Rattle.schema_node.specs.Visits.{EdgeCounts, FormCounts, LeadsNowhere, NodeCounts, PartsCount}

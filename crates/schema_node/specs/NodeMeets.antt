@@ -9,7 +9,7 @@ use Rattle.schema_definitions.specs.Guarded.{Children, NodeEdge, NodeForm, NodeP
 use Rattle.schema_meaning.specs.Numbered.{left, subject_in}
 use Rattle.schema_definitions.specs.Unfinished.{Remembered}
 use Rattle.schema_contexts.specs.Matches.{MeetsEach, Settling}
-use Rattle.schema_answers.specs.NodeRuns.{Reading, Reads, edge_needs}
+use Rattle.run_steps.specs.NodeRuns.{Reading, Reads, edge_needs}
 
 -- what the run of one entry meets; a leaf's verdict is asked first, and what else is wanted only where it is no
 abbrev pub entry_met : Mode → Looked → List Met

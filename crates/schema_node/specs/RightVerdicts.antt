@@ -10,7 +10,7 @@ use Rattle.schema_meaning.specs.Numbered.{left}
 use Rattle.schema_definitions.specs.Unfinished.{Remembered}
 use Rattle.schema_contexts.specs.Matches.{Settling, settling}
 use Rattle.schema_node.specs.NodeMeets.{deep_run, reading}
-use Rattle.schema_answers.specs.NodeRuns.{Reading, Reads, deep}
+use Rattle.run_steps.specs.NodeRuns.{Reading, Reads, deep}
 use Rattle.schema_contexts.specs.Progress.{Verdicts}
 use Rattle.schema_node.specs.Remembering.{KnowsEach}
 use Rattle.schema_contexts.specs.Verdicts.{verdict_of}

@@ -15,17 +15,17 @@ use Rattle.schema_parts.specs.FaultViews.{PassesBorrowed, errors_in, faults_in}
 use Rattle.schema_parts.specs.KeywordViews.{answer_of, mode_of, reply_of}
 use Rattle.schema_contexts.specs.Matches.{MeetsEach, Settling, settling}
 use Rattle.schema_node.specs.NodeMeets.{ChildMeets, EdgeMeets, EntryMeets, FormMeets, NodeMeets, PartsMeet}
-use Rattle.schema_answers.specs.Askings.{Asking, IsAskedOf}
-use Rattle.schema_answers.specs.ReplyModes.{reply_by}
-use Rattle.schema_answers.specs.NodeRuns.{ChildReplies, EdgeReplies, FormReplies, NodeReplies, PartsReply, TellsAll}
-use Rattle.schema_nodes.specs.NodeTable.{NodeEntry, numbered}
+use Rattle.run_steps.specs.Askings.{Asking, IsAskedOf}
+use Rattle.run_steps.specs.ReplyModes.{reply_by}
+use Rattle.run_steps.specs.NodeRuns.{ChildReplies, EdgeReplies, FormReplies, NodeReplies, PartsReply, TellsAll}
+use Rattle.node_table.specs.NodeTable.{NodeEntry, numbered}
 use Rattle.serde_json.specs.View.{view}
 use Rattle.schema_contexts.specs.Progress.{Context, NoDeeper, busy_at, guard_words}
 use Rattle.schema_node.specs.RightVerdicts.{AreRight, LaysOut, Layout}
 use Rattle.schema_contexts.specs.Verdicts.{MayKeep, one_more, read_verdict, verdict_of}
 use Rattle.schema_parts.specs.declared.keyword.Answer as code_answer
 use Rattle.schema_parts.specs.declared.keyword.Reply as code
-use Rattle.schema_answers.specs.declared.question.Engine.{Engine}
+use Rattle.run_steps.specs.declared.question.Engine.{Engine}
 use Rattle.schema_node.specs.declared.node.runs.FirstQuestion.{FirstQuestion}
 
 -- what a run is made with: the keywords as they are read, the numbered nodes and how many there are, and the matcher

@@ -9,15 +9,15 @@ use Rattle.schema_definitions.specs.Reports.{Outcome, Unit_}
 use Rattle.schema_definitions.specs.Runs.{first_error}
 use Rattle.schema_definitions.specs.Units.{Entry, PartUnits, entry_units, no_unit}
 use Rattle.schema_reports.specs.UnitViews.{unit_of}
-use Rattle.schema_answers.specs.EntryUnits.{entry_units_of}
+use Rattle.run_steps.specs.EntryUnits.{entry_units_of}
 use Rattle.schema_definitions.specs.Guarded.{Children, NodeEdge, NodeForm, NodePart, Nodes, across, guarded_within, node_asked, node_entries_of, node_part_units, node_unit, same_edge, yes_unit}
 use Rattle.schema_reports.specs.declared.evaluation.EvaluationNode.{EvaluationNode}
-use Rattle.schema_answers.specs.declared.evaluation_order.EntryUnits.{EntryUnits}
+use Rattle.run_steps.specs.declared.evaluation_order.EntryUnits.{EntryUnits}
 use Rattle.schema_parts.specs.KeywordViews.{answer_of, reply_of}
-use Rattle.schema_answers.specs.NodeRuns.{Reading, Reads, child_says, edge_needs}
+use Rattle.run_steps.specs.NodeRuns.{Reading, Reads, child_says, edge_needs}
 use Rattle.schema_contexts.specs.Progress.{Context, NoDeeper}
 use Rattle.serde_json.specs.View.{view}
-use Rattle.schema_answers.specs.Askings.{Asking, IsAskedOf}
+use Rattle.run_steps.specs.Askings.{Asking, IsAskedOf}
 use Rattle.schema_node.specs.RunStates.{GoesOn, OfWholeRun, Setting, busy, settled_by}
 use Rattle.schema_parts.specs.declared.keyword.Answer as code_answer
 use Rattle.schema_parts.specs.declared.keyword.Reply as code

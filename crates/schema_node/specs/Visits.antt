@@ -7,7 +7,7 @@ use Rattle.schema_definitions.specs.Keywords.{for_verdict}
 use Rattle.schema_definitions.specs.Guarded.{Children, NodeEdge, NodeForm, NodePart, NodePlan, Nodes, node_always, node_child, node_keyword, node_never, node_reference, node_these}
 use Rattle.schema_contexts.specs.Progress.{Context, Pairs, Verdicts, busy_at}
 use Rattle.schema_contexts.specs.Verdicts.{is_alone, one_more, verdict_of}
-use Rattle.schema_answers.specs.Askings.{Asking}
+use Rattle.run_steps.specs.Askings.{Asking}
 
 -- the count after so many visits more
 abbrev pub more_visits : ℕ → ℕ → ℕ

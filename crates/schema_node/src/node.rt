@@ -8,6 +8,6 @@ mod verdict;
 mod verdict_turns;
 
 pub use crate::node::runs::RunNodes;
+pub use node_table::node::{Entry, EntryForm, Node, NodeForm, Nodes, absolute, validators};
 pub use schema_contexts::evaluation_path;
-pub use schema_nodes::node::{Entry, EntryForm, Node, NodeForm, Nodes, absolute, validators};
 pub use schema_parts::numbers::{Edge, PendingSchemaNode, SchemaNode};

@@ -16,8 +16,8 @@ use Rattle.schema_contexts.specs.Verdicts.{Remembers, is_pair, verdict_of}
 use Rattle.schema_contexts.proofs.Entering.{in_row}
 use Rattle.schema_contexts.proofs.Guarding.{has_row, same_at}
 use Rattle.schema_contexts.proofs.Pairs.{among, among-pair, eqb-self}
-use Rattle.schema_solving.specs.Found.{is_this}
-use Rattle.schema_solving.proofs.Pairs.{of_this, this_self}
+use Rattle.schema_greatest.specs.Found.{is_this}
+use Rattle.schema_greatest.proofs.Pairs.{of_this, this_self}
 use Rattle.schema_pairs.specs.Contexts.{SettlesAll, has_pair}
 use Rattle.schema_pairs.specs.ContextViews.{Assumes, HaveBits, KeepsVerdict, SettlesPairs, has_number_pair, pairs_at}
 use Rattle.schema_contexts.specs.declared.numbered_pairs.NumberedPair.{NumberedPair}

@@ -5,8 +5,8 @@ use Rattle.std.proofs.lemmas.Bool.{false_from_ne_true}
 use Rattle.schema_definitions.specs.Instance.{Place}
 use Rattle.schema_contexts.specs.Progress.{Pairs}
 use Rattle.schema_contexts.specs.Verdicts.{Remembers, is_pair, verdict_of}
-use Rattle.schema_solving.specs.Found.{after_no, after_yes, after_yes_alone, entered, is_this}
-use Rattle.schema_solving.proofs.Pairs.{of_this, this_self}
+use Rattle.schema_greatest.specs.Found.{after_no, after_yes, after_yes_alone, entered, is_this}
+use Rattle.schema_greatest.proofs.Pairs.{of_this, this_self}
 use Rattle.schema_pairs.specs.Contexts.{SettlesAll, Solver, found_of, has_pair}
 
 or_none : (a : Bool) → (a || false) ≡ a

@@ -13,9 +13,9 @@ use Rattle.std.proofs.lemmas.Option.{get_or_from_slice_get, slice_get_within}
 use Rattle.schema_definitions.specs.Guarded.{NodeEdge, NodePart, form_edges, node_edges, node_these}
 use Rattle.schema_parts.specs.EdgeViews.{edge_of}
 use Rattle.schema_parts.specs.declared.numbers.Edge.{Edge}
-use Rattle.schema_nodes.specs.declared.node.Entry.{Entry}
-use Rattle.schema_nodes.specs.NodeTable.{NodeEntry, plan_in}
-use Rattle.schema_nodes.specs.NodeViews.{entry_of, form_of}
+use Rattle.node_table.specs.declared.node.Entry.{Entry}
+use Rattle.node_table.specs.NodeTable.{NodeEntry, plan_in}
+use Rattle.node_table.specs.NodeViews.{entry_of, form_of}
 use Rattle.schema_pairs.specs.Following.{AreWays, Counts, is_settled_in, table_edges, ways_along, ways_in, weight_in}
 
 -- ---- one edge

@@ -8,9 +8,9 @@ use Rattle.std.proofs.lemmas.Bool.Decides.{eqb_tells, leb_tells}
 use Rattle.schema_definitions.specs.Guarded.{NodeEdge, form_edges, node_edges, node_these}
 use Rattle.schema_parts.specs.EdgeViews.{edge_of}
 use Rattle.schema_parts.specs.declared.numbers.Edge.{Edge}
-use Rattle.schema_nodes.specs.declared.node.Entry.{Entry}
-use Rattle.schema_nodes.specs.NodeTable.{NodeEntry, plan_in}
-use Rattle.schema_nodes.specs.NodeViews.{entry_of, form_of}
+use Rattle.node_table.specs.declared.node.Entry.{Entry}
+use Rattle.node_table.specs.NodeTable.{NodeEntry, plan_in}
+use Rattle.node_table.specs.NodeViews.{entry_of, form_of}
 use Rattle.schema_pairs.specs.Following.{Covers, edge_weight, edges_from, edges_weight, weight_in}
 use Rattle.schema_pairs.proofs.Ways.{child_edges, child_more, entry_more}
 

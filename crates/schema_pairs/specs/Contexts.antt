@@ -6,7 +6,7 @@ use Rattle.schema_definitions.specs.Instance.{Place}
 use Rattle.schema_definitions.specs.Keywords.{Marked}
 use Rattle.schema_contexts.specs.Progress.{Pairs, Verdicts, root_places}
 use Rattle.schema_contexts.specs.Verdicts.{is_pair, verdict_of}
-use Rattle.schema_solving.specs.Found.{Found}
+use Rattle.schema_greatest.specs.Found.{Found}
 
 -- the instance whose places it speaks of; the pairs in progress and those that are assumed, the last one last; the verdicts that are
 -- known; the marks of the keyword's run that is at work; and how many pairs were begun

@@ -3,7 +3,7 @@
 use Rattle.std.specs.Prelude.{Bool, EachIndex, List, Some, count_by, false, flat_map, if◌then◌else◌, length, min, nat_le, not, option_map}
 use Rattle.std.specs.Prelude.{slice_get, slice_index, slice_index_or, sum_by, unwrap_or, ℕ, ◌&&◌, ◌++◌, ◌<◌, ◌==◌, ◌||◌, ◌≡◌}
 use Rattle.schema_definitions.specs.Guarded.{NodeEdge, node_edges}
-use Rattle.schema_nodes.specs.NodeTable.{NodeEntry, is_settled_entry, plan_in}
+use Rattle.node_table.specs.NodeTable.{NodeEntry, is_settled_entry, plan_in}
 
 -- how many of some edges lead to a number with nothing to guard them
 abbrev pub ways_along : List NodeEdge → ℕ → ℕ

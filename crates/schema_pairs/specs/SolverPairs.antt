@@ -2,7 +2,7 @@
 use Rattle.std.specs.Prelude.{List, Some, ◌≡◌}
 use Rattle.schema_definitions.specs.Instance.{Place}
 use Rattle.schema_places.specs.Numbers.{number_of}
-use Rattle.schema_answers.specs.EvaluationPlaces.{steps_to}
+use Rattle.run_steps.specs.EvaluationPlaces.{steps_to}
 use Rattle.schema_pairs.specs.declared.pair.SolverPair.{SolverPair}
 
 -- its place

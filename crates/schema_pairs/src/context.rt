@@ -17,9 +17,9 @@ ghost use Rattle.schema_pairs.specs.Contexts.{SettlesAll, has_pair, solver_place
 ghost use Rattle.schema_pairs.specs.ContextViews.{HaveBits, KeepsVerdict, SettlesPairs, has_number_pair};
 ghost use Rattle.schema_pairs.specs.Answering.{AssumesBeside, Begins, IsApart, Refuses, SettlesAlone, fresh};
 
+use schema_contexts::bit_rows::{Rows, row_words};
 use schema_contexts::marks::Marks;
 use schema_contexts::numbered_pairs::{NumberedPair, count_at, make_counts, push_within};
-use schema_contexts::rows::{Rows, row_words};
 use schema_parts::keyword::Marked;
 use schema_parts::numbers::{Edge, SchemaNode};
 use schema_places::on_demand::PlacesOnDemand;

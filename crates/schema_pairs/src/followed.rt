@@ -3,12 +3,12 @@ ghost use Rattle.std.specs.Prelude.{◌≡◌, ◌∷◌, ◌<◌, ◌||◌, ◌
 ghost use Rattle.std.specs.Prelude.{filter_map, length, map, nat_le, option_map, slice_index_or};
 ghost use Rattle.schema_definitions.specs.Guarded.{form_edges, node_edges, node_these};
 ghost use Rattle.schema_parts.specs.EdgeViews.{edge_of};
-ghost use Rattle.schema_nodes.specs.NodeTable.{plan_in};
-ghost use Rattle.schema_nodes.specs.NodeViews.{entry_of, form_of, node_of};
+ghost use Rattle.node_table.specs.NodeTable.{plan_in};
+ghost use Rattle.node_table.specs.NodeViews.{entry_of, form_of, node_of};
 ghost use Rattle.schema_pairs.specs.Following.{AreWays, Counts, Covers, IsFollowing, is_settled_in, table_edges};
 
 use crate::weights::{weight_of, weights_of};
-use schema_nodes::node::{Entry, EntryForm, Node, NodeForm, Nodes};
+use node_table::node::{Entry, EntryForm, Node, NodeForm, Nodes};
 use schema_parts::numbers::{Edge, SchemaNode};
 use schema_reports::location::OutOfMemory;
 use std::alloc::Global;

@@ -6,13 +6,13 @@ ghost use Rattle.schema_definitions.specs.Instance.{subject_at};
 ghost use Rattle.schema_places.specs.Numbers.{OwnNumbers};
 ghost use Rattle.schema_contexts.specs.Progress.{EndsWith};
 ghost use Rattle.schema_contexts.specs.Verdicts.{verdict_of};
-ghost use Rattle.schema_answers.specs.EvaluationPlaces.{CarriesItsNumber, steps_to};
+ghost use Rattle.run_steps.specs.EvaluationPlaces.{CarriesItsNumber, steps_to};
 ghost use Rattle.schema_pairs.specs.Contexts.{Solver, has_pair, solver_places};
 ghost use Rattle.schema_pairs.specs.Answering.{AssumesBeside, Begins, IsApart, Refuses, SettlesAlone};
 ghost use Rattle.schema_pairs.specs.SolverPairs.{IsNumbered, place_of};
 
 use crate::context::SolverContext;
-use schema_answers::evaluation_place::EvaluationPlace;
+use run_steps::evaluation_place::EvaluationPlace;
 use schema_parts::numbers::SchemaNode;
 use schema_reports::location::OutOfMemory;
 

@@ -2,11 +2,11 @@
 ghost use Rattle.std.specs.Prelude.{◌≡◌, IfOk, Some, filter_map, length, map, min, option_map};
 ghost use Rattle.schema_definitions.specs.Guarded.{form_edges, node_edges, node_these};
 ghost use Rattle.schema_parts.specs.EdgeViews.{edge_of};
-ghost use Rattle.schema_nodes.specs.NodeTable.{plan_in};
-ghost use Rattle.schema_nodes.specs.NodeViews.{entry_of, form_of, node_of};
+ghost use Rattle.node_table.specs.NodeTable.{plan_in};
+ghost use Rattle.node_table.specs.NodeViews.{entry_of, form_of, node_of};
 ghost use Rattle.schema_pairs.specs.Following.{Covers, edge_weight, edges_weight, weight_in};
 
-use schema_nodes::node::{Entry, EntryForm, Node, NodeForm, Nodes};
+use node_table::node::{Entry, EntryForm, Node, NodeForm, Nodes};
 use schema_parts::numbers::{Edge, SchemaNode};
 use schema_reports::location::OutOfMemory;
 use std::alloc::Global;

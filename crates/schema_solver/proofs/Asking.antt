@@ -7,9 +7,9 @@ use Rattle.std.proofs.lemmas.List.Elements.{All-contains, All-weaker}
 use Rattle.serde_json.specs.View.{view}
 use Rattle.schema_definitions.specs.Instance.{Place, Step, Subject, after_step}
 use Rattle.schema_definitions.specs.Guarded.{NodeEdge, NodeForm, NodePart, node_edges}
-use Rattle.schema_solving.specs.Under.{Solving}
-use Rattle.schema_solving.specs.Says.{FormSays, PartsSay}
-use Rattle.schema_solving.proofs.Between.{grows_between}
+use Rattle.schema_greatest.specs.Under.{Solving}
+use Rattle.schema_greatest.specs.Says.{FormSays, PartsSay}
+use Rattle.schema_greatest.proofs.Between.{grows_between}
 use Rattle.schema_meaning.proofs.Falls.{from_below}
 use Rattle.schema_pairs.specs.Contexts.{Solver, found_of}
 use Rattle.schema_solver.specs.Solving.{Goes, HasEachCut, InEach, IsEdge, MaySolve, Setting, is_cut}

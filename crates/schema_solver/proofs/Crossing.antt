@@ -20,13 +20,13 @@ use Rattle.schema_parts.specs.KeywordViews.{Tells}
 use Rattle.schema_contexts.specs.Progress.{Pairs, busy_at}
 use Rattle.schema_contexts.specs.Verdicts.{Remembers, is_pair, verdict_of}
 use Rattle.schema_contexts.proofs.Pairs.{among-pair, busy-pushed, snoc_first}
-use Rattle.schema_answers.specs.NodeRuns.{HasForm}
-use Rattle.schema_answers.proofs.NodeRuns.{stands_in}
-use Rattle.schema_solving.specs.Under.{IsSolvable}
-use Rattle.schema_solving.specs.Found.{NoneAt, SaysPair, SaysUnder}
-use Rattle.schema_solving.specs.Says.{FormSays, PartsSay, parts_under}
-use Rattle.schema_solving.proofs.Between.{grows_between, says_assumed, says_busy, says_known}
-use Rattle.schema_solving.proofs.Turning.{at_once_under}
+use Rattle.run_steps.specs.NodeRuns.{HasForm}
+use Rattle.run_steps.proofs.NodeRuns.{stands_in}
+use Rattle.schema_greatest.specs.Under.{IsSolvable}
+use Rattle.schema_greatest.specs.Found.{NoneAt, SaysPair, SaysUnder}
+use Rattle.schema_greatest.specs.Says.{FormSays, PartsSay, parts_under}
+use Rattle.schema_greatest.proofs.Between.{grows_between, says_assumed, says_busy, says_known}
+use Rattle.schema_greatest.proofs.Turning.{at_once_under}
 use Rattle.schema_pairs.specs.Contexts.{SettlesAll, Solver, found_of, has_pair, solver_places}
 use Rattle.schema_pairs.specs.Answering.{AssumesBeside, Begins, Refuses, SettlesAlone}
 use Rattle.schema_solver.specs.Solving.{Goes, HasEachCut, InEach, IsNew, Leaves, MaySolve, Setting, is_cut, solving_in}

@@ -14,12 +14,12 @@ use Rattle.schema_parts.specs.MatcherViews.{FinishesEach}
 use Rattle.schema_contexts.specs.Progress.{NoDeeper, root_places}
 use Rattle.schema_meaning.specs.Numbered.{Ranked}
 use Rattle.schema_greatest.specs.NodesSay.{AreMonotone}
-use Rattle.schema_solving.specs.Under.{Solving, IsSolvable}
-use Rattle.schema_solving.specs.Found.{IsSound, SaysUnder}
-use Rattle.schema_solving.specs.Work.{IsCounted, pairs_of}
-use Rattle.schema_solving.proofs.Between.{grows_below, grows_none, grows_on}
-use Rattle.schema_solving.proofs.Solved.{nothing_sound, solver_says_guarded}
-use Rattle.schema_solving.proofs.Bounds.{bounded_by}
+use Rattle.schema_greatest.specs.Under.{Solving, IsSolvable}
+use Rattle.schema_greatest.specs.Found.{IsSound, SaysUnder}
+use Rattle.schema_greatest.specs.Work.{IsCounted, pairs_of}
+use Rattle.schema_greatest.proofs.Between.{grows_below, grows_none, grows_on}
+use Rattle.schema_greatest.proofs.Solved.{nothing_sound, solver_says_guarded}
+use Rattle.schema_greatest.proofs.Bounds.{bounded_by}
 use Rattle.schema_pairs.specs.Contexts.{Solver, found_of, has_pair}
 use Rattle.schema_pairs.specs.Answering.{fresh}
 use Rattle.schema_solver.specs.Solving.{BeginsFew, Goes, InEach, IsSoundIn, MaySolve, SaysAsNodes, Setting, StaysCounted, solving_in}

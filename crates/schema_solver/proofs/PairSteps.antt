@@ -12,14 +12,14 @@ use Rattle.schema_definitions.specs.Laws.{EachKeeps}
 use Rattle.schema_definitions.proofs.Products.{in_either}
 use Rattle.schema_contexts.specs.Progress.{NoDeeper, Pairs, root_places}
 use Rattle.schema_contexts.specs.Verdicts.{Remembers, is_pair}
-use Rattle.schema_answers.specs.NodeRuns.{TellsAll}
-use Rattle.schema_solving.specs.Under.{Solving, IsSolvable}
-use Rattle.schema_solving.specs.Found.{Grows, IsSound, NoneAt, NoneDeeper, SaysPair, SaysUnder, after_no, after_yes, after_yes_alone, entered, is_this}
-use Rattle.schema_solving.specs.Work.{IsCounted, Pairs as AllPairs, pairs_of}
-use Rattle.schema_solving.proofs.Pairs.{of_this, this_place}
-use Rattle.schema_solving.proofs.Steps.{alone_grows, alone_says, alone_sound, assumes_grows, assumes_says, assumes_sound, entered_sound, no_grows, no_says, no_sound}
-use Rattle.schema_solving.proofs.Work.{assumed_counts, entered_counts, refused_counts, settled_counts}
-use Rattle.schema_solving.proofs.Bounds.{pairs_among, pairs_few}
+use Rattle.run_steps.specs.NodeRuns.{TellsAll}
+use Rattle.schema_greatest.specs.Under.{Solving, IsSolvable}
+use Rattle.schema_greatest.specs.Found.{Grows, IsSound, NoneAt, NoneDeeper, SaysPair, SaysUnder, after_no, after_yes, after_yes_alone, entered, is_this}
+use Rattle.schema_greatest.specs.Work.{IsCounted, Pairs as AllPairs, pairs_of}
+use Rattle.schema_greatest.proofs.Pairs.{of_this, this_place}
+use Rattle.schema_greatest.proofs.Steps.{alone_grows, alone_says, alone_sound, assumes_grows, assumes_says, assumes_sound, entered_sound, no_grows, no_says, no_sound}
+use Rattle.schema_greatest.proofs.Work.{assumed_counts, entered_counts, refused_counts, settled_counts}
+use Rattle.schema_greatest.proofs.Bounds.{pairs_among, pairs_few}
 use Rattle.schema_pairs.specs.Contexts.{SettlesAll, Solver, found_of, has_pair, solver_places}
 use Rattle.schema_pairs.specs.Answering.{Begins}
 use Rattle.schema_solver.specs.Solving.{Goes, HasEachCut, InEach, IsNew, Leaves, MaySolve, Setting, solving_in}

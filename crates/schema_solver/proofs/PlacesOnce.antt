@@ -5,7 +5,7 @@ use Rattle.std.specs.List.{list_any}
 use Rattle.std.proofs.lemmas.Bool.{false_from_ne_true, or_left, or_right}
 use Rattle.schema_definitions.specs.Instance.{Place, same_place}
 use Rattle.schema_places.specs.Numbers.{OwnNumbers, number_of, place_at}
-use Rattle.schema_solving.specs.Work.{EachOnce, how_often, one_if}
+use Rattle.schema_greatest.specs.Work.{EachOnce, how_often, one_if}
 use Rattle.schema_contexts.proofs.Pairs.{place_equal, same_place-self}
 
 -- a later place has its own number past the first one

@@ -18,19 +18,19 @@ use Rattle.schema_parts.specs.KeywordViews.{Tells, answer_of, fresh}
 use Rattle.schema_parts.specs.declared.keyword.Answer as code_answer
 use Rattle.schema_contexts.specs.Matches.{settling}
 use Rattle.schema_contexts.specs.Progress.{root_places}
-use Rattle.schema_answers.specs.EvaluationPlaces.{CarriesItsNumber}
-use Rattle.schema_answers.specs.declared.evaluation_place.EvaluationPlace.{EvaluationPlace}
+use Rattle.run_steps.specs.EvaluationPlaces.{CarriesItsNumber}
+use Rattle.run_steps.specs.declared.evaluation_place.EvaluationPlace.{EvaluationPlace}
 use Rattle.schema_contexts.proofs.Matches.{decides, deciding}
-use Rattle.schema_answers.specs.NodeRuns.{HasForm, TellsAll}
-use Rattle.schema_answers.proofs.KeywordTurns.{falls_turned}
-use Rattle.schema_answers.proofs.NodeParts.{tells_keyword}
-use Rattle.schema_answers.proofs.NodeRuns.{stands_in}
-use Rattle.schema_solving.specs.Under.{PairSet, Solving, IsSolvable}
-use Rattle.schema_solving.specs.Found.{Between, Grows}
-use Rattle.schema_solving.specs.Says.{ChildSays, FormSays}
-use Rattle.schema_solving.specs.Turning.{TurnsUnder, answers_under, matches_here, subject_here, units_under}
-use Rattle.schema_solving.proofs.Between.{grows_between, grows_none}
-use Rattle.schema_solving.proofs.Turning.{answer_verdict, begins_under, ended_under, turned_under}
+use Rattle.run_steps.specs.NodeRuns.{HasForm, TellsAll}
+use Rattle.run_steps.proofs.KeywordTurns.{falls_turned}
+use Rattle.run_steps.proofs.NodeParts.{tells_keyword}
+use Rattle.run_steps.proofs.NodeRuns.{stands_in}
+use Rattle.schema_greatest.specs.Under.{PairSet, Solving, IsSolvable}
+use Rattle.schema_greatest.specs.Found.{Between, Grows}
+use Rattle.schema_greatest.specs.Says.{ChildSays, FormSays}
+use Rattle.schema_greatest.specs.Turning.{TurnsUnder, answers_under, matches_here, subject_here, units_under}
+use Rattle.schema_greatest.proofs.Between.{grows_between, grows_none}
+use Rattle.schema_greatest.proofs.Turning.{answer_verdict, begins_under, ended_under, turned_under}
 use Rattle.schema_pairs.specs.Contexts.{Solver, found_of, solver_places}
 use Rattle.schema_solver.specs.Solving.{Goes, InEach, IsSoundIn, MaySolve, Setting, solving_in}
 use Rattle.schema_solver.specs.TurningOn.{AsksOn, HasBegun, TurnsOn}

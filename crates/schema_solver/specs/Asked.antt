@@ -4,7 +4,7 @@ use Rattle.schema_definitions.specs.Keywords.{Answer, Keywords}
 use Rattle.schema_definitions.specs.Matching.{Matcher}
 use Rattle.schema_parts.specs.declared.keyword.Validate as keyword
 use Rattle.schema_parts.specs.declared.matcher.Matcher as matcher
-use Rattle.schema_nodes.specs.NodeTable.{NodeEntry, numbered}
+use Rattle.node_table.specs.NodeTable.{NodeEntry, numbered}
 use Rattle.schema_solver.specs.declared.question.SolverEngine.{SolverEngine}
 use Rattle.schema_solver.specs.Solving.{Setting}
 

@@ -5,9 +5,9 @@ use Rattle.serde_json.specs.View.{view}
 use Rattle.schema_definitions.specs.Instance.{Place, Subject}
 use Rattle.schema_definitions.specs.Guarded.{NodeEdge, NodePart, Nodes}
 use Rattle.schema_meaning.specs.Numbered.{left}
-use Rattle.schema_solving.specs.Under.{PairSet, Solving}
-use Rattle.schema_solving.specs.Found.{Between, Found, SaysUnder}
-use Rattle.schema_solving.specs.Says.{parts_under}
+use Rattle.schema_greatest.specs.Under.{PairSet, Solving}
+use Rattle.schema_greatest.specs.Found.{Between, Found, SaysUnder}
+use Rattle.schema_greatest.specs.Says.{parts_under}
 use Rattle.schema_pairs.specs.Contexts.{Solver, found_of}
 use Rattle.schema_pairs.specs.Answering.{Begins}
 use Rattle.schema_solver.specs.Solving.{Goes, InEach, IsNew, Setting}

@@ -9,15 +9,15 @@ use Rattle.schema_definitions.specs.Laws.{IsPresent, steps_below}
 use Rattle.schema_reports.specs.InstanceViews.{subject_of}
 use Rattle.schema_parts.specs.EdgeViews.{edge_of}
 use Rattle.schema_parts.specs.declared.numbers.Edge.{Edge}
-use Rattle.schema_nodes.specs.NodeTable.{shaped_form, shaped_part}
-use Rattle.schema_nodes.specs.NodeViews.{entry_of, form_of}
-use Rattle.schema_nodes.specs.declared.node.Entry.{Entry}
-use Rattle.schema_answers.specs.EvaluationPlaces.{CarriesItsNumber, steps_to}
-use Rattle.schema_answers.specs.NodeRuns.{HasChildren, HasForm, HasParts, form_at_work}
-use Rattle.schema_answers.specs.declared.question.NamedKeyword.{NamedKeyword}
-use Rattle.schema_solving.specs.Under.{Solving}
-use Rattle.schema_solving.specs.Found.{Found, SaysPair, SaysUnder}
-use Rattle.schema_solving.specs.Says.{ChildSays, EdgeSays, FormSays, PartsSay}
+use Rattle.node_table.specs.NodeTable.{shaped_form, shaped_part}
+use Rattle.node_table.specs.NodeViews.{entry_of, form_of}
+use Rattle.node_table.specs.declared.node.Entry.{Entry}
+use Rattle.run_steps.specs.EvaluationPlaces.{CarriesItsNumber, steps_to}
+use Rattle.run_steps.specs.NodeRuns.{HasChildren, HasForm, HasParts, form_at_work}
+use Rattle.run_steps.specs.declared.question.NamedKeyword.{NamedKeyword}
+use Rattle.schema_greatest.specs.Under.{Solving}
+use Rattle.schema_greatest.specs.Found.{Found, SaysPair, SaysUnder}
+use Rattle.schema_greatest.specs.Says.{ChildSays, EdgeSays, FormSays, PartsSay}
 use Rattle.schema_pairs.specs.Contexts.{Solver, found_of, solver_places}
 use Rattle.schema_solver.specs.declared.question.Asked.{Asked}
 use Rattle.schema_solver.specs.Solving.{Goes, HasEachCut, InEach, IsEdge, MaySolve, Setting}

@@ -13,10 +13,10 @@ use Rattle.schema_greatest.specs.NodesSay.{AreMonotone}
 use Rattle.schema_parts.specs.MatcherViews.{FinishesEach}
 use Rattle.schema_contexts.specs.Progress.{NoDeeper, Pairs, root_places}
 use Rattle.schema_contexts.specs.Verdicts.{verdict_of}
-use Rattle.schema_answers.specs.NodeRuns.{TellsAll}
-use Rattle.schema_solving.specs.Under.{Solving}
-use Rattle.schema_solving.specs.Found.{Grows, IsSound, SaysUnder}
-use Rattle.schema_solving.specs.Work.{EachOnce, IsBoundedBy, IsCounted, pairs_of}
+use Rattle.run_steps.specs.NodeRuns.{TellsAll}
+use Rattle.schema_greatest.specs.Under.{Solving}
+use Rattle.schema_greatest.specs.Found.{Grows, IsSound, SaysUnder}
+use Rattle.schema_greatest.specs.Work.{EachOnce, IsBoundedBy, IsCounted, pairs_of}
 use Rattle.schema_pairs.specs.Contexts.{Solver, found_of, has_pair, solver_places}
 
 -- what a solver is made with: the keywords as they are read, the numbered nodes, how many there are, which of them are followed, and the

@@ -8,7 +8,7 @@ use Rattle.schema_definitions.specs.Turns.{Standing}
 use Rattle.schema_definitions.specs.Guarded.{Children}
 use Rattle.schema_parts.specs.KeywordViews.{answer_of}
 use Rattle.schema_parts.specs.declared.keyword.Answer as code_answer
-use Rattle.schema_solving.specs.Turning.{TurnsUnder}
+use Rattle.schema_greatest.specs.Turning.{TurnsUnder}
 use Rattle.schema_pairs.specs.Contexts.{Solver, found_of}
 use Rattle.schema_solver.specs.Solving.{InEach, Setting}
 

@@ -1,7 +1,7 @@
 //! What a solver is made with, and what it is asked.
 
-use schema_answers::evaluation_place::EvaluationPlace;
-use schema_nodes::node::Nodes;
+use node_table::node::Nodes;
+use run_steps::evaluation_place::EvaluationPlace;
 use schema_pairs::followed::Followed;
 use schema_reports::instance::Instance;
 use std::alloc::Global;

@@ -3,7 +3,7 @@ ghost use Rattle.std.specs.Prelude.{◌<◌, ◌≡◌, [], Bool, IfOk, length};
 ghost use Rattle.serde_json.specs.View.{view};
 ghost use Rattle.schema_greatest.specs.NodesSay.{AreMonotone};
 ghost use Rattle.schema_parts.specs.MatcherViews.{FinishesEach};
-ghost use Rattle.schema_nodes.specs.NodeTable.{numbered};
+ghost use Rattle.node_table.specs.NodeTable.{numbered};
 ghost use Rattle.schema_solver.specs.Asked.{solver_of};
 ghost use Rattle.schema_pairs.specs.Answering.{fresh};
 ghost use Rattle.schema_solver.specs.Solving.{BeginsFew, IsSoundIn, RestsOnFound, SaysAsNodes};
@@ -14,7 +14,7 @@ mod turns;
 
 use crate::question::{Asked, SolverEngine};
 use crate::solve::entries::solve_node;
-use schema_answers::evaluation_place::EvaluationPlace;
+use run_steps::evaluation_place::EvaluationPlace;
 use schema_pairs::context::SolverContext;
 use schema_parts::keyword::Validate;
 use schema_parts::matcher::Matcher;

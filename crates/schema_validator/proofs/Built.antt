@@ -18,7 +18,7 @@ use Rattle.schema_meaning.specs.Fractions.{MakesWhole, AreWhole}
 use Rattle.schema_meaning.specs.Means as means
 use Rattle.schema_meaning.proofs.SensesMeant.{numbers_mean, numbers_have_units}
 use Rattle.schema_meaning.proofs.WholeNumbers.{numbers_are_whole}
-use Rattle.schema_nodes.specs.NodeTable.{NodeEntry, numbered}
+use Rattle.node_table.specs.NodeTable.{NodeEntry, numbered}
 use Rattle.schema_parts.specs.ResolverViews.{IsInside}
 use Rattle.schema_parts.specs.MakerViews.{MakesRightly}
 use Rattle.schema_parts.proofs.PartLaws.{values_inside, asks_below, makes_whole}

@@ -16,7 +16,7 @@ use Rattle.schema_meaning.specs.Reach.{IsReach, Reached}
 use Rattle.schema_meaning.specs.Refusals.{Cause, Compiles}
 use Rattle.schema_meaning.specs.Root.{IsRoot}
 use Rattle.schema_meaning.specs.Numbered.{Ranked}
-use Rattle.schema_nodes.specs.NodeTable.{NodeEntry, numbered}
+use Rattle.node_table.specs.NodeTable.{NodeEntry, numbered}
 use Rattle.schema_keys.specs.Builtins.{builtin}
 use Rattle.schema_compiler.specs.Compilation.{IsCompilation, IsCompilationBy, RefusesInOrder, RefusesRoot, all_parts}
 use Rattle.schema_keys.specs.Compiling.{no_keywords, no_matcher, no_table}

@@ -13,7 +13,7 @@ use Rattle.schema_meaning.specs.MapPointers.{StandsBelow}
 use Rattle.schema_definitions.specs.Parts.{Parts}
 use Rattle.schema_definitions.specs.Plan.{Key}
 use Rattle.schema_meaning.specs.Refusals.{Cause}
-use Rattle.schema_nodes.specs.NodeTable.{NodeEntry}
+use Rattle.node_table.specs.NodeTable.{NodeEntry}
 use Rattle.schema_keys.specs.Builtins.{builtin}
 use Rattle.schema_compiler.specs.Compilation.{IsCompilationAlone, RefusesAlone, all_parts}
 use Rattle.schema_keys.specs.Compiling.{no_keywords, no_matcher}

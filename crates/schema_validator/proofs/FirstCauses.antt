@@ -8,7 +8,7 @@ use Rattle.schema_meaning.specs.Refusals.{undeclared}
 use Rattle.schema_keys.specs.Alone.{RefusesVocabularies}
 use Rattle.schema_keys.specs.Compiling.{no_keywords, no_matcher, no_table}
 use Rattle.schema_keys.specs.declared.error.BuildError.{BuildError}
-use Rattle.schema_check.specs.Checking.{AcceptsSchema, MetaChecks, RefusesSchema}
+use Rattle.schema_keys.specs.Checking.{AcceptsSchema, MetaChecks, RefusesSchema}
 use Rattle.schema_compiler.specs.Compilation.{RefusesInOrder}
 use Rattle.schema_keys.specs.DocumentSchemas.{schemas_of}
 use Rattle.schema_validator.specs.Entries.{RefusesOneOf}

@@ -7,7 +7,7 @@ use Rattle.schema_definitions.specs.Plan.{Key}
 use Rattle.schema_meaning.specs.Refusals.{undeclared}
 use Rattle.schema_parts.specs.ResolverViews.{IsInside}
 use Rattle.schema_keys.specs.Alone.{RefusesVocabularies}
-use Rattle.schema_check.specs.Checking.{AcceptsSchema, MetaChecks, RefusesSchema}
+use Rattle.schema_keys.specs.Checking.{AcceptsSchema, MetaChecks, RefusesSchema}
 use Rattle.schema_keys.specs.Compiling.{Each, no_keywords, no_matcher, no_table}
 use Rattle.schema_keys.specs.declared.error.BuildError.{BuildError}
 use Rattle.schema_keys.specs.DocumentSchemas.{IndicesFit, schemas_of}

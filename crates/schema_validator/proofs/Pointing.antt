@@ -26,7 +26,7 @@ use Rattle.schema_meaning.specs.Numbered.{subject_in}
 use Rattle.schema_meaning.proofs.NodeErrorsLead.{node_errors_lead}
 use Rattle.schema_meaning.proofs.UnitsLead.{node_units_lead}
 use Rattle.schema_meaning.proofs.ListedLead.{of_failure, of_first, of_found, of_lists}
-use Rattle.schema_nodes.specs.NodeTable.{numbered}
+use Rattle.node_table.specs.NodeTable.{numbered}
 use Rattle.schema_parts.proofs.PartLaws.{makes_absorbed}
 use Rattle.schema_validator.specs.Evaluated.{EvaluationAnswered, IsOfErrors}
 use Rattle.schema_validator.specs.Program.{FromSomeDepth, HasUnits, Program}

@@ -9,7 +9,7 @@ use Rattle.schema_definitions.specs.Parts.{Parts}
 use Rattle.schema_definitions.specs.Plan.{Key, same_key}
 use Rattle.schema_meaning.specs.Reach.{IsReach, different}
 use Rattle.schema_meaning.specs.Refusals.{Cause}
-use Rattle.schema_nodes.specs.NodeTable.{NodeEntry}
+use Rattle.node_table.specs.NodeTable.{NodeEntry}
 use Rattle.schema_compiler.specs.Compilation.{IsCompilationBy}
 use Rattle.schema_keys.proofs.SameKeys.{and_parts, draft_itself, draft_true, one_key, schema_place_itself, schema_place_true, vocabularies_itself, vocabularies_true}
 

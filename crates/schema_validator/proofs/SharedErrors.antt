@@ -18,7 +18,7 @@ use Rattle.schema_search.specs.Outcomes.{errors_in, none_in}
 use Rattle.schema_search.specs.SearchGives.{GivesErrors}
 use Rattle.schema_reports.specs.ReportViews.{BorrowsItsPlace}
 use Rattle.schema_reports.specs.declared.reports.ValidationError.{ValidationError}
-use Rattle.schema_nodes.specs.NodeTable.{numbered}
+use Rattle.node_table.specs.NodeTable.{numbered}
 use Rattle.schema_contexts.proofs.Matches.{nothing_twice}
 use Rattle.schema_parts.specs.declared.keyword.Validate.{Ghosts as KeywordMembers}
 use Rattle.schema_parts.specs.declared.matcher.Matcher.{Ghosts as MatcherMembers}

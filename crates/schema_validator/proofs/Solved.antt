@@ -7,7 +7,7 @@ use Rattle.schema_definitions.specs.Matching.{Matcher}
 use Rattle.schema_definitions.specs.Reports.{Outcome}
 use Rattle.schema_meaning.specs.Numbered.{subject_in}
 use Rattle.schema_node.proofs.NodeOutcomes.{outcome_is}
-use Rattle.schema_nodes.specs.NodeTable.{numbered}
+use Rattle.node_table.specs.NodeTable.{numbered}
 use Rattle.schema_solver.specs.Asked.{solver_over}
 use Rattle.schema_solver.specs.Solving.{SaysAsNodes}
 use Rattle.schema_validator.specs.Answers.{SaysVerdict}

@@ -14,7 +14,7 @@ use Rattle.schema_reports.specs.UnitViews.{unit_of}
 use Rattle.schema_reports.specs.declared.evaluation.EvaluationNode.{EvaluationNode}
 use Rattle.schema_reports.specs.declared.reports.ValidationError.{ValidationError}
 use Rattle.schema_parts.specs.KeywordViews.{mode_of, reply_of}
-use Rattle.schema_nodes.specs.NodeTable.{numbered}
+use Rattle.node_table.specs.NodeTable.{numbered}
 use Rattle.schema_parts.specs.declared.keyword.Mode.{Mode}
 use Rattle.schema_parts.specs.declared.keyword.Reply.{Reply}
 use Rattle.schema_validator.specs.Program.{Program, Speaks}

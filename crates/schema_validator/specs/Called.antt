@@ -9,9 +9,9 @@ use Rattle.schema_definitions.specs.Parts.{Parts}
 use Rattle.schema_definitions.specs.Plan.{Key}
 use Rattle.schema_reports.specs.declared.evaluation.EvaluationNode.{EvaluationNode}
 use Rattle.schema_reports.specs.declared.reports.ValidationError.{ValidationError}
-use Rattle.schema_nodes.specs.NodeTable.{NodeEntry, numbered}
+use Rattle.node_table.specs.NodeTable.{NodeEntry, numbered}
 use Rattle.schema_keys.specs.declared.error.BuildError.{BuildError}
-use Rattle.schema_check.specs.Checking.{MetaChecks}
+use Rattle.schema_keys.specs.Checking.{MetaChecks}
 use Rattle.schema_validator.specs.Checked.{FailsCheck}
 use Rattle.schema_validator.specs.Compiled.{IsCompiled}
 use Rattle.schema_keys.specs.Compiling.{no_keywords, no_matcher}

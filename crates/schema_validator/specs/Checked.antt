@@ -3,7 +3,7 @@ use Rattle.std.specs.Prelude.{true, ◌≡◌}
 use Rattle.serde_json.specs.Data.{Data}
 use Rattle.schema_definitions.specs.Plan.{Key}
 use Rattle.schema_definitions.specs.Resolving.{Resolver}
-use Rattle.schema_check.specs.Checking.{AcceptsSchema, MetaChecks, RefusesSchema}
+use Rattle.schema_keys.specs.Checking.{AcceptsSchema, MetaChecks, RefusesSchema}
 use Rattle.schema_keys.specs.declared.error.BuildError.{BuildError}
 use Rattle.schema_validator.specs.Handed.{Options}
 use Rattle.schema_validator.specs.Roots.{IsRootKey, root_parts}

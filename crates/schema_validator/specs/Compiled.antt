@@ -5,7 +5,7 @@ use Rattle.schema_definitions.specs.Plan.{Key}
 use Rattle.schema_meaning.specs.Reach.{Reached}
 use Rattle.schema_definitions.specs.Guarded.{NodePlan}
 use Rattle.schema_meaning.specs.Numbered.{AreNumbered, Ranked}
-use Rattle.schema_nodes.specs.NodeTable.{NodeEntry, numbered}
+use Rattle.node_table.specs.NodeTable.{NodeEntry, numbered}
 use Rattle.schema_compiler.specs.Finding.{FindsAll, GuardsByStanding, standing_of}
 
 pub record IsCompiled {S K R C : Type 0} (w : Parts S K R) (shape : C → K) (root : Key S) (nodes : List (NodeEntry C)) (number : ℕ) : Type 0 where

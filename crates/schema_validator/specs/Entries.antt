@@ -9,7 +9,7 @@ use Rattle.schema_definitions.specs.Plan.{Key}
 use Rattle.schema_meaning.specs.Refusals.{Cause, undeclared}
 use Rattle.schema_keys.specs.Alone.{RefusesKeyAlone}
 use Rattle.schema_compiler.specs.Compilation as compilation
-use Rattle.schema_check.specs.Checking.{AcceptsSchema, MetaChecks}
+use Rattle.schema_keys.specs.Checking.{AcceptsSchema, MetaChecks}
 use Rattle.schema_keys.specs.Compiling.{Each, In}
 use Rattle.schema_keys.specs.declared.error.BuildError.{BuildError}
 use Rattle.schema_keys.specs.declared.error.BuildError.TheVariants.{OutOfMemory}

@@ -11,7 +11,7 @@ use Rattle.schema_meaning.specs.Reach.{ReachesMoreThan}
 use Rattle.schema_meaning.specs.Refusals.{undeclared}
 use Rattle.schema_keys.specs.Alone.{RefusesVocabularies}
 use Rattle.schema_keys.specs.Compiling.{In}
-use Rattle.schema_check.specs.Checking.{AcceptsSchema, MetaChecks, RefusesSchema}
+use Rattle.schema_keys.specs.Checking.{AcceptsSchema, MetaChecks, RefusesSchema}
 use Rattle.schema_keys.specs.declared.error.BuildError.{BuildError}
 use Rattle.schema_keys.specs.declared.error.BuildError.TheVariants.{NodeLimit}
 use Rattle.schema_keys.specs.DocumentSchemas.{schemas_in}

@@ -13,7 +13,7 @@ use Rattle.schema_reports.specs.UnitViews.{unit_of}
 use Rattle.schema_reports.specs.declared.evaluation.EvaluationNode.{EvaluationNode}
 use Rattle.schema_meaning.specs.Means as means
 use Rattle.schema_meaning.specs.Fractions.{AreWhole}
-use Rattle.schema_nodes.specs.NodeTable.{NodeEntry, numbered}
+use Rattle.node_table.specs.NodeTable.{NodeEntry, numbered}
 
 -- the nodes, the number of the root's, the root's draft, the matcher, and how many runs a call makes at most
 pub record Program (K M : Type 0) : Type 0 where

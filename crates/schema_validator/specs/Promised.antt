@@ -14,7 +14,7 @@ use Rattle.schema_meaning.specs.Headline.{SpeaksRightly, Plainly, PlainlyWithUni
 use Rattle.schema_meaning.specs.ErrorsLead.{EachLeads}
 use Rattle.schema_definitions.specs.Guarded.{guarded_sense}
 use Rattle.schema_meaning.specs.Numbered.{subject_in}
-use Rattle.schema_nodes.specs.NodeTable.{numbered}
+use Rattle.node_table.specs.NodeTable.{numbered}
 use Rattle.schema_validator.specs.Program.{HaveUnits, Program, Speaks, Means}
 use Rattle.schema_validator.specs.Handed.{Options, parts_of}
 

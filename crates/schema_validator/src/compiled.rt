@@ -1,14 +1,14 @@
 //! Validators of compiled nodes.
 ghost use Rattle.std.specs.Prelude.{◌≡◌, ◌<◌, ◌≤◌, IfOk, length};
 ghost use Rattle.schema_keywords.specs.KeywordViews.{draft_of};
-ghost use Rattle.schema_nodes.specs.NodeTable.{numbered};
+ghost use Rattle.node_table.specs.NodeTable.{numbered};
 ghost use Rattle.schema_validator.specs.Called.{HasUnitsAsCompiled, MeansAsCompiled};
 ghost use Rattle.schema_validator.specs.Handed.{default_runs, handed};
 ghost use Rattle.schema_verdicts.specs.Finding.{SolvesFor};
 
 use crate::validator::Validator;
+use node_table::node::Nodes;
 use schema_keywords::keywords::Draft;
-use schema_nodes::node::Nodes;
 use schema_parts::keyword::Validate;
 use schema_parts::matcher::Matcher;
 use schema_parts::numbers::SchemaNode;
@@ -16,7 +16,7 @@ use schema_parts::resolver::Resolver;
 use schema_parts::table::KeywordTable;
 use schema_reports::location::OutOfMemory;
 use schema_search::unfinished_matches::MAX_ASSUMED_RUNS;
-use schema_verdicts::finding::VerdictFinder;
+use schema_verdicts::eligible::Solver;
 use std::alloc::Global;
 
 /// Builds a validator from compiled nodes, the number of a key's node and the root's draft. Where the nodes are compiled from
@@ -53,7 +53,7 @@ pub fn of_compiled<S: Resolver, T: KeywordTable<K>, K: Validate, M: Matcher>(
         root,
         draft,
         MAX_ASSUMED_RUNS,
-        VerdictFinder::none(),
+        Solver::none(),
     )
 }
 
@@ -66,7 +66,7 @@ pub(crate) fn of_compiled_within<S: Resolver, T: KeywordTable<K>, K: Validate, M
     root: SchemaNode,
     draft: Draft,
     run_limit: u32,
-    finder: VerdictFinder,
+    finder: Solver,
 ) -> Result<Validator<K, M>, OutOfMemory>
     requires inside { root.0 < length nodes }
     requires limit { 1 ≤ run_limit }

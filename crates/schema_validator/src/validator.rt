@@ -7,7 +7,7 @@ ghost use Rattle.schema_reports.specs.ReportViews.{BorrowsItsPlace};
 ghost use Rattle.schema_parts.specs.FaultViews.{errors_in};
 ghost use Rattle.schema_parts.specs.KeywordViews.{mode_of, reply_of};
 ghost use Rattle.schema_parts.specs.MatcherViews.{FinishesEach};
-ghost use Rattle.schema_answers.specs.ReplyModes.{reply_by};
+ghost use Rattle.run_steps.specs.ReplyModes.{reply_by};
 ghost use Rattle.schema_definitions.specs.Reports.{Outcome};
 ghost use Rattle.schema_definitions.specs.Keywords.{for_all, for_first, for_units, for_verdict};
 ghost use Rattle.schema_validator.specs.Answers.{refusal_of};
@@ -23,16 +23,16 @@ ghost use Rattle.schema_validator.specs.Asked.{RunDecides, RunFindsFirst, RunLis
 ghost use Rattle.schema_meaning.specs.Numbered.{Ranked};
 ghost use Rattle.schema_verdicts.specs.Finding.{SolvesFor};
 ghost use Rattle.schema_verdicts.specs.Saying.{EachSays};
-ghost use Rattle.schema_nodes.specs.NodeTable.{numbered};
+ghost use Rattle.node_table.specs.NodeTable.{numbered};
 
 mod cloning;
 
+use node_table::node::Nodes;
 use schema_contexts::validation::ValidationContext;
 use schema_keywords::keywords::Draft;
 use schema_matches::assumptions::MatchAssumptions;
 use schema_node::node::RunNodes;
 use schema_node::node::runs::FirstQuestion;
-use schema_nodes::node::Nodes;
 use schema_output::error_units::unit_of_errors;
 use schema_output::evaluation::Evaluation;
 use schema_parts::keyword::{Mode, Reply, Validate};
@@ -44,8 +44,8 @@ use schema_reports::instance::{Instance, Place};
 use schema_reports::location::{Location, OutOfMemory};
 use schema_reports::reports::{ErrorIterator, ValidationError};
 use schema_search::unfinished_matches::{MAX_ASSUMED_RUNS, errors_under_each, validity_under_each};
-use schema_verdicts::finding::VerdictFinder;
-use schema_verdicts::saying::is_monotone;
+use schema_verdicts::eligible::Solver;
+use schema_verdicts::monotone::is_monotone;
 use serde_json::Value;
 use std::alloc::Global;
 use std::marker::Model;
@@ -59,13 +59,13 @@ pub struct Validator<K: Validate, M> {
     matcher: M,
     run_limit: u32,
     // where a solver finds verdicts
-    finder: VerdictFinder,
+    finder: Solver,
 }
 
 impl<K: Validate, M> Model for Validator<K, M> {
     ghost use Rattle.schema_keywords.specs.KeywordViews.{draft_of};
     ghost use Rattle.schema_validator.specs.Program.{Program};
-    ghost use Rattle.schema_nodes.specs.NodeTable.{numbered};
+    ghost use Rattle.node_table.specs.NodeTable.{numbered};
     ghost use Rattle.schema_verdicts.specs.Finding.{SolvesFor};
     ghost use Rattle.std.specs.Prelude.{◌<◌, ◌≤◌, length};
     ghost use Rattle.serde_json.specs.contracts.value.Value as value;
@@ -116,7 +116,7 @@ impl<K: Validate, M: Matcher> Validator<K, M> {
             draft,
             matcher,
             MAX_ASSUMED_RUNS,
-            VerdictFinder::none(),
+            Solver::none(),
         )
     }
 
@@ -127,7 +127,7 @@ impl<K: Validate, M: Matcher> Validator<K, M> {
         draft: Draft,
         matcher: M,
         run_limit: u32,
-        finder: VerdictFinder,
+        finder: Solver,
     ) -> Validator<K, M>
         requires inside { root.0 < length nodes }
         requires limit { 1 ≤ run_limit }

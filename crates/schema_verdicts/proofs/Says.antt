@@ -11,11 +11,11 @@ use Rattle.schema_definitions.specs.Guarded.{NodeForm, NodePart, NodePlan, node_
 use Rattle.schema_definitions.specs.Keywords.{Keywords}
 use Rattle.schema_meaning.specs.Fractions.{form_words, node_words}
 use Rattle.schema_meaning.specs.Greatest.{IsMonotone}
-use Rattle.schema_nodes.specs.NodeTable.{NodeEntry, numbered, plan_in, shaped, shaped_form, shaped_part}
-use Rattle.schema_nodes.specs.NodeViews.{entry_of, form_of, node_of, plan_of}
-use Rattle.schema_nodes.specs.declared.node.Entry.{Entry}
-use Rattle.schema_nodes.specs.declared.node.Node.{Node}
-use Rattle.schema_nodes.specs.declared.node.NodeForm.{NodeForm as CodeForm}
+use Rattle.node_table.specs.NodeTable.{NodeEntry, numbered, plan_in, shaped, shaped_form, shaped_part}
+use Rattle.node_table.specs.NodeViews.{entry_of, form_of, node_of, plan_of}
+use Rattle.node_table.specs.declared.node.Entry.{Entry}
+use Rattle.node_table.specs.declared.node.Node.{Node}
+use Rattle.node_table.specs.declared.node.NodeForm.{NodeForm as CodeForm}
 use Rattle.schema_greatest.specs.NodesSay.{AreMonotone}
 use Rattle.schema_verdicts.specs.Saying.{EachSays, form_says, node_says, table_says}
 

@@ -3,7 +3,7 @@ use Rattle.std.specs.List.{list_all}
 use Rattle.std.specs.Prelude.{All, Bool, List, Some, true, ℕ, ◌<◌, ◌≡◌}
 use Rattle.schema_definitions.specs.Guarded.{NodeForm, Nodes}
 use Rattle.schema_meaning.specs.Fractions.{form_words, node_words}
-use Rattle.schema_nodes.specs.NodeTable.{NodeEntry, plan_in}
+use Rattle.node_table.specs.NodeTable.{NodeEntry, plan_in}
 
 -- each keyword of these numbers says so
 abbrev pub EachSays : {S : Type 0} → (S → Bool) → Nodes S → ℕ → Type 0

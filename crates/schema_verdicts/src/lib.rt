@@ -2,5 +2,5 @@
 //! monotone, and the matcher finishes every match.
 #![tactic(auto)]
 
-pub mod finding;
-pub mod saying;
+pub mod eligible;
+pub mod monotone;

@@ -1,20 +1,17 @@
 //! The values of keywords.
-ghost use Rattle.std.specs.Prelude.{◌≡◌, ◌++◌, ◌∷◌, [], IfOk, map, option_map, string_bytes};
-ghost use Rattle.serde_json.specs.View.{items_view, members_view, view};
-ghost use Rattle.schema_definitions.specs.Instance.{to_member};
-ghost use Rattle.bench_parts.specs.Makers.{count_shape, names_of, pattern_shape, required_shape, texts_of, type_named, type_of};
-ghost use Rattle.bench_parts.specs.Makers.{type_shape, types_of, values_below};
+ghost use Rattle.std.specs.Prelude.{◌≡◌, IfOk, map, option_map, string_bytes};
+ghost use Rattle.serde_json.specs.View.{items_view, view};
+ghost use Rattle.bench_parts.specs.Makers.{count_shape, pattern_shape, required_shape, texts_of, type_named, type_of};
+ghost use Rattle.bench_parts.specs.Makers.{type_shape, types_of};
 ghost use Rattle.bench_keywords.specs.Shapes.{shape_of};
 
 use bench_keywords::counts::CountKind;
 use bench_keywords::keyword::BenchKeyword;
 use bench_keywords::type_names::TypeName;
-use schema_applicators::making::paths::value_of;
-use schema_parts::schema_place::{SchemaPath, SchemaStep};
+use keyword_makers::members::push_text;
 use schema_reports::location::OutOfMemory;
-use serde_json::{Map, Value};
+use serde_json::Value;
 use std::alloc::Global;
-use std::rc::RcStr;
 
 /// The type of this name.
 fn type_named(name: &str) -> Option<TypeName>
@@ -80,14 +77,6 @@ pub fn type_keyword(alloc: Global, value: &Value) -> Result<Option<BenchKeyword>
     }
 }
 
-/// Adds a string with this text.
-fn push_text(alloc: Global, text: &str, texts: &mut Vec<String>) -> Result<(), OutOfMemory>
-    ensures pushed { IfOk result (λ _. map string_bytes texts.new.items ≡ map string_bytes texts.old.items ++ text.now ∷ []) }
-{
-    texts.push(String::from_str(alloc, text)?)?;
-    Ok(())
-}
-
 /// The texts that values are, if each is one.
 pub fn texts_of(alloc: Global, values: &[Value]) -> Result<Option<Vec<String>>, OutOfMemory>
     ensures texts { IfOk result (λ texts. option_map (λ v. map string_bytes v.items) texts ≡ texts_of (items_view values.now)) }
@@ -126,42 +115,6 @@ pub fn pattern_keyword(alloc: Global, value: &Value) -> Result<Option<BenchKeywo
         }
         _ => Ok(None),
     }
-}
-
-/// The names of the members, in order.
-pub fn names_of(alloc: Global, members: &Map<String, Value>) -> Result<Vec<String>, OutOfMemory>
-    ensures names { IfOk result (λ names. map string_bytes names.items ≡ names_of (members_view members.now.entries)) }
-{
-    let mut names = Vec::new(alloc);
-    for (name, _) in members {
-        push_text(alloc, name.as_str(), &mut names)?;
-    }
-    Ok(names)
-}
-
-/// The places of the values of these names, below a keyword.
-pub fn values_below(
-    alloc: Global,
-    keyword: &str,
-    names: &[String],
-) -> Result<Vec<SchemaPath>, OutOfMemory>
-    ensures paths { IfOk result (λ paths. paths.items ≡ values_below keyword.now (map string_bytes names.now)) }
-{
-    let mut paths = Vec::new(alloc);
-    for name in names {
-        paths.push(member_below(alloc, keyword, name.as_str())?)?;
-    }
-    Ok(paths)
-}
-
-/// The place of the value of a name, below a keyword.
-pub fn member_below(alloc: Global, keyword: &str, name: &str) -> Result<SchemaPath, OutOfMemory>
-    ensures path { IfOk result (λ path. path ≡ to_member keyword.now ∷ to_member name.now ∷ []) }
-{
-    let step = SchemaStep::Member(RcStr::from_str(alloc, name)?);
-    let mut path = value_of(alloc, keyword)?;
-    path.push(step)?;
-    Ok(path)
 }
 
 /// A keyword that counts.

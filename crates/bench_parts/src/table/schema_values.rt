@@ -6,8 +6,8 @@ ghost use Rattle.schema_keywords.specs.KeywordViews.{draft_of};
 ghost use Rattle.keyword_ways.specs.Items.{count_in};
 ghost use Rattle.bench_parts.specs.Makers.{has_prefix, is_older_list, items_before};
 
-use schema_applicators::making::lists::list_length;
-use schema_applicators::making::paths::value_in;
+use keyword_makers::lists::list_length;
+use keyword_makers::paths::value_in;
 use schema_keywords::keywords::Draft;
 use serde_json::{Map, Value};
 

@@ -5,13 +5,13 @@ ghost use Rattle.serde_json.specs.View.{view, members_view};
 ghost use Rattle.schema_definitions.specs.Units.{object_of, without};
 ghost use Rattle.schema_keywords.specs.KeywordViews.{draft_of};
 
-use crate::compiler::given::Given;
+use crate::compiler::setup::Compiler;
 use schema_keys::key::SchemaKey;
 use schema_parts::resolver::Resolver;
 use schema_reports::location::OutOfMemory;
 use serde_json::{Map, Value};
 
-impl<'p, R: Resolver, T> Given<'p, R, T> {
+impl<'p, R: Resolver, T> Compiler<'p, R, T> {
     /// Keeps a member whose name the key's draft does not know.
     pub(crate) fn keep_unknown(
         &self,

@@ -9,7 +9,7 @@ ghost use Rattle.schema_keys.specs.Compiling.{answers};
 ghost use Rattle.schema_compiler.specs.Carried.{task};
 ghost use Rattle.schema_keys.specs.KeyViews.{key_of};
 
-use crate::compiler::given::Given;
+use crate::compiler::setup::Compiler;
 use schema_keys::context::Context;
 use schema_keys::key::SchemaKey;
 use schema_parts::keyword::Validate;
@@ -19,7 +19,7 @@ use schema_parts::table::{KeywordOrigin, KeywordTable, MakerReply};
 use schema_reports::location::OutOfMemory;
 use serde_json::{Map, Value};
 
-impl<'p, R: Resolver, T> Given<'p, R, T> {
+impl<'p, R: Resolver, T> Compiler<'p, R, T> {
     /// The maker of a key's member, which has asked for nothing yet.
     pub(crate) fn maker_of<K: Validate>(
         &self,

@@ -4,7 +4,7 @@ ghost use Rattle.schema_keys.specs.KeyViews.{key_of, kind_of};
 ghost use Rattle.schema_compiler.specs.Carried.{RefusesTarget, Targets, lacking, task};
 ghost use Rattle.schema_keys.specs.Refusing.{Names};
 
-use crate::compiler::given::Given;
+use crate::compiler::setup::Compiler;
 use schema_keys::context::Context;
 use schema_keys::error::BuildError;
 use schema_keys::key::SchemaKey;
@@ -13,7 +13,7 @@ use schema_parts::keyword::Validate;
 use schema_parts::resolver::Resolver;
 use schema_parts::table::KeywordTable;
 
-impl<'p, R: Resolver, T> Given<'p, R, T> {
+impl<'p, R: Resolver, T> Compiler<'p, R, T> {
     // Refuses a custom vocabulary that is not declared, where a reference's target requires it.
     fn check_target<K: Validate>(
         &self,

@@ -6,7 +6,7 @@ ghost use Rattle.schema_compiler.specs.Carried.{lacking, task};
 ghost use Rattle.schema_keys.specs.Alone.{NamesFirst};
 ghost use Rattle.schema_keys.specs.Refusing.{Names};
 
-use crate::compiler::given::Given;
+use crate::compiler::setup::Compiler;
 use schema_keys::error::BuildError;
 use schema_keywords::keywords::VocabularySet;
 use schema_parts::keyword::Validate;
@@ -20,7 +20,7 @@ fn is_declared(declared: &[String], uri: &str) -> bool
     declared.iter().any(|other| uri == other.as_str())
 }
 
-impl<'p, R: Resolver, T> Given<'p, R, T> {
+impl<'p, R: Resolver, T> Compiler<'p, R, T> {
     // Refuses the first vocabulary of these URIs that is not declared.
     fn check_each<K: Validate>(&self, uris: &[String]) -> Result<(), BuildError>
     where

@@ -1,13 +1,13 @@
 //! The worklist: keys that were found while as many targets of references as may nest were open. Each is compiled in a round
 //! of its own, in the order of finding, which is that of the numbers.
 ghost use Rattle.std.specs.Prelude.{◌<◌, MatchResult, length, suc};
-ghost use Rattle.schema_nodes.specs.NodeTable.{Waits};
+ghost use Rattle.node_table.specs.NodeTable.{Waits};
 ghost use Rattle.schema_keys.specs.KeyViews.{key_of};
 ghost use Rattle.schema_compiler.specs.Carried.{filled, task};
 ghost use Rattle.schema_compiler.specs.Working.{IsAtNumber, IsWorkedOff, RefusesRootKey};
 
-use crate::compiler::compiled::{Compiled, Progress};
-use crate::compiler::given::Given;
+use crate::compiler::compilation::{Compilation, Progress};
+use crate::compiler::setup::Compiler;
 use schema_keys::error::BuildError;
 use schema_keys::key::SchemaKey;
 use schema_keys::values::Reading;
@@ -17,11 +17,11 @@ use schema_parts::resolver::Resolver;
 use schema_parts::table::KeywordTable;
 use std::rc::Rc;
 
-impl<'p, R: Resolver, T> Given<'p, R, T> {
+impl<'p, R: Resolver, T> Compiler<'p, R, T> {
     // Compiles the key of a number that waits, in a round of its own.
     fn compile_waiting<K: Validate>(
         &self,
-        compiled: &mut Compiled<R::State, K>,
+        compiled: &mut Compilation<R::State, K>,
         root: &Rc<SchemaKey<R::State>>,
         number: usize,
     ) -> Result<(), BuildError>
@@ -52,7 +52,7 @@ impl<'p, R: Resolver, T> Given<'p, R, T> {
     // Goes on to the next number: compiles what waits at this one.
     fn pass_number<K: Validate>(
         &self,
-        compiled: &mut Compiled<R::State, K>,
+        compiled: &mut Compilation<R::State, K>,
         root: &Rc<SchemaKey<R::State>>,
         number: usize,
     ) -> Result<(), BuildError>
@@ -75,7 +75,7 @@ impl<'p, R: Resolver, T> Given<'p, R, T> {
     /// Compiles what waits, number by number, and what is found on the way, until no number waits.
     pub(crate) fn work_off<K: Validate>(
         &self,
-        compiled: &mut Compiled<R::State, K>,
+        compiled: &mut Compilation<R::State, K>,
         root: &Rc<SchemaKey<R::State>>,
     ) -> Result<(), BuildError>
     where
@@ -99,7 +99,7 @@ impl<'p, R: Resolver, T> Given<'p, R, T> {
     pub(crate) fn compiled_alone<K: Validate>(
         &self,
         root: SchemaKey<R::State>,
-    ) -> Result<Compiled<R::State, K>, BuildError>
+    ) -> Result<Compilation<R::State, K>, BuildError>
     where
         T: KeywordTable<K>,
         ensures { MatchResult result (λ m. IsWorkedOff
@@ -107,7 +107,7 @@ impl<'p, R: Resolver, T> Given<'p, R, T> {
             (RefusesRootKey (task R.resolving T.owned T.script K.shape self.now)
             (key_of R.point root)) }
     {
-        let mut compiled = Compiled::new(self.alloc);
+        let mut compiled = Compilation::new(self.alloc);
         let shared = Rc::new(self.alloc, root)?;
         self.number_within(&mut compiled, &shared, None)?;
         self.work_off(&mut compiled, &shared)?;

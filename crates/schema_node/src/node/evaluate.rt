@@ -3,13 +3,13 @@ ghost use Rattle.std.specs.Prelude.{◌≡◌, ◌≤◌, IfOk, map, option_map,
 ghost use Rattle.schema_reports.specs.InstanceViews.{subject_of};
 ghost use Rattle.schema_definitions.specs.Laws.{IsPresent, steps_below};
 ghost use Rattle.schema_parts.specs.KeywordViews.{below_of};
-ghost use Rattle.schema_nodes.specs.NodeTable.{numbered, shaped_form, shaped_part};
+ghost use Rattle.node_table.specs.NodeTable.{numbered, shaped_form, shaped_part};
 ghost use Rattle.schema_parts.specs.EdgeViews.{edge_of};
-ghost use Rattle.schema_nodes.specs.NodeViews.{entry_of, form_of};
-ghost use Rattle.schema_answers.specs.NodeRuns.{HasForm, HasParts, HasChildren, form_at_work};
+ghost use Rattle.node_table.specs.NodeViews.{entry_of, form_of};
+ghost use Rattle.run_steps.specs.NodeRuns.{HasForm, HasParts, HasChildren, form_at_work};
 ghost use Rattle.schema_contexts.specs.Progress.{places_in};
-ghost use Rattle.schema_answers.specs.Askings.{asking};
-ghost use Rattle.schema_answers.specs.EvaluationPlaces.{CarriesItsNumber};
+ghost use Rattle.run_steps.specs.Askings.{asking};
+ghost use Rattle.run_steps.specs.EvaluationPlaces.{CarriesItsNumber};
 ghost use Rattle.schema_node.specs.Answered.{ChildGiven, EdgeGiven, FormGiven, NodeGiven, PartsGiven, setting_by};
 ghost use Rattle.schema_node.specs.RunStates.{setting};
 ghost use Rattle.schema_node.specs.RunStates.{Keeps, StaysRight};
@@ -18,16 +18,16 @@ ghost use Rattle.schema_node.specs.UnitStates.{ChildGives, EdgeGives, FormGives,
 ghost use Rattle.schema_node.specs.Visits.{LeadsNowhere};
 
 use crate::node::turns::keyword_answer;
-use schema_answers::evaluation_order::{EntryUnits, UnitsInOrder};
-use schema_answers::guarded::GuardedPair;
-use schema_answers::question::{Engine, NamedKeyword, Question};
-use schema_answers::spots::one_below;
-use schema_answers::units::{
+use node_table::node::{Entry, EntryForm, NodeForm};
+use run_steps::evaluation_order::{EntryUnits, UnitsInOrder};
+use run_steps::guarded::GuardedPair;
+use run_steps::question::{Engine, NamedKeyword, Question};
+use run_steps::spots::one_below;
+use run_steps::units::{
     accepting_unit, entries_unit, refusing_unit, unasked_unit, units_of_keyword, units_of_reference,
 };
 use schema_contexts::marks::child_edge;
 use schema_contexts::validation::ValidationContext;
-use schema_nodes::node::{Entry, EntryForm, NodeForm};
 use schema_parts::keyword::{Below, Validate};
 use schema_parts::matcher::Matcher;
 use schema_parts::numbers::{Edge, SchemaNode};

@@ -3,10 +3,10 @@ ghost use Rattle.std.specs.Prelude.{◌≡◌, ◌<◌, ◌≤◌, IfOk, List, l
 ghost use Rattle.schema_reports.specs.InstanceViews.{subject_of};
 ghost use Rattle.schema_definitions.specs.Keywords.{for_units};
 ghost use Rattle.schema_parts.specs.KeywordViews.{mode_of};
-ghost use Rattle.schema_nodes.specs.NodeTable.{NodeEntry, numbered};
+ghost use Rattle.node_table.specs.NodeTable.{NodeEntry, numbered};
 ghost use Rattle.serde_json.specs.View.{view};
 ghost use Rattle.schema_contexts.specs.Progress.{NoDeeper};
-ghost use Rattle.schema_answers.specs.Askings.{IsAskedOf};
+ghost use Rattle.run_steps.specs.Askings.{IsAskedOf};
 ghost use Rattle.schema_node.specs.RunStates.{asking_first, setting_over};
 ghost use Rattle.schema_node.specs.RunStates.{RunBorrows, RunMeets, RunRemembers, RunReplies, RunSpeaks};
 ghost use Rattle.schema_node.specs.RunStates.{GoesOn, NodeRemembers, StaysRight, forgotten};
@@ -15,11 +15,11 @@ ghost use Rattle.schema_node.specs.Visits.{NodeCounts};
 
 use crate::node::evaluate::evaluate_node;
 use crate::node::run::node_reply;
-use schema_answers::evaluation_place::EvaluationPlace;
-use schema_answers::question::{Engine, Question};
+use node_table::node::Nodes;
+use run_steps::evaluation_place::EvaluationPlace;
+use run_steps::question::{Engine, Question};
 use schema_contexts::evaluation_path::EvaluationPath;
 use schema_contexts::validation::ValidationContext;
-use schema_nodes::node::Nodes;
 use schema_parts::keyword::{Mode, Reply, Validate};
 use schema_parts::matcher::Matcher;
 use schema_parts::numbers::SchemaNode;

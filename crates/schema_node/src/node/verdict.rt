@@ -4,12 +4,12 @@ ghost use Rattle.schema_parts.specs.EdgeViews.{edge_of};
 ghost use Rattle.schema_node.specs.Answered.{Answers, IsAsked, a_guarded, a_node, an_edge, setting_by, the_child, the_entries, the_entry};
 
 use crate::node::verdict_turns::keyword_verdict;
-use schema_answers::guarded::GuardedPair;
-use schema_answers::question::{Engine, NamedKeyword, Question};
-use schema_answers::spots::one_below;
+use node_table::node::{Entry, EntryForm, NodeForm};
+use run_steps::guarded::GuardedPair;
+use run_steps::question::{Engine, NamedKeyword, Question};
+use run_steps::spots::one_below;
 use schema_contexts::marks::child_edge;
 use schema_contexts::validation::ValidationContext;
-use schema_nodes::node::{Entry, EntryForm, NodeForm};
 use schema_parts::keyword::{Below, Validate};
 use schema_parts::matcher::Matcher;
 use schema_parts::numbers::{Edge, SchemaNode};

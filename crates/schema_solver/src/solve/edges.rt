@@ -6,7 +6,7 @@ ghost use Rattle.schema_solver.specs.Solved.{MayAsk, Solves, a_pair, an_edge, th
 
 use crate::question::{Asked, SolverEngine};
 use crate::solve::entries::solve_node;
-use schema_answers::spots::one_below;
+use run_steps::spots::one_below;
 use schema_contexts::marks::child_edge;
 use schema_pairs::context::SolverContext;
 use schema_pairs::pair::SolverPair;

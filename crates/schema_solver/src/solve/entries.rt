@@ -5,8 +5,8 @@ ghost use Rattle.schema_solver.specs.Solved.{MayAsk, Solves, a_node, the_entries
 use crate::question::{Asked, SolverEngine};
 use crate::solve::edges::solve_edge;
 use crate::solve::turns::solver_answer;
-use schema_answers::question::NamedKeyword;
-use schema_nodes::node::{Entry, EntryForm, NodeForm};
+use node_table::node::{Entry, EntryForm, NodeForm};
+use run_steps::question::NamedKeyword;
 use schema_pairs::context::SolverContext;
 use schema_parts::keyword::Validate;
 use schema_parts::matcher::Matcher;

@@ -11,9 +11,9 @@ ghost use Rattle.schema_solver.specs.TurningOn.{HasBegun};
 
 use crate::question::{Asked, SolverEngine};
 use crate::solve::edges::solve_child;
-use schema_answers::faults::begun;
-use schema_answers::question::NamedKeyword;
-use schema_answers::verdict_runs::{dropped, reply_with, verdict_of};
+use run_steps::faults::begun;
+use run_steps::question::NamedKeyword;
+use run_steps::verdict_runs::{dropped, reply_with, verdict_of};
 use schema_matches::site::Match;
 use schema_pairs::context::SolverContext;
 use schema_parts::keyword::{Answer, Mode, Step, Validate};

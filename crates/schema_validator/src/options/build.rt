@@ -4,7 +4,7 @@ ghost use Rattle.serde_json.specs.View.{view};
 ghost use Rattle.schema_validator.specs.Called.{HasPlainUnits, IsCompiledFrom, MeansPlainly, PointsPlainly, SchemaBuilds, BuildRefused};
 ghost use Rattle.schema_keywords.specs.KeywordViews.{draft_of};
 ghost use Rattle.schema_parts.specs.ResolverViews.{place_of};
-ghost use Rattle.schema_check.specs.Checking.{AcceptsSchema, RefusesSchema};
+ghost use Rattle.schema_keys.specs.Checking.{AcceptsSchema, RefusesSchema};
 ghost use Rattle.schema_validator.specs.Checked.{PassesCheck};
 ghost use Rattle.schema_validator.specs.FirstCauses.{FirstOfBuild};
 ghost use Rattle.schema_validator.specs.Greatest.{AcceptsAsSchema};
@@ -14,8 +14,8 @@ use crate::compiled::of_compiled_within;
 use crate::options::ValidationOptions;
 use crate::options::root::root_key;
 use crate::validator::Validator;
-use schema_check::check::validate_schema;
 use schema_compiler::compiler::compile;
+use schema_keys::check::validate_schema;
 use schema_keys::error::BuildError;
 use schema_keys::key::SchemaKey;
 use schema_parts::keyword::Validate;
@@ -24,7 +24,7 @@ use schema_parts::meta::MetaValidators;
 use schema_parts::numbers::SchemaNode;
 use schema_parts::resolver::Resolver;
 use schema_parts::table::KeywordTable;
-use schema_verdicts::finding::VerdictFinder;
+use schema_verdicts::eligible::Solver;
 use serde_json::Value;
 use std::alloc::Global;
 
@@ -150,7 +150,7 @@ impl ValidationOptions {
         drop(compiled.keys);
         drop(compiled.reservations);
         let runs = self.run_limit;
-        let finder = VerdictFinder::of(alloc, &nodes)?;
+        let finder = Solver::of(alloc, &nodes)?;
         let validator = of_compiled_within(
             table,
             resolver,

@@ -19,8 +19,8 @@ use crate::map::ValidatorMap;
 use crate::options::ValidationOptions;
 use crate::options::root::root_key;
 use crate::validator::Validator;
-use schema_check::check::validate_schema;
 use schema_compiler::compiler::{check_vocabularies, compile_subschema};
+use schema_keys::check::validate_schema;
 use schema_keys::context::Context;
 use schema_keys::error::BuildError;
 use schema_keys::key::SchemaKey;
@@ -33,7 +33,7 @@ use schema_parts::resolver::Resolver;
 use schema_parts::schema_place::SchemaPath;
 use schema_parts::table::KeywordTable;
 use schema_reports::location::OutOfMemory;
-use schema_verdicts::finding::VerdictFinder;
+use schema_verdicts::eligible::Solver;
 use serde_json::Value;
 use std::alloc::Global;
 
@@ -169,8 +169,8 @@ impl<'p, S: Resolver, T, M: Matcher> MapBuilding<'p, S, T, M> {
             draft: self.root.draft,
             vocabularies: self.root.vocabularies.clone()?,
             location: self.root.location.clone()?,
-            base: self.root.base.clone()?,
-            start: self.root.start,
+            resource_base: self.root.resource_base.clone()?,
+            resource_start: self.root.resource_start,
         })
     }
 
@@ -220,7 +220,7 @@ impl<'p, S: Resolver, T, M: Matcher> MapBuilding<'p, S, T, M> {
         let nodes = compiled.nodes;
         drop(compiled.keys);
         drop(compiled.reservations);
-        let finder = VerdictFinder::of(self.alloc, &nodes)?;
+        let finder = Solver::of(self.alloc, &nodes)?;
         let validator = of_compiled_within(
             self.table,
             self.resolver,

@@ -100,7 +100,7 @@ fn key_at<R: Resolver>(
         draft,
         vocabularies,
         location: Location::new(alloc),
-        base: Location::new(alloc),
-        start: 0,
+        resource_base: Location::new(alloc),
+        resource_start: 0,
     })
 }

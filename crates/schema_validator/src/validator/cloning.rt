@@ -1,6 +1,6 @@
 //! Clones of validators.
 ghost use Rattle.std.specs.Prelude.{◌≡◌, IfOk};
-ghost use Rattle.schema_nodes.specs.Cloned.{shaped_nodes};
+ghost use Rattle.node_table.specs.Cloned.{shaped_nodes};
 ghost use Rattle.schema_validator.specs.Cloned.{AnswerSame, SaySame};
 
 use crate::validator::Validator;

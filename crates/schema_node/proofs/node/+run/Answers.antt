@@ -6,8 +6,8 @@ use Rattle.schema_parts.specs.FaultViews.{PassesBorrowed}
 use Rattle.std.proofs.Common.{rules, arith, ◌≡◌, ◌∙◌, ◌==◌, ◌+◌, Bool, sym, refl, ap, subst, map, option_map, string_bytes, length, Some, false, true, List, [], ◌∷◌, ◌++◌, drop}
 use Rattle.schema_reports.specs.InstanceViews.{subject_of, step_of}
 use Rattle.schema_definitions.specs.Keywords.{Question, ask, ecma, mark, match_text, no_reply, truth, unmark}
-use Rattle.schema_answers.specs.EvaluationPlaces.{steps_to}
-use Rattle.schema_answers.specs.GuardedPairs.{place_of}
+use Rattle.run_steps.specs.EvaluationPlaces.{steps_to}
+use Rattle.run_steps.specs.GuardedPairs.{place_of}
 use Rattle.schema_node.proofs.Placing.{carries_on, pair_busy, pair_entered, stands_at, stands_below, stands_on}
 use Rattle.schema_contexts.specs.Progress.{places_in}
 use Rattle.schema_parts.specs.declared.numbers.SchemaNode.{SchemaNode}
@@ -22,32 +22,32 @@ use Rattle.schema_definitions.specs.Guarded.{node_at, node_never, same_edge, nod
 use Rattle.schema_parts.specs.KeywordViews.{below_of, marked_of, mode_of, reply_of, answer_of}
 use Rattle.schema_contexts.specs.Matches.{after_match, settling}
 use Rattle.schema_node.specs.NodeMeets.{ChildMeets, EdgeMeets, EntryMeets, FormMeets, child_run, part_looked, parts_looked, reading}
-use Rattle.schema_nodes.specs.NodeTable.{numbered, shaped_part}
+use Rattle.node_table.specs.NodeTable.{numbered, shaped_part}
 use Rattle.schema_parts.specs.EdgeViews.{edge_of}
-use Rattle.schema_nodes.specs.NodeViews.{entry_of, node_of, plan_of}
-use Rattle.schema_answers.specs.Askings.{entry_where}
-use Rattle.schema_answers.specs.ReplyModes.{refuses, reply_by}
-use Rattle.schema_answers.specs.NodeRuns.{EdgeReplies, child_says, edge_needs, parts_say}
+use Rattle.node_table.specs.NodeViews.{entry_of, node_of, plan_of}
+use Rattle.run_steps.specs.Askings.{entry_where}
+use Rattle.run_steps.specs.ReplyModes.{refuses, reply_by}
+use Rattle.run_steps.specs.NodeRuns.{EdgeReplies, child_says, edge_needs, parts_say}
 use Rattle.schema_contexts.specs.Progress.{Context, NoDeeper, busy_at}
 use Rattle.schema_node.specs.RightVerdicts.{LaysOut}
-use Rattle.schema_answers.specs.Askings.{asking, Asking}
+use Rattle.run_steps.specs.Askings.{asking, Asking}
 use Rattle.schema_node.specs.RunStates.{MeetsNode, NodeSays, RemembersRightly, StaysRight, setting}
 use Rattle.schema_parts.specs.declared.keyword.Reply.TheVariants as told
 use Rattle.schema_node.proofs.GoesOn.{asked_across, computed_meets, computed_says, computed_stays, right_matched, right_same}
 use Rattle.schema_node.proofs.RightVerdicts.{laid_below}
 use Rattle.schema_contexts.proofs.Pairs.{busy-below, busy-pushed, deeper-below, deeper-pushed}
-use Rattle.schema_answers.proofs.KeywordTurns.{falls_turned, faults_lie, keyword_says, right_reply, silent, silent_reads, tells_nothing, asked_on, asks_there, begins_on, can_after, ended_on, mark_taken_on, marked_on, matched_on, matches_there, told_pattern_on, ask_goes_on, match_goes_on, ecma_goes_on, mark_goes_on, unmark_goes_on}
+use Rattle.run_steps.proofs.KeywordTurns.{falls_turned, faults_lie, keyword_says, right_reply, silent, silent_reads, tells_nothing, asked_on, asks_there, begins_on, can_after, ended_on, mark_taken_on, marked_on, matched_on, matches_there, told_pattern_on, ask_goes_on, match_goes_on, ecma_goes_on, mark_goes_on, unmark_goes_on}
 use Rattle.schema_meaning.proofs.Alike.{asked_alike}
 use Rattle.schema_parts.proofs.Replies.{if_ok_always, if_ok_both, if_ok_mono}
-use Rattle.schema_answers.proofs.NodeRuns.{agrees_answers, agrees_says, child_below, child_here, edge_busy, falls_below, falls_here, form_reference, leaf_accepts, needs_of_entered, node_by_plan, one_entry, settled_entries, stands_in, start_entries, where_is}
+use Rattle.run_steps.proofs.NodeRuns.{agrees_answers, agrees_says, child_below, child_here, edge_busy, falls_below, falls_here, form_reference, leaf_accepts, needs_of_entered, node_by_plan, one_entry, settled_entries, stands_in, start_entries, where_is}
 use Rattle.schema_contexts.proofs.Matches.{after_assumes, moved, meets_append, meets_same}
-use Rattle.schema_answers.proofs.AskedMatches.{step_asks}
+use Rattle.run_steps.proofs.AskedMatches.{step_asks}
 use Rattle.schema_node.proofs.KeywordMeets.{meets_all, meets_asked, meets_begun, meets_mark_taken, meets_marked, meets_matched, meets_nothing}
 use Rattle.schema_node.proofs.NodeMeets.{end_met, last_met, leaf_holds, leaf_no, leaf_yes, meets_below, meets_busy, meets_here, meets_never, meets_reference, meets_these, next_met, nothing_refused, other_entry, stops_at, meets_by_plan, stops}
 use Rattle.schema_parts.proofs.Drops.{drop_at, drop_past}
-use Rattle.schema_answers.proofs.NodeParts.{absolute_is, keyword_children, part_at, plain_there, plan_is, reference_edge, replies_refused, tells_keyword, plan_none}
-use Rattle.schema_nodes.specs.declared.node.Entry.{Entry}
-use Rattle.schema_answers.specs.EntryUnits.{entry_units_of, placed_of}
+use Rattle.run_steps.proofs.NodeParts.{absolute_is, keyword_children, part_at, plain_there, plan_is, reference_edge, replies_refused, tells_keyword, plan_none}
+use Rattle.node_table.specs.declared.node.Entry.{Entry}
+use Rattle.run_steps.specs.EntryUnits.{entry_units_of, placed_of}
 use Rattle.schema_definitions.specs.UnitOrder.{each_placed}
 use Rattle.schema_definitions.specs.Units.{true_unit}
 use Rattle.serde_json.specs.View.{view}

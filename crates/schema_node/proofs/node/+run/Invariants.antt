@@ -9,24 +9,24 @@ use Rattle.schema_definitions.specs.Meaning.{both}
 use Rattle.schema_meaning.specs.Numbered.{left, subject_in}
 use Rattle.schema_definitions.specs.Guarded.{node_at, same_edge}
 use Rattle.schema_definitions.specs.Runs.{Met, keyword_met, plan_met}
-use Rattle.schema_answers.specs.EvaluationPlaces.{steps_to}
+use Rattle.run_steps.specs.EvaluationPlaces.{steps_to}
 use Rattle.schema_contexts.specs.EvaluationPaths.{path_of}
 use Rattle.schema_parts.specs.FaultViews.{errors_in, faults_in, PassesBorrowed}
 use Rattle.schema_parts.specs.KeywordViews.{answer_of, mode_of, reply_of}
-use Rattle.schema_nodes.specs.NodeTable.{numbered, shaped_part}
+use Rattle.node_table.specs.NodeTable.{numbered, shaped_part}
 use Rattle.schema_parts.specs.EdgeViews.{edge_of}
-use Rattle.schema_nodes.specs.NodeViews.{entry_of}
+use Rattle.node_table.specs.NodeViews.{entry_of}
 use Rattle.schema_contexts.specs.Matches.{MeetsEach, settling}
 use Rattle.schema_node.specs.NodeMeets.{child_run, parts_looked, reading}
-use Rattle.schema_answers.specs.ReplyModes.{refuses}
-use Rattle.schema_answers.specs.NodeRuns.{Reading, Reads, Replies, child_says, edge_needs, parts_say}
-use Rattle.schema_answers.specs.Askings.{asking}
+use Rattle.run_steps.specs.ReplyModes.{refuses}
+use Rattle.run_steps.specs.NodeRuns.{Reading, Reads, Replies, child_says, edge_needs, parts_say}
+use Rattle.run_steps.specs.Askings.{asking}
 use Rattle.schema_node.specs.RunStates.{StaysRight, setting}
 use Rattle.schema_node.specs.Visits.{LeadsNowhere}
 use Rattle.schema_node.proofs.KeywordMeets.{MeetsSoFar}
 use Rattle.schema_contexts.specs.Progress.{busy_at}
-use Rattle.schema_answers.specs.Turning.{EvaluatesOn}
-use Rattle.schema_answers.specs.EntryUnits.{placed_of}
+use Rattle.run_steps.specs.Turning.{EvaluatesOn}
+use Rattle.run_steps.specs.EntryUnits.{placed_of}
 use Rattle.schema_definitions.specs.UnitOrder.{each_placed, nothing_placed}
 use Rattle.schema_node.specs.UnitStates.{child_unit, parts_units}
 use Rattle.schema_node.proofs.node.+run.Given as goal

@@ -2,8 +2,8 @@ use Rattle.std.proofs.Common.{◌≡◌, ◌∙◌, ◌==◌, ◌+◌, ◌≤◌
 use Rattle.std.proofs.lemmas.Grind.{common_steps}
 use Rattle.schema_reports.specs.InstanceViews.{subject_of, step_of}
 use Rattle.schema_definitions.specs.Keywords.{Question, ask, ecma, for_verdict, mark, match_text, no_reply, truth, unmark}
-use Rattle.schema_answers.specs.EvaluationPlaces.{steps_to}
-use Rattle.schema_answers.specs.GuardedPairs.{place_of}
+use Rattle.run_steps.specs.EvaluationPlaces.{steps_to}
+use Rattle.run_steps.specs.GuardedPairs.{place_of}
 use Rattle.schema_node.proofs.Placing.{carries_on, pair_entered, pair_known, pair_unknown, stands_at, stands_below, stands_on}
 use Rattle.schema_contexts.specs.Progress.{places_in}
 use Rattle.schema_parts.specs.declared.numbers.SchemaNode.{SchemaNode}
@@ -19,13 +19,13 @@ use Rattle.schema_definitions.specs.Guarded.{node_at, node_never, same_edge, nod
 use Rattle.schema_parts.specs.KeywordViews.{below_of, marked_of, mode_of, reply_of, answer_of, Tells, turn_of}
 use Rattle.schema_contexts.specs.Matches.{after_match, settling}
 use Rattle.schema_node.specs.NodeMeets.{ChildMeets, EdgeMeets, FormMeets, child_run, part_looked, parts_looked, reading}
-use Rattle.schema_nodes.specs.NodeTable.{numbered, shaped_form, shaped_part}
+use Rattle.node_table.specs.NodeTable.{numbered, shaped_form, shaped_part}
 use Rattle.schema_parts.specs.EdgeViews.{edge_of}
-use Rattle.schema_nodes.specs.NodeViews.{entry_of, form_of, node_of, plan_of}
-use Rattle.schema_answers.specs.NodeRuns.{ChildReplies, EdgeReplies, Reading, Reads, child_says, edge_needs, parts_say}
+use Rattle.node_table.specs.NodeViews.{entry_of, form_of, node_of, plan_of}
+use Rattle.run_steps.specs.NodeRuns.{ChildReplies, EdgeReplies, Reading, Reads, child_says, edge_needs, parts_say}
 use Rattle.schema_contexts.specs.Progress.{Context, NoDeeper, busy_at}
 use Rattle.schema_node.specs.RightVerdicts.{LaysOut}
-use Rattle.schema_answers.specs.Askings.{asking}
+use Rattle.run_steps.specs.Askings.{asking}
 use Rattle.schema_node.specs.RunStates.{EdgeSays, FormRemembers, FormSays, MeetsNode, NodeSays, StaysRight, setting}
 use Rattle.schema_contexts.specs.Verdicts.{one_more}
 use Rattle.schema_parts.specs.declared.keyword.Reply.TheVariants as told
@@ -34,23 +34,23 @@ use Rattle.schema_node.proofs.RightVerdicts.{laid_below, read_entered}
 use Rattle.schema_node.proofs.Visits.{always_counts, busy_counts, computed_counts, ended_counts, free_counts, keyword_counts, never_counts, next_counts, planned_counts, read_counts}
 use Rattle.schema_node.specs.Visits.{NodeCounts}
 use Rattle.schema_contexts.proofs.Pairs.{busy-below, busy-pushed, deeper-below, deeper-pushed}
-use Rattle.schema_answers.proofs.KeywordTurns.{falls_turned, right_at_once, tells_nothing, asked_on, asks_there, begins_on, can_after, ended_on, mark_taken_on, marked_on, matched_on, matches_there, told_pattern_on, ask_goes_on, match_goes_on, ecma_goes_on, mark_goes_on, unmark_goes_on}
+use Rattle.run_steps.proofs.KeywordTurns.{falls_turned, right_at_once, tells_nothing, asked_on, asks_there, begins_on, can_after, ended_on, mark_taken_on, marked_on, matched_on, matches_there, told_pattern_on, ask_goes_on, match_goes_on, ecma_goes_on, mark_goes_on, unmark_goes_on}
 use Rattle.schema_meaning.proofs.Alike.{asked_alike}
 use Rattle.schema_parts.proofs.Replies.{if_ok_always, if_ok_mono}
-use Rattle.schema_answers.proofs.NodeRuns.{agrees_answers, agrees_says, child_below, child_here, edge_busy, falls_below, falls_here, form_reference, needs_of_entered, node_by_plan, one_entry, settled_entries, stands_in, start_entries, where_is}
+use Rattle.run_steps.proofs.NodeRuns.{agrees_answers, agrees_says, child_below, child_here, edge_busy, falls_below, falls_here, form_reference, needs_of_entered, node_by_plan, one_entry, settled_entries, stands_in, start_entries, where_is}
 use Rattle.schema_contexts.proofs.Matches.{after_assumes, moved, meets_same}
-use Rattle.schema_answers.proofs.AskedMatches.{step_asks}
+use Rattle.run_steps.proofs.AskedMatches.{step_asks}
 use Rattle.schema_node.proofs.KeywordMeets.{meets_all, meets_asked, meets_at_once, meets_begun, meets_mark_taken, meets_marked, meets_matched, meets_nothing}
 use Rattle.schema_node.proofs.NodeMeets.{end_met, last_met, meets_below, meets_busy, meets_here, meets_reference, meets_these, next_met, other_entry, stops_at, meets_by_plan}
 use Rattle.schema_parts.proofs.Drops.{drop_at, drop_past}
-use Rattle.schema_answers.proofs.NodeParts.{keyword_children, part_at, plan_is, reference_edge, tells_keyword, plan_none}
-use Rattle.schema_nodes.specs.declared.node.Entry.{Entry}
+use Rattle.run_steps.proofs.NodeParts.{keyword_children, part_at, plan_is, reference_edge, tells_keyword, plan_none}
+use Rattle.node_table.specs.declared.node.Entry.{Entry}
 use Rattle.serde_json.specs.View.{view}
 use Rattle.schema_meaning.proofs.TurnsGiveRuns.{keeps_of_turns}
 use Rattle.schema_node.specs.UnitStates.{child_unit, reply_with}
 use Rattle.schema_node.proofs.NodeUnits.{finds_moved}
 use Rattle.schema_node.proofs.UnitsAsked.{answer_is, child_valid, told_is}
-use Rattle.schema_answers.specs.VerdictRuns.{told_reply}
+use Rattle.run_steps.specs.VerdictRuns.{told_reply}
 use Rattle.schema_node.proofs.VerdictTurns.{asked_verdict, asks_begun, asks_on, stepped_by, turned_by, verdict_told}
 use Rattle.schema_node.proofs.Verdicts.{joins_verdict, keyword_replies, stamps_verdict, verdict_replies, yes_says}
 use Rattle.schema_node.proofs.Measures.{lower_same, lower_across, lower_reference, lower_entered, as_many, no_fewer}

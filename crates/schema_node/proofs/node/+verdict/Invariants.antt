@@ -6,23 +6,23 @@ use Rattle.schema_definitions.specs.Meaning.{both}
 use Rattle.schema_meaning.specs.Numbered.{left, subject_in}
 use Rattle.schema_definitions.specs.Guarded.{node_at, same_edge}
 use Rattle.schema_definitions.specs.Runs.{Met, keyword_met, plan_met}
-use Rattle.schema_answers.specs.EvaluationPlaces.{steps_to}
+use Rattle.run_steps.specs.EvaluationPlaces.{steps_to}
 use Rattle.schema_contexts.specs.EvaluationPaths.{path_of}
 use Rattle.schema_parts.specs.KeywordViews.{answer_of, mode_of}
-use Rattle.schema_nodes.specs.NodeTable.{numbered, shaped_part}
+use Rattle.node_table.specs.NodeTable.{numbered, shaped_part}
 use Rattle.schema_parts.specs.EdgeViews.{edge_of}
-use Rattle.schema_nodes.specs.NodeViews.{entry_of}
+use Rattle.node_table.specs.NodeViews.{entry_of}
 use Rattle.schema_contexts.specs.Matches.{MeetsEach, settling}
 use Rattle.schema_node.specs.NodeMeets.{child_run, parts_looked, reading}
-use Rattle.schema_answers.specs.NodeRuns.{Reading, Reads, Replies, child_says, edge_needs, parts_say}
-use Rattle.schema_answers.specs.Askings.{asking}
+use Rattle.run_steps.specs.NodeRuns.{Reading, Reads, Replies, child_says, edge_needs, parts_say}
+use Rattle.run_steps.specs.Askings.{asking}
 use Rattle.schema_node.specs.RunStates.{PartsRemember, StaysRight, setting}
-use Rattle.schema_answers.specs.VerdictRuns.{told_reply}
+use Rattle.run_steps.specs.VerdictRuns.{told_reply}
 use Rattle.schema_node.specs.VerdictTurns.{AsksVerdictsOn}
 use Rattle.schema_node.specs.Visits.{LeadsNowhere, PartsCount}
 use Rattle.schema_node.proofs.KeywordMeets.{MeetsSoFar}
 use Rattle.schema_contexts.specs.Progress.{busy_at}
-use Rattle.schema_answers.specs.Turning.{EvaluatesOn}
+use Rattle.run_steps.specs.Turning.{EvaluatesOn}
 use Rattle.schema_node.specs.UnitStates.{child_unit}
 use Rattle.schema_parts.specs.declared.keyword.Reply.TheVariants as told
 use Rattle.schema_node.proofs.node.+verdict.Given as goal

@@ -1,7 +1,7 @@
 use Rattle.std.proofs.Common.{◌≡◌, map, take}
 use Rattle.std.specs.Prelude.{min}
 use Rattle.schema_definitions.specs.Guarded.{node_edges, node_these}
-use Rattle.schema_nodes.specs.NodeViews.{entry_of}
+use Rattle.node_table.specs.NodeViews.{entry_of}
 use Rattle.schema_pairs.specs.Following.{edges_weight}
 use Rattle.schema_pairs.proofs.weights.weigh_entries.Given as goal
 

@@ -14,28 +14,28 @@ use Rattle.schema_parts.proofs.Drops.{drop_at, drop_past}
 use Rattle.schema_parts.proofs.Replies.{if_ok_mono}
 use Rattle.schema_contexts.specs.Progress.{busy_at, root_places}
 use Rattle.schema_contexts.proofs.Pairs.{busy-below}
-use Rattle.schema_nodes.specs.NodeTable.{numbered, shaped_part}
-use Rattle.schema_nodes.specs.NodeViews.{entry_of, node_of, plan_of}
-use Rattle.schema_nodes.specs.declared.node.Entry.{Entry}
-use Rattle.schema_answers.specs.EvaluationPlaces.{CarriesItsNumber, steps_to}
-use Rattle.schema_answers.proofs.NodeParts.{part_at, plan_is, reference_edge, keyword_children}
-use Rattle.schema_solving.specs.Says.{EdgeSays, FormSays, parts_under}
-use Rattle.schema_solving.proofs.Says.{child_some, edge_below, node_says_parts}
+use Rattle.node_table.specs.NodeTable.{numbered, shaped_part}
+use Rattle.node_table.specs.NodeViews.{entry_of, node_of, plan_of}
+use Rattle.node_table.specs.declared.node.Entry.{Entry}
+use Rattle.run_steps.specs.EvaluationPlaces.{CarriesItsNumber, steps_to}
+use Rattle.run_steps.proofs.NodeParts.{part_at, plan_is, reference_edge, keyword_children}
+use Rattle.schema_greatest.specs.Says.{EdgeSays, FormSays, parts_under}
+use Rattle.schema_greatest.proofs.Says.{child_some, edge_below, node_says_parts}
 use Rattle.schema_solver.specs.Asked.{is_followed_in, solver_by}
 use Rattle.schema_pairs.specs.Contexts.{found_of, has_pair, solver_places}
 use Rattle.schema_solver.specs.Needs.{SaysTheRest}
 use Rattle.schema_pairs.specs.Answering.{AssumesBeside, Begins, Refuses, SettlesAlone}
 use Rattle.schema_solver.specs.Solving.{Goes, InEach, MaySolve, is_cut, solving_in}
 use Rattle.schema_pairs.specs.SolverPairs.{place_of}
-use Rattle.schema_answers.specs.VerdictRuns.{told_reply}
+use Rattle.run_steps.specs.VerdictRuns.{told_reply}
 use Rattle.schema_solver.proofs.Asking.{edge_among, may_cross, may_go_below}
 use Rattle.schema_solver.proofs.Crossing.{apart_mark, at_pair, cut_guards, entry_accepts, entry_refuses, falls_across, falls_across_below, falls_entered, needs_of_cut, needs_of_free, pair_new, pair_ran, ran_goes, ran_says_pair, says_at_once, solvable_here}
 use Rattle.schema_solver.proofs.Going.{goes_below, goes_none, goes_on, may_after}
 use Rattle.schema_solver.proofs.PairSteps.{begun_may}
 use Rattle.schema_solver.proofs.solve.+verdict.Goals.{edges::solve_edge-then-edge-via-then-edge, edges::solve_edge-then-edge-via-else-edge+then-not-is_followed}
 use Rattle.schema_definitions.specs.Matching.{Pair}
-use Rattle.schema_answers.specs.NodeRuns.{form_at_work}
-use Rattle.schema_answers.proofs.KeywordTurns.{asks_there, can_after, falls_turned, tells_nothing, ask_goes_on, match_goes_on, ecma_goes_on, mark_goes_on, unmark_goes_on}
+use Rattle.run_steps.specs.NodeRuns.{form_at_work}
+use Rattle.run_steps.proofs.KeywordTurns.{asks_there, can_after, falls_turned, tells_nothing, ask_goes_on, match_goes_on, ecma_goes_on, mark_goes_on, unmark_goes_on}
 use Rattle.schema_solver.proofs.Turned.{asked_verdict, asks_begun, asks_on, begun_with, can_begun, carries_on, goes_marked, leads_asked, leads_begun, leads_ended, leads_marked, leads_matched, leads_told, leads_unmarked, says_after, stepped_by, turned_by}
 use Rattle.schema_solver.proofs.solve.+verdict.Goals as goal
 

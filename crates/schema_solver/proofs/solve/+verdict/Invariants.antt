@@ -4,15 +4,15 @@ use Rattle.schema_meaning.specs.Numbered.{left}
 use Rattle.schema_reports.specs.InstanceViews.{subject_of}
 use Rattle.schema_parts.specs.EdgeViews.{edge_of}
 use Rattle.schema_contexts.specs.Progress.{busy_at}
-use Rattle.schema_nodes.specs.NodeTable.{numbered, shaped_part}
-use Rattle.schema_nodes.specs.NodeViews.{entry_of}
-use Rattle.schema_answers.specs.EvaluationPlaces.{steps_to}
+use Rattle.node_table.specs.NodeTable.{numbered, shaped_part}
+use Rattle.node_table.specs.NodeViews.{entry_of}
+use Rattle.run_steps.specs.EvaluationPlaces.{steps_to}
 use Rattle.schema_solver.specs.Asked.{is_followed_in, solver_by}
 use Rattle.schema_pairs.specs.Contexts.{found_of}
 use Rattle.schema_solver.specs.Needs.{SaysTheRest, edge_needs, pair_needs}
 use Rattle.schema_solver.specs.Solving.{Goes, InEach, is_cut}
 use Rattle.schema_parts.specs.KeywordViews.{answer_of}
-use Rattle.schema_answers.specs.VerdictRuns.{told_reply}
+use Rattle.run_steps.specs.VerdictRuns.{told_reply}
 use Rattle.schema_solver.specs.TurningOn.{AsksOn, TurnsOn}
 use Rattle.schema_solver.proofs.solve.+verdict.Given as goal
 

@@ -3,9 +3,9 @@ use Rattle.serde_json.specs.View.{view}
 use Rattle.schema_definitions.specs.Instance.{a_value}
 use Rattle.schema_definitions.specs.Laws.{EachKeeps}
 use Rattle.schema_meaning.proofs.TurnsGiveRuns.{keeps_of_turns}
-use Rattle.schema_nodes.proofs.RankedTable.{ranked_table}
-use Rattle.schema_answers.specs.EvaluationPlaces.{steps_to}
-use Rattle.schema_solving.specs.Found.{SaysUnder}
+use Rattle.node_table.proofs.RankedTable.{ranked_table}
+use Rattle.run_steps.specs.EvaluationPlaces.{steps_to}
+use Rattle.schema_greatest.specs.Found.{SaysUnder}
 use Rattle.schema_solver.specs.Asked.{solver_of}
 use Rattle.schema_pairs.specs.Contexts.{found_of, solver_places}
 use Rattle.schema_pairs.specs.Answering.{fresh}

@@ -4,7 +4,7 @@ use Rattle.schema_meaning.specs.Headline.{Plainly, PlainlyWithUnits}
 use Rattle.schema_keywords.specs.KeywordTable.{builtin_in}
 use Rattle.schema_meaning.specs.Means as means
 use Rattle.schema_meaning.proofs.TurnsGiveRuns.{keeps_of_turns}
-use Rattle.schema_nodes.specs.NodeTable.{numbered}
+use Rattle.node_table.specs.NodeTable.{numbered}
 use Rattle.schema_meaning.specs.Fractions.{AreWhole}
 use Rattle.schema_validator.specs.Program.{HaveUnits, Program, Means}
 use Rattle.schema_validator.specs.Handed.{table_of, parts_of}

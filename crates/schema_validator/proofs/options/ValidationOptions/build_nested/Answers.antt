@@ -8,7 +8,7 @@ use Rattle.schema_keywords.specs.KeywordViews.{draft_of}
 use Rattle.schema_definitions.specs.Plan.{Key}
 use Rattle.schema_definitions.specs.Laws.{EachKeeps}
 use Rattle.schema_keys.specs.Builtins.{builtin}
-use Rattle.schema_check.specs.Checking.{AcceptsSchema}
+use Rattle.schema_keys.specs.Checking.{AcceptsSchema}
 use Rattle.schema_keys.specs.Compiling.{no_table, no_keywords, no_matcher}
 use Rattle.schema_keys.specs.KeyViews.{key_of}
 use Rattle.schema_compiler.specs.Compilation.{IsCompilation, RefusesInOrder, RefusesRoot, all_parts}

@@ -2,7 +2,7 @@ use Rattle.std.proofs.Common.{◌∙◌, ◌<◌, ℕ, ap, length, subst, sym}
 use Rattle.std.proofs.lemmas.Option.{IfSome_then}
 use Rattle.schema_definitions.specs.Guarded.{Nodes}
 use Rattle.schema_greatest.specs.NodesSay.{AreMonotone}
-use Rattle.schema_nodes.specs.NodeTable.{numbered}
+use Rattle.node_table.specs.NodeTable.{numbered}
 use Rattle.schema_verdicts.specs.Finding.{SolvesFor}
 use Rattle.schema_validator.specs.Program.{Program}
 use Rattle.schema_validator.proofs.ClonedValidators.{answer_same, say_same}

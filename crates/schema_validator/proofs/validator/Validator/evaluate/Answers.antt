@@ -6,7 +6,7 @@ use Rattle.schema_meaning.specs.Means.{FromSomeDepth}
 use Rattle.schema_reports.specs.declared.evaluation.EvaluationNode.{EvaluationNode}
 use Rattle.schema_meaning.proofs.SensesMeant.{of_every_sense}
 use Rattle.schema_meaning.proofs.TurnsGiveRuns.{keeps_of_turns}
-use Rattle.schema_nodes.specs.NodeTable.{numbered}
+use Rattle.node_table.specs.NodeTable.{numbered}
 use Rattle.schema_validator.specs.Evaluated.{EvaluationAnswered}
 use Rattle.schema_validator.specs.Program.{HasUnits}
 use Rattle.schema_validator.proofs.Greatest.{evaluates_accepted}

@@ -4,7 +4,7 @@ use Rattle.serde_json.specs.View.{view}
 use Rattle.schema_definitions.specs.Laws.{EachKeeps}
 use Rattle.schema_meaning.specs.Numbered.{left, subject_in}
 use Rattle.schema_meaning.proofs.TurnsGiveRuns.{keeps_of_turns}
-use Rattle.schema_nodes.specs.NodeTable.{numbered}
+use Rattle.node_table.specs.NodeTable.{numbered}
 use Rattle.schema_contexts.proofs.Matches.{nothing_twice}
 use Rattle.schema_parts.proofs.Replies.{if_ok_mono}
 use Rattle.schema_validator.proofs.ErrorSearches.{evaluated_first, units_first, units_searched}

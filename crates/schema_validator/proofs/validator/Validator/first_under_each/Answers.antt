@@ -8,7 +8,7 @@ use Rattle.schema_meaning.specs.Numbered.{left, subject_in}
 use Rattle.schema_reports.specs.ReportViews.{BorrowsItsPlace}
 use Rattle.schema_meaning.proofs.Sentences.{validate_later}
 use Rattle.schema_meaning.proofs.TurnsGiveRuns.{keeps_of_turns}
-use Rattle.schema_nodes.specs.NodeTable.{numbered}
+use Rattle.node_table.specs.NodeTable.{numbered}
 use Rattle.schema_contexts.proofs.Matches.{nothing_twice}
 use Rattle.schema_validator.specs.Asked.{FirstFromSomeDepth}
 use Rattle.schema_validator.proofs.ErrorSearches.{first_first, first_has}

@@ -5,7 +5,7 @@ use Rattle.schema_definitions.specs.Laws.{EachKeeps}
 use Rattle.schema_meaning.specs.Headline.{VerdictSays}
 use Rattle.schema_meaning.proofs.SensesMeant.{of_every_sense}
 use Rattle.schema_meaning.proofs.TurnsGiveRuns.{keeps_of_turns}
-use Rattle.schema_nodes.specs.NodeTable.{numbered}
+use Rattle.node_table.specs.NodeTable.{numbered}
 use Rattle.schema_validator.proofs.Greatest.{decides_accepted}
 use Rattle.schema_validator.proofs.validator.Validator.is_valid.Goals as goal
 

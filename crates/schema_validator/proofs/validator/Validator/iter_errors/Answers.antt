@@ -10,7 +10,7 @@ use Rattle.schema_reports.specs.ReportViews.{BorrowsItsPlace}
 use Rattle.schema_reports.specs.declared.reports.ValidationError.{ValidationError}
 use Rattle.schema_meaning.proofs.SensesMeant.{of_every_sense}
 use Rattle.schema_meaning.proofs.TurnsGiveRuns.{keeps_of_turns}
-use Rattle.schema_nodes.specs.NodeTable.{numbered}
+use Rattle.node_table.specs.NodeTable.{numbered}
 use Rattle.schema_validator.specs.Spoken.{EachIsGiven, ErrorsAnswered}
 use Rattle.schema_validator.proofs.Greatest.{errors_accepted}
 use Rattle.schema_validator.proofs.Pointing.{each_is_given}

@@ -1,7 +1,7 @@
 use Rattle.std.proofs.Common.{◌<◌, length, subst}
 use Rattle.schema_meaning.specs.Numbered.{Ranked}
-use Rattle.schema_nodes.specs.NodeTable.{numbered}
-use Rattle.schema_nodes.proofs.RankedTable.{ranked_table}
+use Rattle.node_table.specs.NodeTable.{numbered}
+use Rattle.node_table.proofs.RankedTable.{ranked_table}
 use Rattle.schema_validator.specs.Program.{Program}
 use Rattle.schema_validator.proofs.validator.Validator.node_count.Goals as goal
 

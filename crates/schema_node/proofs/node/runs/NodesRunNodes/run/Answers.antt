@@ -1,7 +1,7 @@
 use Rattle.std.proofs.Common.{◌∙◌, ap, length, subst, sym}
 use Rattle.schema_reports.specs.InstanceViews.{subject_of}
 use Rattle.schema_meaning.specs.Numbered.{subject_in}
-use Rattle.schema_nodes.specs.NodeTable.{numbered}
+use Rattle.node_table.specs.NodeTable.{numbered}
 use Rattle.schema_contexts.specs.Progress.{Context, NoDeeper}
 use Rattle.schema_parts.proofs.Replies.{if_ok_mono}
 use Rattle.schema_node.proofs.RightVerdicts.{layout_from, lays_out_from, none_right, root_lays_out}

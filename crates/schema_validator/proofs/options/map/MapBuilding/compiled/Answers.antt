@@ -8,7 +8,7 @@ use Rattle.schema_keywords.specs.KeywordTable.{builtin_in}
 use Rattle.schema_keywords.specs.KeywordViews.{draft_of}
 use Rattle.schema_definitions.specs.Laws.{EachKeeps}
 use Rattle.schema_meaning.proofs.TurnsGiveRuns.{keeps_of_turns}
-use Rattle.schema_nodes.specs.NodeTable.{NodeEntry}
+use Rattle.node_table.specs.NodeTable.{NodeEntry}
 use Rattle.schema_keys.specs.Builtins.{builtin}
 use Rattle.schema_compiler.specs.Compilation.{IsCompilationAlone, RefusesAlone, all_parts}
 use Rattle.schema_keys.specs.KeyViews.{key_of}

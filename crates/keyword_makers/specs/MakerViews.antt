@@ -1,0 +1,18 @@
+-- The code's makers, as the definitions have them.
+use Rattle.std.specs.Prelude.{option_map, [], true}
+use Rattle.schema_definitions.specs.Making.{Made, a_keyword, nothing, refused}
+use Rattle.schema_reports.specs.ReportViews.{owned_error_of}
+use Rattle.schema_parts.specs.MakerViews.{Waiting}
+use Rattle.keyword_makers.specs.Making.{waiting_in}
+use Rattle.keyword_makers.specs.declared.maker.Ending.{Ending}
+use Rattle.keyword_makers.specs.declared.maker.Ending.TheVariants as ending
+use Rattle.keyword_makers.specs.declared.maker.PathsMaker.{PathsMaker}
+
+-- `shape` says what is known of a keyword apart from its representation
+abbrev pub made_of : {C K : Type 0} → (C → K) → Ending C → Made K
+made_of shape (ending.Keyword k) = a_keyword (shape k) []
+made_of shape ending.Nothing = nothing
+made_of shape (ending.Refused e) = refused true (owned_error_of e)
+
+abbrev pub waiting_of : {C K : Type 0} → (C → K) → PathsMaker C → Waiting K
+waiting_of shape m = waiting_in m.paths.items m.asked (option_map (made_of shape) m.ends)

@@ -1,0 +1,12 @@
+-- The names of an object's members, and the places of their values below a keyword.
+use Rattle.std.specs.Prelude.{List, [], ◌∷◌}
+use Rattle.serde_json.specs.Data.{Members, member, no_members}
+use Rattle.schema_definitions.specs.Instance.{Place, Text, to_member}
+
+abbrev pub names_of : Members → List Text
+names_of no_members = []
+names_of (member k d ms) = k ∷ names_of ms
+
+abbrev pub values_below : Text → List Text → List Place
+values_below name [] = []
+values_below name (k ∷ ks) = (to_member name ∷ to_member k ∷ []) ∷ values_below name ks

@@ -1,0 +1,66 @@
+//! The children of `if`.
+ghost use Rattle.std.specs.Prelude.{◌≡◌, ◌++◌, IfOk, codes};
+ghost use Rattle.serde_json.specs.View.{members_view};
+ghost use Rattle.keyword_makers.specs.Branches.{after_branch, branch_child, branch_places, has_branch, if_places};
+
+use crate::paths::{value_in, value_of};
+use schema_parts::schema_place::SchemaPath;
+use schema_reports::location::OutOfMemory;
+use serde_json::{Map, Value};
+use std::alloc::Global;
+
+/// The children of `if`: its own value, which is the first, and the branches that are there.
+#[derive(Drop)]
+pub struct Branches {
+    /// Where they stand, in order.
+    pub paths: Vec<SchemaPath>,
+    /// The number of the child under `then`, where there is one.
+    pub accepted: Option<usize>,
+    /// The number of the child under `else`, where there is one.
+    pub refused: Option<usize>,
+}
+
+/// Adds the place of a member to those of children, where the object has it; and its number, which is the next one.
+fn push_branch(
+    alloc: Global,
+    object: &Map<String, Value>,
+    name: &str,
+    paths: &mut Vec<SchemaPath>,
+    number: usize,
+) -> Result<Option<usize>, OutOfMemory>
+    ensures paths { IfOk result (λ _. paths.new.items ≡ paths.old.items
+        ++ branch_places (has_branch name.now (members_view object.now.entries)) name.now) }
+    ensures child { IfOk result (λ child. child ≡ branch_child (has_branch name.now (members_view object.now.entries)) number) }
+{
+    match value_in(object, name) {
+        None => Ok(None),
+        Some(_) => {
+            paths.push(value_of(alloc, name)?)?;
+            Ok(Some(number))
+        }
+    }
+}
+
+/// The children of an `if` of this name in an object.
+pub fn branches_of(
+    alloc: Global,
+    name: &str,
+    object: &Map<String, Value>,
+) -> Result<Branches, OutOfMemory>
+    ensures paths { IfOk result (λ b. b.paths.items ≡ if_places name.now
+        (has_branch (codes "then") (members_view object.now.entries)) (has_branch (codes "else") (members_view object.now.entries))) }
+    ensures accepted { IfOk result (λ b. b.accepted ≡ branch_child (has_branch (codes "then") (members_view object.now.entries)) 1) }
+    ensures refused { IfOk result (λ b. b.refused ≡ branch_child (has_branch (codes "else") (members_view object.now.entries))
+        (after_branch (has_branch (codes "then") (members_view object.now.entries)) 1)) }
+{
+    let mut paths = Vec::new(alloc);
+    paths.push(value_of(alloc, name)?)?;
+    let accepted = push_branch(alloc, object, "then", &mut paths, 1)?;
+    let last = if accepted.is_some() { 2 } else { 1 };
+    let refused = push_branch(alloc, object, "else", &mut paths, last)?;
+    Ok(Branches {
+        paths,
+        accepted,
+        refused,
+    })
+}

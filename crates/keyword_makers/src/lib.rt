@@ -1,0 +1,11 @@
+//! What a table of keywords needs whose makers ask for paths, one after the other, and then end: their turns, paths below a keyword,
+//! refusals, and a table whose keywords follow from a member's name and value.
+#![tactic(auto)]
+
+pub mod branches;
+pub mod by_value;
+pub mod lists;
+pub mod maker;
+pub mod members;
+pub mod paths;
+pub mod refusals;

@@ -1,0 +1,41 @@
+//! Keywords whose value is a list of schemas.
+ghost use Rattle.std.specs.Prelude.{◌≡◌, IfOk};
+ghost use Rattle.serde_json.specs.Find.{as_array};
+ghost use Rattle.serde_json.specs.View.{view};
+ghost use Rattle.schema_parts.specs.MakerViews.{begun};
+ghost use Rattle.keyword_ways.specs.Items.{count_in};
+ghost use Rattle.keyword_makers.specs.Making.{each_schema};
+ghost use Rattle.keyword_makers.specs.MakerViews.{waiting_of};
+
+use crate::maker::{PathsMaker, each_item};
+use crate::refusals::malformed;
+use schema_parts::keyword::Validate;
+use schema_reports::location::OutOfMemory;
+use serde_json::Value;
+use std::alloc::Global;
+
+/// How many items a value has, which is none where it is no list.
+#[tactic(auto, using(keyword_ways::proofs::MemberCounts::items_count_length))]
+pub fn list_length(value: &Value) -> usize
+    ensures length { result ≡ count_in (as_array (view value.now)) }
+{
+    match value.as_array() {
+        Some(items) => items.len(),
+        None => 0,
+    }
+}
+
+/// A maker that asks for each schema of a keyword's value, or refuses a value that is no list.
+pub fn each_schema<K: Validate>(
+    alloc: Global,
+    name: &str,
+    value: &Value,
+    keyword: K,
+) -> Result<PathsMaker<K>, OutOfMemory>
+    ensures maker { IfOk result (λ m. waiting_of K.shape m ≡ begun (each_schema name.now (view value.now) (K.shape keyword))) }
+{
+    match value.as_array() {
+        Some(items) => each_item(alloc, name, items.as_slice(), keyword),
+        None => malformed(alloc, name, value),
+    }
+}

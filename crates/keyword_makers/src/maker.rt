@@ -1,0 +1,102 @@
+//! The makers.
+ghost use Rattle.std.specs.Prelude.{◌≡◌, [], Some, IfOk};
+ghost use Rattle.serde_json.specs.View.{items_view};
+ghost use Rattle.schema_definitions.specs.Making.{a_keyword, then_end};
+ghost use Rattle.schema_parts.specs.MakerViews.{begun, maker_reply_of, TakesTurn};
+ghost use Rattle.keyword_makers.specs.Making.{asks_for, each_item, only_child};
+ghost use Rattle.keyword_makers.specs.MakerViews.{made_of, waiting_of};
+
+use crate::paths::{items_below, value_of};
+use schema_parts::keyword::Validate;
+use schema_parts::schema_place::SchemaPath;
+use schema_parts::table::{MakerReply, MakerStep};
+use schema_reports::location::OutOfMemory;
+use schema_reports::reports::OwnedError;
+use serde_json::Value;
+use std::alloc::Global;
+
+/// How a maker ends: with a keyword, with none, or with a refusal.
+#[derive(Drop)]
+pub enum Ending<K> {
+    Keyword(K),
+    Nothing,
+    Refused(OwnedError),
+}
+
+/// A maker: the paths of the children, in order, how many of them it has asked for, and how it ends, until it has.
+#[derive(Drop)]
+pub struct PathsMaker<K> {
+    pub paths: Vec<SchemaPath>,
+    pub asked: usize,
+    pub ends: Option<Ending<K>>,
+}
+
+/// A maker that ends at once.
+pub fn ends<K: Validate>(alloc: Global, ending: Ending<K>) -> PathsMaker<K>
+    ensures maker { waiting_of K.shape result ≡ begun (then_end (made_of K.shape ending)) }
+{
+    PathsMaker {
+        paths: Vec::new(alloc),
+        asked: 0,
+        ends: Some(ending),
+    }
+}
+
+/// A maker that asks for what stands at these paths, and ends with a keyword.
+pub fn asks_for<K: Validate>(paths: Vec<SchemaPath>, keyword: K) -> PathsMaker<K>
+    ensures maker { waiting_of K.shape result ≡ begun (asks_for paths.items (a_keyword (K.shape keyword) [])) }
+{
+    PathsMaker {
+        paths,
+        asked: 0,
+        ends: Some(Ending::Keyword(keyword)),
+    }
+}
+
+/// A maker whose keyword has its own value as its only schema.
+pub fn only_child<K: Validate>(
+    alloc: Global,
+    name: &str,
+    keyword: K,
+) -> Result<PathsMaker<K>, OutOfMemory>
+    ensures maker { IfOk result (λ m. waiting_of K.shape m ≡ begun (only_child name.now (K.shape keyword))) }
+{
+    let mut paths = Vec::new(alloc);
+    paths.push(value_of(alloc, name)?)?;
+    Ok(asks_for(paths, keyword))
+}
+
+/// A maker that asks for each item of a keyword's value, which is a list.
+pub fn each_item<K: Validate>(
+    alloc: Global,
+    name: &str,
+    items: &[Value],
+    keyword: K,
+) -> Result<PathsMaker<K>, OutOfMemory>
+    ensures maker { IfOk result (λ m. waiting_of K.shape m ≡ begun (each_item name.now (items_view items.now) (K.shape keyword))) }
+{
+    let paths = items_below(alloc, name, items)?;
+    Ok(asks_for(paths, keyword))
+}
+
+impl<K: Validate> PathsMaker<K> {
+    /// Takes a turn.
+    pub fn turn(&mut self, alloc: Global, _reply: MakerReply) -> Result<MakerStep<K>, OutOfMemory>
+        ensures takes { IfOk result (λ step. TakesTurn K.shape (waiting_of K.shape self.old) (maker_reply_of _reply) step
+            (waiting_of K.shape self.new)) }
+    {
+        if self.asked < self.paths.len() {
+            let path = self.paths[self.asked].clone()?;
+            self.asked += 1;
+            return Ok(MakerStep::Compile(path));
+        }
+        match self.ends.take() {
+            Some(ending) => match ending {
+                Ending::Keyword(keyword) => Ok(MakerStep::Keyword(keyword, Vec::new(alloc))),
+                Ending::Nothing => Ok(MakerStep::Nothing),
+                Ending::Refused(error) => Ok(MakerStep::Refuse(error)),
+            },
+            None => Ok(MakerStep::Nothing),
+        }
+    }
+}

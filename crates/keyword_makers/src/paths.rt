@@ -1,0 +1,53 @@
+//! The values of members, and paths below a keyword.
+ghost use Rattle.std.specs.Prelude.{◌≡◌, ◌∷◌, [], IfOk, option_map};
+ghost use Rattle.serde_json.specs.Find.{get_member};
+ghost use Rattle.serde_json.specs.View.{items_view, members_view, view};
+ghost use Rattle.schema_definitions.specs.Instance.{to_item, to_member};
+ghost use Rattle.keyword_makers.specs.Making.{items_from};
+
+use schema_parts::schema_place::{SchemaPath, SchemaStep};
+use schema_reports::location::OutOfMemory;
+use serde_json::{Map, Value};
+use std::alloc::Global;
+use std::rc::RcStr;
+
+/// The value of this name in an object.
+pub fn value_in<'o>(object: &'o Map<String, Value>, name: &str) -> Option<&'o Value>
+    ensures value { option_map (λ v. view v.now) result ≡ get_member name.now (members_view object.now.entries) }
+{
+    object.get(name)
+}
+
+/// The place of a keyword's own value.
+pub fn value_of(alloc: Global, keyword: &str) -> Result<SchemaPath, OutOfMemory>
+    ensures path { IfOk result (λ path. path ≡ to_member keyword.now ∷ []) }
+{
+    let name = RcStr::from_str(alloc, keyword)?;
+    let mut path = SchemaPath::root(alloc);
+    path.push(SchemaStep::Member(name))?;
+    Ok(path)
+}
+
+/// The places of the items of a list, below a keyword.
+pub fn items_below(
+    alloc: Global,
+    keyword: &str,
+    items: &[Value],
+) -> Result<Vec<SchemaPath>, OutOfMemory>
+    ensures paths { IfOk result (λ paths. paths.items ≡ items_from keyword.now 0 (items_view items.now)) }
+{
+    let mut paths = Vec::new(alloc);
+    for (index, _item) in items.iter().enumerate() {
+        paths.push(item_below(alloc, keyword, index)?)?;
+    }
+    Ok(paths)
+}
+
+/// The place of an item, below a keyword.
+fn item_below(alloc: Global, keyword: &str, index: usize) -> Result<SchemaPath, OutOfMemory>
+    ensures path { IfOk result (λ path. path ≡ to_member keyword.now ∷ to_item index ∷ []) }
+{
+    let mut path = value_of(alloc, keyword)?;
+    path.push(SchemaStep::Item(index))?;
+    Ok(path)
+}

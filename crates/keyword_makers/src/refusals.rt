@@ -1,0 +1,80 @@
+//! Refusals: a value of another shape than its keyword's.
+ghost use Rattle.std.specs.Prelude.{◌≡◌, ◌∷◌, [], IfOk, option_map, string_bytes};
+ghost use Rattle.serde_json.specs.View.{view};
+ghost use Rattle.schema_definitions.specs.Instance.{to_member};
+ghost use Rattle.schema_definitions.specs.Pointer.{pointer_to};
+ghost use Rattle.schema_reports.specs.ReportViews.{owned_error_of};
+ghost use Rattle.schema_parts.specs.MakerViews.{begun};
+ghost use Rattle.keyword_makers.specs.Making.{makes_if, malformed, malformed_error, malformed_text};
+ghost use Rattle.keyword_makers.specs.MakerViews.{waiting_of};
+
+use crate::maker::{Ending, PathsMaker, ends};
+use schema_parts::keyword::Validate;
+use schema_reports::location::{Location, LocationSegment, OutOfMemory};
+use schema_reports::reports::OwnedError;
+use serde_json::Value;
+use std::alloc::Global;
+
+/// The pointer of a keyword in its object.
+#[tactic(auto, using(crate::proofs::Pointers::pointer_one))]
+fn keyword_pointer(alloc: Global, name: &str) -> Result<Location, OutOfMemory>
+    ensures pointer { IfOk result (λ l. l ≡ pointer_to (to_member name.now ∷ [])) }
+{
+    let root = Location::new(alloc);
+    let pointer = root.join(LocationSegment::Property(name));
+    drop(root);
+    pointer
+}
+
+/// The text of a refusal.
+fn malformed_text(alloc: Global, name: &str) -> Result<String, OutOfMemory>
+    ensures text { IfOk result (λ text. string_bytes text ≡ malformed_text name.now) }
+{
+    let mut text = String::from_str(alloc, "\"")?;
+    text.push_str(name)?;
+    text.push_str("\" has a value of another shape")?;
+    Ok(text)
+}
+
+/// The error of a value of another shape than its keyword's.
+fn malformed_error(alloc: Global, name: &str, value: &Value) -> Result<OwnedError, OutOfMemory>
+    ensures error { IfOk result (λ e. owned_error_of e ≡ malformed_error name.now (view value.now)) }
+{
+    Ok(OwnedError {
+        instance: value.clone()?,
+        instance_path: Location::new(alloc),
+        schema_path: keyword_pointer(alloc, name)?,
+        evaluation_path: keyword_pointer(alloc, name)?,
+        absolute_keyword_location: None,
+        keyword: String::from_str(alloc, name)?,
+        text: malformed_text(alloc, name)?,
+    })
+}
+
+/// A maker that refuses the value.
+pub fn malformed<K: Validate>(
+    alloc: Global,
+    name: &str,
+    value: &Value,
+) -> Result<PathsMaker<K>, OutOfMemory>
+    ensures maker { IfOk result (λ m. waiting_of K.shape m ≡ begun (malformed name.now (view value.now))) }
+{
+    let error = malformed_error(alloc, name, value)?;
+    Ok(ends(alloc, Ending::Refused(error)))
+}
+
+/// A maker that makes a keyword, or refuses the value.
+pub fn makes_if<K: Validate>(
+    alloc: Global,
+    name: &str,
+    value: &Value,
+    keyword: Option<K>,
+) -> Result<PathsMaker<K>, OutOfMemory>
+    ensures maker { IfOk result (λ m. waiting_of K.shape m
+        ≡ begun (makes_if name.now (view value.now) (option_map K.shape keyword))) }
+{
+    match keyword {
+        Some(keyword) => Ok(ends(alloc, Ending::Keyword(keyword))),
+        None => malformed(alloc, name, value),
+    }
+}

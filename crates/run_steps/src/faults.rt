@@ -1,0 +1,327 @@
+//! What a keyword has found, as errors at its place.
+ghost use Rattle.std.specs.Prelude.{◌≡◌, ◌++◌, IfOk, Bool, All, Some, [], map, option_map, slice_get, string_bytes, unwrap_or};
+ghost use Rattle.serde_json.specs.Data.{Data};
+ghost use Rattle.schema_definitions.specs.Instance.{subject_from};
+ghost use Rattle.schema_reports.specs.InstanceViews.{step_of, subject_of};
+ghost use Rattle.schema_definitions.specs.Laws.{IsPresent};
+ghost use Rattle.schema_definitions.specs.Meaning.{fault_error};
+ghost use Rattle.schema_definitions.specs.Pointer.{joined};
+ghost use Rattle.schema_reports.specs.ReportViews.{error_of, BorrowsItsPlace};
+ghost use Rattle.run_steps.specs.AnswerModes.{mode_in};
+ghost use Rattle.schema_parts.specs.FaultViews.{answer_reply, errors_in, faults_in, FaultsLieInside, LiesInside};
+ghost use Rattle.schema_parts.specs.KeywordViews.{answer_of, fault_of, fresh, mode_of, own_of, reply_of};
+ghost use Rattle.schema_definitions.specs.Keywords.{for_all, for_first, for_units, own};
+ghost use Rattle.schema_contexts.specs.EvaluationPaths.{path_of};
+ghost use Rattle.run_steps.specs.EvaluationPlaces.{steps_to};
+ghost use Rattle.run_steps.specs.Askings.{IsAskedOf, asking, where_asked};
+ghost use Rattle.node_table.specs.NodeTable.{keyword_absolute};
+ghost use Rattle.node_table.specs.NodeViews.{node_of};
+
+use crate::question::Question;
+use crate::replies::{keyword_location, stamped_error};
+use crate::spots::{after, place_below};
+use node_table::node::Node;
+use schema_contexts::evaluation_path::path_from;
+use schema_contexts::validation::ValidationContext;
+use schema_parts::keyword::{Answer, Fault, Found, Mode, OwnError, Reply};
+use schema_reports::evaluation_result::{EvaluationResult, accepts};
+use schema_reports::instance::{Instance, InstanceStep, Place};
+use schema_reports::location::{Location, OutOfMemory};
+use schema_reports::reports::ValidationError;
+use std::alloc::Global;
+
+/// An answer that has found nothing yet. Only an evaluation's takes memory.
+pub fn begun<'i>(alloc: Global, mode: Mode) -> Result<Answer<'i>, OutOfMemory>
+    ensures fresh { IfOk result (λ a. (texts : Bool) → answer_of texts a ≡ fresh (mode_of mode)) }
+    ensures no_faults { IfOk result (λ a. faults_in a ≡ []) }
+    ensures form { IfOk result (λ a. mode_in a ≡ mode_of mode) }
+{
+    match mode {
+        Mode::Verdict => Ok(Answer::Verdict(true)),
+        Mode::First => Ok(Answer::First(None)),
+        Mode::All => Ok(Answer::All(Vec::new(alloc))),
+        Mode::Evaluate => begun_evaluation(alloc),
+    }
+}
+
+// That of an evaluation. Its room on the stack is its own, so that a verdict pays nothing for it.
+#[inline(never)]
+fn begun_evaluation<'i>(alloc: Global) -> Result<Answer<'i>, OutOfMemory>
+    ensures fresh { IfOk result (λ a. (texts : Bool) → answer_of texts a ≡ fresh for_units) }
+    ensures no_faults { IfOk result (λ a. faults_in a ≡ []) }
+    ensures form { IfOk result (λ a. mode_in a ≡ for_units) }
+{
+    let own = EvaluationResult::valid_empty(alloc);
+    let absorbed = Vec::new(alloc);
+    let found = Box::new(alloc, Found { own, absorbed })?;
+    Ok(Answer::Evaluation(found))
+}
+
+// What stands some steps below, or the instance itself where the steps lead nowhere.
+fn instance_below<'i>(instance: Instance<'i>, steps: &[InstanceStep<'i>]) -> Instance<'i>
+    ensures below { IsPresent (subject_of instance.entry) (map step_of steps.now)
+        → subject_from (map step_of steps.now) (subject_of instance.entry) ≡ Some (subject_of result) }
+{
+    let mut found = instance;
+    for step in steps {
+        match after(found, *step) {
+            Some((inner, _)) => found = inner,
+            None => return instance,
+        }
+    }
+    found
+}
+
+// The name that a path from the keyword on begins with: the keyword's own, or that of the one that it absorbs.
+fn spot_name<'n>(absorbed: &'n Option<String>, name: &'n String) -> &'n str
+    ensures name { result.now ≡ unwrap_or (option_map string_bytes absorbed.now) (string_bytes name.now) }
+{
+    match absorbed {
+        Some(absorbed) => absorbed.as_str(),
+        None => name.as_str(),
+    }
+}
+
+// Where an error of the keyword's own stands.
+#[derive(Drop)]
+struct ErrorPlaces<'i> {
+    place: Place<'i>,
+    schema_path: Location,
+    evaluation_path: Location,
+    absolute_keyword_location: Option<String>,
+}
+
+// The paths and the place of an error of the keyword's own.
+fn error_places<'i, K>(
+    alloc: Global,
+    node: &Node<K>,
+    name: &String,
+    question: &Question<'_, 'i>,
+    found: &OwnError<'i>,
+    context: &mut ValidationContext<'i>,
+) -> Result<ErrorPlaces<'i>, OutOfMemory>
+    ensures place { IfOk result (λ p. p.place ≡ steps_to question.now.place.now ++ map step_of found.now.below.items) }
+    ensures schema_path { IfOk result (λ p. p.schema_path
+        ≡ joined (node_of node.now).location (unwrap_or (option_map string_bytes found.now.absorbed) (string_bytes name.now))
+        ++ string_bytes found.now.path) }
+    ensures evaluation_path { IfOk result (λ p. p.evaluation_path
+        ≡ joined (path_of question.now.path.now) (unwrap_or (option_map string_bytes found.now.absorbed) (string_bytes name.now))
+        ++ string_bytes found.now.path) }
+    ensures absolute { IfOk result (λ p. option_map string_bytes p.absolute_keyword_location
+        ≡ keyword_absolute (node_of node.now) (string_bytes name.now)) }
+    ensures stays { context.new ≡ context.old }
+{
+    let first = spot_name(&found.absorbed, name);
+    let rest = found.path.as_str();
+    let schema_path = path_from(alloc, &node.location, first, rest)?;
+    let evaluation_path = context.evaluation_path(alloc, question.path, first, rest)?;
+    let absolute_keyword_location = keyword_location(alloc, node, name)?;
+    let place = place_below(question.place, found.below.as_slice())?;
+    Ok(ErrorPlaces {
+        place,
+        schema_path,
+        evaluation_path,
+        absolute_keyword_location,
+    })
+}
+
+// An error of the keyword's own.
+fn own_error<'i, K>(
+    alloc: Global,
+    node: &Node<K>,
+    name: &String,
+    question: &Question<'_, 'i>,
+    found: OwnError<'i>,
+    context: &mut ValidationContext<'i>,
+) -> Result<ValidationError<'i>, OutOfMemory>
+    ensures error { IfOk result (λ e. (texts : Bool) → error_of texts e
+        ≡ fault_error (where_asked (node_of node.now) (asking question.now))
+        (string_bytes name.now) (own (own_of texts found.entry))) }
+    ensures borrows { IfOk result (λ e. (root : Data) → IsAskedOf root (asking question.now)
+        → IsPresent (subject_of question.now.instance) (map step_of found.entry.below.items) → BorrowsItsPlace root e) }
+    ensures stays { context.new ≡ context.old }
+{
+    let places = error_places(alloc, node, name, question, &found, context)?;
+    let instance = instance_below(question.instance, found.below.as_slice());
+    Ok(ValidationError {
+        instance,
+        place: places.place,
+        schema_path: places.schema_path,
+        evaluation_path: places.evaluation_path,
+        absolute_keyword_location: places.absolute_keyword_location,
+        keyword: found.keyword,
+        text: found.text,
+    })
+}
+
+// A fault as an error: its own, or one that passes.
+fn error_by<'i, K>(
+    alloc: Global,
+    node: &Node<K>,
+    name: &String,
+    question: &Question<'_, 'i>,
+    fault: Fault<'i>,
+    context: &mut ValidationContext<'i>,
+) -> Result<ValidationError<'i>, OutOfMemory>
+    ensures error { IfOk result (λ e. (texts : Bool) → error_of texts e
+        ≡ fault_error (where_asked (node_of node.now) (asking question.now))
+        (string_bytes name.now) (fault_of texts fault.entry)) }
+    ensures borrows { IfOk result (λ e. (root : Data) → IsAskedOf root (asking question.now)
+        → LiesInside root (subject_of question.now.instance) fault.entry → BorrowsItsPlace root e) }
+    ensures stays { context.new ≡ context.old }
+{
+    match fault {
+        Fault::Own(found) => own_error(alloc, node, name, question, found, context),
+        Fault::Passed(error) => stamped_error(alloc, node, name, error),
+    }
+}
+
+// Each fault as an error, in order.
+fn errors_by<'i, K>(
+    alloc: Global,
+    node: &Node<K>,
+    name: &String,
+    question: &Question<'_, 'i>,
+    faults: Vec<Fault<'i>>,
+    context: &mut ValidationContext<'i>,
+) -> Result<Vec<ValidationError<'i>>, OutOfMemory>
+    ensures errors { IfOk result (λ es. (texts : Bool) → map (error_of texts) es.items
+        ≡ map (fault_error (where_asked (node_of node.now) (asking question.now))
+        (string_bytes name.now)) (map (fault_of texts) faults.entry.items)) }
+    ensures borrows { IfOk result (λ es. (root : Data) → IsAskedOf root (asking question.now)
+        → All (LiesInside root (subject_of question.now.instance)) faults.entry.items → All (BorrowsItsPlace root) es.items) }
+    ensures stays { context.new ≡ context.old }
+{
+    let mut errors = Vec::with_capacity(alloc, faults.len())?;
+    for fault in faults {
+        errors.push(error_by(alloc, node, name, question, fault, context)?)?;
+    }
+    Ok(errors)
+}
+
+/// Whether an answer is a yes: its verdict.
+pub fn is_accepting(answer: Answer<'_>) -> bool
+    ensures verdict { (texts : Bool) → result ≡ (answer_of texts answer.entry).verdict }
+{
+    match answer {
+        Answer::Verdict(yes) => yes,
+        Answer::First(found) => found.is_none(),
+        Answer::All(faults) => faults.is_empty(),
+        Answer::Evaluation(found) => accepts(&found.own, found.absorbed.as_slice()),
+    }
+}
+
+// The faults of an answer.
+fn all_faults<'i>(alloc: Global, answer: Answer<'i>) -> Result<Vec<Fault<'i>>, OutOfMemory>
+    ensures faults { IfOk result (λ fs. fs.items ≡ faults_in answer.entry) }
+{
+    match answer {
+        Answer::Verdict(_) => Ok(Vec::new(alloc)),
+        Answer::First(found) => {
+            let mut faults = Vec::new(alloc);
+            match found {
+                Some(fault) => faults.push(Box::into_inner(fault))?,
+                None => {}
+            }
+            Ok(faults)
+        }
+        Answer::All(faults) => Ok(faults),
+        Answer::Evaluation(_) => Ok(Vec::new(alloc)),
+    }
+}
+
+// The first fault of an answer.
+fn first_fault<'i>(answer: Answer<'i>) -> Option<Fault<'i>>
+    ensures first { result ≡ slice_get (faults_in answer.entry) 0 }
+{
+    match answer {
+        Answer::Verdict(_) => None,
+        Answer::First(found) => match found {
+            Some(fault) => Some(Box::into_inner(fault)),
+            None => None,
+        },
+        Answer::All(mut faults) => {
+            if faults.is_empty() {
+                None
+            } else {
+                Some(faults.remove(0))
+            }
+        }
+        Answer::Evaluation(_) => None,
+    }
+}
+
+// The first error of an answer, as a reply. Its room on the stack is its own, so that a verdict pays nothing for it.
+#[inline(never)]
+fn first_finished<'i, K>(
+    alloc: Global,
+    node: &Node<K>,
+    name: &String,
+    question: &Question<'_, 'i>,
+    answer: Answer<'i>,
+    context: &mut ValidationContext<'i>,
+) -> Result<Reply<'i>, OutOfMemory>
+    ensures reply { IfOk result (λ r. (texts : Bool) → reply_of texts r
+        ≡ answer_reply for_first (where_asked (node_of node.now) (asking question.now))
+        (string_bytes name.now) (answer_of texts answer.entry)) }
+    ensures borrows { IfOk result (λ r. (root : Data) → IsAskedOf root (asking question.now)
+        → FaultsLieInside for_first root (subject_of question.now.instance) answer.entry
+        → All (BorrowsItsPlace root) (errors_in r)) }
+    ensures stays { context.new ≡ context.old }
+{
+    match first_fault(answer) {
+        None => Ok(Reply::First(None)),
+        Some(fault) => {
+            let error = error_by(alloc, node, name, question, fault, context)?;
+            Ok(Reply::First(Some(Box::new(alloc, error)?)))
+        }
+    }
+}
+
+// All errors of an answer, as a reply. Its room on the stack is its own, too.
+#[inline(never)]
+fn all_finished<'i, K>(
+    alloc: Global,
+    node: &Node<K>,
+    name: &String,
+    question: &Question<'_, 'i>,
+    answer: Answer<'i>,
+    context: &mut ValidationContext<'i>,
+) -> Result<Reply<'i>, OutOfMemory>
+    ensures reply { IfOk result (λ r. (texts : Bool) → reply_of texts r
+        ≡ answer_reply for_all (where_asked (node_of node.now) (asking question.now))
+        (string_bytes name.now) (answer_of texts answer.entry)) }
+    ensures borrows { IfOk result (λ r. (root : Data) → IsAskedOf root (asking question.now)
+        → FaultsLieInside for_all root (subject_of question.now.instance) answer.entry
+        → All (BorrowsItsPlace root) (errors_in r)) }
+    ensures stays { context.new ≡ context.old }
+{
+    let faults = all_faults(alloc, answer)?;
+    let errors = errors_by(alloc, node, name, question, faults, context)?;
+    Ok(Reply::All(errors))
+}
+
+/// What an answer says in a mode, as a reply.
+pub fn finished<'i, K>(
+    alloc: Global,
+    node: &Node<K>,
+    name: &String,
+    question: &Question<'_, 'i>,
+    answer: Answer<'i>,
+    context: &mut ValidationContext<'i>,
+) -> Result<Reply<'i>, OutOfMemory>
+    ensures reply { IfOk result (λ r. (texts : Bool) → reply_of texts r
+        ≡ answer_reply (mode_of question.now.mode) (where_asked (node_of node.now) (asking question.now))
+        (string_bytes name.now) (answer_of texts answer.entry)) }
+    ensures borrows { IfOk result (λ r. (root : Data) → IsAskedOf root (asking question.now)
+        → FaultsLieInside (mode_of question.now.mode) root (subject_of question.now.instance) answer.entry
+        → All (BorrowsItsPlace root) (errors_in r)) }
+    ensures stays { context.new ≡ context.old }
+{
+    match question.mode {
+        Mode::Verdict => Ok(Reply::Truth(is_accepting(answer))),
+        Mode::First => first_finished(alloc, node, name, question, answer, context),
+        Mode::All => all_finished(alloc, node, name, question, answer, context),
+        Mode::Evaluate => Ok(Reply::Nothing),
+    }
+}

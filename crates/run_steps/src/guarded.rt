@@ -1,0 +1,147 @@
+//! The pair of a guarded question: the node that it asks, and the place, with the place's number.
+ghost use Rattle.std.specs.Prelude.{◌≡◌, ◌==◌, ◌++◌, ◌∷◌, [], IfErr, IfOk, OnErr, OnOk, Some, false, is_some, true};
+ghost use Rattle.std.specs.List.{list_any};
+ghost use Rattle.serde_json.specs.View.{view};
+ghost use Rattle.schema_definitions.specs.Instance.{subject_at};
+ghost use Rattle.schema_reports.specs.InstanceViews.{subject_of};
+ghost use Rattle.schema_contexts.specs.Progress.{Context, EndsWith, busy_at, places_in};
+ghost use Rattle.schema_contexts.specs.Verdicts.{MayKeep, Remembers, read_verdict};
+ghost use Rattle.run_steps.specs.EvaluationPlaces.{CarriesItsNumber, steps_to};
+ghost use Rattle.run_steps.specs.GuardedPairs.{IsNumbered, place_of};
+
+use crate::evaluation_place::EvaluationPlace;
+use schema_contexts::validation::ValidationContext;
+use schema_parts::numbers::SchemaNode;
+use schema_reports::instance::Instance;
+use schema_reports::location::OutOfMemory;
+
+/// A node that is asked at a place, and the place's number.
+#[derive(Clone, Copy)]
+pub struct GuardedPair<'q, 'i> {
+    node: SchemaNode,
+    place: &'q EvaluationPlace<'q, 'i>,
+    number: usize,
+}
+
+impl<'q, 'i> GuardedPair<'q, 'i> {
+    /// Returns the pair. Fails only if memory cannot be allocated, to number the places of the context's instance, and then nothing
+    /// has changed.
+    pub fn new(
+        context: &mut ValidationContext<'i>,
+        node: SchemaNode,
+        place: &'q EvaluationPlace<'q, 'i>,
+    ) -> Result<GuardedPair<'q, 'i>, OutOfMemory>
+        requires carries { CarriesItsNumber (places_in context.old) place.now }
+        requires stands { is_some (subject_at (view context.old.root) (steps_to place.now)) ≡ true }
+        ensures node { IfOk result (λ p. p.node ≡ node) }
+        ensures place { IfOk result (λ p. place_of p ≡ steps_to place.now) }
+        ensures numbered { IfOk result (λ p. IsNumbered (places_in context.old) p) }
+        ensures unchanged { context.new ≡ context.old }
+    {
+        let places = context.places()?;
+        match place.number(places) {
+            Some(number) => Ok(GuardedPair {
+                node,
+                place,
+                number,
+            }),
+            None => unreachable!(),
+        }
+    }
+
+    /// The place, which carries its number.
+    pub fn numbered_place(&self) -> EvaluationPlace<'q, 'i>
+        ensures same { steps_to result ≡ place_of self.now }
+        ensures carries { (context : Context) → IsNumbered (places_in context) self.now
+            → CarriesItsNumber (places_in context) result }
+    {
+        self.place.numbered(self.number)
+    }
+
+    /// Returns `true` if the pair is in progress. It allocates nothing.
+    pub fn is_in_progress(&self, context: &ValidationContext<'i>) -> bool
+        requires numbered { IsNumbered (places_in context.now) self.now }
+        ensures found { result ≡ list_any (λ i. i == self.now.node.0) (busy_at (place_of self.now) context.now.in_progress) }
+    {
+        context.is_in_progress(self.node, self.number)
+    }
+
+    /// Records a pair that is not in progress. Fails only if memory cannot be allocated, and then nothing has changed.
+    pub fn enter(&self, context: &mut ValidationContext<'i>) -> Result<(), OutOfMemory>
+        requires numbered { IsNumbered (places_in context.old) self.now }
+        requires is_new { list_any (λ i. i == self.now.node.0) (busy_at (place_of self.now) context.old.in_progress) ≡ false }
+        ensures entered { OnOk result (context.new.in_progress
+            ≡ context.old.in_progress ++ (self.now.node.0, place_of self.now) ∷ []) }
+        ensures unchanged { IfErr result (λ _. context.new ≡ context.old) }
+        ensures root { context.new.root ≡ context.old.root }
+        ensures remembered { context.new.remembered ≡ context.old.remembered }
+        ensures marking { context.new.marking ≡ context.old.marking }
+        ensures verdicts { context.new.verdicts ≡ context.old.verdicts }
+        ensures visits { context.new.visits ≡ context.old.visits }
+    {
+        let _was_there = context.enter(self.node, self.number)?;
+        Ok(())
+    }
+
+    /// Removes the pair, which must be the last one entered. It allocates nothing.
+    pub fn exit(&self, context: &mut ValidationContext<'i>)
+        requires numbered { IsNumbered (places_in context.old) self.now }
+        requires last { EndsWith self.now.node.0 (place_of self.now) context.old.in_progress }
+        ensures left { context.old.in_progress ≡ context.new.in_progress ++ (self.now.node.0, place_of self.now) ∷ [] }
+        ensures root { context.new.root ≡ context.old.root }
+        ensures remembered { context.new.remembered ≡ context.old.remembered }
+        ensures marking { context.new.marking ≡ context.old.marking }
+        ensures verdicts { context.new.verdicts ≡ context.old.verdicts }
+        ensures visits { context.new.visits ≡ context.old.visits }
+    {
+        context.exit(self.node, self.number);
+    }
+
+    /// Returns the verdict of the pair that is known before its node is asked: yes where the pair is in progress, and elsewhere the one
+    /// that is remembered, unless another node is in progress at its place. It allocates nothing.
+    pub fn known_verdict(&self, context: &ValidationContext<'i>) -> Option<bool>
+        requires numbered { IsNumbered (places_in context.now) self.now }
+        ensures busy { list_any (λ i. i == self.now.node.0) (busy_at (place_of self.now) context.now.in_progress) ≡ true
+            → result ≡ Some true }
+        ensures read { list_any (λ i. i == self.now.node.0) (busy_at (place_of self.now) context.now.in_progress) ≡ false
+            → result ≡ read_verdict self.now.node.0 (place_of self.now) context.now }
+    {
+        if self.is_in_progress(context) {
+            return Some(true);
+        }
+        self.remembered_verdict(context)
+    }
+
+    // The verdict that is remembered of the pair, unless another node is in progress at its place.
+    fn remembered_verdict(&self, context: &ValidationContext<'i>) -> Option<bool>
+        requires numbered { IsNumbered (places_in context.now) self.now }
+        ensures read { result ≡ read_verdict self.now.node.0 (place_of self.now) context.now }
+    {
+        context.get_cached_result(self.node, self.number)
+    }
+
+    /// Remembers the verdict of the pair, if the instance is an array or an object, no other node is in progress at the place, and
+    /// enough visits were counted since the mark. Otherwise nothing changes. Fails only if memory cannot be allocated, and then
+    /// nothing has changed.
+    pub fn keep_verdict(
+        &self,
+        context: &mut ValidationContext<'i>,
+        instance: Instance<'i>,
+        verdict: bool,
+        mark: u64,
+    ) -> Result<(), OutOfMemory>
+        requires numbered { IsNumbered (places_in context.old) self.now }
+        ensures kept { OnOk result (MayKeep self.now.node.0 (place_of self.now) (subject_of instance.entry) mark context.old
+            → Remembers self.now.node.0 (place_of self.now) verdict context.old.verdicts context.new.verdicts) }
+        ensures others { OnOk result (¬ MayKeep self.now.node.0 (place_of self.now) (subject_of instance.entry) mark context.old
+            → context.new ≡ context.old) }
+        ensures frame { context.new ≡ record context.old {
+          verdicts = context.new.verdicts;
+          kept = context.new.kept;
+          words = context.new.words;
+        } }
+        ensures unchanged { OnErr result (context.new ≡ context.old) }
+    {
+        context.cache_result(self.node, self.number, instance, verdict, mark)
+    }
+}

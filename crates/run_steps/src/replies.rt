@@ -1,0 +1,291 @@
+//! Replies of runs, by the mode.
+ghost use Rattle.std.specs.Prelude.{◌≡◌, IfOk, Bool, true, false, All, [], Some};
+ghost use Rattle.serde_json.specs.Data.{Data};
+ghost use Rattle.schema_definitions.specs.Reports.{accepted};
+ghost use Rattle.schema_definitions.specs.Meaning.{both};
+ghost use Rattle.schema_reports.specs.InstanceTexts.{subject_has_float};
+ghost use Rattle.schema_reports.specs.InstanceViews.{subject_of};
+ghost use Rattle.schema_reports.specs.ReportViews.{error_of, BorrowsItsPlace};
+ghost use Rattle.schema_definitions.specs.Meaning.{stamped, false_outcome, false_error};
+ghost use Rattle.std.specs.Prelude.{string_bytes, option_map, map};
+ghost use Rattle.schema_parts.specs.KeywordViews.{mode_of, reply_of};
+ghost use Rattle.schema_parts.specs.declared.keyword.Reply.TheVariants as variant;
+ghost use Rattle.node_table.specs.NodeTable.{keyword_absolute};
+ghost use Rattle.node_table.specs.NodeViews.{node_of};
+ghost use Rattle.schema_parts.specs.FaultViews.{errors_in};
+ghost use Rattle.run_steps.specs.EvaluationPlaces.{steps_to};
+ghost use Rattle.run_steps.specs.Askings.{IsAskedOf, asking, where_asked};
+ghost use Rattle.run_steps.specs.ReplyModes.{reply_by, refuses, accepts, Joins, Stamps};
+
+use crate::question::Question;
+use node_table::node::Node;
+use node_table::node::absolute::absolute_location;
+use schema_parts::keyword::{Mode, Reply};
+use schema_reports::location::{Location, LocationSegment, OutOfMemory};
+use schema_reports::reports::ValidationError;
+use std::alloc::Global;
+
+/// A yes without errors.
+pub fn accepted<'i>(alloc: Global, mode: Mode) -> Reply<'i>
+    ensures accepts { (texts : Bool) → reply_of texts result ≡ reply_by (mode_of mode) accepted }
+    ensures no_errors { errors_in result ≡ [] }
+{
+    match mode {
+        Mode::Verdict => Reply::Truth(true),
+        Mode::First => Reply::First(None),
+        Mode::All => Reply::All(Vec::new(alloc)),
+        Mode::Evaluate => Reply::Nothing,
+    }
+}
+
+/// Whether the reply is a no: no further reply of the same mode changes what it says, unless all errors are wanted.
+pub fn is_settled(reply: &Reply<'_>) -> bool
+    ensures settled { (texts : Bool) → result ≡ refuses (reply_of texts reply.now) }
+{
+    match reply {
+        Reply::Nothing => false,
+        Reply::Truth(yes) => !*yes,
+        Reply::First(found) => found.is_some(),
+        Reply::All(_) => false,
+        Reply::Unit(_) => false,
+    }
+}
+
+/// Whether the reply is a verdict that says yes.
+pub fn is_yes(reply: Reply<'_>) -> bool
+    ensures yes { (texts : Bool) → result ≡ accepts (reply_of texts reply.entry) }
+{
+    match reply {
+        Reply::Nothing => false,
+        Reply::Truth(yes) => yes,
+        Reply::First(_) => false,
+        Reply::All(_) => false,
+        Reply::Unit(_) => false,
+    }
+}
+
+// The first error of a reply, or else of the other one.
+fn joined_first<'i>(found: Option<Box<ValidationError<'i>>>, more: Reply<'i>) -> Reply<'i>
+    ensures both { (texts : Bool)
+        → Joins (reply_of texts (variant.First found.entry)) (reply_of texts more.entry) (reply_of texts result) }
+    ensures borrows { (root : Data) → All (BorrowsItsPlace root) (errors_in (variant.First found.entry))
+        → All (BorrowsItsPlace root) (errors_in more.entry) → All (BorrowsItsPlace root) (errors_in result) }
+{
+    match found {
+        Some(error) => Reply::First(Some(error)),
+        None => more,
+    }
+}
+
+// All errors of a reply, then those of the other one.
+fn joined_all<'i>(
+    mut errors: Vec<ValidationError<'i>>,
+    more: Reply<'i>,
+) -> Result<Reply<'i>, OutOfMemory>
+    ensures both { IfOk result (λ r. (texts : Bool)
+        → Joins (reply_of texts (variant.All errors.entry)) (reply_of texts more.entry) (reply_of texts r)) }
+    ensures borrows { IfOk result (λ r. (root : Data) → All (BorrowsItsPlace root) errors.entry.items
+        → All (BorrowsItsPlace root) (errors_in more.entry) → All (BorrowsItsPlace root) (errors_in r)) }
+{
+    match more {
+        Reply::All(mut others) => {
+            if errors.is_empty() {
+                return Ok(Reply::All(others));
+            }
+            errors.append(&mut others)?;
+            Ok(Reply::All(errors))
+        }
+        _ => Ok(Reply::All(errors)),
+    }
+}
+
+/// Both replies, the first one first.
+pub fn joined<'i>(found: Reply<'i>, more: Reply<'i>) -> Result<Reply<'i>, OutOfMemory>
+    ensures both { IfOk result (λ r. (texts : Bool)
+        → Joins (reply_of texts found.entry) (reply_of texts more.entry) (reply_of texts r)) }
+    ensures borrows { IfOk result (λ r. (root : Data) → All (BorrowsItsPlace root) (errors_in found.entry)
+        → All (BorrowsItsPlace root) (errors_in more.entry) → All (BorrowsItsPlace root) (errors_in r)) }
+{
+    match found {
+        Reply::Nothing => Ok(more),
+        Reply::Truth(yes) => {
+            let both = is_yes(more);
+            Ok(Reply::Truth(yes && both))
+        }
+        Reply::First(error) => Ok(joined_first(error, more)),
+        Reply::All(errors) => joined_all(errors, more),
+        Reply::Unit(_) => Ok(more),
+    }
+}
+
+/// The absolute location of a keyword of the node.
+pub fn keyword_location<K>(
+    alloc: Global,
+    node: &Node<K>,
+    name: &String,
+) -> Result<Option<String>, OutOfMemory>
+    ensures absolute { IfOk result (λ t. option_map string_bytes t ≡ keyword_absolute (node_of node.now) (string_bytes name.now)) }
+{
+    if node.base.is_none() {
+        return Ok(None);
+    }
+    let location = node
+        .location
+        .join(LocationSegment::Property(name.as_str()))?;
+    absolute_location(alloc, node, &location)
+}
+
+// Gives the error the absolute location of a keyword of the node, where it has none yet.
+fn stamp<'i, K>(
+    alloc: Global,
+    node: &Node<K>,
+    name: &String,
+    error: &mut ValidationError<'i>,
+) -> Result<(), OutOfMemory>
+    ensures stamped { IfOk result (λ _. (texts : Bool) → error_of texts error.new
+        ≡ stamped (keyword_absolute (node_of node.now) (string_bytes name.now)) (error_of texts error.old)) }
+    ensures place { IfOk result (λ _. error.new.place ≡ error.old.place) }
+    ensures instance { IfOk result (λ _. error.new.instance ≡ error.old.instance) }
+{
+    if error.absolute_keyword_location.is_none() {
+        let absolute = keyword_location(alloc, node, name)?;
+        error.absolute_keyword_location = absolute;
+    }
+    Ok(())
+}
+
+/// The error with the absolute location of a keyword of the node, where it has none yet.
+pub fn stamped_error<'i, K>(
+    alloc: Global,
+    node: &Node<K>,
+    name: &String,
+    mut error: ValidationError<'i>,
+) -> Result<ValidationError<'i>, OutOfMemory>
+    ensures stamped { IfOk result (λ e. (texts : Bool) → error_of texts e
+        ≡ stamped (keyword_absolute (node_of node.now) (string_bytes name.now)) (error_of texts error.entry)) }
+    ensures place { IfOk result (λ e. e.place ≡ error.entry.place) }
+    ensures instance { IfOk result (λ e. e.instance ≡ error.entry.instance) }
+{
+    stamp(alloc, node, name, &mut error)?;
+    Ok(error)
+}
+
+// Each error with the absolute location of a keyword of the node, where it has none yet.
+fn stamped_errors<'i, K>(
+    alloc: Global,
+    node: &Node<K>,
+    name: &String,
+    mut errors: Vec<ValidationError<'i>>,
+) -> Result<Vec<ValidationError<'i>>, OutOfMemory>
+    ensures stamped { IfOk result (λ es. (texts : Bool) → map (error_of texts) es.items
+        ≡ map (stamped (keyword_absolute (node_of node.now) (string_bytes name.now))) (map (error_of texts) errors.entry.items)) }
+    ensures borrows { IfOk result (λ es. (root : Data) → All (BorrowsItsPlace root) errors.entry.items
+        → All (BorrowsItsPlace root) es.items) }
+{
+    for error in errors.iter_mut() {
+        stamp(alloc, node, name, error)?;
+    }
+    Ok(errors)
+}
+
+// The reply with its errors stamped so, where there may be something to stamp. Its room on the stack is its own, so that a
+// verdict pays nothing for it.
+#[inline(never)]
+fn stamped_by_base<'i, K>(
+    alloc: Global,
+    node: &Node<K>,
+    name: &String,
+    reply: Reply<'i>,
+) -> Result<Reply<'i>, OutOfMemory>
+    ensures stamped { IfOk result (λ r. (texts : Bool)
+        → Stamps (keyword_absolute (node_of node.now) (string_bytes name.now)) (reply_of texts reply.entry) (reply_of texts r)) }
+    ensures borrows { IfOk result (λ r. (root : Data) → All (BorrowsItsPlace root) (errors_in reply.entry)
+        → All (BorrowsItsPlace root) (errors_in r)) }
+{
+    match reply {
+        Reply::Nothing => Ok(Reply::Nothing),
+        Reply::Truth(yes) => Ok(Reply::Truth(yes)),
+        Reply::First(found) => match found {
+            None => Ok(Reply::First(None)),
+            Some(mut error) => {
+                stamp(alloc, node, name, &mut error)?;
+                Ok(Reply::First(Some(error)))
+            }
+        },
+        Reply::All(errors) => {
+            let errors = stamped_errors(alloc, node, name, errors)?;
+            Ok(Reply::All(errors))
+        }
+        Reply::Unit(unit) => Ok(Reply::Unit(unit)),
+    }
+}
+
+/// The reply with its errors stamped so.
+pub fn stamped_reply<'i, K>(
+    alloc: Global,
+    node: &Node<K>,
+    name: &String,
+    reply: Reply<'i>,
+) -> Result<Reply<'i>, OutOfMemory>
+    ensures stamped { IfOk result (λ r. (texts : Bool)
+        → Stamps (keyword_absolute (node_of node.now) (string_bytes name.now)) (reply_of texts reply.entry) (reply_of texts r)) }
+    ensures borrows { IfOk result (λ r. (root : Data) → All (BorrowsItsPlace root) (errors_in reply.entry)
+        → All (BorrowsItsPlace root) (errors_in r)) }
+{
+    if node.base.is_none() {
+        return Ok(reply);
+    }
+    stamped_by_base(alloc, node, name, reply)
+}
+
+/// The reply of the schema `false`. Its room on the stack is its own, so that what asks for it pays nothing otherwise.
+#[inline(never)]
+pub fn refused<'i, K>(
+    alloc: Global,
+    node: &Node<K>,
+    question: &Question<'_, 'i>,
+) -> Result<Reply<'i>, OutOfMemory>
+    ensures refuses { IfOk result (λ r. (texts : Bool)
+        → (texts ≡ true → subject_has_float (subject_of question.now.instance) ≡ false) → reply_of texts r
+        ≡ reply_by (mode_of question.now.mode) (false_outcome texts
+        (where_asked (node_of node.now) (asking question.now)) (subject_of question.now.instance))) }
+    ensures borrows { IfOk result (λ r. (root : Data)
+        → IsAskedOf root (asking question.now) → All (BorrowsItsPlace root) (errors_in r)) }
+{
+    match question.mode {
+        Mode::Verdict => Ok(Reply::Truth(false)),
+        Mode::First => {
+            let error = false_error(alloc, node, question)?;
+            Ok(Reply::First(Some(Box::new(alloc, error)?)))
+        }
+        Mode::All => {
+            let mut errors = Vec::new(alloc);
+            errors.push(false_error(alloc, node, question)?)?;
+            Ok(Reply::All(errors))
+        }
+        Mode::Evaluate => Ok(Reply::Nothing),
+    }
+}
+
+/// The error of the schema `false`.
+pub fn false_error<'i, K>(
+    alloc: Global,
+    node: &Node<K>,
+    question: &Question<'_, 'i>,
+) -> Result<ValidationError<'i>, OutOfMemory>
+    ensures error { IfOk result (λ e. (texts : Bool)
+        → (texts ≡ true → subject_has_float (subject_of question.now.instance) ≡ false) → error_of texts e
+        ≡ false_error texts (where_asked (node_of node.now) (asking question.now)) (subject_of question.now.instance)) }
+    ensures place { IfOk result (λ e. e.place ≡ steps_to question.now.place.now) }
+    ensures instance { IfOk result (λ e. e.instance ≡ question.now.instance) }
+{
+    let absolute = absolute_location(alloc, node, &node.location)?;
+    ValidationError::false_schema(
+        alloc,
+        question.instance,
+        question.place.made()?,
+        node.location.clone()?,
+        question.path.made(alloc)?,
+        absolute,
+    )
+}

@@ -1,0 +1,147 @@
+//! Where a match is asked for.
+ghost use Rattle.std.specs.Prelude.{◌≡◌, ◌++◌, IfOk, None, map, option_map, string_bytes};
+ghost use Rattle.schema_reports.specs.InstanceViews.{step_of, subject_of};
+ghost use Rattle.schema_definitions.specs.Laws.{IsPresent};
+ghost use Rattle.schema_definitions.specs.Pointer.{joined};
+ghost use Rattle.schema_definitions.specs.Runs.{site_at};
+ghost use Rattle.schema_parts.specs.KeywordViews.{below_of, point_of, spot_below, spot_of};
+ghost use Rattle.schema_contexts.specs.EvaluationPaths.{path_of};
+ghost use Rattle.run_steps.specs.EvaluationPlaces.{steps_to};
+ghost use Rattle.run_steps.specs.Askings.{asking, where_asked};
+ghost use Rattle.node_table.specs.NodeViews.{node_of};
+
+use crate::question::Question;
+use crate::spots::{own_steps, place_below, step_below};
+use node_table::node::Node;
+use schema_contexts::evaluation_path::path_from;
+use schema_matches::site::MatchSite;
+use schema_parts::keyword::{Below, MatchPoint, Spot};
+use schema_reports::instance::{InstanceStep, Place};
+use schema_reports::location::{Location, OutOfMemory};
+use std::alloc::Global;
+
+// The evaluation path from a keyword of this name on, and the place some steps below its own.
+fn spot_place<'i>(
+    alloc: Global,
+    question: &Question<'_, 'i>,
+    name: &str,
+    path: &str,
+    below: &[InstanceStep<'_>],
+) -> Result<(Location, Place<'i>), OutOfMemory>
+    requires present { IsPresent (subject_of question.now.instance) (map step_of below.now) }
+    ensures path { IfOk result (λ r. r.0 ≡ joined (path_of question.now.path.now) name.now ++ path.now) }
+    ensures place { IfOk result (λ r. r.1 ≡ steps_to question.now.place.now ++ map step_of below.now) }
+{
+    let place = place_inside(alloc, question, below)?;
+    Ok((question.path.of_keyword(alloc, name, path)?, place))
+}
+
+// The place some steps below the question's own, by the instance's own names.
+fn place_inside<'i>(
+    alloc: Global,
+    question: &Question<'_, 'i>,
+    below: &[InstanceStep<'_>],
+) -> Result<Place<'i>, OutOfMemory>
+    requires present { IsPresent (subject_of question.now.instance) (map step_of below.now) }
+    ensures place { IfOk result (λ p. p ≡ steps_to question.now.place.now ++ map step_of below.now) }
+{
+    let own = own_steps(alloc, question.instance, below)?;
+    place_below(question.place, own.as_slice())
+}
+
+// The site at a path from a keyword of this name on and steps below its place, without a pattern.
+fn bare_site<'i, K>(
+    alloc: Global,
+    node: &Node<K>,
+    name: &str,
+    question: &Question<'_, 'i>,
+    located: bool,
+    path: &str,
+    below: &[InstanceStep<'_>],
+) -> Result<MatchSite<'i>, OutOfMemory>
+    requires present { IsPresent (subject_of question.now.instance) (map step_of below.now) }
+    ensures site { IfOk result (λ s. s
+        ≡ site_at (where_asked (node_of node.now) (asking question.now)) name.now (record {
+          spot = record { absorbed = None; path = path.now; below = map step_of below.now };
+          located = located;
+          pattern = None;
+        })) }
+{
+    let schema_path = path_from(alloc, &node.location, name, path)?;
+    if !located {
+        return Ok(MatchSite::schema(schema_path));
+    }
+    let (evaluation_path, place) = spot_place(alloc, question, name, path, below)?;
+    Ok(MatchSite::located(schema_path, evaluation_path, place))
+}
+
+// The steps of a spot's own, and the one below it.
+fn steps_at<'s>(
+    alloc: Global,
+    spot: &Spot<'s>,
+    below: Below<'s>,
+) -> Result<Vec<InstanceStep<'s>>, OutOfMemory>
+    ensures steps { IfOk result (λ steps. map step_of steps.items ≡ (spot_below (spot_of spot.now) (below_of below.entry)).below) }
+{
+    let mut steps = Vec::from_slice(alloc, spot.below.as_slice())?;
+    if let Some(step) = step_below(below) {
+        steps.push(step)?;
+    }
+    Ok(steps)
+}
+
+// The site of a match that is asked for at a spot, or one step below it.
+fn spot_site<'i, 's, K>(
+    alloc: Global,
+    node: &Node<K>,
+    name: &String,
+    question: &Question<'_, 'i>,
+    located: bool,
+    spot: &Spot<'s>,
+    below: Below<'s>,
+) -> Result<MatchSite<'i>, OutOfMemory>
+    requires present { IsPresent (subject_of question.now.instance) (spot_below (spot_of spot.now) (below_of below)).below }
+    ensures site { IfOk result (λ s. s
+        ≡ site_at (where_asked (node_of node.now) (asking question.now)) (string_bytes name.now) (record {
+          spot = spot_below (spot_of spot.now) (below_of below.entry);
+          located = located;
+          pattern = option_map string_bytes spot.now.pattern;
+        })) }
+{
+    let name = match &spot.absorbed {
+        Some(absorbed) => absorbed.as_str(),
+        None => name.as_str(),
+    };
+    let path = spot.path.as_str();
+    let steps = steps_at(alloc, spot, below)?;
+    let site = bare_site(alloc, node, name, question, located, path, steps.as_slice())?;
+    match &spot.pattern {
+        Some(pattern) => Ok(site.pattern(alloc, pattern.as_str())?),
+        None => Ok(site),
+    }
+}
+
+/// The site of a match of this pattern that a keyword of the node asks for.
+pub fn match_site<'i, K>(
+    alloc: Global,
+    node: &Node<K>,
+    name: &String,
+    question: &Question<'_, 'i>,
+    pattern: &str,
+    point: MatchPoint<'_>,
+) -> Result<MatchSite<'i>, OutOfMemory>
+    requires present { IsPresent (subject_of question.now.instance) (point_of pattern.now point).spot.below }
+    ensures site { IfOk result (λ s. s
+        ≡ site_at (where_asked (node_of node.now) (asking question.now))
+        (string_bytes name.now) (point_of pattern.now point.entry)) }
+{
+    match point {
+        MatchPoint::AtKeyword(located) => {
+            let site = bare_site(alloc, node, name.as_str(), question, located, "", &[])?;
+            Ok(site.pattern(alloc, pattern)?)
+        }
+        MatchPoint::AtSpot(located, spot, below) => {
+            spot_site(alloc, node, name, question, located, spot, below)
+        }
+    }
+}

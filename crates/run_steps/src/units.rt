@@ -1,0 +1,323 @@
+//! The units of a node at a place: its own, that of each entry, and those of the keywords that an entry absorbs.
+ghost use Rattle.std.specs.Prelude.{◌≡◌, [], ◌∷◌, Bool, IfOk, map, option_map, string_bytes, true, false};
+ghost use Rattle.serde_json.specs.View.{view};
+ghost use Rattle.schema_reports.specs.InstanceTexts.{subject_has_float};
+ghost use Rattle.schema_reports.specs.InstanceViews.{subject_of};
+ghost use Rattle.schema_definitions.specs.Meaning.{Where};
+ghost use Rattle.schema_definitions.specs.Pointer.{joined, pointer_to};
+ghost use Rattle.schema_definitions.specs.Reports.{report_of, unit, units_of};
+ghost use Rattle.run_steps.specs.EntryUnits.{absorbed_of, entry_units_of};
+ghost use Rattle.schema_reports.specs.EvaluationResults.{gives_of, named_of};
+ghost use Rattle.schema_definitions.specs.Units.{false_unit, given_units, keyword_unit, no_unit, reference_units, schema_unit, true_unit};
+ghost use Rattle.schema_reports.specs.UnitViews.{described_of, unit_of};
+ghost use Rattle.std.specs.List.{list_all};
+ghost use Rattle.schema_contexts.specs.EvaluationPaths.{path_of};
+ghost use Rattle.schema_parts.specs.KeywordViews.{answer_of};
+ghost use Rattle.node_table.specs.NodeTable.{absolute_in};
+ghost use Rattle.node_table.specs.NodeViews.{node_of};
+ghost use Rattle.run_steps.specs.EvaluationPlaces.{steps_to};
+ghost use Rattle.run_steps.specs.NodeUnits.{named_gives};
+ghost use Rattle.run_steps.specs.Askings.{asking, where_asked};
+
+use crate::evaluation_order::{AbsorbedUnit, EntryUnits};
+use crate::question::Question;
+use crate::replies::false_error;
+use node_table::node::Node;
+use node_table::node::absolute::absolute_location;
+use schema_contexts::validation::ValidationContext;
+use schema_parts::keyword::{Answer, Found};
+use schema_reports::evaluation::{
+    Annotations, ChildList, ErrorDescription, EvaluationNode, UnitReport,
+};
+use schema_reports::evaluation_result::{AbsorbedResult, EvaluationResult};
+use schema_reports::location::{Location, LocationSegment, OutOfMemory};
+use std::alloc::Global;
+
+// Where a unit stands: the way that led to it, its URI, its place in the schema, and the instance's place.
+#[derive(Drop)]
+struct UnitPlaces {
+    evaluation_path: Location,
+    absolute_keyword_location: Option<String>,
+    schema_location: Location,
+    instance_location: Location,
+}
+
+impl UnitPlaces {
+    // The unit that stands there and says this.
+    fn unit(
+        self,
+        valid: bool,
+        annotations: Option<Annotations>,
+        errors: Vec<ErrorDescription>,
+        children: ChildList,
+    ) -> EvaluationNode
+        ensures unit { (texts : Bool) → unit_of texts result ≡ unit (record {
+          valid = valid;
+          instance_location = self.instance_location;
+          evaluation_path = self.evaluation_path;
+          schema_path = self.schema_location;
+          absolute = option_map string_bytes self.absolute_keyword_location;
+          annotations = option_map view annotations;
+          errors = map (described_of texts) errors.items;
+        }) (units_of (map (unit_of texts) children)) }
+    {
+        EvaluationNode {
+            report: UnitReport {
+                valid,
+                evaluation_path: self.evaluation_path,
+                absolute_keyword_location: self.absolute_keyword_location,
+                schema_location: self.schema_location,
+                instance_location: self.instance_location,
+                annotations,
+                errors,
+            },
+            children: children.into_nodes(),
+        }
+    }
+}
+
+// Where the unit of the node itself stands.
+fn node_places<K>(
+    alloc: Global,
+    node: &Node<K>,
+    question: &Question<'_, '_>,
+) -> Result<UnitPlaces, OutOfMemory>
+    ensures instance { IfOk result (λ p. p.instance_location ≡ pointer_to (steps_to question.now.place.now)) }
+    ensures path { IfOk result (λ p. p.evaluation_path ≡ path_of question.now.path.now) }
+    ensures schema { IfOk result (λ p. p.schema_location ≡ (node_of node.now).location) }
+    ensures absolute { IfOk result (λ p. option_map string_bytes p.absolute_keyword_location
+        ≡ absolute_in (node_of node.now) (node_of node.now).location) }
+{
+    Ok(UnitPlaces {
+        evaluation_path: question.path.made(alloc)?,
+        absolute_keyword_location: absolute_location(alloc, node, &node.location)?,
+        schema_location: node.location.clone()?,
+        instance_location: question.place.pointer(alloc)?,
+    })
+}
+
+// The unit of the node itself.
+fn own_unit<K>(
+    alloc: Global,
+    node: &Node<K>,
+    question: &Question<'_, '_>,
+    valid: bool,
+    annotations: Option<Annotations>,
+    errors: Vec<ErrorDescription>,
+    children: ChildList,
+) -> Result<EvaluationNode, OutOfMemory>
+    ensures unit { IfOk result (λ u. (texts : Bool) → unit_of texts u
+        ≡ schema_unit (where_asked (node_of node.now) (asking question.now)) valid
+        (option_map view annotations) (map (described_of texts) errors.items) (map (unit_of texts) children)) }
+{
+    let places = node_places(alloc, node, question)?;
+    Ok(places.unit(valid, annotations, errors, children))
+}
+
+/// The unit of a node that accepts every instance: valid, with nothing in it.
+pub fn accepting_unit<K>(
+    alloc: Global,
+    node: &Node<K>,
+    question: &Question<'_, '_>,
+) -> Result<EvaluationNode, OutOfMemory>
+    ensures unit { IfOk result (λ u. (texts : Bool) → unit_of texts u
+        ≡ true_unit (where_asked (node_of node.now) (asking question.now))) }
+{
+    own_unit(
+        alloc,
+        node,
+        question,
+        true,
+        None,
+        Vec::new(alloc),
+        ChildList::new(alloc),
+    )
+}
+
+/// The unit that stands for a child that a keyword got none of: valid, at empty locations.
+pub fn unasked_unit(alloc: Global) -> EvaluationNode
+    ensures unit { (texts : Bool) → unit_of texts result ≡ no_unit }
+{
+    EvaluationNode {
+        report: UnitReport {
+            valid: true,
+            evaluation_path: Location::new(alloc),
+            absolute_keyword_location: None,
+            schema_location: Location::new(alloc),
+            instance_location: Location::new(alloc),
+            annotations: None,
+            errors: Vec::new(alloc),
+        },
+        children: Vec::new(alloc),
+    }
+}
+
+/// The unit of a node that refuses every instance: invalid, with the error of the schema `false`.
+pub fn refusing_unit<K>(
+    alloc: Global,
+    node: &Node<K>,
+    question: &Question<'_, '_>,
+) -> Result<EvaluationNode, OutOfMemory>
+    ensures unit { IfOk result (λ u. (texts : Bool)
+        → (texts ≡ true → subject_has_float (subject_of question.now.instance) ≡ false) → unit_of texts u
+        ≡ false_unit texts (where_asked (node_of node.now) (asking question.now)) (subject_of question.now.instance)) }
+{
+    let error = false_error(alloc, node, question)?;
+    let mut errors = Vec::new(alloc);
+    errors.push(ErrorDescription {
+        keyword: error.keyword,
+        text: error.text,
+    })?;
+    own_unit(
+        alloc,
+        node,
+        question,
+        false,
+        None,
+        errors,
+        ChildList::new(alloc),
+    )
+}
+
+/// The unit of a node with the units of its entries: valid exactly if each of them is, with the node's annotations.
+pub fn entries_unit<K>(
+    alloc: Global,
+    node: &Node<K>,
+    question: &Question<'_, '_>,
+    children: ChildList,
+) -> Result<EvaluationNode, OutOfMemory>
+    ensures unit { IfOk result (λ u. (texts : Bool) → unit_of texts u
+        ≡ schema_unit (where_asked (node_of node.now) (asking question.now))
+        (list_all (λ child. (report_of child).valid) (map (unit_of texts) children))
+        (option_map view (node_of node.now).annotations) [] (map (unit_of texts) children)) }
+{
+    let valid = children.all_valid();
+    let annotations = node.annotations.clone()?;
+    own_unit(
+        alloc,
+        node,
+        question,
+        valid,
+        annotations,
+        Vec::new(alloc),
+        children,
+    )
+}
+
+// Where the unit of a keyword of this name stands.
+fn keyword_places<K>(
+    alloc: Global,
+    node: &Node<K>,
+    name: &str,
+    question: &Question<'_, '_>,
+    context: &mut ValidationContext<'_>,
+) -> Result<UnitPlaces, OutOfMemory>
+    ensures instance { IfOk result (λ p. p.instance_location ≡ pointer_to (steps_to question.now.place.now)) }
+    ensures path { IfOk result (λ p. p.evaluation_path ≡ joined (path_of question.now.path.now) name.now) }
+    ensures schema { IfOk result (λ p. p.schema_location ≡ joined (node_of node.now).location name.now) }
+    ensures absolute { IfOk result (λ p. option_map string_bytes p.absolute_keyword_location
+        ≡ absolute_in (node_of node.now) (joined (node_of node.now).location name.now)) }
+    ensures stays { context.new ≡ context.old }
+{
+    let evaluation_path = context.evaluation_path(alloc, question.path, name, "")?;
+    let schema_location = node.location.join(LocationSegment::Property(name))?;
+    Ok(UnitPlaces {
+        evaluation_path,
+        absolute_keyword_location: absolute_location(alloc, node, &schema_location)?,
+        schema_location,
+        instance_location: question.place.pointer(alloc)?,
+    })
+}
+
+// The unit of a keyword of this name, which gives this.
+fn unit_of_keyword<K>(
+    alloc: Global,
+    node: &Node<K>,
+    name: &str,
+    question: &Question<'_, '_>,
+    given: EvaluationResult,
+    context: &mut ValidationContext<'_>,
+) -> Result<EvaluationNode, OutOfMemory>
+    ensures unit { IfOk result (λ u. (texts : Bool) → unit_of texts u
+        ≡ keyword_unit (where_asked (node_of node.now) (asking question.now)) (named_gives name.now (gives_of texts given))) }
+    ensures stays { context.new ≡ context.old }
+{
+    let places = keyword_places(alloc, node, name, question, context)?;
+    match given {
+        EvaluationResult::Valid(annotations, children) => {
+            Ok(places.unit(true, annotations, Vec::new(alloc), children))
+        }
+        EvaluationResult::Invalid(errors, annotations, children) => {
+            Ok(places.unit(false, annotations, errors, children))
+        }
+    }
+}
+
+// The units of absorbed keywords, in their order.
+fn absorbed_units<K>(
+    alloc: Global,
+    node: &Node<K>,
+    question: &Question<'_, '_>,
+    absorbed: Vec<AbsorbedResult>,
+    context: &mut ValidationContext<'_>,
+) -> Result<Vec<AbsorbedUnit>, OutOfMemory>
+    ensures units { IfOk result (λ us. (texts : Bool) → map (absorbed_of texts) us.items
+        ≡ map (λ a. (a.name, keyword_unit (where_asked (node_of node.now) (asking question.now)) a))
+        (map (named_of texts) absorbed.items)) }
+    ensures stays { context.new ≡ context.old }
+{
+    let mut units = Vec::with_capacity(alloc, absorbed.len())?;
+    for one in absorbed {
+        let keyword = one.keyword;
+        let unit = unit_of_keyword(alloc, node, keyword.as_str(), question, one.result, context)?;
+        units.push(AbsorbedUnit { keyword, unit })?;
+    }
+    Ok(units)
+}
+
+/// The units of a keyword by what it has found: its own, and those of the keywords that it absorbs.
+pub fn units_of_keyword<K>(
+    alloc: Global,
+    node: &Node<K>,
+    name: &String,
+    question: &Question<'_, '_>,
+    answer: Answer<'_>,
+    context: &mut ValidationContext<'_>,
+) -> Result<EntryUnits, OutOfMemory>
+    ensures units { IfOk result (λ units. (texts : Bool) → entry_units_of texts units
+        ≡ given_units (where_asked (node_of node.now) (asking question.now)) (string_bytes name.now)
+        (answer_of texts answer.entry).gives) }
+    ensures stays { context.new ≡ context.old }
+{
+    let Found { own, absorbed } = Box::into_inner(answer.into_evaluation(alloc)?);
+    let own = unit_of_keyword(alloc, node, name.as_str(), question, own, context)?;
+    let absorbed = absorbed_units(alloc, node, question, absorbed, context)?;
+    Ok(EntryUnits { own, absorbed })
+}
+
+/// The unit of a reference of this name: its target's, at the reference's own evaluation path. It absorbs none.
+pub fn units_of_reference(
+    alloc: Global,
+    name: &String,
+    question: &Question<'_, '_>,
+    unit: EvaluationNode,
+    context: &mut ValidationContext<'_>,
+) -> Result<EntryUnits, OutOfMemory>
+    ensures units { IfOk result (λ units. (texts : Bool) (x : Where) → x.path ≡ path_of question.now.path.now
+        → entry_units_of texts units ≡ reference_units x (string_bytes name.now) (unit_of texts unit)) }
+    ensures stays { context.new ≡ context.old }
+{
+    let evaluation_path = context.evaluation_path(alloc, question.path, name.as_str(), "")?;
+    let EvaluationNode { report, children } = unit;
+    let own = EvaluationNode {
+        report: UnitReport {
+            evaluation_path,
+            ..report
+        },
+        children,
+    };
+    Ok(EntryUnits {
+        own,
+        absorbed: Vec::new(alloc),
+    })
+}

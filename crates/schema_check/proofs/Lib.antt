@@ -1,2 +1,0 @@
-pub mod BlankedDocuments
-pub mod CheckedDocuments

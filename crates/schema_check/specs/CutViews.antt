@@ -1,8 +1,0 @@
--- The code's cuts, as the definitions have them.
-use Rattle.schema_meaning.specs.Documents.{Cut}
-use Rattle.schema_keywords.specs.KeywordViews.{draft_of}
-use Rattle.schema_parts.specs.ResolverViews.{place_of}
-use Rattle.schema_check.specs.declared.check.cuts.Cut as code
-
-abbrev pub cut_of : code.Cut → Cut
-cut_of c = record { place = place_of c.place; draft = draft_of c.draft }

@@ -1,4 +1,0 @@
-//! The check of a schema by meta validators.
-#![tactic(auto)]
-
-pub mod check;

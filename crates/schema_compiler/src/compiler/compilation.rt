@@ -1,0 +1,245 @@
+//! The keys that were reached and their nodes, while they are filled.
+ghost use Rattle.std.specs.Prelude.{◌≡◌, ◌≢◌, ℕ, ◌<◌, ◌≤◌, ◌++◌, ◌∷◌, [], true, false, suc, IfOk, OnOk};
+ghost use Rattle.std.specs.Prelude.{MatchResult, map, Some, None, slice_get, length, if◌then◌else◌};
+ghost use Rattle.schema_keys.specs.KeyViews.{key_of};
+ghost use Rattle.schema_compiler.specs.Carried.{IsWell, RefusesKey, filled, task};
+ghost use Rattle.schema_keys.specs.Compiling.{resolving_parts};
+ghost use Rattle.schema_keys.specs.ShownBases.{shown_base};
+ghost use Rattle.schema_compiler.specs.Passing.{PassesTo};
+ghost use Rattle.schema_compiler.specs.Numbering.{BeginsNext, TakesNext};
+ghost use Rattle.schema_compiler.specs.UnderWay.{IsUnderWay};
+ghost use Rattle.schema_keys.specs.declared.error.BuildError.TheVariants as build;
+
+use crate::compiler::reservations::Reservations;
+use crate::compiler::setup::Compiler;
+use node_table::node::{NodeForm, Nodes};
+use schema_keys::context::Context;
+use schema_keys::error::BuildError;
+use schema_keys::key::SchemaKey;
+use schema_keys::keys::Keys;
+use schema_parts::keyword::Validate;
+use schema_parts::numbers::{Edge, SchemaNode};
+use schema_parts::resolver::Resolver;
+use schema_parts::table::KeywordTable;
+use schema_reports::location::{Location, OutOfMemory};
+use serde_json::Value;
+use std::alloc::Global;
+use std::hash::Hash;
+use std::rc::Rc;
+
+/// How far a compilation has come: the number that the round began with, how many targets of references are open one inside
+/// another, and whether an edge was made, since the innermost open number was begun, to one that is not settled.
+#[derive(Clone, Copy)]
+pub struct Progress {
+    pub round: usize,
+    pub depth: usize,
+    pub reaches_unsettled: bool,
+}
+
+/// The result of a compilation: the keys that were reached, and at the same numbers their nodes; how far it has come; and the
+/// numbers that makers reserved.
+#[derive(Drop)]
+pub struct Compilation<S: Hash, K> {
+    pub keys: Keys<S>,
+    pub nodes: Nodes<K>,
+    pub progress: Progress,
+    /// The numbers that makers reserved.
+    pub reservations: Reservations,
+}
+
+/// What a key's node asks of an instance, and the members that no keyword is made of, as an object.
+#[derive(Drop)]
+pub(crate) struct PlannedNode<K> {
+    pub form: NodeForm<K>,
+    pub annotations: Option<Value>,
+}
+
+impl Progress {
+    /// A round that begins with this number: no target is open inside another yet.
+    pub(crate) fn at_round(number: usize) -> Progress
+        ensures round { result.round ≡ number }
+        ensures depth { result.depth ≡ 0 }
+        ensures settled { result.reaches_unsettled ≡ false }
+    {
+        Progress {
+            round: number,
+            depth: 0,
+            reaches_unsettled: false,
+        }
+    }
+
+    /// Whether the target of an edge has to wait: it nests, and as many targets as may nest are open.
+    pub(crate) fn is_full(self, nests: bool, limit: usize) -> bool
+        ensures full { result ≡ true → (nests ≡ true) × (limit ≤ self.depth) }
+        ensures room { result ≡ false → nests ≡ true → self.depth < limit }
+    {
+        nests && self.depth >= limit
+    }
+
+    /// The same round inside a number that is begun; one that nests counts as open.
+    pub(crate) fn inside(self, nests: bool, limit: usize) -> Progress
+        requires room { nests ≡ true → self.depth < limit }
+        ensures round { result.round ≡ self.round }
+        ensures depth { result.depth ≡ (if nests then suc self.depth else self.depth) }
+        ensures settled { result.reaches_unsettled ≡ false }
+    {
+        let depth = if nests { self.depth + 1 } else { self.depth };
+        Progress {
+            round: self.round,
+            depth,
+            reaches_unsettled: false,
+        }
+    }
+}
+
+impl<S: Hash + Drop, K: Validate> Compilation<S, K> {
+    /// Returns a table with no key and no node.
+    pub fn new(alloc: Global) -> Compilation<S, K>
+        ensures keys { result.keys ≡ [] }
+        ensures nodes { result.nodes ≡ [] }
+        ensures round { result.progress.round ≡ 0 }
+        ensures depth { result.progress.depth ≡ 0 }
+        ensures settled { result.progress.reaches_unsettled ≡ false }
+        ensures unreserved { result.reservations ≡ [] }
+    {
+        Compilation {
+            keys: Keys::new(alloc),
+            nodes: Nodes::new(alloc),
+            progress: Progress::at_round(0),
+            reservations: Reservations::new(alloc),
+        }
+    }
+
+    /// The edge to a number that is there, made now: guarded where the number is in progress, or an unsettled one of an earlier
+    /// round. Where the number is not settled, so is noted.
+    pub(crate) fn edge_at(&mut self, number: usize, path: Location) -> Edge
+        requires within { number < length self.old.nodes }
+        ensures node { result.node.0 ≡ number }
+        ensures path { result.path ≡ path }
+        ensures keys { self.new.keys ≡ self.old.keys }
+        ensures nodes { self.new.nodes ≡ self.old.nodes }
+        ensures reserved { self.new.reservations ≡ self.old.reservations }
+        ensures passes { PassesTo self.old.nodes number self.old.progress self.new.progress result.guarded }
+    {
+        let node = SchemaNode(number);
+        let guarded = self.nodes.guards_from(node, self.progress.round);
+        let settled = self.nodes.is_settled(node);
+        self.progress.reaches_unsettled = self.progress.reaches_unsettled || !settled;
+        Edge {
+            node,
+            path,
+            guarded,
+        }
+    }
+}
+
+impl<'p, R: Resolver, T> Compiler<'p, R, T> {
+    // Adds the node of a key: in progress in this round, or else waiting.
+    fn add_node<K: Validate>(
+        &self,
+        nodes: &mut Nodes<K>,
+        key: &SchemaKey<R::State>,
+        round: Option<usize>,
+    ) -> Result<SchemaNode, OutOfMemory>
+        ensures added { OnOk result (nodes.new ≡ nodes.old ++ record {
+          location = key.now.location;
+          base = shown_base (resolving_parts (R.resolving self.now.resolver.now)) (key_of R.point key.now);
+          start = key.now.resource_start;
+          round = round;
+          order = 0;
+          settled = false;
+          annotations = None;
+          plan = None;
+        } ∷ []) }
+        ensures number { IfOk result (λ n. n.0 ≡ length nodes.old) }
+    {
+        let location = key.location.clone()?;
+        let context = Context {
+            alloc: self.alloc,
+            resolver: self.resolver,
+            options: self.options,
+            key,
+        };
+        let base = context.base_uri()?;
+        match round {
+            Some(number) => nodes.reserve(location, base, key.resource_start, number),
+            None => nodes.defer(location, base, key.resource_start),
+        }
+    }
+
+    // Gives a key the next number, with a node that is in progress in this round, or waits.
+    fn number_key<K: Validate>(
+        &self,
+        compiled: &mut Compilation<R::State, K>,
+        key: &Rc<SchemaKey<R::State>>,
+        round: Option<usize>,
+    ) -> Result<SchemaNode, BuildError>
+    where
+        T: KeywordTable<K>,
+        requires table { IsWell (task R.resolving T.owned T.script K.shape self.now)
+            (filled R.point compiled.old) }
+        requires absent { (i : ℕ) → slice_get (map (key_of R.point) compiled.old.keys) i ≢
+            Some (key_of R.point key.now.value) }
+        requires room { length compiled.old.keys < self.now.options.now.node_limit }
+        ensures { MatchResult result (λ n. TakesNext (task R.resolving T.owned T.script K.shape self.now)
+            R.point compiled.old compiled.new (key_of R.point key.now.value) round n.0)
+            (λ e. e ≡ build.OutOfMemory) }
+    {
+        let number = self.add_node(&mut compiled.nodes, key, round)?;
+        let own = key.clone()?;
+        compiled.keys.push(own)?;
+        Ok(number)
+    }
+
+    /// Gives a key the next number, with a node that is in progress in this round, or else waits, unless the limit is reached.
+    pub(crate) fn number_within<K: Validate>(
+        &self,
+        compiled: &mut Compilation<R::State, K>,
+        key: &Rc<SchemaKey<R::State>>,
+        round: Option<usize>,
+    ) -> Result<SchemaNode, BuildError>
+    where
+        T: KeywordTable<K>,
+        requires table { IsWell (task R.resolving T.owned T.script K.shape self.now)
+            (filled R.point compiled.old) }
+        requires absent { (i : ℕ) → slice_get (map (key_of R.point) compiled.old.keys) i ≢
+            Some (key_of R.point key.now.value) }
+        ensures { MatchResult result (λ n. TakesNext (task R.resolving T.owned T.script K.shape self.now)
+            R.point compiled.old compiled.new (key_of R.point key.now.value) round n.0)
+            (RefusesKey (task R.resolving T.owned T.script K.shape self.now)
+            (filled R.point compiled.old) (key_of R.point key.now.value)) }
+    {
+        if compiled.keys.len() >= self.options.node_limit {
+            return Err(BuildError::NodeLimit(self.options.node_limit));
+        }
+        Ok(self.number_key(compiled, key, round)?)
+    }
+
+    /// Gives a key that is compiled at once the next number, with a node that is in progress in this round, unless the limit is
+    /// reached. What is made from now on is made inside it.
+    pub(crate) fn begin_number<K: Validate>(
+        &self,
+        compiled: &mut Compilation<R::State, K>,
+        key: &Rc<SchemaKey<R::State>>,
+        nests: bool,
+    ) -> Result<SchemaNode, BuildError>
+    where
+        T: KeywordTable<K>,
+        requires table { IsWell (task R.resolving T.owned T.script K.shape self.now)
+            (filled R.point compiled.old) }
+        requires under_way { IsUnderWay (task R.resolving T.owned T.script K.shape self.now)
+            (filled R.point compiled.old) }
+        requires absent { (i : ℕ) → slice_get (map (key_of R.point) compiled.old.keys) i ≢
+            Some (key_of R.point key.now.value) }
+        requires room { nests ≡ true → compiled.old.progress.depth < self.now.nested_limit }
+        ensures { MatchResult result (λ n. BeginsNext (task R.resolving T.owned T.script K.shape self.now)
+            R.point compiled.old compiled.new (key_of R.point key.now.value) nests n.0)
+            (RefusesKey (task R.resolving T.owned T.script K.shape self.now)
+            (filled R.point compiled.old) (key_of R.point key.now.value)) }
+    {
+        let outer = compiled.progress;
+        let number = self.number_within(compiled, key, Some(outer.round))?;
+        compiled.progress = outer.inside(nests, self.nested_limit);
+        Ok(number)
+    }
+}

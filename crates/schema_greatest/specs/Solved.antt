@@ -1,0 +1,32 @@
+-- What a solver says at the end, with no pair in progress: the greatest solution, and what numbered nodes say under guards.
+use Rattle.std.specs.Prelude.{Bool, None, [], false, true, ℕ, ◌<◌, ◌↔◌, ◌≡◌}
+use Rattle.schema_definitions.specs.Instance.{Place, Text}
+use Rattle.schema_definitions.specs.Guarded.{guarded_within, node_outcome, yes_outcome}
+use Rattle.schema_meaning.specs.Numbered.{left, subject_in}
+use Rattle.schema_greatest.specs.NodesSay.{NodeAcceptsGreatest}
+use Rattle.schema_greatest.specs.Under.{Solving, IsSolvable}
+use Rattle.schema_greatest.specs.Found.{Found, IsSound, SaysUnder}
+
+-- nothing is found yet
+abbrev pub nothing_found : Found
+nothing_found = record { busy = λ i p. false; assumed = λ i p. false; known = λ i p. None }
+
+-- no pair is in progress
+abbrev pub IsIdle : Found → Type 0
+IsIdle f = (i : ℕ) (p : Place) → f.busy i p ≡ false
+
+module _ {K R : Type 0} (w : Solving K R) where
+  -- what is said of a number with no pair in progress
+  abbrev pub SolverSays : ℕ → Place → Bool → Type 0
+  SolverSays i p b = (f : Found) × IsSound w f × IsIdle f × SaysUnder w f i p b
+
+  -- is a yes exactly where the greatest solution has the pair
+  abbrev pub SolverSaysGreatest : Type 0
+  SolverSaysGreatest = IsSolvable w → (i : ℕ) (p : Place) (b : Bool) → i < w.count → SolverSays i p b
+      → (b ≡ true) ↔ NodeAcceptsGreatest w.keywords w.matcher w.nodes (subject_in w.instance) w.completion w.count i p
+
+  -- and it is what the nodes say under guards, at every depth that is enough, by any path
+  abbrev pub SolverSaysGuarded : Type 0
+  SolverSaysGuarded = IsSolvable w → (i : ℕ) (p : Place) (b : Bool) → i < w.count → SolverSays i p b
+      → (path : Text) (n : ℕ) → left w.nodes w.count i (subject_in w.instance p) [] < n
+      → (guarded_within yes_outcome (node_outcome w.keywords w.matcher w.nodes (subject_in w.instance) w.completion) n i path p []).verdict ≡ b

@@ -1,0 +1,112 @@
+//! The embedded resources of a document.
+ghost use Rattle.std.specs.Prelude.{◌≡◌, ◌<◌, ◌++◌, ℕ, IfOk, is_some, map, option_map, suc, unwrap_or};
+ghost use Rattle.serde_json.specs.Data.{depth, null};
+ghost use Rattle.serde_json.specs.View.{view};
+ghost use Rattle.schema_definitions.specs.Plan.{schema_at};
+ghost use Rattle.schema_meaning.specs.Documents as documents;
+ghost use Rattle.schema_meaning.specs.Documents.{embedded};
+ghost use Rattle.schema_keywords.specs.KeywordViews.{draft_of};
+ghost use Rattle.schema_parts.specs.ResolverViews.{place_of};
+ghost use Rattle.schema_keys.specs.Compiling.{resolving_parts};
+ghost use Rattle.schema_keys.specs.CutViews.{cut_of};
+
+use crate::check::SchemaCheck;
+use schema_keywords::keywords::Draft;
+use schema_parts::meta::MetaValidators;
+use schema_parts::resolver::Resolver;
+use schema_parts::schema_place::SchemaPlace;
+use schema_reports::location::OutOfMemory;
+use serde_json::Value;
+
+/// What is cut out of a document: where an embedded resource lies, and its own draft.
+#[derive(Drop)]
+pub(crate) struct Cut {
+    pub place: SchemaPlace,
+    pub draft: Draft,
+}
+
+impl<'p, R: Resolver, V: MetaValidators> SchemaCheck<'p, R, V> {
+    /// The draft of a schema inside a schema of this draft; no value counts as null.
+    fn own_draft(&self, draft: Draft, schema: Option<&Value>) -> Draft
+        ensures own { draft_of result ≡ (R.resolving self.now.resolver.now).detect (draft_of draft)
+            (unwrap_or (option_map (λ v. view v.now) schema.entry) null) }
+    {
+        match schema {
+            Some(schema) => self.resolver.detect(draft, schema),
+            None => self.resolver.detect(draft, &Value::Null),
+        }
+    }
+
+    /// Whether a schema has an identifier in this draft; no value counts as null.
+    fn has_identifier(&self, draft: Draft, schema: Option<&Value>) -> bool
+        ensures identified { result ≡ is_some ((R.resolving self.now.resolver.now).id (draft_of draft)
+            (unwrap_or (option_map (λ v. view v.now) schema.entry) null)) }
+    {
+        match schema {
+            Some(schema) => self.resolver.id(draft, schema).is_some(),
+            None => self.resolver.id(draft, &Value::Null).is_some(),
+        }
+    }
+
+    /// Whether a schema, of this draft of its own inside a schema of that one, is an embedded resource of a document: it has an
+    /// identifier, and another draft than the document, which is known.
+    fn is_embedded(
+        &self,
+        document: Draft,
+        around: Draft,
+        own: Draft,
+        schema: Option<&Value>,
+    ) -> bool
+        ensures embedded { result ≡ embedded (resolving_parts (R.resolving self.now.resolver.now))
+            (draft_of document) (draft_of around) (draft_of own)
+            (unwrap_or (option_map (λ v. view v.now) schema.entry) null) }
+    {
+        own != document
+            && own != Draft::Unknown
+            && (self.has_identifier(around, schema) || self.has_identifier(own, schema))
+    }
+
+    /// Adds the outermost embedded resources of a document below a schema of this draft, whose value was read at its place.
+    fn find_cuts(
+        &self,
+        document: Draft,
+        draft: Draft,
+        place: &SchemaPlace,
+        schema: Option<&Value>,
+        cuts: &mut Vec<Cut>,
+    ) -> Result<(), OutOfMemory>
+        requires read { option_map (λ v. view v.now) schema ≡ (R.resolving self.now.resolver.now).value (place_of place.now) }
+        ensures found { IfOk result (λ _. (n : ℕ) →
+            depth (schema_at (resolving_parts (R.resolving self.now.resolver.now)) (place_of place.now)) < n →
+            map cut_of cuts.new.items ≡ map cut_of cuts.old.items
+            ++ documents.cuts (resolving_parts (R.resolving self.now.resolver.now)) n
+            (draft_of document) (draft_of draft) (place_of place.now)) }
+    {
+        for below in &self
+            .resolver
+            .subschemas_read(self.alloc, draft, place, schema)?
+        {
+            let own = self.own_draft(draft, below.value);
+            if self.is_embedded(document, draft, own, below.value) {
+                let place = below.place.clone()?;
+                cuts.push(Cut { place, draft: own })?;
+            } else {
+                self.find_cuts(document, own, &below.place, below.value, cuts)?;
+            }
+        }
+        Ok(())
+    }
+
+    /// The outermost embedded resources of the document at a place.
+    pub(crate) fn cuts(&self, draft: Draft, place: &SchemaPlace) -> Result<Vec<Cut>, OutOfMemory>
+        ensures cuts { IfOk result (λ v. map cut_of v.items ≡
+            documents.cuts (resolving_parts (R.resolving self.now.resolver.now))
+            (suc (depth (schema_at (resolving_parts (R.resolving self.now.resolver.now)) (place_of place.now))))
+            (draft_of draft) (draft_of draft) (place_of place.now)) }
+    {
+        let mut cuts = Vec::new(self.alloc);
+        let schema = self.resolver.value(place);
+        self.find_cuts(draft, draft, place, schema, &mut cuts)?;
+        Ok(cuts)
+    }
+}

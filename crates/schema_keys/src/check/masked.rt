@@ -1,0 +1,125 @@
+//! The copy of a document with `{}` in place of its embedded resources.
+ghost use Rattle.std.specs.Prelude.{◌≡◌, ◌++◌, ◌∷◌, [], IfOk, map, if◌then◌else◌};
+ghost use Rattle.serde_json.specs.Data.{no_members, object};
+ghost use Rattle.serde_json.specs.View.{items_view, members_view, view};
+ghost use Rattle.schema_definitions.specs.Instance.{to_item, to_member};
+ghost use Rattle.schema_definitions.specs.Drafts.{at_path};
+ghost use Rattle.schema_meaning.specs.Documents.{masked, masked_items, masked_members, is_cut};
+ghost use Rattle.schema_parts.specs.ResolverViews.{place_of};
+ghost use Rattle.schema_parts.specs.SchemaViews.{schema_step_of};
+ghost use Rattle.schema_keys.specs.Compiling.{resolving_parts};
+ghost use Rattle.schema_keys.specs.CutViews.{cut_of};
+
+use crate::check::SchemaCheck;
+use crate::check::embedded::Cut;
+use schema_parts::meta::MetaValidators;
+use schema_parts::resolver::Resolver;
+use schema_parts::schema_place::{SchemaPlace, SchemaStep};
+use schema_reports::location::OutOfMemory;
+use serde_json::{Map, Value};
+use std::rc::RcStr;
+
+/// The place one step below a place.
+fn one_below(place: &SchemaPlace, step: SchemaStep) -> Result<SchemaPlace, OutOfMemory>
+    ensures below { IfOk result (λ p. place_of p ≡ at_path (place_of place.now) (schema_step_of step ∷ [])) }
+{
+    let mut below = place.clone()?;
+    below.path.push(step)?;
+    Ok(below)
+}
+
+impl<'p, R: Resolver, V: MetaValidators> SchemaCheck<'p, R, V> {
+    /// Whether a place is one of these.
+    fn is_cut(&self, cuts: &[Cut], place: &SchemaPlace) -> bool
+        ensures cut { result ≡
+            is_cut (resolving_parts (R.resolving self.now.resolver.now)) (map cut_of cuts.now) (place_of place.now) }
+    {
+        cuts.iter().any(|cut| cut.place.path == place.path)
+    }
+
+    /// A copy of the value at a place, with `{}` at these places below it.
+    #[cycle(mask)]
+    pub(crate) fn masked(
+        &self,
+        cuts: &[Cut],
+        place: &SchemaPlace,
+        value: &Value,
+    ) -> Result<Value, OutOfMemory>
+        ensures masked { IfOk result (λ v. view v ≡ masked (resolving_parts (R.resolving self.now.resolver.now))
+            (map cut_of cuts.now) (place_of place.now) (view value.now)) }
+    {
+        match value {
+            Value::Array(items) => Ok(Value::Array(self.masked_items(cuts, place, items)?)),
+            Value::Object(members) => Ok(Value::Object(self.masked_members(cuts, place, members)?)),
+            Value::Null => Ok(Value::Null),
+            Value::Bool(truth) => Ok(Value::Bool(*truth)),
+            Value::Number(number) => Ok(Value::Number(*number)),
+            Value::String(text) => Ok(Value::String(text.clone()?)),
+        }
+    }
+
+    /// The same of the items of an array.
+    #[cycle(mask)]
+    fn masked_items(
+        &self,
+        cuts: &[Cut],
+        place: &SchemaPlace,
+        items: &Vec<Value>,
+    ) -> Result<Vec<Value>, OutOfMemory>
+        ensures masked { IfOk result (λ v. items_view v.items ≡
+            masked_items (resolving_parts (R.resolving self.now.resolver.now))
+            (map cut_of cuts.now) (place_of place.now) 0 (items_view items.now.items)) }
+    {
+        let mut copies = Vec::new(self.alloc);
+        for (index, item) in items.iter().enumerate() {
+            let below = one_below(place, SchemaStep::Item(index))?;
+            let copy = self.masked_below(cuts, &below, item)?;
+            copies.push(copy)?;
+        }
+        Ok(copies)
+    }
+
+    /// The same of the members of an object.
+    #[cycle(mask)]
+    fn masked_members(
+        &self,
+        cuts: &[Cut],
+        place: &SchemaPlace,
+        members: &Map<String, Value>,
+    ) -> Result<Map<String, Value>, OutOfMemory>
+        ensures masked { IfOk result (λ v. members_view v.entries ≡
+            masked_members (resolving_parts (R.resolving self.now.resolver.now))
+            (map cut_of cuts.now) (place_of place.now) (members_view members.now.entries)) }
+    {
+        let mut copies = Map::new(self.alloc);
+        for (name, member) in members.iter() {
+            let step = SchemaStep::Member(RcStr::from_str(self.alloc, name.as_str())?);
+            let below = one_below(place, step)?;
+            let copy = self.masked_below(cuts, &below, member)?;
+            let name = name.clone()?;
+            drop(copies.insert(name, copy)?);
+        }
+        Ok(copies)
+    }
+
+    /// The copy of a value inside a document: `{}` where its place is one of these.
+    #[cycle(mask)]
+    fn masked_below(
+        &self,
+        cuts: &[Cut],
+        place: &SchemaPlace,
+        value: &Value,
+    ) -> Result<Value, OutOfMemory>
+        ensures masked { IfOk result (λ v. view v ≡
+            (if is_cut (resolving_parts (R.resolving self.now.resolver.now)) (map cut_of cuts.now) (place_of place.now)
+            then object no_members
+            else masked (resolving_parts (R.resolving self.now.resolver.now))
+            (map cut_of cuts.now) (place_of place.now) (view value.now))) }
+    {
+        if self.is_cut(cuts, place) {
+            Ok(Value::Object(Map::new(self.alloc)))
+        } else {
+            self.masked(cuts, place, value)
+        }
+    }
+}

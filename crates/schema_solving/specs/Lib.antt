@@ -1,6 +1,0 @@
-pub mod Under
-pub mod Found
-pub mod Solved
-pub mod Says
-pub mod Turning
-pub mod Work

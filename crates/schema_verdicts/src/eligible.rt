@@ -1,0 +1,113 @@
+//! Where a solver finds the verdicts of some nodes.
+ghost use Rattle.std.specs.Prelude.{◌≡◌, ◌<◌, ◌&&◌, ◌↔◌, [], IfOk, IfSome, None, is_some, length, true};
+ghost use Rattle.serde_json.specs.View.{view};
+ghost use Rattle.schema_verdicts.specs.Saying.{EachSays};
+ghost use Rattle.schema_pairs.specs.Following.{IsFollowing};
+ghost use Rattle.schema_parts.specs.MatcherViews.{FinishesEach};
+ghost use Rattle.node_table.specs.NodeTable.{numbered};
+ghost use Rattle.schema_solver.specs.Asked.{solver_over};
+ghost use Rattle.schema_solver.specs.Solving.{SaysAsNodes};
+ghost use Rattle.schema_verdicts.specs.Finding.{SolvesFor};
+
+use crate::monotone::is_monotone;
+use node_table::node::Nodes;
+use schema_pairs::context::SolverContext;
+use schema_pairs::followed::Followed;
+use schema_parts::keyword::Validate;
+use schema_parts::matcher::Matcher;
+use schema_parts::numbers::SchemaNode;
+use schema_places::on_demand::PlacesOnDemand;
+use schema_reports::location::OutOfMemory;
+use schema_solver::question::SolverEngine;
+use schema_solver::solve::solve_root;
+use serde_json::Value;
+use std::alloc::Global;
+use std::marker::Model;
+
+/// Finds the verdicts of some nodes by a solver, where each of their keywords is monotone and the matcher finishes every match, and none
+/// elsewhere. Contracts see which numbers the solver follows, where there is one.
+#[derive(Drop)]
+pub struct Solver {
+    followed: Option<Followed>,
+}
+
+impl Model for Solver {
+    ghost use Rattle.std.specs.Prelude.{Bool, List, Option};
+
+    ghost Value = { Option (List Bool) };
+
+    ghost view = { λ f. f.followed };
+}
+
+impl Solver {
+    /// Returns the one that finds no verdict. It allocates nothing.
+    pub fn none() -> Solver
+        ensures none { result ≡ None }
+    {
+        Solver { followed: None }
+    }
+
+    /// Returns the one of these nodes: it finds verdicts exactly where each keyword says that it is monotone. Fails only if memory
+    /// cannot be allocated.
+    pub fn of<K: Validate>(alloc: Global, nodes: &Nodes<K>) -> Result<Solver, OutOfMemory>
+        ensures exactly { IfOk result (λ f. (is_some f ≡ true) ↔ EachSays K.says_monotone (numbered K.shape nodes.now) (length nodes.now)) }
+        ensures solves { IfOk result (λ f. SolvesFor K.words (numbered K.shape nodes.now) (length nodes.now) f) }
+        ensures follows { IfOk result (λ f. IfSome f (IsFollowing nodes.now)) }
+    {
+        if is_monotone(nodes) {
+            let numbers = Followed::of(alloc, nodes)?;
+            return Ok(Solver {
+                followed: Some(numbers),
+            });
+        }
+        Ok(Solver::none())
+    }
+
+    /// Returns the same once more. Fails only if memory cannot be allocated.
+    pub fn clone(&self) -> Result<Solver, OutOfMemory>
+        ensures same { IfOk result (λ f. f ≡ self.now) }
+    {
+        match &self.followed {
+            Some(numbers) => Ok(Solver {
+                followed: Some(numbers.clone()?),
+            }),
+            None => Ok(Solver::none()),
+        }
+    }
+
+    /// Returns the verdict of a node of the instance, where a solver may find it: where it finds verdicts of these nodes, and the matcher
+    /// is said to finish every match. Elsewhere it returns `None`. A number that chains of references return to is answered once at each
+    /// place. (Which numbers are followed changes nothing of what is said, so `says` names none.) Fails only if memory cannot be allocated.
+    pub fn verdict<K: Validate, M: Matcher>(
+        &self,
+        alloc: Global,
+        nodes: &Nodes<K>,
+        matcher: &M,
+        finishes: bool,
+        node: SchemaNode,
+        instance: &Value,
+    ) -> Result<Option<bool>, OutOfMemory>
+        requires known { node.0 < length nodes.now }
+        requires solves { SolvesFor K.words (numbered K.shape nodes.now) (length nodes.now) self.now }
+        requires finishes { finishes ≡ true → FinishesEach (M.matching matcher.now) }
+        ensures exactly { IfOk result (λ found. is_some found ≡ (is_some self.now && finishes)) }
+        ensures finishes { IfOk result (λ found. IfSome found (λ _. FinishesEach (M.matching matcher.now))) }
+        ensures says { IfOk result (λ found. IfSome found (λ valid. SaysAsNodes
+            (solver_over K.words K.is_whole K.shape nodes.now [] (M.matching matcher.now)) (view instance.now) node.0 valid)) }
+    {
+        if let Some(followed) = &self.followed {
+            if finishes {
+                let engine = SolverEngine {
+                    nodes,
+                    alloc,
+                    matcher,
+                    followed,
+                };
+                let mut context = SolverContext::new(alloc, PlacesOnDemand::of(instance));
+                let valid = solve_root(&engine, node, instance, &mut context)?;
+                return Ok(Some(valid));
+            }
+        }
+        Ok(None)
+    }
+}
