@@ -1,0 +1,5 @@
+pub mod Coding
+pub mod Equality
+pub mod Numbers
+pub mod Order
+pub mod Sizes

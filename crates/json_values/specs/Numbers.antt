@@ -1,0 +1,70 @@
+-- Numbers of JSON as mathematics has them, with no rounding: their order, which of them are integers, and which are multiples of another.
+-- (JSON Schema Validation 2020-12, 6.1.1 and 6.2.1 to 6.2.5)
+use Rattle.std.specs.Prelude.{Bool, IsTrue, false, int_lt, suc, true, ℤ, negsuc, pos, ◌%◌, ◌*◌, ◌==◌, ◌&&◌, ◌||◌, if◌then◌else◌}
+use Rattle.std.specs.Float.{Float, fin, float_is_finite}
+use Rattle.std.specs.Ordering.{is_eq, is_le, is_lt, nan_last_cmp}
+use Rattle.std.specs.declared.cmp.Ordering.{Ordering}
+use lib.Ieee.{binary64, div}
+use lib.Ieee.Positive.{den, num}
+use Rattle.serde_json.specs.Find.{is_float, to_float}
+use Rattle.serde_json.specs.Data.{Num, float, negative, unsigned}
+use Rattle.json_values.specs.declared.numbers.Kind.{Kind}
+use Rattle.json_values.specs.declared.numbers.Kind.TheVariants as kinds
+
+-- An integer with no rounding: `fin s m e` is the number m * 2 ^ e, negative where s is true, of any size.
+abbrev pub value_of_integer : ℤ → Float
+value_of_integer (pos n) = fin false n (pos 0)
+value_of_integer (negsuc n) = fin true (suc n) (pos 0)
+
+-- the number that a number of JSON is
+abbrev pub value_of : Num → Float
+value_of (unsigned n) = fin false n (pos 0)
+value_of (negative z) = value_of_integer z
+value_of (float x) = x
+
+-- the order of the numbers, which are never NaN
+abbrev pub order : Num → Num → Ordering
+order x y = nan_last_cmp (value_of x) (value_of y)
+
+abbrev pub less : Num → Num → Bool
+less x y = is_lt (order x y)
+
+abbrev pub at_most : Num → Num → Bool
+at_most x y = is_le (order x y)
+
+abbrev pub same_number : Num → Num → Bool
+same_number x y = is_eq (order x y)
+
+-- the size of a number is the fraction `num` / `den`
+
+-- 1.0 is an integer
+abbrev pub is_whole : Num → Bool
+is_whole x = num (value_of x) % den (value_of x) == 0
+
+-- x divided by a d above 0 is an integer: the fraction (num x * den d) / (den x * num d) is one
+abbrev pub is_multiple_of : Num → Num → Bool
+is_multiple_of x d = (num (value_of x) * den (value_of d)) % (num (value_of d) * den (value_of x)) == 0
+
+-- Where a fraction is among the two, the quotient is rounded to a float before it is asked, as programs do: 0.0075 counts as a multiple
+-- of 0.0001, though of the floats nearest to these neither is one of the other. An infinite quotient is not asked.
+abbrev pub rounded_quotient : Num → Num → Float
+rounded_quotient x d = div binary64 (to_float x) (to_float d)
+
+abbrev pub is_rounded_multiple_of : Num → Num → Bool
+is_rounded_multiple_of x d =
+    if (is_float x || is_float d) && float_is_finite (rounded_quotient x d)
+    then num (rounded_quotient x d) % den (rounded_quotient x d) == 0
+    else is_multiple_of x d
+
+-- ---- what the code sees of a number
+
+abbrev pub num_of : Kind → Num
+num_of (kinds.Natural n) = unsigned n
+num_of (kinds.Negative z) = negative z
+num_of (kinds.Fraction x) = float x
+
+-- a negative one is below 0, and a fraction is finite
+abbrev pub IsProper : Kind → Type 0
+IsProper (kinds.Natural n) = Unit {0}
+IsProper (kinds.Negative z) = IsTrue (int_lt z (pos 0))
+IsProper (kinds.Fraction x) = IsTrue (float_is_finite x)

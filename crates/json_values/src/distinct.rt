@@ -1,0 +1,139 @@
+//! Whether the items of a list are distinct (JSON Schema Validation 2020-12, 6.4.3), in n log n steps where all are numbers
+//! or all are texts.
+ghost use Rattle.std.specs.Prelude.{◌≡◌, IfOk, IfSome};
+ghost use Rattle.serde_json.specs.View.{items_view};
+ghost use Rattle.json_values.specs.Equality.{all_distinct};
+
+use crate::OutOfMemory;
+use crate::equality::are_all_distinct_by_pairs;
+use crate::numbers::{compare, is_same_number};
+use serde_json::{Number, Value};
+use std::alloc::Global;
+use std::cmp::Ordering;
+use std::collections::BTreeSet;
+use std::marker::Model;
+
+/// Up to so many items are compared by pairs.
+const FEW: usize = 8;
+
+/// A number that is ordered as the number that it is. Contracts see that number.
+#[derive(Drop)]
+struct OrderedNumber {
+    number: Number,
+}
+
+impl Model for OrderedNumber {
+    ghost use Rattle.serde_json.specs.Data.{Num};
+    ghost use Rattle.serde_json.specs.View.{number_view};
+
+    ghost Value = { Num };
+
+    ghost view = { λ k. number_view k.number };
+}
+
+impl PartialEq for OrderedNumber {
+    ghost use Rattle.std.specs.Cmp.{eq_by_cmp_equiv, partial_equiv_from_equiv};
+    ghost use Rattle.json_values.specs.Numbers.{same_number};
+    ghost use Rattle.json_values.specs.Order.{order_total};
+
+    ghost eq = { same_number };
+
+    ghost laws = { partial_equiv_from_equiv (eq_by_cmp_equiv order_total) };
+
+    fn eq(&self, other: &OrderedNumber) -> bool {
+        is_same_number(&self.number, &other.number)
+    }
+}
+
+impl Eq for OrderedNumber {
+    ghost use Rattle.std.specs.Cmp.{eq_by_cmp_equiv};
+    ghost use Rattle.json_values.specs.Order.{order_total};
+
+    ghost laws = { eq_by_cmp_equiv order_total };
+}
+
+impl PartialOrd for OrderedNumber {
+    ghost use Rattle.std.specs.Prelude.{Some};
+    ghost use Rattle.std.specs.Cmp.{partial_order_from_total};
+    ghost use Rattle.json_values.specs.Numbers.{order};
+    ghost use Rattle.json_values.specs.Order.{order_total};
+
+    ghost partial_cmp = { λ x y. Some (order x y) };
+
+    ghost laws = { partial_order_from_total order_total };
+
+    fn partial_cmp(&self, other: &OrderedNumber) -> Option<Ordering> {
+        Some(compare(&self.number, &other.number))
+    }
+}
+
+impl Ord for OrderedNumber {
+    ghost use Rattle.std.specs.Prelude.{refl};
+    ghost use Rattle.json_values.specs.Numbers.{order};
+    ghost use Rattle.json_values.specs.Order.{order_total};
+
+    ghost cmp = { order };
+
+    ghost total = { order_total };
+
+    ghost matches_partial_cmp = { λ x y. refl };
+
+    ghost matches_eq = { λ x y. refl };
+
+    fn cmp(&self, other: &OrderedNumber) -> Ordering {
+        compare(&self.number, &other.number)
+    }
+}
+
+/// Whether no two of the values are equal, if all up to the first equal one are numbers.
+fn are_distinct_numbers(alloc: Global, values: &[Value]) -> Result<Option<bool>, OutOfMemory>
+    ensures distinct { IfOk result (λ answer. IfSome answer (λ distinct. distinct ≡ all_distinct (items_view values.now))) }
+{
+    let mut seen = BTreeSet::new(alloc);
+    for value in values {
+        let Some(number) = value.as_number() else {
+            return Ok(None);
+        };
+        if !seen.insert(OrderedNumber { number: *number })? {
+            return Ok(Some(false));
+        }
+    }
+    Ok(Some(true))
+}
+
+/// Whether no two of the values are equal, if all up to the first equal one are texts.
+fn are_distinct_texts(alloc: Global, values: &[Value]) -> Result<Option<bool>, OutOfMemory>
+    ensures distinct { IfOk result (λ answer. IfSome answer (λ distinct. distinct ≡ all_distinct (items_view values.now))) }
+{
+    let mut seen = BTreeSet::new(alloc);
+    for value in values {
+        let Some(text) = value.as_str() else {
+            return Ok(None);
+        };
+        if !seen.insert(text)? {
+            return Ok(Some(false));
+        }
+    }
+    Ok(Some(true))
+}
+
+/// Whether no two of the values are equal, as `uniqueItems` wants. Where all are numbers or all are texts it takes n log n
+/// steps, else up to n² of `is_equal`; truth values and nulls are told apart in the first few.
+///
+/// # Errors
+///
+/// `OutOfMemory` if memory cannot be allocated. `are_all_distinct_by_pairs` needs none.
+pub fn are_all_distinct(alloc: Global, values: &[Value]) -> Result<bool, OutOfMemory>
+    ensures distinct { IfOk result (λ distinct. distinct ≡ all_distinct (items_view values.now)) }
+{
+    if values.len() <= FEW {
+        return Ok(are_all_distinct_by_pairs(values));
+    }
+    if let Some(distinct) = are_distinct_numbers(alloc, values)? {
+        return Ok(distinct);
+    }
+    if let Some(distinct) = are_distinct_texts(alloc, values)? {
+        return Ok(distinct);
+    }
+    Ok(are_all_distinct_by_pairs(values))
+}

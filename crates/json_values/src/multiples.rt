@@ -1,0 +1,128 @@
+//! Whether a number is an integer (JSON Schema Validation 2020-12, 6.1.1) or a multiple of another (6.2.1), by its odd
+//! digits and its power of two.
+ghost use Rattle.std.specs.Prelude.{◌%◌, ◌==◌, ◌≡◌, ◌*◌, ◌^◌, ◌<◌, IsTrue, unwrap_or, option_map, false};
+ghost use Rattle.std.specs.Float.{float_is_finite};
+ghost use lib.Ieee.Positive.{den, num};
+ghost use Rattle.serde_json.specs.Find.{as_number};
+ghost use Rattle.serde_json.specs.View.{number_view, view};
+ghost use Rattle.json_values.specs.Numbers.{is_multiple_of, is_rounded_multiple_of, is_whole, value_of};
+ghost use Rattle.json_values.specs.Sizes.{units, IsReduced, IsSizeOf};
+
+use crate::numbers::{Kind, held_as};
+use serde_json::{Number, Value};
+
+/// `digits` times 2 to the `power`, in units of 2^-1074, the smallest float; the digits are odd or 0.
+#[derive(Clone, Copy)]
+pub(crate) struct Size {
+    digits: u64,
+    power: u32,
+}
+
+/// With each factor of two in the power.
+fn reduced(digits: u64, power: u32) -> Size
+    requires small { power < 4096 }
+    ensures units { units result ≡ digits * 2 ^ power }
+    ensures odd { IsReduced result.digits }
+{
+    if digits == 0 {
+        return Size { digits, power };
+    }
+    let zeros = digits.trailing_zeros();
+    Size {
+        digits: digits >> zeros,
+        power: power + zeros,
+    }
+}
+
+/// A float's size.
+fn size_of_float(x: f64) -> Size
+    requires finite { IsTrue (float_is_finite x) }
+    ensures size { IsSizeOf x result }
+{
+    let bits = x.to_bits() % 0x8000_0000_0000_0000;
+    if bits < 0x10_0000_0000_0000 {
+        reduced(bits, 0)
+    } else {
+        reduced(
+            0x10_0000_0000_0000 + bits % 0x10_0000_0000_0000,
+            (bits / 0x10_0000_0000_0000 - 1) as u32,
+        )
+    }
+}
+
+/// A number's size.
+fn size_of(number: &Number) -> Size
+    ensures size { IsSizeOf (value_of (number_view number.now)) result }
+{
+    match held_as(number) {
+        Kind::Natural(n) => reduced(n, 1074),
+        Kind::Negative(n) => reduced(n.unsigned_abs(), 1074),
+        Kind::Fraction(x) => size_of_float(x),
+    }
+}
+
+/// Whether a float is an integer.
+fn is_whole_float(x: f64) -> bool
+    requires finite { IsTrue (float_is_finite x) }
+    ensures whole { result ≡ (num x % den x == 0) }
+{
+    let size = size_of_float(x);
+    size.digits == 0 || 1074 <= size.power
+}
+
+/// Whether the number is an integer, that is, has no fraction: 1.0 is one.
+pub fn is_whole(number: &Number) -> bool
+    ensures whole { result ≡ is_whole (number_view number.now) }
+{
+    match held_as(number) {
+        Kind::Natural(_) => true,
+        Kind::Negative(_) => true,
+        Kind::Fraction(x) => is_whole_float(x),
+    }
+}
+
+/// Whether the value is a number, and an integer: 1.0 is, and no text is. So `type` takes it for `integer`.
+pub fn is_integer_valued(value: &Value) -> bool
+    ensures whole { result ≡ unwrap_or (option_map is_whole (as_number (view value.now))) false }
+{
+    match value.as_number() {
+        Some(number) => is_whole(number),
+        None => false,
+    }
+}
+
+/// Whether the number divided by the divisor is an integer, with no rounding: 0.0075 is no multiple of 0.0001, since the
+/// floats nearest to these are none. Only 0 is a multiple of 0, which `multipleOf` never has as its value.
+pub fn is_multiple_of(number: &Number, divisor: &Number) -> bool
+    ensures multiple { result ≡ is_multiple_of (number_view number.now) (number_view divisor.now) }
+{
+    let dividend = size_of(number);
+    let divisor = size_of(divisor);
+    if dividend.digits == 0 {
+        return true;
+    }
+    if divisor.digits == 0 {
+        return false;
+    }
+    if dividend.power < divisor.power {
+        return false;
+    }
+    dividend.digits % divisor.digits == 0
+}
+
+/// Whether the number divided by the divisor is an integer, where a quotient of floats is rounded to a float first: 0.0075
+/// is a multiple of 0.0001, as people expect of decimal fractions. Where the quotient is infinite, `is_multiple_of`
+/// decides.
+pub fn is_rounded_multiple_of(number: &Number, divisor: &Number) -> bool
+    ensures multiple { result ≡ is_rounded_multiple_of (number_view number.now) (number_view divisor.now) }
+{
+    if number.is_f64() || divisor.is_f64() {
+        if let (Some(x), Some(d)) = (number.as_f64(), divisor.as_f64()) {
+            let quotient = x / d;
+            if quotient.is_finite() {
+                return is_whole_float(quotient);
+            }
+        }
+    }
+    is_multiple_of(number, divisor)
+}
