@@ -2,11 +2,6 @@
 //! table, a resolver and a matcher that are made for tests and for this program.
 #![tactic(auto)]
 
-#[cfg(test)]
-mod row_tests;
-#[cfg(test)]
-mod tests;
-
 use bench_program::program::arguments::given_words;
 use bench_program::program::faults::Fault;
 use bench_program::program::{refuse, run};

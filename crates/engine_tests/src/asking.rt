@@ -14,21 +14,13 @@ use schema_reports::location::OutOfMemory;
 use schema_reports::reports::ErrorIterator;
 use serde_json::Value;
 use std::alloc::{AllocError, Global};
-use test_rows::{column, list_at};
+use unit_tests::table::{column, list_at, number_at, push_all};
 
 /// The resolver of a row's schema, and the matcher that leaves the row's patterns unfinished.
 #[derive(Drop)]
 pub(crate) struct Parts<'r> {
     pub resolver: BenchResolver<'r>,
     pub matcher: BenchMatcher,
-}
-
-/// Adds words, with nothing between.
-pub(crate) fn push_all(log: &mut String, words: &[&str]) -> Result<(), OutOfMemory> {
-    for word in words {
-        log.push_str(word)?;
-    }
-    Ok(())
 }
 
 /// The texts in a list.
@@ -49,14 +41,6 @@ pub(crate) fn parts_of(alloc: Global, row: &Value) -> Result<Parts<'_>, OutOfMem
             drop(matcher);
             Err(failed)
         }
-    }
-}
-
-/// The number in a column, if there is one.
-pub(crate) fn number_at(row: &Value, number: usize) -> Option<usize> {
-    match column(row, number).as_u64() {
-        Some(number) => usize::try_from(number).ok(),
-        None => None,
     }
 }
 

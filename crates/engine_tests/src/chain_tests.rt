@@ -4,7 +4,7 @@ use engine_cases::answer;
 use schema_reports::location::OutOfMemory;
 use serde_json::Value;
 use std::alloc::Global;
-use test_rows::{column, text_at};
+use unit_tests::table::{column, text_at};
 
 /// Adds the definitions of a chain: each refers to the next, and the last is of texts.
 fn push_chain(alloc: Global, count: u16, text: &mut String) -> Result<(), OutOfMemory> {

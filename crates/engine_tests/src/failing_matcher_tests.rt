@@ -1,6 +1,6 @@
 //! A matcher whose engine fails, and which once wants memory, at a question of its own choice. The matcher of the rows of `check_rows`
 //! does neither.
-use crate::asking::{number_at, push_answers, push_refusal};
+use crate::asking::{push_answers, push_refusal};
 use bench_keywords::keyword::BenchKeyword;
 use bench_parts::meta::BenchMeta;
 use bench_parts::table::BenchTable;
@@ -17,7 +17,7 @@ use schema_reports::location::OutOfMemory;
 use serde_json::Value;
 use std::alloc::{AllocError, Global};
 use std::cell::Cell;
-use test_rows::column;
+use unit_tests::table::{column, number_at};
 
 /// A matcher that leaves every match unfinished, since its engine fails. It counts down to the question at which it wants memory, where
 /// that is not 0, and once it has wanted memory it fails as before.
@@ -179,7 +179,9 @@ pub(crate) fn tell_wanting(
 }
 
 // What is answered until memory is wanted, and then when it is asked again; schema, instance, and the question at which it is wanted. Of
-// the list the verdict takes 8 questions, the first error 21, all errors 23 and the evaluation 21; of the text each call takes 5.
+// the list the verdict takes 8 questions, the first error 21, all errors 23 and the evaluation 21; of the first text each call takes 5. Of
+// the second each run asks for all six matches, which come out in more ways than a call looks at: so each call takes 384 questions
+// exactly if it makes 64 runs.
 pub(crate) const WANTING: &str = r##"[
 ["!no: Regex engine failed to evaluate pattern 'q'; Regex engine failed to evaluate pattern 'q'; invalid",
  {"items":{"pattern":"q"}}, ["a", "b"], 1],
@@ -199,5 +201,18 @@ pub(crate) const WANTING: &str = r##"[
 ["yes!yes; valid", {"anyOf":[{"pattern":"q"},{"not":{"pattern":"q"}}]}, "a", 15],
 ["yes!yes; valid", {"anyOf":[{"pattern":"q"},{"not":{"pattern":"q"}}]}, "a", 16],
 ["yes!yes; valid", {"anyOf":[{"pattern":"q"},{"not":{"pattern":"q"}}]}, "a", 20],
-["yes; valid", {"anyOf":[{"pattern":"q"},{"not":{"pattern":"q"}}]}, "a", 21]
+["yes; valid", {"anyOf":[{"pattern":"q"},{"not":{"pattern":"q"}}]}, "a", 21],
+["!no: Regex engine failed to evaluate pattern 'd'; Regex engine failed to evaluate pattern 'd'; invalid",
+ {"allOf":[{"anyOf":[{"pattern":"d"},true]}, {"anyOf":[{"pattern":"e"},true]}, {"anyOf":[{"pattern":"f"},true]},
+  {"anyOf":[{"pattern":"g"},true]}, {"anyOf":[{"pattern":"h"},true]}, {"anyOf":[{"pattern":"i"},true]}]}, "abc", 384],
+["no!no: Regex engine failed to evaluate pattern 'd'; Regex engine failed to evaluate pattern 'd'; invalid",
+ {"allOf":[{"anyOf":[{"pattern":"d"},true]}, {"anyOf":[{"pattern":"e"},true]}, {"anyOf":[{"pattern":"f"},true]},
+  {"anyOf":[{"pattern":"g"},true]}, {"anyOf":[{"pattern":"h"},true]}, {"anyOf":[{"pattern":"i"},true]}]}, "abc", 385],
+[["no: Regex engine failed to evaluate pattern 'd'; Regex engine failed to evaluate pattern 'd'!",
+  "no: Regex engine failed to evaluate pattern 'd'; Regex engine failed to evaluate pattern 'd'; invalid"],
+ {"allOf":[{"anyOf":[{"pattern":"d"},true]}, {"anyOf":[{"pattern":"e"},true]}, {"anyOf":[{"pattern":"f"},true]},
+  {"anyOf":[{"pattern":"g"},true]}, {"anyOf":[{"pattern":"h"},true]}, {"anyOf":[{"pattern":"i"},true]}]}, "abc", 1536],
+["no: Regex engine failed to evaluate pattern 'd'; Regex engine failed to evaluate pattern 'd'; invalid",
+ {"allOf":[{"anyOf":[{"pattern":"d"},true]}, {"anyOf":[{"pattern":"e"},true]}, {"anyOf":[{"pattern":"f"},true]},
+  {"anyOf":[{"pattern":"g"},true]}, {"anyOf":[{"pattern":"h"},true]}, {"anyOf":[{"pattern":"i"},true]}]}, "abc", 1537]
 ]"##;

@@ -19,7 +19,7 @@ use schema_reports::location::{Location, OutOfMemory};
 use serde_json::Value;
 use std::alloc::Global;
 use std::marker::Model;
-use test_rows::{column, list_at, text_at};
+use unit_tests::table::{column, list_at, text_at};
 
 /// A keyword that goes a detour: where errors are wanted, it first asks whether each of these patterns matches the instance,
 /// and drops the replies. Then it goes on as the keyword that it stands for.

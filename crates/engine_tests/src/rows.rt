@@ -1,6 +1,6 @@
-//! Tables of rows, and the walk over them: a row is right where what is told of it is the text in its first column.
+//! Tables of rows, and the walk over them: a row is right where what is told of it is the text in its first column, or the texts there,
+//! one after the other.
 use crate::asking::tell_by;
-use crate::context_tests::{CONTEXTS, tell_context};
 use crate::failing_matcher_tests::{FAILURES, WANTING, tell_failure, tell_wanting};
 use crate::growing_tests::{GROWING, tell_growing};
 use crate::leaf_tests::{LEAVES, tell_leaf};
@@ -16,12 +16,11 @@ use law_tests::items_table::ItemsTable;
 use schema_reports::location::OutOfMemory;
 use serde_json::Value;
 use std::alloc::Global;
-use test_rows::{text_at, wrong_row};
+use unit_tests::table::{wanted_of, wrong_row};
 
 /// What the rows of a table are about.
 #[derive(Clone, Copy)]
 pub(crate) enum Rows {
-    Contexts,
     Failures,
     Growing,
     Leaves,
@@ -35,7 +34,6 @@ pub(crate) enum Rows {
 /// Adds what is told of a row.
 fn tell(alloc: Global, rows: Rows, row: &Value, log: &mut String) -> Result<(), OutOfMemory> {
     match rows {
-        Rows::Contexts => tell_context(alloc, row, log),
         Rows::Failures => tell_failure(alloc, row, log),
         Rows::Growing => tell_growing(alloc, row, log),
         Rows::Leaves => tell_leaf(alloc, row, log),
@@ -60,10 +58,9 @@ fn tell(alloc: Global, rows: Rows, row: &Value, log: &mut String) -> Result<(), 
 fn is_right(alloc: Global, rows: Rows, row: &Value) -> Result<bool, OutOfMemory> {
     let mut log = String::new(alloc);
     let told = tell(alloc, rows, row, &mut log);
-    let right = log.as_str() == text_at(row, 0);
-    drop(log);
+    let wanted = wanted_of(alloc, row);
     told?;
-    Ok(right)
+    Ok(log == wanted?)
 }
 
 /// The number of the first row of a table that is wrong.
@@ -76,8 +73,7 @@ pub(crate) fn wrong(
 }
 
 /// The tables, each with what its rows are about, and with its name. Each says why its rows are none of `check_rows`.
-const TABLES: [(Rows, &str, &str); 8] = [
-    (Rows::Contexts, "contexts", CONTEXTS),
+const TABLES: [(Rows, &str, &str); 7] = [
     (Rows::Failures, "failures", FAILURES),
     (Rows::Growing, "growing", GROWING),
     (Rows::Leaves, "leaves", LEAVES),

@@ -15,7 +15,7 @@ use schema_parts::table::KeywordTable;
 use schema_reports::location::OutOfMemory;
 use serde_json::Value;
 use std::alloc::Global;
-use test_rows::{column, text_at};
+use unit_tests::table::{column, text_at};
 
 /// The usual vocabularies, and the custom one beside them in 2019-09 alone.
 fn requiring_in_2019_09(alloc: Global) -> Result<DraftVocabularies, OutOfMemory> {

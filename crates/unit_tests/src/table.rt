@@ -1,5 +1,4 @@
 //! Tables of rows, which tests read: JSON texts that are arrays, a row an array of columns.
-#![tactic(auto)]
 
 ghost use Rattle.std.specs.Prelude.{◌≡◌, All, List, None, Ok, Some, codes, true, unwrap_or};
 ghost use Rattle.std.specs.Fn.{FnReturnsAt};
@@ -7,7 +6,7 @@ ghost use Rattle.serde_json.specs.Data.{array};
 ghost use Rattle.serde_json.specs.Find.{as_str, at};
 ghost use Rattle.serde_json.specs.Read.{read as read_text};
 ghost use Rattle.serde_json.specs.View.{items_view, view};
-ghost use Rattle.test_rows.specs.Rows.{list_in};
+ghost use Rattle.unit_tests.specs.Rows.{list_in};
 
 use serde_json::Value;
 use std::alloc::{AllocError, Global};
@@ -34,6 +33,31 @@ pub fn list_at(row: &Value, number: usize) -> &[Value]
         Some(list) => list.as_slice(),
         None => &[],
     }
+}
+
+/// The number in a column, if there is one.
+pub fn number_at(row: &Value, number: usize) -> Option<usize> {
+    match column(row, number).as_u64() {
+        Some(number) => usize::try_from(number).ok(),
+        None => None,
+    }
+}
+
+/// Adds words, with nothing between.
+pub fn push_all(log: &mut String, words: &[&str]) -> Result<(), AllocError> {
+    for word in words {
+        log.push_str(word)?;
+    }
+    Ok(())
+}
+
+/// What is to be told of a row.
+pub fn wanted_of(alloc: Global, row: &Value) -> Result<String, AllocError> {
+    let mut wanted = String::from_str(alloc, text_at(row, 0))?;
+    for part in list_at(row, 0) {
+        wanted.push_str(part.as_str().unwrap_or("?"))?;
+    }
+    Ok(wanted)
 }
 
 /// The number of the first row of a table that does not hold, counted from 0; 0 where there is no row.

@@ -1,6 +1,9 @@
-//! How large the values are that a run moves, in bytes. An evaluation, an error and a unit alone stand in a box, so that an answer, a
-//! reply and what a keyword asks for are a few words long in every mode.
+//! What no clause says and a check computes: how large the values are that a run moves, and the two marks of keywords that accept `null`.
+//!
+//! An evaluation, an error and a unit alone stand in a box, so that an answer, a reply and what a keyword asks for are a few words
+//! long in every mode.
 
+use schema_keywords::keywords::{NotNullable, Nullability, Nullable};
 use schema_parts::keyword::{Answer, Reply, Step};
 use schema_reports::location::OutOfMemory;
 use std::mem::size_of;
@@ -18,3 +21,7 @@ const _: () = prove!(size_of::<Step<'static>>() <= 56);
 
 // (the result of a turn is a word longer, too)
 const _: () = prove!(size_of::<Result<Step<'static>, OutOfMemory>>() <= 64);
+
+const _: () = prove!(Nullable::ACCEPTS_NULL);
+
+const _: () = prove!(!NotNullable::ACCEPTS_NULL);

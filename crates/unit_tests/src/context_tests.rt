@@ -1,16 +1,15 @@
 //! What a `Context` answers that no call of the engine asks: a table's makers may, so no row of `check_rows` says it. Whether formats
 //! are checked: by the option, or else by the vocabularies, or in the drafts before 2019-09.
-use crate::asking::{number_at, push_all};
+use crate::table::{column, number_at, push_all, text_at};
 use bench_resolver::resolver::BenchResolver;
-use schema_engine::keywords::{Draft, Vocabulary, VocabularySet};
 use schema_keys::context::Context;
 use schema_keys::key::SchemaKey;
 use schema_keys::options::CompileOptions;
+use schema_keywords::keywords::{Draft, Vocabulary, VocabularySet};
 use schema_parts::resolver::Resolver;
 use schema_reports::location::{Location, OutOfMemory};
 use serde_json::Value;
 use std::alloc::Global;
-use test_rows::{column, text_at};
 
 /// The draft of this number.
 fn draft_of(number: Option<usize>) -> Draft {

@@ -2,8 +2,8 @@ use Rattle.std.proofs.Common.{All, Ok, Some, ap, arith, slice_index_or, subst, t
 use Rattle.std.proofs.iter.Next.{says_at}
 use Rattle.std.proofs.lemmas.List.{take_all}
 use Rattle.std.specs.Fn.{FnReturnsAt}
-use Rattle.test_rows.proofs.Taken.{is_list, one_more}
-use Rattle.test_rows.proofs.wrong_row.Goals as goal
+use Rattle.unit_tests.proofs.Taken.{is_list, one_more}
+use Rattle.unit_tests.proofs.table.wrong_row.Goals as goal
 
 pub loop-number-preserved : goal.loop-number-preserved
 loop-number-preserved g c =

@@ -1,0 +1,65 @@
+//! Tables of rows, and the walk over them: a row is right where what is told of it is the text in its first column, or the texts there,
+//! one after the other.
+use crate::context_tests::{CONTEXTS, tell_context};
+use crate::json_value_tests::{VALUES, tell_values};
+use crate::kept_path_tests::{KEPT, tell_kept};
+use crate::keyword_table_tests::{KEYWORDS, tell_keyword};
+use crate::program_tests::{ANSWERS, FAULTS, WRITES, tell_program};
+use crate::table::{wanted_of, wrong_row};
+use schema_reports::location::OutOfMemory;
+use serde_json::Value;
+use std::alloc::Global;
+
+/// What the rows of a table are about.
+#[derive(Clone, Copy)]
+enum Rows {
+    Contexts,
+    Kept,
+    Keywords,
+    Program,
+    Values,
+}
+
+/// Adds what is told of a row.
+fn tell(alloc: Global, rows: Rows, row: &Value, log: &mut String) -> Result<(), OutOfMemory> {
+    match rows {
+        Rows::Contexts => tell_context(alloc, row, log),
+        Rows::Kept => tell_kept(alloc, row, log),
+        Rows::Keywords => tell_keyword(alloc, row, log),
+        Rows::Program => tell_program(alloc, row, log),
+        Rows::Values => tell_values(alloc, row, log),
+    }
+}
+
+/// Whether a row is right.
+fn is_right(alloc: Global, rows: Rows, row: &Value) -> Result<bool, OutOfMemory> {
+    let mut log = String::new(alloc);
+    let told = tell(alloc, rows, row, &mut log);
+    let wanted = wanted_of(alloc, row);
+    told?;
+    Ok(log == wanted?)
+}
+
+/// The tables, each with what its rows are about, and with its name.
+const TABLES: [(Rows, &str, &str); 7] = [
+    (Rows::Contexts, "contexts", CONTEXTS),
+    (Rows::Kept, "kept paths", KEPT),
+    (Rows::Keywords, "keywords", KEYWORDS),
+    (Rows::Program, "answers", ANSWERS),
+    (Rows::Program, "faults", FAULTS),
+    (Rows::Program, "writes", WRITES),
+    (Rows::Values, "values", VALUES),
+];
+
+#[test]
+fn rows_hold(rt: HostRuntime) -> Result<(), serde_json::Error> {
+    let alloc = rt.alloc();
+    for (rows, name, table) in &TABLES {
+        assert_eq!(rt;
+            wrong_row(alloc, table, |row| is_right(alloc, *rows, row))?,
+            None,
+            "a row of {name} is wrong"
+        );
+    }
+    Ok(())
+}

@@ -1,0 +1,59 @@
+//! Public calls that no other crate makes, each once: a clause says what a call gives where it succeeds, and not that it does.
+use node_table::node::Nodes;
+use schema_matches::assumptions::MatchAssumptions;
+use schema_matches::site::{MatchSite, Reason};
+use schema_parts::schema_place::SchemaPath;
+use schema_reports::evaluation::{EvaluationNode, UnitReport};
+use schema_reports::evaluation_result::EvaluationResult;
+use schema_reports::location::{Location, OutOfMemory};
+use serde_json::Value;
+use std::alloc::Global;
+
+/// How many nodes there are once one refuses and one has no entry.
+fn count_nodes(alloc: Global) -> Result<usize, OutOfMemory> {
+    let mut nodes: Nodes<usize> = Nodes::new(alloc);
+    let _never = nodes.from_boolean(Location::new(alloc), None, 0, false)?;
+    let _empty = nodes.from_array(Location::new(alloc), None, 0, Vec::new(alloc))?;
+    Ok(nodes.len())
+}
+
+/// Whether the result of one valid unit is valid.
+fn is_valid_of_one(alloc: Global) -> Result<bool, OutOfMemory> {
+    let unit = EvaluationNode {
+        report: UnitReport {
+            valid: true,
+            evaluation_path: Location::new(alloc),
+            absolute_keyword_location: None,
+            schema_location: Location::new(alloc),
+            instance_location: Location::new(alloc),
+            annotations: None,
+            errors: Vec::new(alloc),
+        },
+        children: Vec::new(alloc),
+    };
+    let mut result = EvaluationResult::from_node(alloc, unit)?;
+    result.annotate(Value::Null);
+    Ok(result.is_valid())
+}
+
+/// Whether a match that was met is known, and comes out as no where it is met again.
+fn is_known_then(alloc: Global) -> Result<bool, OutOfMemory> {
+    let mut met = MatchAssumptions::new(alloc);
+    let site = MatchSite::schema(Location::new(alloc));
+    met.resolve("p", "s", Reason::Engine, site)?;
+    if !met.is_unfinished("p", "s") {
+        return Ok(false);
+    }
+    let again = MatchSite::schema(Location::new(alloc));
+    Ok(!met.resolve_unfinished("p", "s", again)?)
+}
+
+#[test]
+fn calls_succeed(rt: HostRuntime) -> Result<(), OutOfMemory> {
+    let alloc = rt.alloc();
+    assert_eq!(rt; count_nodes(alloc)?, 2);
+    assert!(rt; is_valid_of_one(alloc)?);
+    assert!(rt; is_known_then(alloc)?);
+    assert_eq!(rt; SchemaPath::root(alloc).first(alloc, 1)?.len(), 0);
+    Ok(())
+}
