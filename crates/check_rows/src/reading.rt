@@ -133,7 +133,7 @@ fn is_call(value: &Value) -> bool {
 // Whether a value is the name of a table.
 fn is_table(value: &Value) -> bool {
     match value.as_str() {
-        Some(name) => name == "bench" || name == "fused" || name == "items",
+        Some(name) => name == "bench" || name == "fused" || name == "items" || name == "strings",
         None => false,
     }
 }

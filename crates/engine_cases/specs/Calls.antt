@@ -10,22 +10,40 @@ use Rattle.engine_cases.specs.declared.call.MapQuestion.TheVariants as by_map
 use Rattle.engine_cases.specs.declared.call.Question.{Question}
 use Rattle.engine_cases.specs.declared.call.Question.TheVariants as by_validator
 
--- the question of a name to a validator
-abbrev pub question_named : Text → Option Question
-question_named t =
+-- the question of a name that asks for errors or a verdict
+abbrev pub errors_question_named : Text → Option Question
+errors_question_named t =
     if bytes_eq t (codes "errors") then Some by_validator.Errors
     else (if bytes_eq t (codes "valid") then Some by_validator.Valid
     else (if bytes_eq t (codes "first") then Some by_validator.First
     else (if bytes_eq t (codes "iter_errors") then Some by_validator.IterErrors
-    else (if bytes_eq t (codes "evaluate") then Some by_validator.Evaluate
+    else (if bytes_eq t (codes "errors_count") then Some by_validator.ErrorsCount else None))))
+
+-- the question of a name that asks for an evaluation
+abbrev pub evaluation_question_named : Text → Option Question
+evaluation_question_named t =
+    if bytes_eq t (codes "evaluate") then Some by_validator.Evaluate
     else (if bytes_eq t (codes "list") then Some by_validator.List
     else (if bytes_eq t (codes "evaluation_errors") then Some by_validator.EvaluationErrors
-    else (if bytes_eq t (codes "list_count") then Some by_validator.ListCount
-    else (if bytes_eq t (codes "errors_count") then Some by_validator.ErrorsCount
-    else (if bytes_eq t (codes "build") then Some by_validator.Build
+    else (if bytes_eq t (codes "list_count") then Some by_validator.ListCount else None)))
+
+-- the question of a name that asks what was built
+abbrev pub build_question_named : Text → Option Question
+build_question_named t =
+    if bytes_eq t (codes "build") then Some by_validator.Build
     else (if bytes_eq t (codes "draft") then Some by_validator.Draft
     else (if bytes_eq t (codes "entries") then Some by_validator.Entries
-    else (if bytes_eq t (codes "monotone") then Some by_validator.Monotone else None))))))))))))
+    else (if bytes_eq t (codes "monotone") then Some by_validator.Monotone else None)))
+
+-- the first of three questions that is there
+abbrev pub first_question : Option Question → Option Question → Option Question → Option Question
+first_question (Some question) _ _ = Some question
+first_question None (Some question) _ = Some question
+first_question None None question = question
+
+-- the question of a name to a validator
+abbrev pub question_named : Text → Option Question
+question_named t = first_question (errors_question_named t) (evaluation_question_named t) (build_question_named t)
 
 -- the question of a name to a map
 abbrev pub map_question_named : Text → Option MapQuestion

@@ -7,14 +7,15 @@ use Rattle.engine_cases.specs.Calls.{call_in}
 use Rattle.engine_cases.specs.declared.call.Call.{Call}
 use Rattle.engine_cases.specs.declared.call.Call.TheVariants.{Check, Clones, Free, Map, Validator}
 use Rattle.engine_cases.specs.declared.case.Table.{Table}
-use Rattle.engine_cases.specs.declared.case.Table.TheVariants.{Bench, Fused, Items}
+use Rattle.engine_cases.specs.declared.case.Table.TheVariants.{Bench, Fused, Items, Strings}
 
 -- the table of a name
 abbrev pub table_named : Text → Option Table
 table_named t =
     if bytes_eq t (codes "bench") then Some Bench
     else (if bytes_eq t (codes "fused") then Some Fused
-    else (if bytes_eq t (codes "items") then Some Items else None))
+    else (if bytes_eq t (codes "items") then Some Items
+    else (if bytes_eq t (codes "strings") then Some Strings else None)))
 
 -- the table that a member names; the bench's where there is no such member
 abbrev pub table_of : Option Data → Option Table
@@ -29,6 +30,7 @@ abbrev pub is_bench : Table → Bool
 is_bench Bench = true
 is_bench Fused = false
 is_bench Items = false
+is_bench Strings = false
 
 -- a call can be asked by a table: clones by the bench's alone, all else by each
 abbrev pub is_asked_by : Call → Table → Bool

@@ -12,7 +12,10 @@ use crate::clones::answered_alike;
 use crate::free_calls::answered_free;
 use crate::maps::answered_by_map;
 use bench_parts::table::BenchTable;
+use example_keywords::strings::StringTable;
 use fused_keywords::table::FusedTable;
+use joined_keywords::table::BothTable;
+use keyword_makers::by_value::TableByValue;
 use law_tests::items_table::ItemsTable;
 use schema_engine::context::keyword::Validate;
 use schema_engine::context::table::KeywordTable;
@@ -35,6 +38,17 @@ fn answer_by<K: Validate, T: KeywordTable<K>>(
     }
 }
 
+// The table of `x-suffix`, `x-both` and `x-contains-between`, and for all other names the bench's.
+fn strings_table() -> BothTable<TableByValue<StringTable>, BenchTable> {
+    BothTable {
+        first: TableByValue {
+            keywords: StringTable {},
+        },
+        first_names: &["x-suffix", "x-both", "x-contains-between"],
+        second: BenchTable {},
+    }
+}
+
 /// Returns what the engine answers of a case: as its call says, or `{"refused": number, "at": place, "text": text}` where the schema
 /// is refused, its place `null` for refusals that have none, or `{"disagree": ..}` where calls that are to agree do not. A value
 /// that is no case is answered `{"fault": text}`.
@@ -52,5 +66,6 @@ pub fn answer(alloc: Global, case: &Value) -> Result<Value, OutOfMemory>
         Table::Bench => answer_by(alloc, &case, &BenchTable {}),
         Table::Fused => answer_by(alloc, &case, &FusedTable {}),
         Table::Items => answer_by(alloc, &case, &ItemsTable {}),
+        Table::Strings => answer_by(alloc, &case, &strings_table()),
     }
 }

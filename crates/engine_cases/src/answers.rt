@@ -1,39 +1,19 @@
 //! What the four calls answer of one instance, and whether they agree.
 
-use crate::refusals::text_or_null;
 use schema_engine::location::OutOfMemory;
-use schema_engine::reports::ValidationError;
 use serde_json::{Value, json};
 use std::alloc::Global;
 
-/// What the four calls answer of one instance.
+/// What the four calls answer of one instance, each a value: what the call gives, or its refusal.
 #[derive(Drop)]
 pub(crate) struct Answers {
-    pub valid: bool,
+    pub valid: Value,
     /// The first error, or `null`.
     pub first: Value,
-    pub errors: Vec<Value>,
+    /// The list of errors.
+    pub errors: Value,
     /// The verdict of the evaluation.
-    pub evaluated: bool,
-}
-
-// An error: its instance path, schema path, evaluation path, text, absolute location or `null`, and instance.
-pub(crate) fn columns_of(alloc: Global, error: &ValidationError<'_>) -> Result<Value, OutOfMemory> {
-    let place = error.instance_path(alloc)?;
-    let absolute = match &error.absolute_keyword_location {
-        Some(location) => Some(location.as_str()),
-        None => None,
-    };
-    let absolute = text_or_null(alloc, absolute)?;
-    let instance = error.instance.to_value(alloc)?;
-    json!(in alloc; [
-        (place.as_str()),
-        (error.schema_path.as_str()),
-        (error.evaluation_path.as_str()),
-        (error.text.as_str()),
-        absolute,
-        instance
-    ])
+    pub evaluated: Value,
 }
 
 // Whether an answer is the first of these errors, or `null` where there is none.
@@ -44,47 +24,47 @@ fn is_first(first: &Value, errors: &[Value]) -> bool {
     }
 }
 
-// The errors, if the four calls agree: yes exactly where there is no error, and the first error is the first of all. Else what each
-// answers.
+impl Answers {
+    // Whether the calls agree: yes exactly where there is no error, and the first error is the first of all.
+    fn is_agreed(&self) -> bool {
+        let (Some(valid), Some(errors)) = (self.valid.as_bool(), self.errors.as_array()) else {
+            return false;
+        };
+        valid == errors.is_empty()
+            && self.evaluated.as_bool() == Some(valid)
+            && is_first(&self.first, errors.as_slice())
+    }
+
+    // Whether each call is refused, and for the same reason.
+    fn is_refused(&self) -> bool {
+        self.valid.get("refused").is_some()
+            && self.first == self.valid
+            && self.errors == self.valid
+            && self.evaluated == self.valid
+    }
+}
+
+// The errors, if the calls agree, or the refusal, if all have the same. Else what each answers.
 pub(crate) fn agreed(alloc: Global, answers: Answers) -> Result<Value, OutOfMemory> {
+    let agreed = answers.is_agreed() || answers.is_refused();
     let Answers {
         valid,
         first,
         errors,
         evaluated,
     } = answers;
-    if valid == errors.is_empty() && evaluated == valid && is_first(&first, errors.as_slice()) {
-        return Ok(Value::Array(errors));
+    if agreed {
+        return Ok(errors);
     }
-    json!(in alloc; {
-        "disagree": {"is_valid": valid, "validate": first, "iter_errors": errors, "evaluate": evaluated}
-    })
+    let answers = vec![in alloc; valid, first, errors, evaluated]?;
+    disagreement(alloc, "is_valid, validate, iter_errors, evaluate", answers)
 }
 
-// How many errors there are, and the first and the last of them, or `null`.
-pub(crate) fn counted(alloc: Global, errors: &[Value]) -> Result<Value, OutOfMemory> {
-    let count = errors.len();
-    match (errors.first(), errors.last()) {
-        (Some(first), Some(last)) => json!(in alloc; [count, first, last]),
-        _ => json!(in alloc; [count, null, null]),
-    }
-}
-
-// How many units a list has, how many of them have errors, and the evaluation path of the last one, or `null`.
-pub(crate) fn units_counted(alloc: Global, list: &Value) -> Result<Value, OutOfMemory> {
-    let units = match list.get("details").and_then(Value::as_array) {
-        Some(units) => units.as_slice(),
-        None => &[],
-    };
-    let count = units.len();
-    let refused = units
-        .iter()
-        .filter(|unit| unit.get("errors").is_some())
-        .count();
-    let last = match units.last() {
-        Some(unit) => unit.get("evaluationPath").and_then(Value::as_str),
-        None => None,
-    };
-    let last = text_or_null(alloc, last)?;
-    json!(in alloc; [count, refused, last])
+// What calls answer that are to agree, and do not, after their names.
+pub(crate) fn disagreement(
+    alloc: Global,
+    calls: &str,
+    answers: Vec<Value>,
+) -> Result<Value, OutOfMemory> {
+    json!(in alloc; {"disagree": calls, "answers": answers})
 }

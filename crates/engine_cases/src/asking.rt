@@ -1,14 +1,14 @@
 //! What a validator answers of an instance.
 
-use crate::answers::{Answers, agreed, columns_of, counted, units_counted};
+use crate::answers::{Answers, agreed};
 use crate::call::Question;
 use crate::case::number_of;
+use crate::showing::{counted, errors_in, first_in, list_in, shown_in, units_counted};
 use bench_parts::matcher::BenchMatcher;
 use schema_engine::context::keyword::Validate;
 use schema_engine::location::OutOfMemory;
 use schema_engine::validator::Validator;
-use schema_output::evaluation::Evaluation;
-use serde_json::{Value, json};
+use serde_json::Value;
 use std::alloc::Global;
 
 // The first error, or `null`.
@@ -17,10 +17,7 @@ fn first_error<K: Validate>(
     validator: &Validator<K, BenchMatcher>,
     instance: &Value,
 ) -> Result<Value, OutOfMemory> {
-    match validator.validate(alloc, instance)? {
-        Ok(()) => Ok(Value::Null),
-        Err(error) => columns_of(alloc, &error),
-    }
+    first_in(alloc, validator.validate(alloc, instance)?)
 }
 
 // All errors.
@@ -29,11 +26,7 @@ pub(crate) fn all_errors<K: Validate>(
     validator: &Validator<K, BenchMatcher>,
     instance: &Value,
 ) -> Result<Vec<Value>, OutOfMemory> {
-    let mut errors = Vec::new(alloc);
-    for error in validator.iter_errors(alloc, instance)? {
-        errors.push(columns_of(alloc, &error)?)?;
-    }
-    Ok(errors)
+    errors_in(alloc, validator.iter_errors(alloc, instance)?)
 }
 
 // The verdict of the evaluation.
@@ -51,15 +44,11 @@ fn listed<K: Validate>(
     validator: &Validator<K, BenchMatcher>,
     instance: &Value,
 ) -> Result<Value, OutOfMemory> {
-    let evaluation = validator.evaluate(alloc, instance)?;
-    let evaluated = evaluation.is_valid();
-    let list = evaluation.list(alloc)?;
-    drop(evaluation);
     let valid = validator.is_valid(alloc, instance)?;
-    if evaluated == valid {
-        return Ok(list);
-    }
-    json!(in alloc; {"disagree": {"is_valid": valid, "evaluate": evaluated}})
+    let evaluation = validator.evaluate(alloc, instance)?;
+    let list = list_in(alloc, &evaluation, valid);
+    drop(evaluation);
+    list
 }
 
 // The errors of the evaluation, each its unit's evaluation path and its text.
@@ -69,21 +58,9 @@ fn evaluation_errors<K: Validate>(
     instance: &Value,
 ) -> Result<Value, OutOfMemory> {
     let evaluation = validator.evaluate(alloc, instance)?;
-    let shown = shown_errors(alloc, &evaluation);
+    let errors = shown_in(alloc, &evaluation);
     drop(evaluation);
-    shown
-}
-
-// The errors that an evaluation shows one by one.
-fn shown_errors(alloc: Global, evaluation: &Evaluation) -> Result<Value, OutOfMemory> {
-    let mut errors = Vec::new(alloc);
-    for entry in evaluation.iter_errors(alloc)? {
-        errors.push(json!(in alloc; [
-            (entry.unit.evaluation_path.as_str()),
-            (entry.error.text.as_str())
-        ])?)?;
-    }
-    Ok(Value::Array(errors))
+    errors
 }
 
 // What the four calls answer.
@@ -92,11 +69,15 @@ fn four_answers<K: Validate>(
     validator: &Validator<K, BenchMatcher>,
     instance: &Value,
 ) -> Result<Answers, OutOfMemory> {
+    let valid = Value::Bool(validator.is_valid(alloc, instance)?);
+    let evaluated = Value::Bool(evaluated(alloc, validator, instance)?);
+    let first = first_error(alloc, validator, instance)?;
+    let errors = Value::Array(all_errors(alloc, validator, instance)?);
     Ok(Answers {
-        valid: validator.is_valid(alloc, instance)?,
-        first: first_error(alloc, validator, instance)?,
-        errors: all_errors(alloc, validator, instance)?,
-        evaluated: evaluated(alloc, validator, instance)?,
+        valid,
+        first,
+        errors,
+        evaluated,
     })
 }
 
@@ -107,6 +88,30 @@ fn entries<K: Validate>(validator: &Validator<K, BenchMatcher>) -> usize {
         return 0;
     }
     validator.nodes().validators(root).count()
+}
+
+// How many errors there are, and the first and the last of them.
+fn errors_count<K: Validate>(
+    alloc: Global,
+    validator: &Validator<K, BenchMatcher>,
+    instance: &Value,
+) -> Result<Value, OutOfMemory> {
+    let errors = all_errors(alloc, validator, instance)?;
+    let count = counted(alloc, errors.as_slice());
+    drop(errors);
+    count
+}
+
+// How many units the list has, how many of them have errors, and where the last one is.
+fn list_count<K: Validate>(
+    alloc: Global,
+    validator: &Validator<K, BenchMatcher>,
+    instance: &Value,
+) -> Result<Value, OutOfMemory> {
+    let list = listed(alloc, validator, instance)?;
+    let count = units_counted(alloc, &list);
+    drop(list);
+    count
 }
 
 // What a validator answers.
@@ -124,8 +129,8 @@ pub(crate) fn asked<K: Validate>(
         Question::Evaluate => Ok(Value::Bool(evaluated(alloc, validator, instance)?)),
         Question::List => listed(alloc, validator, instance),
         Question::EvaluationErrors => evaluation_errors(alloc, validator, instance),
-        Question::ListCount => units_counted(alloc, &listed(alloc, validator, instance)?),
-        Question::ErrorsCount => counted(alloc, all_errors(alloc, validator, instance)?.as_slice()),
+        Question::ListCount => list_count(alloc, validator, instance),
+        Question::ErrorsCount => errors_count(alloc, validator, instance),
         Question::Build => Ok(Value::Bool(true)),
         Question::Draft => Ok(Value::from(number_of(validator.draft()))),
         Question::Entries => Ok(Value::from(entries(validator))),

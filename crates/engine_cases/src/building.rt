@@ -42,7 +42,9 @@ pub(crate) fn built<K: Validate, T: KeywordTable<K>>(
     table: &T,
 ) -> Result<Validator<K, BenchMatcher>, BuildError> {
     let setting = Setting::of(alloc, case)?;
-    built_by(alloc, case.schema, &setting, table)
+    let built = built_by(alloc, case.schema, &setting, table);
+    drop(setting);
+    built
 }
 
 // What the validator of a case's schema answers, or why there is none.
@@ -53,7 +55,11 @@ pub(crate) fn answered<K: Validate, T: KeywordTable<K>>(
     question: Question,
 ) -> Result<Value, OutOfMemory> {
     match built(alloc, case, table) {
-        Ok(validator) => asked(alloc, &validator, question, case.instance),
+        Ok(validator) => {
+            let answer = asked(alloc, &validator, question, case.instance);
+            drop(validator);
+            answer
+        }
         Err(error) => refusal(alloc, &error),
     }
 }

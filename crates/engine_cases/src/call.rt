@@ -1,6 +1,7 @@
 //! What a case asks.
 ghost use Rattle.std.specs.Prelude.{◌≡◌};
-ghost use Rattle.engine_cases.specs.Calls.{call_named, map_question_named, other_call_named, question_named};
+ghost use Rattle.engine_cases.specs.Calls.{build_question_named, call_named, errors_question_named, evaluation_question_named};
+ghost use Rattle.engine_cases.specs.Calls.{map_question_named, other_call_named, question_named};
 
 /// What is asked of a validator.
 #[derive(Clone, Copy, PartialEq, Eq)]
@@ -71,34 +72,52 @@ impl Call {
 fn question_named(name: &str) -> Option<Question>
     ensures named { result ≡ question_named name.now }
 {
-    if name == "errors" {
-        Some(Question::Errors)
-    } else if name == "valid" {
-        Some(Question::Valid)
-    } else if name == "first" {
-        Some(Question::First)
-    } else if name == "iter_errors" {
-        Some(Question::IterErrors)
-    } else if name == "evaluate" {
-        Some(Question::Evaluate)
-    } else if name == "list" {
-        Some(Question::List)
-    } else if name == "evaluation_errors" {
-        Some(Question::EvaluationErrors)
-    } else if name == "list_count" {
-        Some(Question::ListCount)
-    } else if name == "errors_count" {
-        Some(Question::ErrorsCount)
-    } else if name == "build" {
-        Some(Question::Build)
-    } else if name == "draft" {
-        Some(Question::Draft)
-    } else if name == "entries" {
-        Some(Question::Entries)
-    } else if name == "monotone" {
-        Some(Question::Monotone)
-    } else {
-        None
+    if let Some(question) = errors_question_named(name) {
+        return Some(question);
+    }
+    if let Some(question) = evaluation_question_named(name) {
+        return Some(question);
+    }
+    build_question_named(name)
+}
+
+// The question of this name that asks for errors or a verdict.
+fn errors_question_named(name: &str) -> Option<Question>
+    ensures named { result ≡ errors_question_named name.now }
+{
+    match name {
+        "errors" => Some(Question::Errors),
+        "valid" => Some(Question::Valid),
+        "first" => Some(Question::First),
+        "iter_errors" => Some(Question::IterErrors),
+        "errors_count" => Some(Question::ErrorsCount),
+        _ => None,
+    }
+}
+
+// The question of this name that asks for an evaluation.
+fn evaluation_question_named(name: &str) -> Option<Question>
+    ensures named { result ≡ evaluation_question_named name.now }
+{
+    match name {
+        "evaluate" => Some(Question::Evaluate),
+        "list" => Some(Question::List),
+        "evaluation_errors" => Some(Question::EvaluationErrors),
+        "list_count" => Some(Question::ListCount),
+        _ => None,
+    }
+}
+
+// The question of this name that asks what was built.
+fn build_question_named(name: &str) -> Option<Question>
+    ensures named { result ≡ build_question_named name.now }
+{
+    match name {
+        "build" => Some(Question::Build),
+        "draft" => Some(Question::Draft),
+        "entries" => Some(Question::Entries),
+        "monotone" => Some(Question::Monotone),
+        _ => None,
     }
 }
 
@@ -106,14 +125,11 @@ fn question_named(name: &str) -> Option<Question>
 fn map_question_named(name: &str) -> Option<MapQuestion>
     ensures named { result ≡ map_question_named name.now }
 {
-    if name == "map" {
-        Some(MapQuestion::Names)
-    } else if name == "map_errors" {
-        Some(MapQuestion::Errors)
-    } else if name == "map_draft" {
-        Some(MapQuestion::Draft)
-    } else {
-        None
+    match name {
+        "map" => Some(MapQuestion::Names),
+        "map_errors" => Some(MapQuestion::Errors),
+        "map_draft" => Some(MapQuestion::Draft),
+        _ => None,
     }
 }
 
@@ -121,15 +137,11 @@ fn map_question_named(name: &str) -> Option<MapQuestion>
 fn other_call_named(name: &str) -> Option<Call>
     ensures named { result ≡ other_call_named name.now }
 {
-    if name == "clone" {
-        Some(Call::Clones(Question::Errors))
-    } else if name == "clone_list" {
-        Some(Call::Clones(Question::List))
-    } else if name == "free" {
-        Some(Call::Free)
-    } else if name == "check" {
-        Some(Call::Check)
-    } else {
-        None
+    match name {
+        "clone" => Some(Call::Clones(Question::Errors)),
+        "clone_list" => Some(Call::Clones(Question::List)),
+        "free" => Some(Call::Free),
+        "check" => Some(Call::Check),
+        _ => None,
     }
 }

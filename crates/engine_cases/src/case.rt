@@ -3,7 +3,7 @@ ghost use Rattle.std.specs.Prelude.{◌≡◌, ◌≤◌, IfNone, IfSome, None, 
 ghost use Rattle.serde_json.specs.Find.{get};
 ghost use Rattle.serde_json.specs.View.{view};
 ghost use Rattle.engine_cases.specs.Calls.{call_in};
-ghost use Rattle.engine_cases.specs.Cases.{IsNoCase, case_in, is_asked_by, table_in, table_of};
+ghost use Rattle.engine_cases.specs.Cases.{IsNoCase, case_in, is_asked_by, table_in, table_named, table_of};
 
 use crate::call::Call;
 use schema_engine::keywords::Draft;
@@ -18,6 +18,8 @@ pub enum Table {
     Fused,
     /// That of `x-items` in `law_tests`.
     Items,
+    /// That of `x-suffix`, `x-both` and `x-contains-between` in `example_keywords`, and for all other names the bench's.
+    Strings,
 }
 
 /// A case. Its values are borrowed.
@@ -113,22 +115,26 @@ fn is_asked_by(call: Call, table: Table) -> bool
     }
 }
 
-// The table of this name; the bench's where there is none.
+// The table of this name.
+fn table_named(name: &str) -> Option<Table>
+    ensures named { result ≡ table_named name.now }
+{
+    match name {
+        "bench" => Some(Table::Bench),
+        "fused" => Some(Table::Fused),
+        "items" => Some(Table::Items),
+        "strings" => Some(Table::Strings),
+        _ => None,
+    }
+}
+
+// The table that a member names; the bench's where there is no such member.
 fn table_of(name: Option<&Value>) -> Option<Table>
     ensures table { result ≡ table_of (option_map (λ v. view v.now) name.entry) }
 {
-    let Some(name) = name else {
-        return Some(Table::Bench);
-    };
-    let name = name.as_str()?;
-    if name == "bench" {
-        Some(Table::Bench)
-    } else if name == "fused" {
-        Some(Table::Fused)
-    } else if name == "items" {
-        Some(Table::Items)
-    } else {
-        None
+    match name {
+        None => Some(Table::Bench),
+        Some(name) => table_named(name.as_str()?),
     }
 }
 

@@ -1,5 +1,6 @@
 //! Clones of validators, which answer as their sources do, and each of which still answers where the other is dropped.
 
+use crate::answers::disagreement;
 use crate::asking::asked;
 use crate::building::built;
 use crate::call::Question;
@@ -10,7 +11,7 @@ use bench_parts::matcher::BenchMatcher;
 use bench_parts::table::BenchTable;
 use schema_engine::location::OutOfMemory;
 use schema_engine::validator::Validator;
-use serde_json::{Value, json};
+use serde_json::Value;
 use std::alloc::Global;
 
 // What a clone answers; `null` where its root or its draft is not its source's.
@@ -27,47 +28,82 @@ fn asked_of_clone(
     asked(alloc, copy, question, instance)
 }
 
-// What a clone answers, while its source lives, and then what the source does.
-fn beside_clone(
+// What a clone answers while its source lives.
+fn beside_source(
     alloc: Global,
     source: &Validator<BenchKeyword, BenchMatcher>,
     question: Question,
     instance: &Value,
-) -> Result<(Value, Value), OutOfMemory> {
+) -> Result<Value, OutOfMemory> {
     let copy = source.clone(alloc)?;
-    let of_clone = asked_of_clone(alloc, source, &copy, question, instance);
+    let answer = asked_of_clone(alloc, source, &copy, question, instance);
     drop(copy);
-    let of_source = asked(alloc, source, question, instance)?;
-    Ok((of_clone?, of_source))
+    answer
 }
 
-// What a clone of a clone answers after both of its sources are dropped.
+// What a clone answers after its source is dropped.
 fn after_source(
     alloc: Global,
     source: Validator<BenchKeyword, BenchMatcher>,
     question: Question,
     instance: &Value,
 ) -> Result<Value, OutOfMemory> {
-    let first = source.clone(alloc)?;
+    let copy = source.clone(alloc);
     drop(source);
-    let copy = first.clone(alloc)?;
-    drop(first);
-    asked(alloc, &copy, question, instance)
+    let copy = copy?;
+    let answer = asked(alloc, &copy, question, instance);
+    drop(copy);
+    answer
 }
 
-// What a validator and its clones answer, if this is the same. Else what each answers.
-fn alike(
+// What a clone of a clone answers after both of its sources are dropped.
+fn after_sources(
     alloc: Global,
     source: Validator<BenchKeyword, BenchMatcher>,
     question: Question,
     instance: &Value,
 ) -> Result<Value, OutOfMemory> {
-    let (of_clone, of_source) = beside_clone(alloc, &source, question, instance)?;
-    let after = after_source(alloc, source, question, instance)?;
+    let copy = source.clone(alloc);
+    drop(source);
+    after_source(alloc, copy?, question, instance)
+}
+
+// What a validator and its clones answer: a clone beside it, itself after this clone, and a clone of a clone.
+fn answers_of(
+    alloc: Global,
+    source: Validator<BenchKeyword, BenchMatcher>,
+    question: Question,
+    instance: &Value,
+) -> [Result<Value, OutOfMemory>; 3] {
+    let of_clone = beside_source(alloc, &source, question, instance);
+    let of_source = asked(alloc, &source, question, instance);
+    let after = after_sources(alloc, source, question, instance);
+    [of_clone, of_source, after]
+}
+
+// What three answers are, if they are the same. Else each of them.
+fn alike(
+    alloc: Global,
+    of_clone: Value,
+    of_source: Value,
+    after: Value,
+) -> Result<Value, OutOfMemory> {
     if of_clone == of_source && after == of_source {
         return Ok(of_source);
     }
-    json!(in alloc; {"disagree": {"clone": of_clone, "source": of_source, "after": after}})
+    let answers = vec![in alloc; of_clone, of_source, after]?;
+    disagreement(alloc, "clone, source, clone of a clone", answers)
+}
+
+// What a validator and its clones answer, if this is the same. Else what each answers.
+fn answered_by_each(
+    alloc: Global,
+    source: Validator<BenchKeyword, BenchMatcher>,
+    question: Question,
+    instance: &Value,
+) -> Result<Value, OutOfMemory> {
+    let [of_clone, of_source, after] = answers_of(alloc, source, question, instance);
+    alike(alloc, of_clone?, of_source?, after?)
 }
 
 // What clones of a case's validator answer, by the bench's table, or why there is no validator.
@@ -77,7 +113,7 @@ pub(crate) fn answered_alike(
     question: Question,
 ) -> Result<Value, OutOfMemory> {
     match built(alloc, case, &BenchTable {}) {
-        Ok(source) => alike(alloc, source, question, case.instance),
+        Ok(source) => answered_by_each(alloc, source, question, case.instance),
         Err(error) => refusal(alloc, &error),
     }
 }

@@ -17,5 +17,6 @@ mod free_calls;
 mod maps;
 mod refusals;
 mod setting;
+mod showing;
 
 pub use crate::answering::answer;

@@ -23,28 +23,52 @@ fn mapped<K: Validate, T: KeywordTable<K>>(
     table: &T,
 ) -> Result<ValidatorMap<K, BenchMatcher>, BuildError> {
     let setting = Setting::of(alloc, case)?;
-    setting.options.build_map(
+    let map = setting.options.build_map(
         alloc,
         case.schema,
         table,
         &setting.resolver,
         &setting.matcher,
         &BenchMeta {},
-    )
+    );
+    drop(setting);
+    map
 }
 
-// The names of a map, and whether each is in it.
+// The names of a map.
 fn names_in<K: Validate>(
     alloc: Global,
     map: &ValidatorMap<K, BenchMatcher>,
-) -> Result<(Vec<Value>, bool), OutOfMemory> {
+) -> Result<Vec<Value>, OutOfMemory> {
     let mut names = Vec::new(alloc);
-    let mut contained = true;
     for name in map.keys() {
         names.push(Value::try_from_str(alloc, name.as_str())?)?;
-        contained = contained && map.contains_key(name.as_str());
     }
-    Ok((names, contained))
+    Ok(names)
+}
+
+// Whether a map says of each of its names that it is in it.
+fn contains_each<K: Validate>(map: &ValidatorMap<K, BenchMatcher>) -> bool {
+    for name in map.keys() {
+        if !map.contains_key(name.as_str()) {
+            return false;
+        }
+    }
+    true
+}
+
+// The names of a map, if it says that it has each, and so many.
+fn names_beside(
+    alloc: Global,
+    names: Vec<Value>,
+    contained: bool,
+    length: usize,
+    empty: bool,
+) -> Result<Value, OutOfMemory> {
+    if contained && length == names.len() && empty == names.is_empty() {
+        return Ok(Value::Array(names));
+    }
+    json!(in alloc; {"disagree": {"keys": names, "contains_key": contained, "len": length, "is_empty": empty}})
 }
 
 // The names of a map, if the map agrees that there are so many, and that it has each. Else what it says.
@@ -52,13 +76,8 @@ fn names<K: Validate>(
     alloc: Global,
     map: &ValidatorMap<K, BenchMatcher>,
 ) -> Result<Value, OutOfMemory> {
-    let (names, contained) = names_in(alloc, map)?;
-    let length = map.len();
-    let empty = map.is_empty();
-    if contained && length == names.len() && empty == names.is_empty() {
-        return Ok(Value::Array(names));
-    }
-    json!(in alloc; {"disagree": {"keys": names, "contains_key": contained, "len": length, "is_empty": empty}})
+    let names = names_in(alloc, map)?;
+    names_beside(alloc, names, contains_each(map), map.len(), map.is_empty())
 }
 
 // What the validator under a name answers.
@@ -98,7 +117,11 @@ pub(crate) fn answered_by_map<K: Validate, T: KeywordTable<K>>(
     question: MapQuestion,
 ) -> Result<Value, OutOfMemory> {
     match mapped(alloc, case, table) {
-        Ok(map) => asked_of_map(alloc, &map, question, case),
+        Ok(map) => {
+            let answer = asked_of_map(alloc, &map, question, case);
+            drop(map);
+            answer
+        }
         Err(error) => refusal(alloc, &error),
     }
 }
