@@ -1,5 +1,5 @@
-//! `check_file SCHEMA INSTANCE`: checks the instance in one JSON file by the schema in another, by the keywords of `example_keywords`
-//! and its `arrays` beside those of the bench. It prints a line for each error, with the instance path, the schema path and the
+//! `check_file SCHEMA INSTANCE`: checks the instance in one JSON file by the schema in another, by the keywords of `strings` and `arrays`
+//! of `example_keywords` beside those of the bench. It prints a line for each error, with the instance path, the schema path and the
 //! text, and a tab between.
 //! It ends with 0 where the instance is accepted, with 1 where it is refused, and with 2 where there is no answer: then a line on
 //! standard error says why.
@@ -7,7 +7,6 @@
 
 use anyhow::Context;
 use bench_keywords::keyword::BenchKeyword;
-use keyword_makers::by_value::TableByValue;
 use bench_parts::matcher::BenchMatcher;
 use bench_parts::meta::BenchMeta;
 use bench_parts::table::BenchTable;
@@ -16,6 +15,7 @@ use example_keywords::arrays::{ArrayKeyword, ArrayTable};
 use example_keywords::strings::{StringKeyword, StringTable};
 use joined_keywords::both::Both;
 use joined_keywords::table::BothTable;
+use keyword_makers::by_value::TableByValue;
 use keyword_ways::planned::Planned;
 use schema_engine::compiler::BuildError;
 use schema_engine::keywords::VocabularySet;

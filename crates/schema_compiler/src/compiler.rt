@@ -1,9 +1,9 @@
 //! The compiler: from a key to numbered nodes, one for each key that is reached. What a key asks for is compiled before its
 //! own node is filled.
 //!
-//! What it is given is in `given`, what it fills in `compiled`. Keys, the contexts where they stand, subschemas and the targets
-//! of references are of `schema_keys`, the check by meta validators is `schema_keys`'s; both are handed on. The steps are in
-//! `vocabularies`, `makers`, `targets`, `entries` and `annotations`, references are in `ref_`.
+//! What it is given is in `setup`, what it fills in `compilation`. Keys, the contexts where they stand, subschemas, the targets of
+//! references and the check by meta validators are of `schema_keys`, and handed on. The steps are in `vocabularies`, `makers`,
+//! `targets`, `entries` and `annotations`, references are in `ref_`.
 ghost use Rattle.std.specs.Prelude.{◌≡◌, ◌≢◌, ◌<◌, ◌++◌, ℕ, IfErr, IfOk, Option, Some, [], flat_map, map, option_map};
 ghost use Rattle.std.specs.Prelude.{MatchResult, slice_get, string_bytes, true};
 ghost use Rattle.serde_json.specs.Data.{object};

@@ -1,4 +1,4 @@
-//! Which numbers a solver follows each time it is asked about them, and which it asks once at each place.
+//! Which numbers a solver follows each time it is asked about them, and of which it remembers what they said at a place.
 ghost use Rattle.std.specs.Prelude.{◌≡◌, ◌∷◌, ◌<◌, ◌||◌, ◌&&◌, [], IfOk, Some, false};
 ghost use Rattle.std.specs.Prelude.{filter_map, length, map, nat_le, option_map, slice_index_or};
 ghost use Rattle.schema_definitions.specs.Guarded.{form_edges, node_edges, node_these};
@@ -17,10 +17,11 @@ use std::marker::Model;
 /// How many nodes it may take at the most to ask a settled number that is followed though two edges or more lead to it.
 pub const MOST_NODES: u8 = 254;
 
-/// The numbers of nodes that a solver follows each time that an edge which nothing guards leads to them. Of the others it asks once at
-/// each place, and remembers the answer. It answers the same whichever numbers these are, but how long it takes rests on them: they are
-/// those to which at most one edge leads that nothing guards, and the settled ones that take at most `MOST_NODES` nodes to ask where each
-/// edge is asked along once, so that an answer that is found again takes no more. Contracts see whether each number is one.
+/// The numbers of nodes that a solver follows each time that an edge which nothing guards leads to them. Of the others it remembers what
+/// they said at a place, until what that leaned on is refused. It answers the same whichever numbers these are, but how long it takes
+/// rests on them: they are those to which at most one edge leads that nothing guards, and the settled ones that take at most
+/// `MOST_NODES` nodes to ask where each edge is asked along once, so that an answer that is found again takes no more. Contracts see
+/// whether each number is one.
 #[derive(Drop)]
 pub struct Followed {
     numbers: Vec<bool>,

@@ -1,5 +1,5 @@
-//! The verdict of numbered nodes over an instance by a solver. A number that chains of references return to, or meet at again, it answers
-//! once at each place.
+//! The verdict of numbered nodes over an instance by a solver. A number that chains of references return to, or meet at again, it begins
+//! at each place at most as often as there are numbers.
 #![tactic(auto)]
 
 pub mod question;

@@ -76,8 +76,9 @@ impl Solver {
     }
 
     /// Returns the verdict of a node of the instance, where a solver may find it: where it finds verdicts of these nodes, and the matcher
-    /// is said to finish every match. Elsewhere it returns `None`. A number that chains of references return to is answered once at each
-    /// place. (Which numbers are followed changes nothing of what is said, so `says` names none.) Fails only if memory cannot be allocated.
+    /// is said to finish every match. Elsewhere it returns `None`. A number that chains of references return to is begun at each place
+    /// at most as often as there are numbers. (Which numbers are followed changes nothing of what is said, so `says` names none.) Fails
+    /// only if memory cannot be allocated.
     pub fn verdict<K: Validate, M: Matcher>(
         &self,
         alloc: Global,

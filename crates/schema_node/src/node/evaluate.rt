@@ -175,7 +175,8 @@ pub(crate) fn evaluate_child<'i, K: Validate, M: Matcher>(
     requires children { HasChildren (numbered K.shape engine.now.nodes.now) node.0 (map (option_map edge_of) children.now) }
     requires present { IsPresent (subject_of question.now.instance) (steps_below (below_of below)) }
     ensures { ChildGiven (setting_by K.Validate M.Matcher.own engine.now) question.now
-        node.0 (map (option_map edge_of) children.now) (record { child = child; below = below_of below.entry }) context.old context.new result }
+        node.0 (map (option_map edge_of) children.now) (record { child = child; below = below_of below.entry })
+        context.old context.new result }
 {
     match child_edge(children, child) {
         None => Ok(unasked_unit(engine.alloc)),

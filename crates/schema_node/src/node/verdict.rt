@@ -152,7 +152,8 @@ pub(crate) fn verdict_child<'i, K: Validate, M: Matcher>(
     question: &Question<'_, 'i>,
     context: &mut ValidationContext<'i>,
 ) -> Result<bool, OutOfMemory>
-    requires { IsAsked (setting_by K.Validate M.Matcher.own engine.now) question.now (the_child node.0 children.now child (below_of below)) context.old }
+    requires { IsAsked (setting_by K.Validate M.Matcher.own engine.now) question.now
+        (the_child node.0 children.now child (below_of below)) context.old }
     ensures { Answers (setting_by K.Validate M.Matcher.own engine.now) question.now
         (the_child node.0 children.now child (below_of below.entry)) context.old context.new result }
 {

@@ -80,7 +80,8 @@ fn take_turns<'i, K: Validate, M: Matcher>(
     answer: &mut Answer<'i>,
     context: &mut ValidationContext<'i>,
 ) -> Result<(), OutOfMemory>
-    requires asked { IsAsked (setting_by K.Validate M.Matcher.own engine.now) question.now (the_keyword K.shape node.0 keyword.now) context.old }
+    requires asked { IsAsked (setting_by K.Validate M.Matcher.own engine.now) question.now
+        (the_keyword K.shape node.0 keyword.now) context.old }
     requires begun { HasBegun (setting_by K.Validate M.Matcher.own engine.now) (asking question.now)
         (K.shape keyword.now.keyword.now) run.old answer.old }
     requires no_marks { context.old.marking ≡ [] }

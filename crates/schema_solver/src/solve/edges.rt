@@ -26,7 +26,8 @@ pub(crate) fn solve_child<'i, K: Validate, M: Matcher>(
     question: &Asked<'_, 'i>,
     context: &mut SolverContext<'i>,
 ) -> Result<bool, OutOfMemory>
-    requires { MayAsk (solver_by K.Validate M.Matcher.own engine.now) question.now (the_child node.0 children.now child (below_of below)) context.old }
+    requires { MayAsk (solver_by K.Validate M.Matcher.own engine.now) question.now
+        (the_child node.0 children.now child (below_of below)) context.old }
     ensures { Solves (solver_by K.Validate M.Matcher.own engine.now) question.now
         (the_child node.0 children.now child (below_of below.entry)) context.old context.new result }
 {

@@ -83,7 +83,8 @@ fn solver_turns<'i, K: Validate, M: Matcher>(
     answer: &mut Answer<'i>,
     context: &mut SolverContext<'i>,
 ) -> Result<(), OutOfMemory>
-    requires may_ask { MayAsk (solver_by K.Validate M.Matcher.own engine.now) question.now (the_keyword K.shape node.0 keyword.now) context.old }
+    requires may_ask { MayAsk (solver_by K.Validate M.Matcher.own engine.now) question.now
+        (the_keyword K.shape node.0 keyword.now) context.old }
     requires begun { HasBegun (solver_by K.Validate M.Matcher.own engine.now) (subject_of question.now.instance)
         (K.shape keyword.now.keyword.now) run.old answer.old }
     requires no_marks { context.old.marking ≡ [] }
