@@ -39,7 +39,6 @@ WAYS = [
             "schema_parts",
             "node_table",
             "schema_keys",
-            "schema_check",
             "schema_compiler",
             "schema_validator",
         ],
@@ -108,7 +107,7 @@ def layers_of(direct):
 
 def kind_of(name):
     """Which of the three tints a crate has."""
-    if name.startswith("schema_"):
+    if name.startswith("schema_") or name in ("node_table", "run_steps"):
         return "engine"
     if name == "law_tests":  # keyword types that others take
         return "bench"
