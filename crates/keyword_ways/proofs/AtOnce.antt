@@ -6,7 +6,7 @@ use Rattle.schema_reports.specs.ReportViews.{spoken}
 use Rattle.schema_parts.specs.AtOnce.{EndsAtOnce}
 use Rattle.schema_parts.specs.KeywordViews.{fresh, is_nil}
 use Rattle.schema_parts.specs.declared.keyword.Mode.TheVariants as mode
-use Rattle.keyword_ways.specs.OwnWays.{leaf_way, leaf_ways, own_words, spoken_way}
+use Rattle.keyword_ways.specs.OwnWays.{leaf_way, leaf_ways, own_words, spoken_way, telling_ways}
 use Rattle.keyword_ways.specs.Plans.{plan_ways, way_by}
 use Rattle.keyword_ways.specs.Ways.{Way, noted, tells, unless, way_begin, way_step, way_turn}
 use Rattle.keyword_ways.specs.declared.planned.Plan.{Plan}
@@ -49,6 +49,17 @@ module _ {M : Type 0} (called : M → Text) (accepts : M → Subject → Bool) (
   pub leaf_ends : (texts : Bool) (m : M) (s : Subject) → EndsAtOnce (own_words (leaf_ways called accepts error_text) texts) m s (accepts m s)
   leaf_ends texts m s = own_ends (leaf_ways called accepts error_text) texts m s (accepts m s)
       (leaf_at_once texts (called m) (accepts m s) (error_text m s))
+
+-- as many are told, whatever is spoken of them
+as_many : (f : Text → Text) (ts : List Text) → is_nil (map f ts) ≡ is_nil ts
+as_many f [] = refl
+as_many f (t ∷ ts) = refl
+
+module _ {M : Type 0} (called : M → Text) (error_texts : M → Subject → List Text) where
+  -- a keyword with errors of its own says whether there are none
+  pub telling_ends : (texts : Bool) (m : M) (s : Subject) → EndsAtOnce (own_words (telling_ways called error_texts) texts) m s (is_nil (error_texts m s))
+  telling_ends texts m s = own_ends (telling_ways called error_texts) texts m s (is_nil (error_texts m s))
+      (tells_at_once (called m) (map (spoken texts) (error_texts m s)) (is_nil (error_texts m s)) (as_many (spoken texts) (error_texts m s)))
 
 module _ {M : Type 0} (plan : M → Subject → Plan) (name : M → Text) (text : M → Subject → ℕ → Text) where
   -- a keyword that plans to tell says whether it holds

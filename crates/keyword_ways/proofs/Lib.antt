@@ -4,3 +4,4 @@ pub mod BorrowedFaults
 pub mod MemberNames
 pub mod MemberCounts
 pub mod AtOnce
+pub mod ToldTexts

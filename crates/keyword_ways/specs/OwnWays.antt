@@ -99,6 +99,15 @@ module _ {M : Type 0} (called : M → Text) (accepts : M → Subject → Bool) (
   pub leaf_present : AlwaysPresent leaf_ways
   leaf_present m s = All-nil _
 
+module _ {M : Type 0} (called : M → Text) (error_texts : M → Subject → List Text) where
+  -- errors of the keyword's name with these texts, in order
+  abbrev pub telling_ways : M → Subject → Way
+  telling_ways m s = tells (called m) (error_texts m s)
+
+  -- such a keyword asks nothing
+  pub telling_present : AlwaysPresent telling_ways
+  telling_present m s = All-nil _
+
 module _ {M : Type 0} (called : M → Text) (enough : M → ℕ) (shows : M → Bool) (accepts : M → Subject → ℕ → Bool) (error_text : M → Subject → ℕ → Text)
     (question : M → ℕ → Question) (count : M → Subject → ℕ) where
   -- each keyword judges by the answers to its numbered questions

@@ -14,7 +14,7 @@ use Rattle.schema_meaning.specs.Greatest.{IsMonotone}
 use Rattle.schema_parts.specs.KeywordViews.{is_nil}
 use Rattle.keyword_ways.specs.declared.planned.Plan.{Plan}
 use Rattle.keyword_ways.specs.declared.planned.Plan.TheVariants.{AtLeast, Holds, PassesOn, Within}
-use Rattle.keyword_ways.specs.OwnWays.{judge_ways, leaf_ways, own_words, spoken_way, spoken_ways}
+use Rattle.keyword_ways.specs.OwnWays.{judge_ways, leaf_ways, own_words, spoken_way, spoken_ways, telling_ways}
 use Rattle.keyword_ways.specs.Plans.{asks_count, asks_of, plan_says_monotone, plan_ways, wanting_way, way_by}
 use Rattle.keyword_ways.specs.Somes.{somes}
 use Rattle.keyword_ways.specs.Tallies.{counted, yes_count}
@@ -146,6 +146,9 @@ module _ {M : Type 0} (way : M → Subject → Way) (says : M → Bool) where
 -- a keyword that asks nothing is monotone
 pub leaves_grow : {M : Type 0} (called : M → Text) (accepts : M → Subject → Bool) (error_text : M → Subject → Text) → EachGrows (leaf_ways called accepts error_text) (λ m. true)
 leaves_grow called accepts error_text m s h = way_grows (leaf_ways called accepts error_text m s) refl
+
+pub tellings_grow : {M : Type 0} (called : M → Text) (error_texts : M → Subject → List Text) → EachGrows (telling_ways called error_texts) (λ m. true)
+tellings_grow called error_texts m s h = way_grows (telling_ways called error_texts m s) refl
 
 -- one that wants so many yeses refuses fewer
 refuses_fewer : (text : ℕ → Text) (least n : ℕ) → n < least → is_nil (unless (nat_le least n) (text n)) ≡ false

@@ -1,0 +1,210 @@
+//! Keywords that ask nothing and have an error or several. An author says when such a keyword holds, its name and its errors' texts;
+//! all laws follow. `crate::leaf` is the same of one error, in a type that shows no fraction of the schema.
+ghost use Rattle.std.specs.Prelude.{All, ◌≡◌, Bool, IfOk, List, false, length, map, string_bytes, true};
+ghost use Rattle.serde_json.specs.Data.{Data};
+ghost use Rattle.schema_definitions.specs.Instance.{Subject, Text};
+ghost use Rattle.schema_reports.specs.InstanceTexts.{subject_has_float};
+ghost use Rattle.schema_reports.specs.InstanceViews.{subject_of};
+ghost use Rattle.schema_definitions.specs.Keywords.{done};
+ghost use Rattle.schema_reports.specs.ReportViews.{BorrowsItsPlace, spoken};
+ghost use Rattle.schema_parts.specs.FaultViews.{errors_in, faults_in, PassesBorrowed};
+ghost use Rattle.schema_parts.specs.KeywordViews.{answer_of, is_nil, reply_of, turn_of, Tells};
+ghost use Rattle.keyword_ways.specs.OwnWays.{spoken_way};
+ghost use Rattle.keyword_ways.specs.Ways.{noted, tells, way_turn};
+
+use crate::answers::{note, refuse};
+use crate::run::Progress;
+use crate::telling::tell_on;
+use schema_parts::keyword::{Answer, Mode, Reply, Step, Validate};
+use schema_reports::instance::Instance;
+use schema_reports::location::OutOfMemory;
+use std::alloc::Global;
+
+/// A keyword that asks nothing: it holds of an instance, or tells its errors, in order.
+pub trait TellingKeyword: Drop {
+    /// What is known of the keyword apart from its representation: the keyword itself, where it owns nothing.
+    type Shape;
+
+    ghost shape: { Self → Self.Shape };
+    // whether no text of it shows a fraction of the schema
+    ghost shows_no_fraction: { Self.Shape → Bool };
+    // the name that its errors go by
+    ghost called: { Self.Shape → Text };
+    // the texts of its errors, in order; none where it holds
+    ghost error_texts: { Self.Shape → Subject → List Text };
+
+    /// Returns the keyword's name.
+    fn name(&self) -> &str
+        ensures name { result.now ≡ called (shape self.now) };
+
+    /// Returns whether it holds of an instance.
+    fn holds(&self, instance: Instance<'_>) -> bool
+        ensures holds { result ≡ is_nil (error_texts (shape self.now) (subject_of instance.entry)) };
+
+    /// Returns the errors' texts, in order. They are asked for only where the keyword does not hold and an error is wanted. Nothing is
+    /// promised of what they say where the instance or the keyword holds a fraction.
+    ///
+    /// # Errors
+    ///
+    /// Memory cannot be allocated.
+    fn texts(&self, alloc: Global, instance: Instance<'_>) -> Result<Vec<String>, OutOfMemory>
+        ensures count { IfOk result (λ found. length found.items
+            ≡ length (error_texts (shape self.now) (subject_of instance.entry))) }
+        ensures texts { IfOk result (λ found. shows_no_fraction (shape self.now) ≡ true → subject_has_float (subject_of instance.entry)
+            ≡ false → map string_bytes found.items ≡ error_texts (shape self.now) (subject_of instance.entry)) };
+}
+
+/// A keyword that asks nothing, as the engine takes it.
+#[derive(Drop)]
+pub struct Telling<T> {
+    pub keyword: T,
+}
+
+/// Notes an error for each of these texts, in order.
+fn note_each<'i>(
+    alloc: Global,
+    mode: Mode,
+    name: &str,
+    found: Vec<String>,
+    answer: &mut Answer<'i>,
+) -> Result<(), OutOfMemory>
+    ensures noted { IfOk result (λ _. (texts : Bool) → answer_of texts answer.new
+        ≡ noted mode name.now (answer_of texts answer.old) (map (λ text. spoken texts (string_bytes text)) found.items)) }
+    ensures borrows { IfOk result (λ _. (root : Data) → All (PassesBorrowed root) (faults_in answer.old)
+        → All (PassesBorrowed root) (faults_in answer.new)) }
+{
+    for text in found {
+        note(alloc, mode, name, text, answer)?;
+    }
+    Ok(())
+}
+
+/// Notes the keyword's errors. Where a verdict alone is wanted, no text is made.
+#[tactic(auto, using(crate::proofs::ToldTexts::told_verdict_alone, crate::proofs::ToldTexts::told_nothing))]
+fn tell_each<'i, T: TellingKeyword>(
+    keyword: &T,
+    alloc: Global,
+    mode: Mode,
+    instance: Instance<'i>,
+    answer: &mut Answer<'i>,
+) -> Result<(), OutOfMemory>
+    ensures told { IfOk result (λ _. (texts : Bool)
+        → Tells texts (T.shows_no_fraction (T.shape keyword.now)) (subject_of instance.entry) → answer_of texts answer.new
+        ≡ noted mode (T.called (T.shape keyword.now)) (answer_of texts answer.old)
+        (map (spoken texts) (T.error_texts (T.shape keyword.now) (subject_of instance.entry)))) }
+    ensures borrows { IfOk result (λ _. (root : Data) → All (PassesBorrowed root) (faults_in answer.old)
+        → All (PassesBorrowed root) (faults_in answer.new)) }
+{
+    if keyword.holds(instance) {
+        return Ok(());
+    }
+    if mode == Mode::Verdict {
+        refuse(alloc, answer);
+        return Ok(());
+    }
+    let found = keyword.texts(alloc, instance)?;
+    note_each(alloc, mode, keyword.name(), found, answer)?;
+    Ok(())
+}
+
+/// Takes a turn of a keyword that asks nothing: in the first turn it tells its errors, if it has any, and the run ends.
+pub fn turn_telling<'s, 'i, T: TellingKeyword>(
+    keyword: &T,
+    alloc: Global,
+    run: &mut Progress,
+    instance: Instance<'i>,
+    reply: Reply<'i>,
+    answer: &mut Answer<'i>,
+) -> Result<Step<'s>, OutOfMemory>
+    ensures turns { IfOk result (λ _. (texts : Bool)
+        → Tells texts (T.shows_no_fraction (T.shape keyword.now)) (subject_of instance.entry)
+        → way_turn (spoken_way texts (tells (T.called (T.shape keyword.now))
+        (T.error_texts (T.shape keyword.now) (subject_of instance.entry)))) (run.old, answer_of texts answer.old)
+        (reply_of texts reply.entry) ≡ (run.new, answer_of texts answer.new)) }
+    ensures step { IfOk result (λ step. turn_of step ≡ done) }
+    ensures borrows { IfOk result (λ _. (root : Data) → All (BorrowsItsPlace root) (errors_in reply.entry)
+        → All (PassesBorrowed root) (faults_in answer.old) → All (PassesBorrowed root) (faults_in answer.new)) }
+{
+    drop(reply);
+    if tell_on(run) {
+        tell_each(keyword, alloc, run.mode, instance, answer)?;
+    }
+    Ok(Step::Done)
+}
+
+impl<T: TellingKeyword> Validate for Telling<T> {
+    ghost use Rattle.keyword_ways.specs.WayGrows.{own_grow, tellings_grow};
+    ghost use Rattle.keyword_ways.specs.WayHandsOn.{own_hand_units_on};
+    ghost use Rattle.keyword_ways.specs.WayUnits.{own_ask_no_units};
+    ghost use Rattle.keyword_ways.specs.WayVerdicts.{own_ask_verdicts};
+    ghost use Rattle.std.specs.Prelude.{refl};
+    ghost use Rattle.keyword_ways.specs.OwnWays.{own_absorbed, own_ends, own_fits, own_function_laws, own_words, telling_present};
+    ghost use Rattle.keyword_ways.specs.OwnWays.{own_can_be, own_remaining, own_turn_laws, telling_ways};
+
+    type Run = Progress;
+
+    type Shape = T::Shape;
+
+    ghost words = { own_words (telling_ways T.called T.error_texts) };
+
+    ghost shape = { λ k. T.shape k.keyword };
+
+    ghost absorbed = { own_absorbed (telling_ways T.called T.error_texts) };
+
+    ghost is_whole = { T.shows_no_fraction };
+
+    ghost says_monotone = { λ _. true };
+
+    ghost remaining = { own_remaining (telling_ways T.called T.error_texts) };
+
+    ghost can_be = { own_can_be (telling_ways T.called T.error_texts) };
+
+    ghost ends = { own_ends (telling_ways T.called T.error_texts) };
+
+    ghost fits = { own_fits (telling_ways T.called T.error_texts) };
+
+    fn begin(
+        &self,
+        _alloc: Global,
+        _instance: Instance,
+        mode: Mode,
+    ) -> Result<Progress, OutOfMemory> {
+        Ok(Progress::begin(mode))
+    }
+
+    fn turn<'s, 'i: 's>(
+        &'s self,
+        alloc: Global,
+        run: &mut Progress,
+        instance: Instance<'i>,
+        reply: Reply<'i>,
+        answer: &mut Answer<'i>,
+    ) -> Result<Step<'s>, OutOfMemory> {
+        turn_telling(&self.keyword, alloc, run, instance, reply, answer)
+    }
+
+    #[tactic(auto, using(crate::proofs::AtOnce::telling_ends))]
+    fn is_valid_at_once(&self, instance: Instance<'_>) -> Option<bool> {
+        Some(self.keyword.holds(instance))
+    }
+
+    fn monotone(&self) -> bool {
+        true
+    }
+
+    ghost speaks = { λ texts. refl };
+
+    ghost answers = { λ texts run a. refl };
+
+    ghost turn_laws = { own_turn_laws (telling_ways T.called T.error_texts) };
+
+    ghost function_laws = { own_function_laws (telling_ways T.called T.error_texts) (telling_present T.called T.error_texts) };
+
+    ghost grows = { own_grow (telling_ways T.called T.error_texts) (λ _. true) (tellings_grow T.called T.error_texts) };
+
+    ghost hands_units_on = { own_hand_units_on (telling_ways T.called T.error_texts) };
+
+    ghost asks_no_units = { own_ask_no_units (telling_ways T.called T.error_texts) };
+
+    ghost asks_verdicts = { own_ask_verdicts (telling_ways T.called T.error_texts) };
+}
