@@ -57,9 +57,10 @@ as_many f (t ∷ ts) = refl
 
 module _ {M : Type 0} (called : M → Text) (error_texts : M → Subject → List Text) where
   -- a keyword with errors of its own says whether there are none
-  pub telling_ends : (texts : Bool) (m : M) (s : Subject) → EndsAtOnce (own_words (telling_ways called error_texts) texts) m s (is_nil (error_texts m s))
-  telling_ends texts m s = own_ends (telling_ways called error_texts) texts m s (is_nil (error_texts m s))
-      (tells_at_once (called m) (map (spoken texts) (error_texts m s)) (is_nil (error_texts m s)) (as_many (spoken texts) (error_texts m s)))
+  pub telling_ends : (texts : Bool) (m : M) (s : Subject) (holds : Bool) → holds ≡ is_nil (error_texts m s)
+      → EndsAtOnce (own_words (telling_ways called error_texts) texts) m s holds
+  telling_ends texts m s holds is = own_ends (telling_ways called error_texts) texts m s holds
+      (tells_at_once (called m) (map (spoken texts) (error_texts m s)) holds (as_many (spoken texts) (error_texts m s) ∙ sym is))
 
 module _ {M : Type 0} (plan : M → Subject → Plan) (name : M → Text) (text : M → Subject → ℕ → Text) where
   -- a keyword that plans to tell says whether it holds

@@ -1,6 +1,6 @@
 //! Keywords that ask nothing and have an error or several. An author says when such a keyword holds, its name and its errors' texts;
 //! all laws follow. `crate::leaf` is the same of one error, in a type that shows no fraction of the schema.
-ghost use Rattle.std.specs.Prelude.{All, ◌≡◌, Bool, IfOk, List, false, length, map, string_bytes, true};
+ghost use Rattle.std.specs.Prelude.{All, ◌≡◌, Bool, IfOk, IfSome, List, false, length, map, string_bytes, true};
 ghost use Rattle.serde_json.specs.Data.{Data};
 ghost use Rattle.schema_definitions.specs.Instance.{Subject, Text};
 ghost use Rattle.schema_reports.specs.InstanceTexts.{subject_has_float};
@@ -37,9 +37,17 @@ pub trait TellingKeyword: Drop {
     fn name(&self) -> &str
         ensures name { result.now ≡ called (shape self.now) };
 
+    /// Returns whether it holds of an instance, where that is told without memory; then a verdict takes no run.
+    fn holds_at_once(&self, instance: Instance<'_>) -> Option<bool>
+        ensures at_once { IfSome result (λ holds. holds ≡ is_nil (error_texts (shape self.now) (subject_of instance.entry))) };
+
     /// Returns whether it holds of an instance.
-    fn holds(&self, instance: Instance<'_>) -> bool
-        ensures holds { result ≡ is_nil (error_texts (shape self.now) (subject_of instance.entry)) };
+    ///
+    /// # Errors
+    ///
+    /// Memory cannot be allocated.
+    fn holds(&self, alloc: Global, instance: Instance<'_>) -> Result<bool, OutOfMemory>
+        ensures holds { IfOk result (λ holds. holds ≡ is_nil (error_texts (shape self.now) (subject_of instance.entry))) };
 
     /// Returns the errors' texts, in order. They are asked for only where the keyword does not hold and an error is wanted. Nothing is
     /// promised of what they say where the instance or the keyword holds a fraction.
@@ -95,7 +103,7 @@ fn tell_each<'i, T: TellingKeyword>(
     ensures borrows { IfOk result (λ _. (root : Data) → All (PassesBorrowed root) (faults_in answer.old)
         → All (PassesBorrowed root) (faults_in answer.new)) }
 {
-    if keyword.holds(instance) {
+    if keyword.holds(alloc, instance)? {
         return Ok(());
     }
     if mode == Mode::Verdict {
@@ -185,7 +193,10 @@ impl<T: TellingKeyword> Validate for Telling<T> {
 
     #[tactic(auto, using(crate::proofs::AtOnce::telling_ends))]
     fn is_valid_at_once(&self, instance: Instance<'_>) -> Option<bool> {
-        Some(self.keyword.holds(instance))
+        match self.keyword.holds_at_once(instance) {
+            Some(holds) => Some(holds),
+            None => None,
+        }
     }
 
     fn monotone(&self) -> bool {
