@@ -80,7 +80,7 @@ pub values_lie_below : (name : Text) (ks : List Text) → All IsStrictlyBelow (v
 values_lie_below name [] = All-nil _
 values_lie_below name (k ∷ ks) = All-cons IsStrictlyBelow (to_member name ∷ to_member k ∷ []) _ tt (values_lie_below name ks)
 
-children_lie_below : (c : Children Text) (name : Text) (d : Data) → All IsStrictlyBelow (children_of c name d)
+pub children_lie_below : (c : Children Text) (name : Text) (d : Data) → All IsStrictlyBelow (children_of c name d)
 children_lie_below children.Childless name d = All-nil _
 children_lie_below children.Itself name d = All-cons IsStrictlyBelow (to_member name ∷ []) [] tt (All-nil _)
 children_lie_below children.Items name (array ds) = items_lie_below name 0 ds

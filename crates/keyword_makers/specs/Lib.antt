@@ -5,3 +5,4 @@ pub mod Branches
 pub mod BranchLaws
 pub mod Members
 pub mod ByValue
+pub mod ByObject

@@ -45,6 +45,18 @@ malformed_error name d = record {
   text = malformed_text name;
 }
 
+-- a refusal with a text of its own, alike
+abbrev pub refused_error : Text → Data → Text → OwnedError
+refused_error name d text = record {
+  instance = d;
+  instance_path = [];
+  schema_path = pointer_to (to_member name ∷ []);
+  evaluation_path = pointer_to (to_member name ∷ []);
+  absolute = None;
+  name = name;
+  text = text;
+}
+
 abbrev pub malformed : {K : Type 0} → Text → Data → Script K
 malformed name d = then_end (refused true (malformed_error name d))
 

@@ -81,7 +81,7 @@ pub struct TableByValue<T> {
 }
 
 /// The paths of the children.
-fn paths_of(
+pub(crate) fn paths_of(
     alloc: Global,
     children: Children,
     name: &str,

@@ -1,11 +1,12 @@
-//! Refusals: a value of another shape than its keyword's.
-ghost use Rattle.std.specs.Prelude.{◌≡◌, ◌∷◌, [], IfOk, option_map, string_bytes};
+//! Refusals: of a value of another shape than its keyword's, and others.
+ghost use Rattle.std.specs.Prelude.{◌≡◌, ◌∷◌, [], IfOk, option_map, string_bytes, true};
+ghost use Rattle.schema_definitions.specs.Making.{refused, then_end};
 ghost use Rattle.serde_json.specs.View.{view};
 ghost use Rattle.schema_definitions.specs.Instance.{to_member};
 ghost use Rattle.schema_definitions.specs.Pointer.{pointer_to};
 ghost use Rattle.schema_reports.specs.ReportViews.{owned_error_of};
 ghost use Rattle.schema_parts.specs.MakerViews.{begun};
-ghost use Rattle.keyword_makers.specs.Making.{makes_if, malformed, malformed_error, malformed_text};
+ghost use Rattle.keyword_makers.specs.Making.{makes_if, malformed, malformed_text, refused_error};
 ghost use Rattle.keyword_makers.specs.MakerViews.{waiting_of};
 
 use crate::maker::{Ending, PathsMaker, ends};
@@ -36,9 +37,14 @@ fn malformed_text(alloc: Global, name: &str) -> Result<String, OutOfMemory>
     Ok(text)
 }
 
-/// The error of a value of another shape than its keyword's.
-fn malformed_error(alloc: Global, name: &str, value: &Value) -> Result<OwnedError, OutOfMemory>
-    ensures error { IfOk result (λ e. owned_error_of e ≡ malformed_error name.now (view value.now)) }
+/// The error of a refusal: it shows the value, at the keyword.
+fn refused_error(
+    alloc: Global,
+    name: &str,
+    value: &Value,
+    text: String,
+) -> Result<OwnedError, OutOfMemory>
+    ensures error { IfOk result (λ e. owned_error_of e ≡ refused_error name.now (view value.now) (string_bytes text)) }
 {
     Ok(OwnedError {
         instance: value.clone()?,
@@ -47,7 +53,7 @@ fn malformed_error(alloc: Global, name: &str, value: &Value) -> Result<OwnedErro
         evaluation_path: keyword_pointer(alloc, name)?,
         absolute_keyword_location: None,
         keyword: String::from_str(alloc, name)?,
-        text: malformed_text(alloc, name)?,
+        text,
     })
 }
 
@@ -59,7 +65,22 @@ pub fn malformed<K: Validate>(
 ) -> Result<PathsMaker<K>, OutOfMemory>
     ensures maker { IfOk result (λ m. waiting_of K.shape m ≡ begun (malformed name.now (view value.now))) }
 {
-    let error = malformed_error(alloc, name, value)?;
+    let text = malformed_text(alloc, name)?;
+    let error = refused_error(alloc, name, value, text)?;
+    Ok(ends(alloc, Ending::Refused(error)))
+}
+
+/// A maker that refuses, with a text of its own, by an error that shows the keyword's value.
+pub fn refused<K: Validate>(
+    alloc: Global,
+    name: &str,
+    value: &Value,
+    text: String,
+) -> Result<PathsMaker<K>, OutOfMemory>
+    ensures maker { IfOk result (λ m. waiting_of K.shape m
+        ≡ begun (then_end (refused true (refused_error name.now (view value.now) (string_bytes text))))) }
+{
+    let error = refused_error(alloc, name, value, text)?;
     Ok(ends(alloc, Ending::Refused(error)))
 }
 

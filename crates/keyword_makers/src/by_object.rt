@@ -1,0 +1,189 @@
+//! A table whose keywords follow from a member's name and value, and also from the draft and from the members beside it.
+ghost use Rattle.std.specs.Prelude.{◌≡◌, Bool, IfOk, Some};
+ghost use Rattle.serde_json.specs.Data.{Data, Members};
+ghost use Rattle.serde_json.specs.Find.{get_member};
+ghost use Rattle.serde_json.specs.View.{members_view, view};
+ghost use Rattle.schema_definitions.specs.Drafts as drafts;
+ghost use Rattle.schema_definitions.specs.Instance.{Text};
+ghost use Rattle.schema_keywords.specs.KeywordViews.{draft_of};
+ghost use Rattle.schema_parts.specs.MakerViews as makers;
+ghost use Rattle.keyword_makers.specs.ByObject.{IsRightHere, MadeHere, formed, malformed_beside, script_found, script_here};
+ghost use Rattle.keyword_makers.specs.MakerViews.{waiting_of};
+
+use crate::by_value::{Children, paths_of};
+use crate::maker::{Ending, PathsMaker, asks_for, ends};
+use crate::members::values_below;
+use crate::paths::value_in;
+use crate::refusals::{malformed, refused};
+use schema_keywords::keywords::{Draft, VocabularySet};
+use schema_parts::keyword::Validate;
+use schema_parts::table::{KeywordOrigin, KeywordTable, MakerReply, MakerStep};
+use schema_reports::location::OutOfMemory;
+use serde_json::{Map, Value};
+use std::alloc::Global;
+
+/// What a member of an object makes.
+#[derive(Drop)]
+pub enum ObjectKeyword<K, C = Children, L = Vec<String>, N = &'static str, T = String> {
+    Keyword(K, C),
+    /// The children are the values of the members of these names of the value, which is an object that has them, in this order.
+    KeywordOver(K, L),
+    Nothing,
+    /// The value has another shape than its keyword's; the schema is refused.
+    Malformed,
+    /// So has the value of the member of this name beside it; the schema is refused by an error that shows that value, at its own
+    /// place. Where there is no such member, it is refused as `Malformed` is.
+    MalformedBeside(N),
+    /// The schema is refused, with this text.
+    Refused(T),
+}
+
+/// What keywords the members of a schema make, by name and value, by the draft, and by the other members. `TableByObject` makes a
+/// keyword table of it.
+pub trait MakesByObject<K: Validate> {
+    // which names are its own
+    ghost owned: { Self → Text → Bool };
+
+    // what a member of an object makes in a draft
+    ghost made: { Self → drafts.Draft → Members → Text → Data → MadeHere K.Shape };
+
+    /// Returns whether a name is the table's own: one that the standard's drafts do not know, or make another keyword of.
+    fn owns(&self, name: &str) -> bool
+        ensures owned { result ≡ owned self.now name.now };
+
+    /// Returns what a member of this name and value makes in this object. It is asked for the names that are its own, and for those
+    /// that the draft knows.
+    ///
+    /// # Errors
+    ///
+    /// Memory cannot be allocated.
+    fn make(
+        &self,
+        alloc: Global,
+        name: &str,
+        value: &Value,
+        object: &Map<String, Value>,
+        draft: Draft,
+    ) -> Result<ObjectKeyword<K>, OutOfMemory>
+        ensures made { IfOk result (λ m. formed K.shape m
+            ≡ made self.now (draft_of draft) (members_view object.now.entries) name.now (view value.now)) };
+
+    // the keyword absorbs no other, and holds no fraction where the object holds none
+    ghost right: { (t : Self) (draft : drafts.Draft) (object : Members) (name : Text) (value : Data)
+        → get_member name object ≡ Some value → IsRightHere K.absorbed K.is_whole object (made t draft object name value) };
+}
+
+/// A keyword table of keywords that follow from name, value, draft and the other members. A malformed value is refused by an error
+/// that shows it and is located at its keyword.
+#[derive(Drop)]
+pub struct TableByObject<T> {
+    pub keywords: T,
+}
+
+/// The maker of a refusal for the sake of the member of a name beside a keyword.
+fn beside_maker<K: Validate>(
+    alloc: Global,
+    name: &str,
+    value: &Value,
+    object: &Map<String, Value>,
+    beside: &str,
+) -> Result<PathsMaker<K>, OutOfMemory>
+    ensures maker { IfOk result (λ m. waiting_of K.shape m ≡ makers.begun (malformed_beside name.now (view value.now) beside.now
+        (get_member beside.now (members_view object.now.entries)))) }
+{
+    match value_in(object, beside) {
+        None => malformed(alloc, name, value),
+        Some(other) => malformed(alloc, beside, other),
+    }
+}
+
+/// The maker of what a member makes.
+fn maker_of<K: Validate>(
+    alloc: Global,
+    name: &str,
+    value: &Value,
+    object: &Map<String, Value>,
+    made: ObjectKeyword<K>,
+) -> Result<PathsMaker<K>, OutOfMemory>
+    ensures maker { IfOk result (λ m. waiting_of K.shape m ≡ makers.begun (script_here (members_view object.now.entries) name.now
+        (view value.now) (formed K.shape made.entry))) }
+{
+    match made {
+        ObjectKeyword::Keyword(keyword, children) => {
+            let paths = paths_of(alloc, children, name, value)?;
+            Ok(asks_for(paths, keyword))
+        }
+        ObjectKeyword::KeywordOver(keyword, names) => {
+            let paths = values_below(alloc, name, names.as_slice())?;
+            Ok(asks_for(paths, keyword))
+        }
+        ObjectKeyword::Nothing => Ok(ends(alloc, Ending::Nothing)),
+        ObjectKeyword::Malformed => malformed(alloc, name, value),
+        ObjectKeyword::MalformedBeside(beside) => beside_maker(alloc, name, value, object, beside),
+        ObjectKeyword::Refused(text) => refused(alloc, name, value, text),
+    }
+}
+
+/// The maker of a member of an object, if there is one.
+fn member_maker<K: Validate, T: MakesByObject<K>>(
+    keywords: &T,
+    alloc: Global,
+    name: &str,
+    object: &Map<String, Value>,
+    draft: Draft,
+) -> Result<PathsMaker<K>, OutOfMemory>
+    ensures maker { IfOk result (λ m. waiting_of K.shape m ≡ makers.begun (script_found (T.made keywords.now) (draft_of draft)
+        (members_view object.now.entries) name.now (get_member name.now (members_view object.now.entries)))) }
+{
+    match value_in(object, name) {
+        None => Ok(ends(alloc, Ending::Nothing)),
+        Some(value) => {
+            let made = keywords.make(alloc, name, value, object, draft)?;
+            maker_of(alloc, name, value, object, made)
+        }
+    }
+}
+
+impl<K: Validate, T: MakesByObject<K>> KeywordTable<K> for TableByObject<T> {
+    ghost use Rattle.keyword_makers.specs.ByObject.{by_object, makes_by_object};
+
+    type Maker = PathsMaker<K>;
+
+    ghost owned = { λ t name. T.owned t.keywords name };
+
+    ghost script = { λ t. by_object (T.made t.keywords) };
+
+    ghost waiting = { waiting_of K.shape };
+
+    fn owns(&self, name: &str) -> bool {
+        self.keywords.owns(name)
+    }
+
+    fn begin(
+        &self,
+        alloc: Global,
+        origin: KeywordOrigin<'_>,
+        object: &Map<String, Value>,
+        draft: Draft,
+        _vocabularies: &VocabularySet,
+        _formats: bool,
+    ) -> Result<PathsMaker<K>, OutOfMemory> {
+        match origin {
+            KeywordOrigin::Own(name) => member_maker(&self.keywords, alloc, name, object, draft),
+            KeywordOrigin::Builtin(name) => {
+                member_maker(&self.keywords, alloc, name, object, draft)
+            }
+        }
+    }
+
+    fn turn(
+        &self,
+        alloc: Global,
+        maker: &mut PathsMaker<K>,
+        reply: MakerReply,
+    ) -> Result<MakerStep<K>, OutOfMemory> {
+        maker.turn(alloc, reply)
+    }
+
+    ghost right = { λ t. makes_by_object K.absorbed K.is_whole (T.made t.keywords) (T.right t.keywords) };
+}
