@@ -114,7 +114,7 @@ fn text_length(instance: Instance<'_>) -> Option<usize>
 }
 
 /// How many members the instance has, where it is an object.
-fn members_count(instance: Instance<'_>) -> Option<usize>
+pub fn members_count(instance: Instance<'_>) -> Option<usize>
     ensures count { result ≡ option_map member_count (subject_members (subject_of instance.entry)) }
 {
     match instance {
@@ -162,7 +162,7 @@ fn count_text(
 }
 
 /// Adds a number in decimal.
-fn push_decimal(text: &mut String, number: u64) -> Result<(), OutOfMemory>
+pub fn push_decimal(text: &mut String, number: u64) -> Result<(), OutOfMemory>
     ensures decimal { IfOk result (λ _. string_bytes text.new ≡ string_bytes text.old ++ decimal number) }
 {
     write!(text, "{number}")

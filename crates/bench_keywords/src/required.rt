@@ -64,7 +64,7 @@ fn is_missing(name: &String, instance: Instance<'_>) -> bool
 }
 
 /// The error's text.
-fn required_text(alloc: Global, name: &str) -> Result<String, OutOfMemory>
+pub fn required_text(alloc: Global, name: &str) -> Result<String, OutOfMemory>
     ensures text { IfOk result (λ text. string_bytes text ≡ required_text name.now) }
 {
     let mut text = Instance::Name(name).text(alloc)?;

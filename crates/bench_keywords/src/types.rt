@@ -44,7 +44,7 @@ pub fn tell_type<'i>(
 }
 
 /// The error's text for one name.
-fn type_text(alloc: Global, name: TypeName, instance: Instance<'_>) -> Result<String, OutOfMemory>
+pub fn type_text(alloc: Global, name: TypeName, instance: Instance<'_>) -> Result<String, OutOfMemory>
     ensures text { IfOk result (λ text. subject_has_float (subject_of instance.entry) ≡ false → string_bytes text
         ≡ type_text name (subject_of instance.entry)) }
 {
@@ -89,7 +89,7 @@ pub fn fits_one(names: &[TypeName], instance: Instance<'_>) -> bool
 }
 
 /// The error's text for a list of names.
-fn types_text(
+pub fn types_text(
     alloc: Global,
     names: &[TypeName],
     instance: Instance<'_>,
