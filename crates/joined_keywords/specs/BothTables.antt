@@ -36,7 +36,7 @@ module _ {A B : Type 0} (f : A → B) (absorbed : A → List Text) (absorbed' : 
   made_rightly nothing h = tt
   made_rightly (refused told e) h = h
 
-  makes_rightly : (s : Script A) → MakesRightly absorbed is_whole object s → MakesRightly absorbed' is_whole' object (script_as f s)
+  pub makes_rightly : (s : Script A) → MakesRightly absorbed is_whole object s → MakesRightly absorbed' is_whole' object (script_as f s)
   makes_rightly (then_compile path s) h = (h.0, makes_rightly s h.1)
   makes_rightly (then_refer text s skipped) h = (makes_rightly s h.0, makes_rightly skipped h.1)
   makes_rightly (then_pending purpose free held) h = (
@@ -54,7 +54,7 @@ abbrev pub EachMakesRightly : {T K : Type 0} → (K → List Text) → (K → Bo
 EachMakesRightly {T} absorbed is_whole script = (t : T) (own : Bool) (name : Text) (object : Members) (draft : Draft) (vocabularies : Vocabularies) (formats : Bool)
     → MakesRightly absorbed is_whole object (script t own name object draft vocabularies formats)
 
-one_of : {K : Type 0} (absorbed : K → List Text) (is_whole : K → Bool) (object : Members) (b : Bool) (x y : Script K)
+pub one_of : {K : Type 0} (absorbed : K → List Text) (is_whole : K → Bool) (object : Members) (b : Bool) (x y : Script K)
     → MakesRightly absorbed is_whole object x → MakesRightly absorbed is_whole object y → MakesRightly absorbed is_whole object (if b then x else y)
 one_of absorbed is_whole object true x y p q = p
 one_of absorbed is_whole object false x y p q = q

@@ -1,8 +1,10 @@
 //! The join of two keyword tables.
-ghost use Rattle.std.specs.Prelude.{◌≡◌, ◌||◌, bytes_eq};
+ghost use Rattle.std.specs.Prelude.{◌≡◌, ◌||◌, bytes_eq, IfOk};
 ghost use Rattle.std.specs.List.{list_any};
 ghost use Rattle.schema_parts.specs.MakerViews as makers;
-ghost use Rattle.joined_keywords.specs.BothScripts.{step_as};
+ghost use Rattle.schema_parts.specs.MakerViews.{TakesTurn, maker_reply_of};
+ghost use Rattle.joined_keywords.specs.BothScripts.{both_waiting, step_as};
+ghost use Rattle.joined_keywords.specs.Sides.{side_of};
 ghost use Rattle.joined_keywords.specs.declared.both.Both.TheVariants as both;
 
 use crate::both::Both;
@@ -83,6 +85,23 @@ fn second_step<A, B>(step: MakerStep<B>) -> MakerStep<Both<A, B>>
     }
 }
 
+/// Takes a turn of a maker of one of two tables.
+pub(crate) fn turn_either<A: Validate, B: Validate, S: KeywordTable<A>, T: KeywordTable<B>>(
+    first: &S,
+    second: &T,
+    alloc: Global,
+    maker: &mut Both<S::Maker, T::Maker>,
+    reply: MakerReply,
+) -> Result<MakerStep<Both<A, B>>, OutOfMemory>
+    ensures takes { IfOk result (λ step. TakesTurn (side_of A.shape B.shape) (both_waiting S.waiting T.waiting maker.old)
+        (maker_reply_of reply) step (both_waiting S.waiting T.waiting maker.new)) }
+{
+    match maker {
+        Both::First(maker) => Ok(first_step(first.turn(alloc, maker, reply)?)),
+        Both::Second(maker) => Ok(second_step(second.turn(alloc, maker, reply)?)),
+    }
+}
+
 impl<A: Validate, B: Validate, S: KeywordTable<A>, T: KeywordTable<B>> KeywordTable<Both<A, B>>
     for BothTable<S, T> {
     ghost use Rattle.joined_keywords.specs.BothTables.{both_makes_rightly};
@@ -132,10 +151,7 @@ impl<A: Validate, B: Validate, S: KeywordTable<A>, T: KeywordTable<B>> KeywordTa
         maker: &mut Both<S::Maker, T::Maker>,
         reply: MakerReply,
     ) -> Result<MakerStep<Both<A, B>>, OutOfMemory> {
-        match maker {
-            Both::First(maker) => Ok(first_step(self.first.turn(alloc, maker, reply)?)),
-            Both::Second(maker) => Ok(second_step(self.second.turn(alloc, maker, reply)?)),
-        }
+        turn_either(&self.first, &self.second, alloc, maker, reply)
     }
 
     ghost right = { both_makes_rightly S.owned S.script T.script A.absorbed B.absorbed A.is_whole B.is_whole S.right T.right };

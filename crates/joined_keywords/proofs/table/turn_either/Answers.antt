@@ -3,7 +3,7 @@ use Rattle.schema_parts.specs.MakerViews.{maker_reply_of}
 use Rattle.joined_keywords.specs.Sides.{side_of}
 use Rattle.joined_keywords.specs.declared.both.Both.TheVariants as both
 use Rattle.joined_keywords.proofs.TakenTurns.{takes_as}
-use Rattle.joined_keywords.proofs.table.BothTableKeywordTableBoth.turn.Goals as goal
+use Rattle.joined_keywords.proofs.table.turn_either.Goals as goal
 
 pub returns-in_ok-turn-in-First : goal.returns-in_ok-turn-in-First
 returns-in_ok-turn-in-First g c = record {
