@@ -49,13 +49,14 @@ pub trait TellingKeyword: Drop {
     fn holds(&self, alloc: Global, instance: Instance<'_>) -> Result<bool, OutOfMemory>
         ensures holds { IfOk result (λ holds. holds ≡ is_nil (error_texts (shape self.now) (subject_of instance.entry))) };
 
-    /// Returns the errors' texts, in order. They are asked for only where the keyword does not hold and an error is wanted. Nothing is
-    /// promised of what they say where the instance or the keyword holds a fraction.
+    /// Returns the errors' texts, in order, where the keyword does not hold. They are asked for only where an error is wanted. Nothing
+    /// is promised of what they say where the instance or the keyword holds a fraction.
     ///
     /// # Errors
     ///
     /// Memory cannot be allocated.
     fn texts(&self, alloc: Global, instance: Instance<'_>) -> Result<Vec<String>, OutOfMemory>
+        requires refuses { is_nil (error_texts (shape self.now) (subject_of instance)) ≡ false }
         ensures count { IfOk result (λ found. length found.items
             ≡ length (error_texts (shape self.now) (subject_of instance.entry))) }
         ensures texts { IfOk result (λ found. shows_no_fraction (shape self.now) ≡ true → subject_has_float (subject_of instance.entry)
