@@ -5,5 +5,5 @@ pub mod BothModes
 pub mod Clones
 pub mod BothScripts
 pub mod BothTables
-pub mod NamedScripts
-pub mod NamedLaws
+pub mod RoutedScripts
+pub mod RoutedLaws

@@ -1,5 +1,7 @@
-//! The join of two keyword tables by what is said of the standard's names, draft by draft.
+//! The join of two keyword tables by what is said of the standard's keywords, draft by draft.
 ghost use Rattle.std.specs.Prelude.{◌≡◌, Bool, if◌then◌else◌};
+ghost use Rattle.serde_json.specs.Data.{Members};
+ghost use Rattle.serde_json.specs.View.{members_view};
 ghost use Rattle.schema_definitions.specs.Drafts as drafts;
 ghost use Rattle.schema_definitions.specs.Instance.{Text};
 ghost use Rattle.schema_keywords.specs.KeywordViews.{draft_of};
@@ -14,54 +16,54 @@ use schema_reports::location::OutOfMemory;
 use serde_json::{Map, Value};
 use std::alloc::Global;
 
-/// Which of the standard's names go to a table, draft by draft.
-pub trait NamesMade: Drop {
-    ghost named: { Self → drafts.Draft → Text → Bool };
+/// Which of the standard's keywords go to the first of two tables, draft by draft.
+pub trait Route: Drop {
+    ghost leads: { Self → drafts.Draft → Members → Text → Bool };
 
-    /// Returns whether a name goes to the table, in a draft that knows it.
-    fn makes(&self, draft: Draft, name: &str) -> bool
-        ensures named { result ≡ named self.now (draft_of draft) name.now };
+    /// Returns whether the member of a name goes to the first table, in a draft that knows the name.
+    fn leads_first(&self, draft: Draft, object: &Map<String, Value>, name: &str) -> bool
+        ensures leads { result ≡ leads self.now (draft_of draft) (members_view object.now.entries) name.now };
 }
 
-/// Two tables as one. A name of the standard goes to the first table where `first_makes` says so of it and of the draft, and else to the
-/// second. A name that the first table owns is its own; else one that the second owns is the second's. So a name that neither table
-/// makes makes nothing. The names that a keyword absorbs are to go to its own table, or the other table makes keywords of them as
-/// well.
+/// Two tables as one. A keyword of the standard goes to the first table where the route says so, and else to the second. A name that
+/// the first table owns is its own; else one that the second owns is the second's. So a name that neither table makes makes nothing.
+/// The names that a keyword absorbs are to go to its own table, or the other table makes keywords of them as well.
 #[derive(Drop)]
-pub struct NamedTables<S, N, T> {
+pub struct RoutedTables<S, R, T> {
     pub first: S,
-    pub first_makes: N,
+    pub route: R,
     pub second: T,
 }
 
 /// Whether what a maker is asked for goes to the first table.
-fn goes_to_first<K: Validate, S: KeywordTable<K>, N: NamesMade>(
+fn goes_first<K: Validate, S: KeywordTable<K>, R: Route>(
     first: &S,
-    first_makes: &N,
+    route: &R,
     origin: KeywordOrigin<'_>,
+    object: &Map<String, Value>,
     draft: Draft,
 ) -> bool
     ensures goes { result ≡ (if makers.is_own origin.entry then S.owned first.now (makers.name_of origin.entry)
-        else N.named first_makes.now (draft_of draft) (makers.name_of origin.entry)) }
+        else R.leads route.now (draft_of draft) (members_view object.now.entries) (makers.name_of origin.entry)) }
 {
     match origin {
         KeywordOrigin::Own(name) => first.owns(name),
-        KeywordOrigin::Builtin(name) => first_makes.makes(draft, name),
+        KeywordOrigin::Builtin(name) => route.leads_first(draft, object, name),
     }
 }
 
-impl<A: Validate, B: Validate, S: KeywordTable<A>, N: NamesMade, T: KeywordTable<B>> KeywordTable<
+impl<A: Validate, B: Validate, S: KeywordTable<A>, R: Route, T: KeywordTable<B>> KeywordTable<
     Both<A, B>,
-> for NamedTables<S, N, T> {
+> for RoutedTables<S, R, T> {
     ghost use Rattle.joined_keywords.specs.BothScripts.{both_waiting};
-    ghost use Rattle.joined_keywords.specs.NamedScripts.{named_owned, named_script};
-    ghost use Rattle.joined_keywords.specs.NamedLaws.{named_makes_rightly};
+    ghost use Rattle.joined_keywords.specs.RoutedScripts.{routed_owned, routed_script};
+    ghost use Rattle.joined_keywords.specs.RoutedLaws.{routed_make_rightly};
 
     type Maker = Both<S::Maker, T::Maker>;
 
-    ghost owned = { named_owned S.owned T.owned };
+    ghost owned = { routed_owned S.owned T.owned };
 
-    ghost script = { named_script S.owned N.named S.script T.script };
+    ghost script = { routed_script S.owned R.leads S.script T.script };
 
     ghost waiting = { both_waiting S.waiting T.waiting };
 
@@ -78,7 +80,7 @@ impl<A: Validate, B: Validate, S: KeywordTable<A>, N: NamesMade, T: KeywordTable
         vocabularies: &VocabularySet,
         formats: bool,
     ) -> Result<Both<S::Maker, T::Maker>, OutOfMemory> {
-        if goes_to_first(&self.first, &self.first_makes, origin, draft) {
+        if goes_first(&self.first, &self.route, origin, object, draft) {
             let maker = self
                 .first
                 .begin(alloc, origin, object, draft, vocabularies, formats)?;
@@ -100,5 +102,5 @@ impl<A: Validate, B: Validate, S: KeywordTable<A>, N: NamesMade, T: KeywordTable
         turn_either(&self.first, &self.second, alloc, maker, reply)
     }
 
-    ghost right = { named_makes_rightly S.owned N.named S.script T.script A.absorbed B.absorbed A.is_whole B.is_whole S.right T.right };
+    ghost right = { routed_make_rightly S.owned R.leads S.script T.script A.absorbed B.absorbed A.is_whole B.is_whole S.right T.right };
 }
