@@ -1,0 +1,3 @@
+pub mod ListedValues
+pub mod Missing
+pub mod Told

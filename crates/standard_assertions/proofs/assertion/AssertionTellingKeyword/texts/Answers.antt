@@ -1,0 +1,16 @@
+use Rattle.std.proofs.Common.{[], ap, length, string_bytes, sym, ◌∙◌, ◌∷◌, ◌≡◌}
+use Rattle.std.proofs.lemmas.List.{length-map}
+use Rattle.schema_parts.proofs.Replies.{if_ok_mono}
+use Rattle.schema_reports.specs.InstanceViews.{subject_of}
+use Rattle.standard_assertions.specs.Assertions.{error_text, error_texts}
+use Rattle.standard_assertions.proofs.Told.{told_once}
+use Rattle.standard_assertions.proofs.assertion.AssertionTellingKeyword.texts.Goals as goal
+
+pub returns-in_ok-text-in_default : goal.returns-in_ok-text-in_default
+returns-in_ok-text-in_default c =
+    let once : error_texts c.args.self.now (subject_of c.args.instance) ≡ error_text c.args.self.now (subject_of c.args.instance) ∷ [] =
+    told_once c.args.self.now (subject_of c.args.instance) c.in_default.not-DependentRequired c.requires.refuses in
+    record {
+      count = if_ok_mono c.one_text.result _ _ (λ found one. sym (length-map found.items string_bytes) ∙ ap length one ∙ sym (ap length once)) c.one_text.ensures.one;
+      texts = if_ok_mono c.one_text.result _ _ (λ found one shows whole. one ∙ ap (λ t. t ∷ []) (c.in_ok-text-in_default.ensures.text shows whole) ∙ sym once) c.one_text.ensures.one;
+    }

@@ -1,0 +1,68 @@
+-- The keywords that assert by themselves: of each the name that its errors go by, of which instances it holds, and what its errors say.
+-- Each but `dependentRequired` has one error where it does not hold. (Validation 2020-12, 6)
+use Rattle.std.specs.Prelude.{Bool, List, [], map, not, true, codes}
+use Rattle.serde_json.specs.Find.{is_float}
+use Rattle.serde_json.specs.Written.{has_float}
+use Rattle.schema_definitions.specs.Instance.{Subject, Text}
+use Rattle.schema_parts.specs.KeywordViews.{is_nil}
+use Rattle.keyword_ways.specs.Ways.{unless}
+use Rattle.bench_keywords.specs.Words.{required_text, type_text, types_text}
+use Rattle.standard_assertions.specs.Constants.{constant_text, distinct_text, has_distinct_items, is_constant, is_listed, listed_text}
+use Rattle.standard_assertions.specs.Dependents.{missing_dependents}
+use Rattle.standard_assertions.specs.Limits.{keeps_limit, limit_name, limit_text}
+use Rattle.standard_assertions.specs.Multiples.{is_multiple, multiple_text}
+use Rattle.standard_assertions.specs.Sizes.{size_fits, size_name, size_text}
+use Rattle.standard_assertions.specs.Types.{fits, fits_one}
+use Rattle.standard_assertions.specs.declared.assertion.Assertion.{Assertion}
+use Rattle.standard_assertions.specs.declared.assertion.Assertion.TheVariants as assertion
+
+abbrev pub called : Assertion → Text
+called (assertion.Type integers t) = codes "type"
+called (assertion.Types integers ts) = codes "type"
+called (assertion.Const constant) = codes "const"
+called (assertion.Enum values) = codes "enum"
+called (assertion.Limit kind limit) = limit_name kind
+called (assertion.MultipleOf divisor) = codes "multipleOf"
+called (assertion.Size kind limit) = size_name kind
+called assertion.UniqueItems = codes "uniqueItems"
+called (assertion.DependentRequired dependents) = codes "dependentRequired"
+
+abbrev pub holds : Assertion → Subject → Bool
+holds (assertion.Type integers t) s = fits integers t s
+holds (assertion.Types integers ts) s = fits_one integers ts s
+holds (assertion.Const constant) s = is_constant constant s
+holds (assertion.Enum values) s = is_listed values s
+holds (assertion.Limit kind limit) s = keeps_limit kind limit s
+holds (assertion.MultipleOf divisor) s = is_multiple divisor s
+holds (assertion.Size kind limit) s = size_fits kind limit s
+holds assertion.UniqueItems s = has_distinct_items s
+holds (assertion.DependentRequired dependents) s = is_nil (missing_dependents dependents s)
+
+-- what its one error says; `dependentRequired` has one for each name that is missing
+abbrev pub error_text : Assertion → Subject → Text
+error_text (assertion.Type integers t) s = type_text t s
+error_text (assertion.Types integers ts) s = types_text ts s
+error_text (assertion.Const constant) s = constant_text constant
+error_text (assertion.Enum values) s = listed_text values s
+error_text (assertion.Limit kind limit) s = limit_text kind limit s
+error_text (assertion.MultipleOf divisor) s = multiple_text divisor s
+error_text (assertion.Size kind limit) s = size_text kind limit s
+error_text assertion.UniqueItems s = distinct_text s
+error_text (assertion.DependentRequired dependents) s = []
+
+-- what its errors say, in order: none where it holds
+abbrev pub error_texts : Assertion → Subject → List Text
+error_texts (assertion.DependentRequired dependents) s = map required_text (missing_dependents dependents s)
+error_texts m s = unless (holds m s) (error_text m s)
+
+-- whether no text of it shows a fraction of the schema
+abbrev pub shows_no_fraction : Assertion → Bool
+shows_no_fraction (assertion.Type integers t) = true
+shows_no_fraction (assertion.Types integers ts) = true
+shows_no_fraction (assertion.Const constant) = not (has_float constant)
+shows_no_fraction (assertion.Enum values) = not (has_float values)
+shows_no_fraction (assertion.Limit kind limit) = not (is_float limit)
+shows_no_fraction (assertion.MultipleOf divisor) = not (is_float divisor)
+shows_no_fraction (assertion.Size kind limit) = true
+shows_no_fraction assertion.UniqueItems = true
+shows_no_fraction (assertion.DependentRequired dependents) = true

@@ -1,0 +1,37 @@
+-- `dependentRequired` has an object as its value, the members of which are lists of names: where an object has a member of such a name, it
+-- has to have those of the list as well, and each that it lacks is an error. What is no object is accepted. (Validation 2020-12, 6.5.4)
+use Rattle.std.specs.Prelude.{List, None, Option, Some, [], if◌then◌else◌, ◌++◌, ◌∷◌}
+use Rattle.serde_json.specs.Data.{Data, Items, Members, item, member, no_items, no_members}
+use Rattle.serde_json.specs.Find.{as_array, as_object, as_str}
+use Rattle.schema_definitions.specs.Instance.{Subject, Text}
+use Rattle.keyword_ways.specs.Members.{has_member}
+
+-- the name, where the instance has no such member
+abbrev pub missing_name : Option Text → Subject → List Text
+missing_name None s = []
+missing_name (Some k) s = if has_member k s then [] else k ∷ []
+
+-- those of the names that the instance has no members of, in order
+abbrev pub missing_names : Items → Subject → List Text
+missing_names no_items s = []
+missing_names (item d ds) s = missing_name (as_str d) s ++ missing_names ds s
+
+abbrev pub missing_of : Option Items → Subject → List Text
+missing_of None s = []
+missing_of (Some ds) s = missing_names ds s
+
+-- those that a member of the instance wants, where the instance has it
+abbrev pub wanted_by : Text → Data → Subject → List Text
+wanted_by k d s = if has_member k s then missing_of (as_array d) s else []
+
+abbrev pub wanted_by_each : Members → Subject → List Text
+wanted_by_each no_members s = []
+wanted_by_each (member k d ms) s = wanted_by k d s ++ wanted_by_each ms s
+
+abbrev pub wanted_of : Option Members → Subject → List Text
+wanted_of None s = []
+wanted_of (Some ms) s = wanted_by_each ms s
+
+-- the names that are missing, in the order of the value's members and then of their lists; one may be missing more than once
+abbrev pub missing_dependents : Data → Subject → List Text
+missing_dependents dependents s = wanted_of (as_object dependents) s

@@ -1,0 +1,9 @@
+pub mod Assertions
+pub mod Constants
+pub mod Dependents
+pub mod Limits
+pub mod Multiples
+pub mod NumberCoding
+pub mod Sizes
+pub mod Types
+pub mod Values

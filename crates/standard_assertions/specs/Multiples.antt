@@ -1,0 +1,20 @@
+-- A number is a multiple where its quotient by the divisor is an integer; what is no number is accepted. The quotient of two integers is
+-- exact; where a fraction is among the two, it is rounded to a float first, as programs do. (Validation 2020-12, 6.2.1)
+use Rattle.std.specs.Prelude.{Bool, None, Option, Some, codes, true, ◌++◌}
+use Rattle.serde_json.specs.Data.{Num}
+use Rattle.serde_json.specs.Find.{as_number}
+use Rattle.serde_json.specs.Written.{number_text}
+use Rattle.schema_definitions.specs.Instance.{Subject, Text}
+use Rattle.schema_definitions.specs.Meaning.{subject_text}
+use Rattle.schema_reports.specs.Owned.{value_of}
+use Rattle.json_values.specs.Numbers.{is_rounded_multiple_of}
+
+abbrev pub is_any_multiple : Num → Option Num → Bool
+is_any_multiple divisor None = true
+is_any_multiple divisor (Some x) = is_rounded_multiple_of x divisor
+
+abbrev pub is_multiple : Num → Subject → Bool
+is_multiple divisor s = is_any_multiple divisor (as_number (value_of s))
+
+abbrev pub multiple_text : Num → Subject → Text
+multiple_text divisor s = subject_text s ++ codes " is not a multiple of " ++ number_text divisor

@@ -1,0 +1,148 @@
+//! The keywords that assert by themselves, as one type.
+ghost use Rattle.std.specs.Prelude.{◌≡◌, ◌∷◌, [], IfOk, false, map, string_bytes, true};
+ghost use Rattle.schema_reports.specs.InstanceTexts.{subject_has_float};
+ghost use Rattle.schema_reports.specs.InstanceViews.{subject_of};
+ghost use Rattle.standard_assertions.specs.Assertions.{error_text, holds, shows_no_fraction};
+
+use crate::constants::{
+    constant_text, distinct_text, has_distinct_items, has_distinct_items_by_pairs, is_constant,
+    is_listed, listed_text,
+};
+use crate::dependents::{has_dependents, missing_texts};
+use crate::limits::{LimitKind, keeps_limit, limit_text};
+use crate::multiples::{is_multiple, multiple_text};
+use crate::numbers::HeldNumber;
+use crate::sizes::{SizeKind, size_fits, size_text};
+use crate::types::{Integers, TypeList, fits, fits_one};
+use bench_keywords::type_names::TypeName;
+use bench_keywords::types::{type_text, types_text};
+use json_values::held::HeldValue;
+use keyword_ways::items::item_count;
+use keyword_ways::leaves::TellingKeyword;
+use schema_reports::instance::Instance;
+use schema_reports::location::OutOfMemory;
+use std::alloc::Global;
+
+/// A keyword that asserts by itself. It holds of each instance that is of another type than the keyword speaks of.
+#[derive(Drop)]
+pub enum Assertion {
+    /// `type` with one name.
+    Type(Integers, TypeName),
+    /// `type` with a list of names.
+    Types(Integers, TypeList),
+    /// `const`, with its value.
+    Const(HeldValue),
+    /// `enum`, with its value, a list.
+    Enum(HeldValue),
+    /// A keyword that limits numbers, with its limit.
+    Limit(LimitKind, HeldNumber),
+    /// `multipleOf`, with its divisor.
+    MultipleOf(HeldNumber),
+    /// A keyword that limits how many items or members there are, with its limit.
+    Size(SizeKind, u64),
+    /// `uniqueItems` that is true.
+    UniqueItems,
+    /// `dependentRequired`, with its value: an object of lists of names.
+    DependentRequired(HeldValue),
+}
+
+/// Of more items than these `uniqueItems` is not told at once, since without memory each pair of them would be compared.
+const FEW: usize = 8;
+
+impl Assertion {
+    /// Whether it holds of an instance, found without memory: `uniqueItems` compares each pair of items.
+    fn holds_by_pairs(&self, instance: Instance<'_>) -> bool
+        ensures holds { result ≡ holds self.now (subject_of instance.entry) }
+    {
+        match self {
+            Assertion::Type(integers, name) => fits(*integers, *name, instance),
+            Assertion::Types(integers, types) => fits_one(*integers, types, instance),
+            Assertion::Const(constant) => is_constant(constant, instance),
+            Assertion::Enum(values) => is_listed(values, instance),
+            Assertion::Limit(kind, limit) => keeps_limit(*kind, limit, instance),
+            Assertion::MultipleOf(divisor) => is_multiple(divisor, instance),
+            Assertion::Size(kind, limit) => size_fits(*kind, *limit, instance),
+            Assertion::UniqueItems => has_distinct_items_by_pairs(instance),
+            Assertion::DependentRequired(dependents) => has_dependents(dependents, instance),
+        }
+    }
+
+    /// The text of the keyword's one error; of `dependentRequired`, which has an error for each name that is missing, none.
+    fn text(&self, alloc: Global, instance: Instance<'_>) -> Result<String, OutOfMemory>
+        ensures text { IfOk result (λ text. shows_no_fraction self.now ≡ true → subject_has_float (subject_of instance.entry) ≡ false
+            → string_bytes text ≡ error_text self.now (subject_of instance.entry)) }
+    {
+        match self {
+            Assertion::Type(_, name) => type_text(alloc, *name, instance),
+            Assertion::Types(_, types) => types_text(alloc, types.names.as_slice(), instance),
+            Assertion::Const(constant) => constant_text(alloc, constant),
+            Assertion::Enum(values) => listed_text(alloc, values, instance),
+            Assertion::Limit(kind, limit) => limit_text(alloc, *kind, limit, instance),
+            Assertion::MultipleOf(divisor) => multiple_text(alloc, divisor, instance),
+            Assertion::Size(kind, limit) => size_text(alloc, *kind, *limit, instance),
+            Assertion::UniqueItems => distinct_text(alloc, instance),
+            Assertion::DependentRequired(_) => Ok(String::new(alloc)),
+        }
+    }
+}
+
+/// The one text, as a list.
+fn one_text(alloc: Global, text: String) -> Result<Vec<String>, OutOfMemory>
+    ensures one { IfOk result (λ texts. map string_bytes texts.items ≡ string_bytes text ∷ []) }
+{
+    let mut texts = Vec::new(alloc);
+    texts.push(text)?;
+    Ok(texts)
+}
+
+impl TellingKeyword for Assertion {
+    ghost use Rattle.standard_assertions.specs.Assertions.{called, error_texts, shows_no_fraction};
+
+    type Shape = Assertion;
+
+    ghost shape = { λ k. k };
+
+    ghost shows_no_fraction = { shows_no_fraction };
+
+    ghost called = { called };
+
+    ghost error_texts = { error_texts };
+
+    fn name(&self) -> &str {
+        match self {
+            Assertion::Type(_, _) => "type",
+            Assertion::Types(_, _) => "type",
+            Assertion::Const(_) => "const",
+            Assertion::Enum(_) => "enum",
+            Assertion::Limit(kind, _) => kind.name(),
+            Assertion::MultipleOf(_) => "multipleOf",
+            Assertion::Size(kind, _) => kind.name(),
+            Assertion::UniqueItems => "uniqueItems",
+            Assertion::DependentRequired(_) => "dependentRequired",
+        }
+    }
+
+    fn holds_at_once(&self, instance: Instance<'_>) -> Option<bool> {
+        match self {
+            Assertion::UniqueItems if FEW < item_count(instance) => None,
+            _ => Some(self.holds_by_pairs(instance)),
+        }
+    }
+
+    fn holds(&self, alloc: Global, instance: Instance<'_>) -> Result<bool, OutOfMemory> {
+        match self {
+            Assertion::UniqueItems => has_distinct_items(alloc, instance),
+            _ => Ok(self.holds_by_pairs(instance)),
+        }
+    }
+
+    fn texts(&self, alloc: Global, instance: Instance<'_>) -> Result<Vec<String>, OutOfMemory> {
+        match self {
+            Assertion::DependentRequired(dependents) => missing_texts(alloc, dependents, instance),
+            _ => {
+                let text = self.text(alloc, instance)?;
+                one_text(alloc, text)
+            }
+        }
+    }
+}

@@ -1,0 +1,188 @@
+//! `const`, `enum` and `uniqueItems` (JSON Schema Validation 2020-12, 6.1.2, 6.1.3 and 6.4.3).
+ghost use Rattle.std.specs.Prelude.{◌≡◌, ◌++◌, IfOk, false, string_bytes};
+ghost use Rattle.serde_json.specs.Data.{string};
+ghost use Rattle.serde_json.specs.View.{items_view, view};
+ghost use Rattle.serde_json.specs.Written.{compact_text, has_float, items_have_float};
+ghost use Rattle.schema_reports.specs.InstanceTexts.{subject_has_float};
+ghost use Rattle.schema_reports.specs.InstanceViews.{subject_of};
+ghost use Rattle.json_values.specs.Equality.{has_equal};
+ghost use Rattle.standard_assertions.specs.Constants.{constant_text, distinct_text, has_distinct_items, is_constant, is_listed};
+ghost use Rattle.standard_assertions.specs.Constants.{items_in, listed_text, more_values, parting, values_text};
+
+use json_values::distinct::are_all_distinct;
+use json_values::equality::{are_all_distinct_by_pairs, is_among};
+use json_values::held::HeldValue;
+use schema_reports::instance::Instance;
+use schema_reports::location::OutOfMemory;
+use serde_json::Value;
+use std::alloc::Global;
+
+/// Whether an instance equals the constant.
+pub fn is_constant(constant: &HeldValue, instance: Instance<'_>) -> bool
+    ensures constant { result ≡ is_constant constant.now (subject_of instance.entry) }
+{
+    match instance {
+        Instance::Name(name) => constant.equals_text(name),
+        Instance::Value(value) => constant.equals(value),
+    }
+}
+
+/// The error's text for a constant, which it shows.
+///
+/// # Errors
+///
+/// `OutOfMemory` if memory cannot be allocated.
+pub fn constant_text(alloc: Global, constant: &HeldValue) -> Result<String, OutOfMemory>
+    ensures text { IfOk result (λ text. has_float constant.now ≡ false → string_bytes text ≡ constant_text constant.now) }
+{
+    let mut text = constant.text(alloc)?;
+    text.push_str(" was expected")?;
+    Ok(text)
+}
+
+/// The items of a value, if it is a list.
+fn items_in(values: &HeldValue) -> &[Value]
+    ensures items { items_view result.now ≡ items_in values.now }
+{
+    match values.as_value().as_array() {
+        Some(items) => items.as_slice(),
+        None => &[],
+    }
+}
+
+/// Whether a text is one of the values.
+fn is_text_among(text: &str, values: &[Value]) -> bool
+    ensures among { result ≡ has_equal (string text.now) (items_view values.now) }
+{
+    for value in values {
+        if Some(text) == value.as_str() {
+            return true;
+        }
+    }
+    false
+}
+
+/// Whether an instance equals one of the values of a list.
+pub fn is_listed(values: &HeldValue, instance: Instance<'_>) -> bool
+    ensures listed { result ≡ is_listed values.now (subject_of instance.entry) }
+{
+    match instance {
+        Instance::Name(name) => is_text_among(name, items_in(values)),
+        Instance::Value(value) => is_among(value, items_in(values)),
+    }
+}
+
+/// The error's text for a list of values, which it shows.
+///
+/// # Errors
+///
+/// `OutOfMemory` if memory cannot be allocated.
+pub fn listed_text(
+    alloc: Global,
+    values: &HeldValue,
+    instance: Instance<'_>,
+) -> Result<String, OutOfMemory>
+    ensures text { IfOk result (λ text. has_float values.now ≡ false → subject_has_float (subject_of instance.entry) ≡ false
+        → string_bytes text ≡ listed_text values.now (subject_of instance.entry)) }
+{
+    let mut text = instance.text(alloc)?;
+    text.push_str(" is not one of ")?;
+    push_values(alloc, items_in(values), &mut text)?;
+    Ok(text)
+}
+
+/// Adds the values: ` or ` before the last, and `, ` before each other one but the first.
+fn push_values(alloc: Global, values: &[Value], text: &mut String) -> Result<(), OutOfMemory>
+    ensures pushed { IfOk result (λ _. items_have_float (items_view values.now) ≡ false
+        → string_bytes text.new ≡ string_bytes text.old ++ values_text (items_view values.now)) }
+{
+    match values.split_first() {
+        None => Ok(()),
+        Some((first, others)) => {
+            push_value(alloc, "", first, text)?;
+            push_more(alloc, others, text)
+        }
+    }
+}
+
+/// What stands between a value and the one before it, by those that come after.
+fn parting(others: &[Value]) -> &'static str
+    ensures parting { result.now ≡ parting (items_view others.now) }
+{
+    match others.split_first() {
+        None => " or ",
+        Some(_) => ", ",
+    }
+}
+
+/// Adds the values after the first.
+fn push_more(alloc: Global, values: &[Value], text: &mut String) -> Result<(), OutOfMemory>
+    ensures pushed { IfOk result (λ _. items_have_float (items_view values.now) ≡ false
+        → string_bytes text.new ≡ string_bytes text.old ++ more_values (items_view values.now)) }
+{
+    let mut rest = values;
+    while let Some((first, others)) = rest.split_first() {
+        push_value(alloc, parting(others), first, text)?;
+        rest = others;
+    }
+    Ok(())
+}
+
+/// Adds what stands before a value, and the value.
+fn push_value(
+    alloc: Global,
+    before: &str,
+    value: &Value,
+    text: &mut String,
+) -> Result<(), OutOfMemory>
+    ensures pushed { IfOk result (λ _. has_float (view value.now) ≡ false
+        → string_bytes text.new ≡ string_bytes text.old ++ before.now ++ compact_text (view value.now)) }
+{
+    text.push_str(before)?;
+    let shown = value.to_string(alloc)?;
+    text.push_str(shown.as_str())
+}
+
+/// Whether an instance is no list, or a list no two items of which are equal, found without memory by comparing each pair of them.
+pub fn has_distinct_items_by_pairs(instance: Instance<'_>) -> bool
+    ensures distinct { result ≡ has_distinct_items (subject_of instance.entry) }
+{
+    match instance {
+        Instance::Name(_) => true,
+        Instance::Value(value) => match value.as_array() {
+            None => true,
+            Some(items) => are_all_distinct_by_pairs(items.as_slice()),
+        },
+    }
+}
+
+/// Whether an instance is no list, or a list no two items of which are equal.
+///
+/// # Errors
+///
+/// `OutOfMemory` if memory cannot be allocated.
+pub fn has_distinct_items(alloc: Global, instance: Instance<'_>) -> Result<bool, OutOfMemory>
+    ensures distinct { IfOk result (λ distinct. distinct ≡ has_distinct_items (subject_of instance.entry)) }
+{
+    match instance {
+        Instance::Name(_) => Ok(true),
+        Instance::Value(value) => match value.as_array() {
+            None => Ok(true),
+            Some(items) => are_all_distinct(alloc, items.as_slice()),
+        },
+    }
+}
+
+/// The error's text for items that are not distinct.
+///
+/// # Errors
+///
+/// `OutOfMemory` if memory cannot be allocated.
+pub fn distinct_text(alloc: Global, instance: Instance<'_>) -> Result<String, OutOfMemory>
+    ensures text { IfOk result (λ text. subject_has_float (subject_of instance.entry) ≡ false → string_bytes text
+        ≡ distinct_text (subject_of instance.entry)) }
+{
+    let mut text = instance.text(alloc)?;
+    text.push_str(" has non-unique elements")?;
+    Ok(text)
+}

@@ -1,0 +1,138 @@
+//! `dependentRequired` (JSON Schema Validation 2020-12, 6.5.4).
+ghost use Rattle.std.specs.Prelude.{◌≡◌, ◌++◌, IfOk, map, string_bytes};
+ghost use Rattle.serde_json.specs.Find.{as_array};
+ghost use Rattle.serde_json.specs.View.{items_view, members_view, view};
+ghost use Rattle.schema_reports.specs.InstanceViews.{subject_of};
+ghost use Rattle.schema_parts.specs.KeywordViews.{is_nil};
+ghost use Rattle.bench_keywords.specs.Words.{required_text};
+ghost use Rattle.standard_assertions.specs.Dependents.{missing_dependents, missing_names, missing_of, wanted_by_each};
+
+use bench_keywords::required::required_text;
+use json_values::held::HeldValue;
+use keyword_ways::members::has_member;
+use schema_reports::instance::Instance;
+use schema_reports::location::OutOfMemory;
+use serde_json::{Map, Value};
+use std::alloc::Global;
+
+/// Whether an instance has the members of these names. What is no text names none.
+#[tactic(auto, using(crate::proofs::Missing::either_missing))]
+fn has_each(names: &[Value], instance: Instance<'_>) -> bool
+    ensures each { result ≡ is_nil (missing_names (items_view names.now) (subject_of instance.entry)) }
+{
+    for name in names {
+        if let Some(name) = name.as_str() {
+            if !has_member(instance, name) {
+                return false;
+            }
+        }
+    }
+    true
+}
+
+/// Whether an instance has the members that a list names.
+fn has_each_of(names: &Value, instance: Instance<'_>) -> bool
+    ensures each { result ≡ is_nil (missing_of (as_array (view names.now)) (subject_of instance.entry)) }
+{
+    match names.as_array() {
+        Some(names) => has_each(names.as_slice(), instance),
+        None => true,
+    }
+}
+
+/// Whether an instance has, for each of these members that it has, those that the member wants.
+#[tactic(auto, using(crate::proofs::Missing::either_missing))]
+fn meets(dependents: &Map<String, Value>, instance: Instance<'_>) -> bool
+    ensures meets { result ≡ is_nil (wanted_by_each (members_view dependents.now.entries) (subject_of instance.entry)) }
+{
+    for (name, wanted) in dependents.iter() {
+        if has_member(instance, name.as_str()) && !has_each_of(wanted, instance) {
+            return false;
+        }
+    }
+    true
+}
+
+/// Whether no member is missing that a member of an instance wants.
+pub fn has_dependents(dependents: &HeldValue, instance: Instance<'_>) -> bool
+    ensures meets { result ≡ is_nil (missing_dependents dependents.now (subject_of instance.entry)) }
+{
+    match dependents.as_value().as_object() {
+        Some(members) => meets(members, instance),
+        None => true,
+    }
+}
+
+/// Adds the text of the error of each name that an instance has no member of.
+fn push_missing(
+    alloc: Global,
+    names: &[Value],
+    instance: Instance<'_>,
+    texts: &mut Vec<String>,
+) -> Result<(), OutOfMemory>
+    ensures pushed { IfOk result (λ _. map string_bytes texts.new.items ≡ map string_bytes texts.old.items
+        ++ map required_text (missing_names (items_view names.now) (subject_of instance.entry))) }
+{
+    for name in names {
+        if let Some(name) = name.as_str() {
+            if !has_member(instance, name) {
+                texts.push(required_text(alloc, name)?)?;
+            }
+        }
+    }
+    Ok(())
+}
+
+/// Adds the text of the error of each name that a list has and an instance has no member of.
+fn push_missing_of(
+    alloc: Global,
+    names: &Value,
+    instance: Instance<'_>,
+    texts: &mut Vec<String>,
+) -> Result<(), OutOfMemory>
+    ensures pushed { IfOk result (λ _. map string_bytes texts.new.items ≡ map string_bytes texts.old.items
+        ++ map required_text (missing_of (as_array (view names.now)) (subject_of instance.entry))) }
+{
+    match names.as_array() {
+        Some(names) => push_missing(alloc, names.as_slice(), instance, texts),
+        None => Ok(()),
+    }
+}
+
+/// Adds the text of the error of each member that a member of an instance wants and the instance has not.
+fn push_wanted(
+    alloc: Global,
+    dependents: &Map<String, Value>,
+    instance: Instance<'_>,
+    texts: &mut Vec<String>,
+) -> Result<(), OutOfMemory>
+    ensures pushed { IfOk result (λ _. map string_bytes texts.new.items ≡ map string_bytes texts.old.items
+        ++ map required_text (wanted_by_each (members_view dependents.now.entries) (subject_of instance.entry))) }
+{
+    for (name, wanted) in dependents.iter() {
+        if has_member(instance, name.as_str()) {
+            push_missing_of(alloc, wanted, instance, texts)?;
+        }
+    }
+    Ok(())
+}
+
+/// The texts of the errors, one for each name that is missing.
+///
+/// # Errors
+///
+/// `OutOfMemory` if memory cannot be allocated.
+pub fn missing_texts(
+    alloc: Global,
+    dependents: &HeldValue,
+    instance: Instance<'_>,
+) -> Result<Vec<String>, OutOfMemory>
+    ensures texts { IfOk result (λ texts. map string_bytes texts.items
+        ≡ map required_text (missing_dependents dependents.now (subject_of instance.entry))) }
+{
+    let mut texts = Vec::new(alloc);
+    if let Some(members) = dependents.as_value().as_object() {
+        push_wanted(alloc, members, instance, &mut texts)?;
+    }
+    Ok(texts)
+}

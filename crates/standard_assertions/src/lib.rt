@@ -1,0 +1,13 @@
+//! The keywords of JSON Schema Validation that assert by themselves: `type`, `const`, `enum`, the limits of numbers, `multipleOf`, the
+//! limits of sizes, `uniqueItems` and `dependentRequired`, as one keyword type with the table that makes them.
+#![tactic(auto)]
+
+pub mod assertion;
+pub mod constants;
+pub mod dependents;
+pub mod limits;
+pub mod multiples;
+pub mod numbers;
+pub mod sizes;
+pub mod types;
+pub mod values;

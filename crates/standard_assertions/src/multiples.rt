@@ -1,0 +1,46 @@
+//! `multipleOf` (JSON Schema Validation 2020-12, 6.2.1).
+ghost use Rattle.std.specs.Prelude.{◌≡◌, IfOk, false, string_bytes};
+ghost use Rattle.serde_json.specs.Find.{is_float};
+ghost use Rattle.schema_reports.specs.InstanceTexts.{subject_has_float};
+ghost use Rattle.schema_reports.specs.InstanceViews.{subject_of};
+ghost use Rattle.standard_assertions.specs.Multiples.{is_multiple, multiple_text};
+
+use crate::numbers::HeldNumber;
+use json_values::multiples::is_rounded_multiple_of;
+use schema_reports::instance::Instance;
+use schema_reports::location::OutOfMemory;
+use std::alloc::Global;
+
+/// Whether an instance is no number, or a multiple of the divisor: a quotient of integers is exact, and one in which a fraction
+/// takes part is rounded to a float before it is asked whether it is an integer.
+pub fn is_multiple(divisor: &HeldNumber, instance: Instance<'_>) -> bool
+    ensures multiple { result ≡ is_multiple divisor.now (subject_of instance.entry) }
+{
+    match instance {
+        Instance::Name(_) => true,
+        Instance::Value(value) => match value.as_number() {
+            Some(number) => is_rounded_multiple_of(number, divisor.as_number()),
+            None => true,
+        },
+    }
+}
+
+/// The error's text.
+///
+/// # Errors
+///
+/// `OutOfMemory` if memory cannot be allocated.
+pub fn multiple_text(
+    alloc: Global,
+    divisor: &HeldNumber,
+    instance: Instance<'_>,
+) -> Result<String, OutOfMemory>
+    ensures text { IfOk result (λ text. is_float divisor.now ≡ false → subject_has_float (subject_of instance.entry) ≡ false
+        → string_bytes text ≡ multiple_text divisor.now (subject_of instance.entry)) }
+{
+    let mut text = instance.text(alloc)?;
+    text.push_str(" is not a multiple of ")?;
+    let divisor = divisor.text(alloc)?;
+    text.push_str(divisor.as_str())?;
+    Ok(text)
+}

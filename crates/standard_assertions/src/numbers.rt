@@ -1,0 +1,59 @@
+//! A number of a schema: a limit, or the value of `multipleOf`.
+ghost use Rattle.std.specs.Prelude.{◌≡◌, IfOk, false, option_map, string_bytes};
+ghost use Rattle.serde_json.specs.Find.{as_number, is_float};
+ghost use Rattle.serde_json.specs.View.{number_view, view};
+ghost use Rattle.serde_json.specs.Written.{number_text};
+
+use schema_reports::location::OutOfMemory;
+use serde_json::{Number, Value};
+use std::alloc::Global;
+use std::marker::Model;
+
+/// A number that is kept, as a keyword keeps its limit. Contracts see the number alone, so that a keyword that holds one is its
+/// own shape.
+#[derive(Drop)]
+pub struct HeldNumber {
+    number: Number,
+}
+
+impl Model for HeldNumber {
+    ghost use Rattle.serde_json.specs.Data.{Num};
+    ghost use Rattle.serde_json.specs.View.{number_view as number_of};
+    ghost use Rattle.standard_assertions.specs.NumberCoding.{number_code};
+
+    ghost Value = { Num };
+
+    ghost coded = { number_code };
+
+    ghost view = { λ held. number_of held.number };
+}
+
+impl HeldNumber {
+    /// The number that a value is, if it is one.
+    pub fn of(value: &Value) -> Option<HeldNumber>
+        ensures held { result ≡ as_number (view value.now) }
+    {
+        match value.as_number() {
+            Some(number) => Some(HeldNumber { number: *number }),
+            None => None,
+        }
+    }
+
+    /// The number.
+    pub fn as_number(&self) -> &Number
+        ensures number { number_view result.now ≡ self.now }
+    {
+        &self.number
+    }
+
+    /// The number as it is written in compact JSON. Nothing is said of the digits of a fraction.
+    ///
+    /// # Errors
+    ///
+    /// `OutOfMemory` if memory cannot be allocated.
+    pub fn text(&self, alloc: Global) -> Result<String, OutOfMemory>
+        ensures text { IfOk result (λ s. is_float self.now ≡ false → string_bytes s ≡ number_text self.now) }
+    {
+        Value::Number(self.number).to_string(alloc)
+    }
+}

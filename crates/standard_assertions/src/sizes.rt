@@ -1,0 +1,127 @@
+//! `minItems`, `maxItems` and `maxProperties` (JSON Schema Validation 2020-12, 6.4.1, 6.4.2 and 6.5.1).
+ghost use Rattle.std.specs.Prelude.{◌≡◌, ◌==◌, IfOk, None, Some, false, if◌then◌else◌, string_bytes};
+ghost use Rattle.schema_reports.specs.InstanceTexts.{subject_has_float};
+ghost use Rattle.schema_reports.specs.InstanceViews.{subject_of};
+ghost use Rattle.keyword_ways.specs.Items.{is_list, item_count};
+ghost use Rattle.standard_assertions.specs.Sizes.{allows, many_counted, one_counted, size_fits, size_name, size_of, size_text, size_words};
+
+use bench_keywords::counts::{members_count, push_decimal};
+use keyword_ways::items::{is_list, item_count};
+use schema_reports::instance::Instance;
+use schema_reports::location::OutOfMemory;
+use std::alloc::Global;
+
+/// A keyword that limits how many items or members there are.
+#[derive(Clone, Copy)]
+pub enum SizeKind {
+    MinItems,
+    MaxItems,
+    MaxProperties,
+}
+
+impl SizeKind {
+    /// The keyword's name.
+    pub fn name(self) -> &'static str
+        ensures name { result.now ≡ size_name self }
+    {
+        match self {
+            SizeKind::MinItems => "minItems",
+            SizeKind::MaxItems => "maxItems",
+            SizeKind::MaxProperties => "maxProperties",
+        }
+    }
+
+    /// What stands before the limit in the error's text.
+    fn words(self) -> &'static str
+        ensures words { result.now ≡ size_words self }
+    {
+        match self {
+            SizeKind::MinItems => " has less than ",
+            SizeKind::MaxItems => " has more than ",
+            SizeKind::MaxProperties => " has more than ",
+        }
+    }
+
+    /// What stands after the limit.
+    fn counted(self, limit: u64) -> &'static str
+        ensures counted { result.now ≡ (if limit == 1 then one_counted self else many_counted self) }
+    {
+        if limit == 1 {
+            match self {
+                SizeKind::MinItems => " item",
+                SizeKind::MaxItems => " item",
+                SizeKind::MaxProperties => " property",
+            }
+        } else {
+            match self {
+                SizeKind::MinItems => " items",
+                SizeKind::MaxItems => " items",
+                SizeKind::MaxProperties => " properties",
+            }
+        }
+    }
+
+    /// Whether so many are allowed.
+    fn allows(self, limit: u64, size: usize) -> bool
+        ensures allows { result ≡ allows self limit size }
+    {
+        match self {
+            SizeKind::MinItems => limit <= size as u64,
+            SizeKind::MaxItems => size as u64 <= limit,
+            SizeKind::MaxProperties => size as u64 <= limit,
+        }
+    }
+
+    /// How many items or members an instance has, where they are counted.
+    fn size_of(self, instance: Instance<'_>) -> Option<usize>
+        ensures size { result ≡ size_of self (subject_of instance.entry) }
+    {
+        match self {
+            SizeKind::MinItems => items_count(instance),
+            SizeKind::MaxItems => items_count(instance),
+            SizeKind::MaxProperties => members_count(instance),
+        }
+    }
+}
+
+/// How many items an instance has, where it is a list.
+fn items_count(instance: Instance<'_>) -> Option<usize>
+    ensures count { result ≡ (if is_list (subject_of instance.entry) then Some (item_count (subject_of instance.entry)) else None) }
+{
+    if is_list(instance) {
+        Some(item_count(instance))
+    } else {
+        None
+    }
+}
+
+/// Whether an instance has as many items or members as are allowed; what has none of them is accepted.
+pub fn size_fits(kind: SizeKind, limit: u64, instance: Instance<'_>) -> bool
+    ensures fits { result ≡ size_fits kind limit (subject_of instance.entry) }
+{
+    match kind.size_of(instance) {
+        Some(size) => kind.allows(limit, size),
+        None => true,
+    }
+}
+
+/// The error's text.
+///
+/// # Errors
+///
+/// `OutOfMemory` if memory cannot be allocated.
+pub fn size_text(
+    alloc: Global,
+    kind: SizeKind,
+    limit: u64,
+    instance: Instance<'_>,
+) -> Result<String, OutOfMemory>
+    ensures text { IfOk result (λ text. subject_has_float (subject_of instance.entry) ≡ false → string_bytes text
+        ≡ size_text kind limit (subject_of instance.entry)) }
+{
+    let mut text = instance.text(alloc)?;
+    text.push_str(kind.words())?;
+    push_decimal(&mut text, limit)?;
+    text.push_str(kind.counted(limit))?;
+    Ok(text)
+}

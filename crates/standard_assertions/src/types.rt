@@ -1,0 +1,67 @@
+//! `type` (JSON Schema Validation 2020-12, 6.1.1).
+ghost use Rattle.std.specs.Prelude.{◌≡◌};
+ghost use Rattle.schema_reports.specs.InstanceViews.{subject_of};
+ghost use Rattle.schema_reports.specs.Owned.{value_of};
+ghost use Rattle.standard_assertions.specs.Types.{fits, fits_one, is_integer_valued};
+
+use bench_keywords::type_names::TypeName;
+use json_values::multiples::is_integer_valued;
+use schema_reports::instance::Instance;
+use std::marker::Model;
+
+/// Which numbers are integers.
+#[derive(Clone, Copy)]
+pub enum Integers {
+    /// Those that are written with no fraction and no exponent, as draft 4 has it.
+    Written,
+    /// Those whose value has no fraction, as every later draft has it: 1.0 is one.
+    Valued,
+}
+
+/// A list of types. Contracts see the types alone, so that a keyword that holds one is its own shape.
+#[derive(Drop)]
+pub struct TypeList {
+    pub names: Vec<TypeName>,
+}
+
+impl Model for TypeList {
+    ghost use Rattle.std.specs.Prelude.{List};
+    ghost use Rattle.bench_keywords.specs.declared.type_names.TypeName.{TypeName};
+
+    ghost Value = { List TypeName };
+
+    ghost view = { λ types. types.names.items };
+}
+
+/// Whether an instance is of the type; a name is a text.
+pub fn fits(integers: Integers, name: TypeName, instance: Instance<'_>) -> bool
+    ensures fits { result ≡ fits integers name (subject_of instance.entry) }
+{
+    match integers {
+        Integers::Written => name.fits(instance),
+        Integers::Valued => match name {
+            TypeName::Integer => is_integer(instance),
+            _ => name.fits(instance),
+        },
+    }
+}
+
+/// Whether an instance is a number with no fraction.
+fn is_integer(instance: Instance<'_>) -> bool
+    ensures integer { result ≡ is_integer_valued (value_of (subject_of instance.entry)) }
+{
+    match instance {
+        Instance::Name(_) => false,
+        Instance::Value(value) => is_integer_valued(value),
+    }
+}
+
+/// Whether an instance is of one of the types.
+pub fn fits_one(integers: Integers, types: &TypeList, instance: Instance<'_>) -> bool
+    ensures fits { result ≡ fits_one integers types.now (subject_of instance.entry) }
+{
+    types
+        .names
+        .iter()
+        .any(|name| fits(integers, *name, instance))
+}

@@ -1,0 +1,242 @@
+//! The values of these keywords, as their draft reads them.
+ghost use Rattle.std.specs.Prelude.{◌≡◌, IfOk, option_and_then, option_map};
+ghost use Rattle.serde_json.specs.Find.{as_array, as_number, as_object};
+ghost use Rattle.serde_json.specs.View.{items_view, members_view, number_view, view};
+ghost use Rattle.schema_keywords.specs.KeywordViews.{draft_of};
+ghost use Rattle.standard_assertions.specs.Values.{are_text_lists, are_texts, dependents_made, enum_made, has_text_lists, integers_of};
+ghost use Rattle.standard_assertions.specs.Values.{is_any_text_list, is_draft_4, limit_made, multiple_made, natural_of, size_limit};
+ghost use Rattle.standard_assertions.specs.Values.{size_made, type_made, type_named, type_of, types_of};
+
+use crate::assertion::Assertion;
+use crate::limits::LimitKind;
+use crate::numbers::HeldNumber;
+use crate::sizes::SizeKind;
+use crate::types::{Integers, TypeList};
+use bench_keywords::type_names::TypeName;
+use json_values::held::HeldValue;
+use json_values::multiples::is_whole;
+use json_values::numbers::{is_at_most, is_less};
+use schema_keywords::keywords::Draft;
+use schema_reports::location::OutOfMemory;
+use serde_json::{Map, Number, Value};
+use std::alloc::Global;
+use std::num::saturating_f64_to_u64;
+
+/// Whether the draft takes numbers as they are written.
+pub fn is_draft_4(draft: Draft) -> bool
+    ensures draft_4 { result ≡ is_draft_4 (draft_of draft) }
+{
+    matches!(draft, Draft::Draft4)
+}
+
+/// Which numbers are integers in a draft.
+pub fn integers_of(draft: Draft) -> Integers
+    ensures integers { result ≡ integers_of (draft_of draft) }
+{
+    if is_draft_4(draft) {
+        Integers::Written
+    } else {
+        Integers::Valued
+    }
+}
+
+/// The type of this name.
+fn type_named(name: &str) -> Option<TypeName>
+    ensures named { result ≡ type_named name.now }
+{
+    if name == "null" {
+        Some(TypeName::Null)
+    } else if name == "boolean" {
+        Some(TypeName::Boolean)
+    } else if name == "integer" {
+        Some(TypeName::Integer)
+    } else if name == "number" {
+        Some(TypeName::Number)
+    } else if name == "string" {
+        Some(TypeName::Text)
+    } else if name == "array" {
+        Some(TypeName::Array)
+    } else if name == "object" {
+        Some(TypeName::Object)
+    } else {
+        None
+    }
+}
+
+/// The type that a value names.
+fn type_of(value: &Value) -> Option<TypeName>
+    ensures named { result ≡ type_of (view value.now) }
+{
+    match value.as_str() {
+        Some(name) => type_named(name),
+        None => None,
+    }
+}
+
+/// The types that values name, if each names one.
+fn types_of(alloc: Global, values: &[Value]) -> Result<Option<TypeList>, OutOfMemory>
+    ensures named { IfOk result (λ types. types ≡ types_of (items_view values.now)) }
+{
+    let mut names = Vec::new(alloc);
+    for value in values {
+        match type_of(value) {
+            Some(name) => names.push(name)?,
+            None => return Ok(None),
+        }
+    }
+    Ok(Some(TypeList { names }))
+}
+
+/// `type`.
+pub fn type_made(
+    alloc: Global,
+    integers: Integers,
+    value: &Value,
+) -> Result<Option<Assertion>, OutOfMemory>
+    ensures made { IfOk result (λ made. made ≡ type_made integers (view value.now)) }
+{
+    match value {
+        Value::String(name) => match type_named(name.as_str()) {
+            Some(name) => Ok(Some(Assertion::Type(integers, name))),
+            None => Ok(None),
+        },
+        Value::Array(values) => match types_of(alloc, values.as_slice())? {
+            Some(types) => Ok(Some(Assertion::Types(integers, types))),
+            None => Ok(None),
+        },
+        _ => Ok(None),
+    }
+}
+
+/// `enum`.
+pub fn enum_made(alloc: Global, value: &Value) -> Result<Option<Assertion>, OutOfMemory>
+    ensures made { IfOk result (λ made. made ≡ enum_made (view value.now)) }
+{
+    if value.is_array() {
+        let values = HeldValue::of(alloc, value)?;
+        Ok(Some(Assertion::Enum(values)))
+    } else {
+        Ok(None)
+    }
+}
+
+/// A keyword that limits numbers.
+pub fn limit_made(kind: LimitKind, value: &Value) -> Option<Assertion>
+    ensures made { result ≡ limit_made kind (view value.now) }
+{
+    match HeldNumber::of(value) {
+        Some(limit) => Some(Assertion::Limit(kind, limit)),
+        None => None,
+    }
+}
+
+/// `multipleOf`.
+pub fn multiple_made(value: &Value) -> Option<Assertion>
+    ensures made { result ≡ multiple_made (view value.now) }
+{
+    let divisor = HeldNumber::of(value)?;
+    if is_less(&Number::from(0u64), divisor.as_number()) {
+        Some(Assertion::MultipleOf(divisor))
+    } else {
+        None
+    }
+}
+
+/// The natural number that a number is, if it is one: 2.0 is 2. One past the largest `u64`, which no size reaches, counts as
+/// that.
+fn natural_of(number: &Number) -> Option<u64>
+    ensures natural { result ≡ natural_of (number_view number.now) }
+{
+    if let Some(natural) = number.as_u64() {
+        return Some(natural);
+    }
+    if !number.is_f64() {
+        return None;
+    }
+    let fraction = number.as_f64()?;
+    if is_whole(number) && is_at_most(&Number::from(0u64), number) {
+        Some(saturating_f64_to_u64(fraction))
+    } else {
+        None
+    }
+}
+
+/// The limit of sizes that a value is, as the draft reads it.
+fn size_limit(draft: Draft, value: &Value) -> Option<u64>
+    ensures limit { result ≡ size_limit (draft_of draft) (view value.now) }
+{
+    if is_draft_4(draft) {
+        value.as_u64()
+    } else {
+        match value.as_number() {
+            Some(number) => natural_of(number),
+            None => None,
+        }
+    }
+}
+
+/// A keyword that limits how many items or members there are.
+pub fn size_made(kind: SizeKind, draft: Draft, value: &Value) -> Option<Assertion>
+    ensures made { result ≡ size_made kind (draft_of draft) (view value.now) }
+{
+    match size_limit(draft, value) {
+        Some(limit) => Some(Assertion::Size(kind, limit)),
+        None => None,
+    }
+}
+
+/// Whether these are texts.
+fn are_texts(values: &[Value]) -> bool
+    ensures texts { result ≡ are_texts (items_view values.now) }
+{
+    for value in values {
+        if !value.is_string() {
+            return false;
+        }
+    }
+    true
+}
+
+/// Whether a value is a list of texts.
+fn is_text_list(value: &Value) -> bool
+    ensures list { result ≡ is_any_text_list (as_array (view value.now)) }
+{
+    match value.as_array() {
+        Some(values) => are_texts(values.as_slice()),
+        None => false,
+    }
+}
+
+/// Whether the value of each member is a list of texts.
+fn are_text_lists(members: &Map<String, Value>) -> bool
+    ensures lists { result ≡ are_text_lists (members_view members.now.entries) }
+{
+    for (_, value) in members.iter() {
+        if !is_text_list(value) {
+            return false;
+        }
+    }
+    true
+}
+
+/// `dependentRequired`.
+pub fn dependents_made(alloc: Global, value: &Value) -> Result<Option<Assertion>, OutOfMemory>
+    ensures made { IfOk result (λ made. made ≡ dependents_made (view value.now)) }
+{
+    if has_text_lists(value) {
+        let dependents = HeldValue::of(alloc, value)?;
+        Ok(Some(Assertion::DependentRequired(dependents)))
+    } else {
+        Ok(None)
+    }
+}
+
+/// Whether a value is an object whose members are lists of texts.
+fn has_text_lists(value: &Value) -> bool
+    ensures lists { result ≡ has_text_lists (as_object (view value.now)) }
+{
+    match value.as_object() {
+        Some(members) => are_text_lists(members),
+        None => false,
+    }
+}
