@@ -1,0 +1,5 @@
+pub mod CompiledViews
+pub mod Ecma
+pub mod EcmaViews
+pub mod RegexMatching
+pub mod SchemaPatterns

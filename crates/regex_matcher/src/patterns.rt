@@ -1,0 +1,120 @@
+//! The patterns of documents, each compiled once.
+ghost use Rattle.std.specs.Prelude.{◌≡◌, ◌++◌, ◌∷◌, [], IfErr, IfOk, IfSome, map, option_map, slice_get};
+ghost use Rattle.serde_json.specs.View.{view};
+ghost use Rattle.regex_matcher.specs.RegexMatching.{first_unreadable};
+ghost use Rattle.regex_matcher.specs.SchemaPatterns.{IsAdded, IsFaultOf, patterns_of};
+
+use crate::compiled::Compiled;
+use crate::documents::patterns_of;
+use crate::error::PatternError;
+use schema_reports::location::OutOfMemory;
+use serde_json::Value;
+use std::alloc::Global;
+use std::collections::HashMap;
+use std::marker::Model;
+
+/// A table of patterns, each compiled once.
+#[derive(Drop)]
+pub struct Patterns {
+    compiled: Vec<Compiled>,
+    places: HashMap<String, usize>,
+}
+
+impl Model for Patterns {
+    ghost use Rattle.std.specs.Prelude.{List};
+    ghost use Rattle.schema_definitions.specs.Instance.{Text};
+
+    ghost Value = { List Text };
+
+    ghost view = { λ p. p.compiled.items };
+}
+
+impl Patterns {
+    /// A table of no patterns.
+    pub fn new(alloc: Global) -> Patterns
+        ensures { result ≡ [] }
+    {
+        Patterns {
+            compiled: Vec::new(alloc),
+            places: HashMap::new(alloc),
+        }
+    }
+
+    /// Returns a table of the patterns of documents: each text under a member `pattern` and each member's name under a member
+    /// `patternProperties`, wherever they stand. One that cannot be read is no error: `first_unreadable` tells it.
+    ///
+    /// # Errors
+    ///
+    /// Fails if memory cannot be allocated, or if one of them can be read and is too big to compile.
+    pub fn for_schemas(alloc: Global, documents: &[&Value]) -> Result<Patterns, PatternError>
+        ensures patterns { IfOk result (IsAdded [] (patterns_of (map (λ d. view d.now) documents.now))) }
+        ensures fault { IfErr result (IsFaultOf (patterns_of (map (λ d. view d.now) documents.now))) }
+    {
+        let texts = patterns_of(alloc, documents)?;
+        let mut patterns = Patterns::new(alloc);
+        for text in texts.as_slice() {
+            patterns.add(alloc, text.as_str())?;
+        }
+        Ok(patterns)
+    }
+
+    /// Compiles a pattern, if it is not in the table.
+    ///
+    /// # Errors
+    ///
+    /// Fails if memory cannot be allocated, or if it can be read and is too big to compile. Then the table is as it was.
+    pub fn add(&mut self, alloc: Global, pattern: &str) -> Result<(), PatternError>
+        ensures added { IfOk result (λ _. IsAdded self.old (pattern.now ∷ []) self.new) }
+        ensures fault { IfErr result (IsFaultOf (pattern.now ∷ [])) }
+        ensures kept { IfErr result (λ _. self.new ≡ self.old) }
+    {
+        if self.place_of(pattern).is_some() {
+            return Ok(());
+        }
+        let compiled = Compiled::new(alloc, pattern)?;
+        let name = String::from_str(alloc, pattern)?;
+        self.keep(name, compiled)?;
+        Ok(())
+    }
+
+    // Adds a compiled pattern, under this name.
+    fn keep(&mut self, name: String, compiled: Compiled) -> Result<(), OutOfMemory>
+        ensures added { IfOk result (λ _. self.new ≡ self.old ++ compiled ∷ []) }
+        ensures kept { IfErr result (λ _. self.new ≡ self.old) }
+    {
+        self.places.insert(name, self.compiled.len())?;
+        self.compiled.push(compiled)?;
+        Ok(())
+    }
+
+    /// Where a pattern stands in the table, if it does.
+    pub fn place_of(&self, pattern: &str) -> Option<usize>
+        ensures place { IfSome result (λ i. slice_get self.now i ≡ Some pattern.now) }
+    {
+        let place = *self.places.get(pattern)?;
+        let compiled = self.compiled.get(place)?;
+        if compiled.source() != pattern {
+            return None;
+        }
+        Some(place)
+    }
+
+    /// The first pattern of the table that cannot be read, if there is one.
+    pub fn first_unreadable(&self) -> Option<&str>
+        ensures first { option_map (λ t. t.now) result ≡ first_unreadable self.now }
+    {
+        for compiled in self.compiled.as_slice() {
+            if !compiled.is_readable() {
+                return Some(compiled.source());
+            }
+        }
+        None
+    }
+
+    /// The compiled patterns, each at its place.
+    pub fn compiled(&self) -> &[Compiled]
+        ensures compiled { result.now ≡ self.now }
+    {
+        self.compiled.as_slice()
+    }
+}

@@ -1,0 +1,36 @@
+//! Whether a text is a pattern, by reading it alone.
+ghost use Rattle.std.specs.Prelude.{◌≡◌, IfOk, is_some};
+ghost use Rattle.regex_matcher.specs.RegexMatching.{is_readable, read_in};
+
+use crate::ecma::translate;
+use regex_syntax::{Config, ErrorKind};
+use schema_reports::location::OutOfMemory;
+use std::alloc::{AllocError, Global};
+
+/// Whether a text is a pattern that can be read. A table can refuse the others, with the place where they stand. One that is read
+/// may still be too big to compile: `Patterns::add` says so.
+///
+/// # Errors
+///
+/// Fails only if memory cannot be allocated.
+pub fn is_readable(alloc: Global, text: &str) -> Result<bool, OutOfMemory>
+    ensures readable { IfOk result (λ b. b ≡ is_readable text.now) }
+{
+    let Some(translated) = translate(alloc, text)? else {
+        return Ok(false);
+    };
+    is_read(alloc, translated.as_str())
+}
+
+// Whether the parser of the kit's `regex` reads a text.
+fn is_read(alloc: Global, text: &str) -> Result<bool, OutOfMemory>
+    ensures read { IfOk result (λ b. b ≡ is_some (read_in text.now)) }
+{
+    match regex_syntax::parse(alloc, text, &Config::default()) {
+        Ok(_) => Ok(true),
+        Err(error) => match error.kind {
+            ErrorKind::OutOfMemory => Err(AllocError {}),
+            _ => Ok(false),
+        },
+    }
+}
