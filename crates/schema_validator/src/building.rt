@@ -20,7 +20,8 @@ use std::alloc::Global;
 
 impl<K: Validate, M: Matcher> Validator<K, M> {
     /// Returns the default options: schemas are checked, nothing else is set, no vocabulary is declared, 65,536 keys may be
-    /// reached, 8 targets of references are compiled one inside another, and a call makes 64 runs at most. Allocates nothing.
+    /// reached, 8 targets of references are compiled one inside another, and a call makes 64 runs at most for unfinished matches.
+    /// Allocates nothing.
     pub fn options(alloc: Global) -> ValidationOptions
         ensures defaults { result ≡ default_options }
     {

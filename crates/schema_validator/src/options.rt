@@ -22,8 +22,8 @@ const DEFAULT_NESTED_LIMIT: usize = 8;
 
 /// How a schema is compiled, and how much a call of the validator may do: the draft and the base of its root, whether the meta
 /// validators check it, whether formats are checked, which custom vocabularies are declared, how many keys may be reached, how many
-/// targets of references are compiled one inside another, and how many runs a call makes at most. What is not set is left to schema
-/// and resolver.
+/// targets of references are compiled one inside another, and how many runs a call makes at most for unfinished matches. What is not
+/// set is left to schema and resolver.
 #[derive(Drop)]
 pub struct ValidationOptions {
     draft: Option<Draft>,
@@ -57,7 +57,8 @@ impl Model for ValidationOptions {
 
 impl ValidationOptions {
     /// Returns the default options: schemas are checked, nothing else is set, no vocabulary is declared, 65,536 keys may be
-    /// reached, 8 targets of references are compiled one inside another, and a call makes 64 runs at most. Allocates nothing.
+    /// reached, 8 targets of references are compiled one inside another, and a call makes 64 runs at most for unfinished matches.
+    /// Allocates nothing.
     pub fn new(alloc: Global) -> ValidationOptions
         ensures defaults { result ≡ default_options }
     {
@@ -106,9 +107,11 @@ impl ValidationOptions {
         options
     }
 
-    /// Lets a call of the validator make so many runs at most, the first one among them. Where matches stay unfinished that a run
-    /// meets, it makes further ones; with k such matches it decides where `limit` is 2 ^ (k + 1) - 1 or more. Past the limit
-    /// `is_valid` answers no, and the other calls give the failure. Allocates nothing.
+    /// Lets a call of the validator make so many runs for unfinished matches at most, the first one among them. Where matches stay
+    /// unfinished that a run meets, it makes further ones; with k such matches it decides where `limit` is 2 ^ (k + 1) - 1 or more.
+    /// Past the limit `is_valid` answers no, and the other calls give the failure. Not counted is the verdict that `validate` and
+    /// `iter_errors` ask first where the matcher says that it finishes every match: there that is one run more, or a solver's.
+    /// Allocates nothing.
     pub fn with_run_limit(self, limit: u32) -> ValidationOptions
         requires some { 1 ≤ limit }
         ensures runs { result ≡ record self { runs = limit } }

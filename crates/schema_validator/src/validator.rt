@@ -144,7 +144,7 @@ impl<K: Validate, M: Matcher> Validator<K, M> {
         }
     }
 
-    /// Returns how many runs a call makes at most.
+    /// Returns how many runs a call makes at most for unfinished matches, the first one among them.
     pub fn run_limit(&self) -> u32
         ensures runs { result ≡ self.now.runs }
     {
@@ -289,7 +289,7 @@ impl<K: Validate, M: Matcher> Validator<K, M> {
         }
         validity_under_each(
             alloc,
-            |matches| self.verdict(alloc, instance, matches),
+            &mut |matches| self.verdict(alloc, instance, matches),
             first,
             self.run_limit,
         )
@@ -372,7 +372,7 @@ impl<K: Validate, M: Matcher> Validator<K, M> {
     {
         let shared = errors_under_each(
             alloc,
-            |matches| self.errors(alloc, instance, matches),
+            &mut |matches| self.errors(alloc, instance, matches),
             first,
             self.run_limit,
             instance,

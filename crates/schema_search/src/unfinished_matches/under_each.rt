@@ -6,6 +6,7 @@ ghost use Rattle.schema_meaning.specs.Headline.{ErrorsOf, FirstSays, VerdictSays
 ghost use Rattle.schema_meaning.specs.Members.{Follows, is_nil, verdict_of};
 ghost use Rattle.schema_search.specs.Outcomes.{errors_in, none_in};
 ghost use Rattle.schema_definitions.specs.Runs.{first_error};
+ghost use Rattle.schema_meaning.specs.Search.{UsesBelow};
 ghost use Rattle.schema_meaning.specs.Searched.{IsRunOf, WantsAllLater};
 ghost use Rattle.schema_search.specs.SearchGives.{GivesErrors};
 ghost use Rattle.schema_meaning.specs.Shared.{EachAccepts, errors_of};
@@ -19,33 +20,35 @@ use serde_json::Value;
 use std::alloc::Global;
 
 /// Returns `true` if the instance is valid however the unfinished matches come out, and `false` if it is not, or if the call
-/// cannot decide within so many runs, the first one among them. The first run has been made, and met an unfinished match. Fails if a
-/// run fails, or if memory cannot be allocated.
+/// cannot decide within so many runs, the first one among them. The first run has been made, and met an unfinished match. With it no
+/// more runs are made than the limit says, also where it fails. Fails if a run fails, or if memory cannot be allocated.
 pub fn validity_under_each<
     'i,
     F: FnMut(MatchAssumptions<'i>) -> Result<(MatchAssumptions<'i>, bool), OutOfMemory>,
 >(
     alloc: Global,
-    mut run: F,
+    run: &mut F,
     first: (MatchAssumptions<'i>, bool),
     run_limit: u32,
 ) -> Result<bool, OutOfMemory>
-    requires callable { F.IsAlwaysCallable run }
+    requires callable { F.IsAlwaysCallable run.old }
     requires met { IsSome first.0.unassumed }
     requires limit { 1 ≤ run_limit }
     ensures says { (v : Sense) (call : Call) → Follows v
-        → IsRunOf v call (λ s x m t end. F.step s x (Ok (m, t)) end) first.entry.0 run (λ (b : Bool). b) (verdict_of v)
+        → IsRunOf v call (λ s x m t end. F.step s x (Ok (m, t)) end) first.entry.0 run.old (λ (b : Bool). b) (verdict_of v)
         → IfOk result (λ b. VerdictSays v run_limit call b) }
     ensures exactly { (v : Sense) (call : Call) → Follows v
-        → IsRunOf v call (λ s x m t end. F.step s x (Ok (m, t)) end) first.entry.0 run (λ (b : Bool). b) (verdict_of v)
+        → IsRunOf v call (λ s x m t end. F.step s x (Ok (m, t)) end) first.entry.0 run.old (λ (b : Bool). b) (verdict_of v)
         → IfOk result (λ b. (b ≡ true) ↔ (Decides v run_limit call × EachAccepts v)) }
+    ensures uses { UsesBelow run_limit F.step run.old run.new }
 {
-    Ok(validity(assume_each_outcome(alloc, &mut run, first, run_limit)?))
+    Ok(validity(assume_each_outcome(alloc, run, first, run_limit)?))
 }
 
 /// Returns the errors that the instance has however the unfinished matches come out; if there is no such error although the
 /// instance is not always valid, or if the call cannot decide within so many runs, the first one among them, it returns one failure.
-/// The first run has been made, and met an unfinished match. Fails if a run fails, or if memory cannot be allocated.
+/// The first run has been made, and met an unfinished match. With it no more runs are made than the limit says, also where it fails.
+/// Fails if a run fails, or if memory cannot be allocated.
 pub fn errors_under_each<
     'i,
     F: FnMut(
@@ -53,27 +56,28 @@ pub fn errors_under_each<
     ) -> Result<(MatchAssumptions<'i>, Vec<ValidationError<'i>>), OutOfMemory>,
 >(
     alloc: Global,
-    mut run: F,
+    run: &mut F,
     first: (MatchAssumptions<'i>, Vec<ValidationError<'i>>),
     run_limit: u32,
     root: &'i Value,
 ) -> Result<Vec<ValidationError<'i>>, OutOfMemory>
-    requires callable { F.IsAlwaysCallable run }
+    requires callable { F.IsAlwaysCallable run.old }
     requires met { IsSome first.0.unassumed }
     requires limit { 1 ≤ run_limit }
     ensures errors { (v : Sense) (call : Call) → WantsAllLater call → Follows v
-        → IsRunOf v call (λ s x m t end. F.step s x (Ok (m, t)) end) first.entry.0 run errors_in (errors_of v)
+        → IsRunOf v call (λ s x m t end. F.step s x (Ok (m, t)) end) first.entry.0 run.old errors_in (errors_of v)
         → IfOk result (λ es. ErrorsOf v run_limit call (errors_in es)) }
     ensures first { (v : Sense) → Follows v
-        → IsRunOf v validate (λ s x m t end. F.step s x (Ok (m, t)) end) first.entry.0 run errors_in (errors_of v)
+        → IsRunOf v validate (λ s x m t end. F.step s x (Ok (m, t)) end) first.entry.0 run.old errors_in (errors_of v)
         → IfOk result (λ es. FirstSays v run_limit (first_error (errors_in es))) }
     ensures verdict { (v : Sense) (call : Call) → Follows v
-        → IsRunOf v call (λ s x m t end. F.step s x (Ok (m, t)) end) first.entry.0 run none_in (λ m. is_nil (errors_of v m))
+        → IsRunOf v call (λ s x m t end. F.step s x (Ok (m, t)) end) first.entry.0 run.old none_in (λ m. is_nil (errors_of v m))
         → IfOk result (λ es. VerdictSays v run_limit call (none_in es)) }
     ensures gives { (v : Sense) (call : Call)
-        → IsRunOf v call (λ s x m t end. F.step s x (Ok (m, t)) end) first.entry.0 run none_in (λ m. is_nil (errors_of v m))
-        → IfOk result (λ es. GivesErrors v call run_limit (λ s x m t end. F.step s x (Ok (m, t)) end) run (view root.now) es.items) }
+        → IsRunOf v call (λ s x m t end. F.step s x (Ok (m, t)) end) first.entry.0 run.old none_in (λ m. is_nil (errors_of v m))
+        → IfOk result (λ es. GivesErrors v call run_limit (λ s x m t end. F.step s x (Ok (m, t)) end) run.old (view root.now) es.items) }
+    ensures uses { UsesBelow run_limit F.step run.old run.new }
 {
-    let outcomes = assume_each_outcome(alloc, &mut run, first, run_limit)?;
+    let outcomes = assume_each_outcome(alloc, run, first, run_limit)?;
     Ok(errors(alloc, outcomes, root)?)
 }
