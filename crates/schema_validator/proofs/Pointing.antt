@@ -35,7 +35,7 @@ use Rattle.schema_validator.specs.Compiled.{IsWhole}
 use Rattle.schema_validator.specs.ProgramOf.{IsProgramFrom, IsProgramOf}
 use Rattle.schema_keys.specs.Compiling.{no_keywords, no_matcher}
 use Rattle.schema_validator.specs.Handed.{Options, parts_of}
-use Rattle.schema_validator.specs.Promised.{MeansSchema, OfSchema, PointsFromKey, PointsIntoSchema}
+use Rattle.schema_validator.specs.Promised.{MeansSchema, OfSchema, PointsFromKey, PointsIntoSchema, UnitsPointFromKey, UnitsPointIntoSchema}
 use Rattle.schema_validator.specs.Pointing.{EachPoints, EvaluationPoints, FirstPoints, IsOfPointing}
 use Rattle.schema_validator.proofs.Built.{EachScript, in_map}
 use Rattle.schema_validator.proofs.OtherParts.{numbered_too}
@@ -86,9 +86,9 @@ module _ {S K R C M : Type 0} (resolver : Resolver S) (table : Table K) (matcher
   abbrev sense_at : Bool → Data → Matcher → (n : ℕ) → Sense
   sense_at texts instance m n = guarded_sense (words texts) m (numbered shape p.nodes) (subject_in instance) n p.root
 
-  -- the units of the root's node
-  abbrev units_at : Bool → Data → Matcher → (n : ℕ) → Unit_
-  units_at texts instance m n = guarded_within (yes_unit (numbered shape p.nodes)) (node_unit (words texts) m (numbered shape p.nodes) (subject_in instance) all_match) n p.root [] [] []
+  -- the units of the root's node, under a completion
+  abbrev units_at : Bool → Data → Matcher → ℕ → Completion → Unit_
+  units_at texts instance m n c = guarded_within (yes_unit (numbered shape p.nodes)) (node_unit (words texts) m (numbered shape p.nodes) (subject_in instance) c) n p.root [] [] []
 
   module _ (absorbed : K → List Text) (is_whole : K → Bool) (each : (texts : Bool) → EachKeepsAbsorbing (words texts) absorbed) (scripts : EachScript absorbed is_whole table)
       {nested : ℕ} where
@@ -116,20 +116,20 @@ module _ {S K R C M : Type 0} (resolver : Resolver S) (table : Table K) (matcher
 
     -- ---- where the errors in units of compiled nodes point
 
-    units_point_from_key : (key : Key S) → IsProgramFrom resolver table matcher options nested schema shape matching key p → (instance : Data) (texts : Bool)
-        → EachHandsUnitsOn (words texts) absorbed → (n : ℕ) → UnitsPoint (w texts) key instance (units_at texts instance (matching p.matcher) n)
-    units_point_from_key key program instance texts hands n =
+    pub units_point_from_key : ((texts : Bool) → EachHandsUnitsOn (words texts) absorbed) → (key : Key S) → IsProgramFrom resolver table matcher options nested schema shape matching key p
+        → UnitsPointFromKey resolver table matcher words options key shape matching p
+    units_point_from_key hands key program = λ instance texts speaks n c.
         let keys = program.compiled.compiled.keys in
-        subst (λ m. UnitsPoint (w texts) key instance (units_at texts instance m n)) (sym program.matcher_is)
-        (node_units_lead (w texts) absorbed (map Some keys) (numbered shape p.nodes) (each texts) (makers absorbed is_whole table scripts) hands
+        subst (λ m. UnitsPoint (w texts) key instance (units_at texts instance m n c)) (sym program.matcher_is)
+        (node_units_lead (w texts) absorbed (map Some keys) (numbered shape p.nodes) (each texts) (makers absorbed is_whole table scripts) (hands texts)
         (numbered_too resolver table no_matcher matcher no_keywords (words texts) options (map Some keys) (numbered shape p.nodes) program.compiled.compiled.numbers)
-        instance all_match n p.root key (in_map keys p.root key program.compiled.compiled.is_root))
+        instance c n p.root key (in_map keys p.root key program.compiled.compiled.is_root))
 
-    units_point_into : ((texts : Bool) → EachHandsUnitsOn (words texts) absorbed) → IsProgramOf resolver table matcher options nested schema shape matching p → (instance : Data)
-        → OfSchema resolver table matcher words options schema instance (λ texts w root. (n : ℕ) → UnitsPoint w root instance (units_at texts instance (matching p.matcher) n))
-    units_point_into hands program instance = λ texts root is_root speaks n.
+    pub units_point_into : ((texts : Bool) → EachHandsUnitsOn (words texts) absorbed) → IsProgramOf resolver table matcher options nested schema shape matching p
+        → UnitsPointIntoSchema resolver table matcher words options schema shape matching p
+    units_point_into hands program = λ instance texts root is_root speaks n c.
         let same = one_root_key w0 schema program.root root program.is_root (root_key_too resolver table table matcher no_matcher (words texts) no_keywords options schema root (root_key_of (w texts) schema root is_root)) in
-        units_point_from_key root (from_root program root same) instance texts (hands texts) n
+        units_point_from_key hands root (from_root program root same) instance texts speaks n c
 
   -- ---- what a build and a call say, together
 
@@ -182,6 +182,6 @@ module _ {S K R C M : Type 0} (resolver : Resolver S) (table : Table K) (matcher
             deep + deep',
             λ n more. record {
               apart = λ met. made_of_pointing texts root (sense_at texts instance (matching p.matcher) n) (points instance texts root is_root speaks n) (unit_of texts u) ((f n (omega (arith, more))).apart met);
-              alone = λ none. subst (UnitsPoint (w texts) root instance) (sym (g n (omega (arith, more)) none all_match)) (units_point_into absorbed is_whole each scripts hands program instance texts root is_root speaks n);
+              alone = λ none. subst (UnitsPoint (w texts) root instance) (sym (g n (omega (arith, more)) none all_match)) (units_point_into absorbed is_whole each scripts hands program instance texts root is_root speaks n all_match);
             },
           )

@@ -20,7 +20,7 @@ use Rattle.schema_validator.specs.Pointing.{EachPoints, EvaluationPoints, FirstP
 use Rattle.schema_validator.specs.Evaluated.{EvaluationAnswered, UnitsAnswered}
 use Rattle.schema_validator.specs.Program.{FromSomeDepth, HasUnits, Program}
 use Rattle.schema_validator.specs.ProgramOf.{IsProgramOf}
-use Rattle.schema_validator.specs.Promised.{HasKeysUnits, HasSchemasUnits, MeansKey, MeansSchema, OfSchema, PointsIntoSchema}
+use Rattle.schema_validator.specs.Promised.{HasKeysUnits, HasSchemasUnits, MeansKey, MeansSchema, OfSchema, PointsIntoSchema, UnitsPointIntoSchema}
 use Rattle.schema_validator.specs.Roots.{Builds, RefusesBuild}
 use Rattle.schema_validator.specs.Spoken.{ErrorsAnswered, FirstAnswered}
 
@@ -39,6 +39,10 @@ module _ {S K R C M : Type 0} (h : Handed S K R C M) (options : Options) (schema
   -- each error that its nodes give points at a keyword of the schema that its evaluation path leads to, and at a value inside the instance
   abbrev pub PointsPlainly : Program C M → Type 0
   PointsPlainly p = PointsIntoSchema h.resolver h.table h.matcher h.words options schema h.shape h.matching p
+
+  -- so does each unit of its nodes that has an error of its own
+  abbrev pub UnitsPointPlainly : Program C M → Type 0
+  UnitsPointPlainly p = UnitsPointIntoSchema h.resolver h.table h.matcher h.words options schema h.shape h.matching p
 
   -- its nodes correspond one to one to the keys that the root's key reaches, found in the one order that the schema and the
   -- limit on nested targets give; an edge is guarded exactly where its target was in progress when it was made, or an unsettled

@@ -20,7 +20,7 @@ use Rattle.schema_validator.specs.Handed.{Handed, Options, parts_of}
 use Rattle.schema_validator.specs.MapViews.{Entries, at_pointer}
 use Rattle.schema_validator.specs.Program.{Program}
 use Rattle.schema_validator.specs.ProgramOf.{IsProgramFrom}
-use Rattle.schema_validator.specs.Promised.{HasKeysUnits, MeansKey, PointsFromKey}
+use Rattle.schema_validator.specs.Promised.{HasKeysUnits, MeansKey, PointsFromKey, UnitsPointFromKey}
 use Rattle.schema_validator.specs.Roots.{IsRootKey, RefusesKey}
 
 -- what a place of the document is called in the map
@@ -64,6 +64,10 @@ module _ {S K R C M : Type 0} (h : Handed S K R C M) (options : Options) (schema
   abbrev pub EachPointsPlainly : Entries (Program C M) → Type 0
   EachPointsPlainly es = OfEach es (λ key p. PointsFromKey h.resolver h.table h.matcher h.words options key h.shape h.matching p)
 
+  -- so does each unit of its nodes that has an error of its own
+  abbrev pub EachsUnitsPoint : Entries (Program C M) → Type 0
+  EachsUnitsPoint es = OfEach es (λ key p. UnitsPointFromKey h.resolver h.table h.matcher h.words options key h.shape h.matching p)
+
   -- where each keyword of what this key reaches is monotone, its nodes accept an instance exactly where the largest set of targets and places does
   abbrev pub EachAcceptsGreatest : Entries (Program C M) → Type 0
   EachAcceptsGreatest es = OfEach es (λ key p. AcceptsAsKey h options key p)
@@ -77,6 +81,7 @@ module _ {S K R C M : Type 0} (h : Handed S K R C M) (options : Options) (schema
     pub means : MeansKey h.resolver h.table h.matcher h.words options key h.shape h.is_whole h.matching p
     pub units : HasKeysUnits h.resolver h.table h.matcher h.words options key h.shape h.is_whole h.matching p
     pub points : PointsFromKey h.resolver h.table h.matcher h.words options key h.shape h.matching p
+    pub units_point : UnitsPointFromKey h.resolver h.table h.matcher h.words options key h.shape h.matching p
     pub greatest : AcceptsAsKey h options key p
     pub within : length p.nodes ≤ options.limit
     pub program : IsProgramFrom h.resolver h.table h.matcher options options.nested schema h.shape h.matching key p

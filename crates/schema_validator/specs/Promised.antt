@@ -1,9 +1,9 @@
 -- What a build promises of a key, and so of every root key of the schema: for every instance, the validator means the plain
 -- meaning of key and parts, where no chain of questions returns; and returns or none, the errors of its nodes point at keywords
 -- and values of these.
-use Rattle.std.specs.Prelude.{Bool, ℕ}
+use Rattle.std.specs.Prelude.{Bool, [], ℕ}
 use Rattle.serde_json.specs.Data.{Data}
-use Rattle.schema_definitions.specs.Matching.{Matcher}
+use Rattle.schema_definitions.specs.Matching.{Completion, Matcher}
 use Rattle.schema_definitions.specs.Resolving.{Resolver}
 use Rattle.schema_definitions.specs.Making.{Table}
 use Rattle.schema_definitions.specs.Keywords.{Keywords}
@@ -12,7 +12,8 @@ use Rattle.schema_definitions.specs.Plan.{Key}
 use Rattle.schema_meaning.specs.Root.{IsRoot}
 use Rattle.schema_meaning.specs.Headline.{SpeaksRightly, Plainly, PlainlyWithUnits}
 use Rattle.schema_meaning.specs.ErrorsLead.{EachLeads}
-use Rattle.schema_definitions.specs.Guarded.{guarded_sense}
+use Rattle.schema_meaning.specs.UnitsLead.{UnitsPoint}
+use Rattle.schema_definitions.specs.Guarded.{guarded_sense, guarded_within, node_unit, yes_unit}
 use Rattle.schema_meaning.specs.Numbered.{subject_in}
 use Rattle.node_table.specs.NodeTable.{numbered}
 use Rattle.schema_validator.specs.Program.{HaveUnits, Program, Speaks, Means}
@@ -38,6 +39,11 @@ module _ {S K R : Type 0} (resolver : Resolver S) (table : Table K) (matcher : M
   PointsFromKey shape matching p = (instance : Data)
       → OfKey instance (λ texts w root. (n : ℕ) → EachLeads w root instance (guarded_sense (words texts) (matching p.matcher) (numbered shape p.nodes) (subject_in instance) n p.root))
 
+  -- so points each unit of the key's node that has an error of its own, its absolute location being that of its place in the schema
+  abbrev pub UnitsPointFromKey : {C M : Type 0} → (C → K) → (M → Matcher) → Program C M → Type 0
+  UnitsPointFromKey shape matching p = (instance : Data)
+      → OfKey instance (λ texts w root. (n : ℕ) (c : Completion) → UnitsPoint w root instance (guarded_within (yes_unit (numbered shape p.nodes)) (node_unit (words texts) (matching p.matcher) (numbered shape p.nodes) (subject_in instance) c) n p.root [] [] []))
+
 -- the same of every root key of the schema
 module _ {S K R : Type 0} (resolver : Resolver S) (table : Table K) (matcher : Matcher) (words : Bool → Keywords K R) (options : Options) (schema : Data) where
   -- P of every root key of the schema, for an instance of which texts are spoken rightly
@@ -58,3 +64,8 @@ module _ {S K R : Type 0} (resolver : Resolver S) (table : Table K) (matcher : M
   abbrev pub PointsIntoSchema : {C M : Type 0} → (C → K) → (M → Matcher) → Program C M → Type 0
   PointsIntoSchema shape matching p = (instance : Data)
       → OfSchema instance (λ texts w root. (n : ℕ) → EachLeads w root instance (guarded_sense (words texts) (matching p.matcher) (numbered shape p.nodes) (subject_in instance) n p.root))
+
+  -- so points each unit of the root's node that has an error of its own, its absolute location being that of its place in the schema
+  abbrev pub UnitsPointIntoSchema : {C M : Type 0} → (C → K) → (M → Matcher) → Program C M → Type 0
+  UnitsPointIntoSchema shape matching p = (instance : Data)
+      → OfSchema instance (λ texts w root. (n : ℕ) (c : Completion) → UnitsPoint w root instance (guarded_within (yes_unit (numbered shape p.nodes)) (node_unit (words texts) (matching p.matcher) (numbered shape p.nodes) (subject_in instance) c) n p.root [] [] []))

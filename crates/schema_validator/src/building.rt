@@ -2,6 +2,7 @@
 ghost use Rattle.std.specs.Prelude.{◌≡◌, IfOk, IfErr};
 ghost use Rattle.serde_json.specs.View.{view};
 ghost use Rattle.schema_validator.specs.Called.{HasPlainUnits, IsCompiledFrom, MeansPlainly, PointsPlainly, SchemaBuilds, BuildRefused};
+ghost use Rattle.schema_validator.specs.Called.{UnitsPointPlainly};
 ghost use Rattle.schema_validator.specs.Checked.{PassesCheck};
 ghost use Rattle.schema_validator.specs.FirstCauses.{FirstOfBuild};
 ghost use Rattle.schema_validator.specs.Greatest.{AcceptsAsSchema};
@@ -49,6 +50,9 @@ impl<K: Validate, M: Matcher> Validator<K, M> {
             (handed S.Resolver T.KeywordTable K.Validate M.Matcher.own resolver.now table.now matcher.now)
             default_options (view schema.now) v) }
         ensures points { IfOk result (λ v. PointsPlainly
+            (handed S.Resolver T.KeywordTable K.Validate M.Matcher.own resolver.now table.now matcher.now)
+            default_options (view schema.now) v) }
+        ensures units_point { IfOk result (λ v. UnitsPointPlainly
             (handed S.Resolver T.KeywordTable K.Validate M.Matcher.own resolver.now table.now matcher.now)
             default_options (view schema.now) v) }
         ensures greatest { IfOk result (λ v. AcceptsAsSchema

@@ -2,6 +2,7 @@
 ghost use Rattle.std.specs.Prelude.{◌≡◌, IfOk, IfErr, true};
 ghost use Rattle.serde_json.specs.View.{view};
 ghost use Rattle.schema_validator.specs.Called.{HasPlainUnits, IsCompiledFrom, MeansPlainly, PointsPlainly, SchemaBuilds, BuildRefused};
+ghost use Rattle.schema_validator.specs.Called.{UnitsPointPlainly};
 ghost use Rattle.schema_keywords.specs.KeywordViews.{draft_of};
 ghost use Rattle.schema_parts.specs.ResolverViews.{place_of};
 ghost use Rattle.schema_keys.specs.Checking.{AcceptsSchema, RefusesSchema};
@@ -29,14 +30,14 @@ use serde_json::Value;
 use std::alloc::Global;
 
 impl ValidationOptions {
-    /// Builds a validator of a schema. The resolver has to have the schema as the document under the root's base: that is
-    /// what is compiled, and what the contract speaks of. Where no chain of references returns, the validator means the plain
-    /// meaning of schema and parts, and has its units. Returns or none, each error that it gives points at a keyword of the
-    /// schema and at a value inside the instance. Where each keyword of what the root reaches is monotone, the validator accepts
-    /// exactly where the greatest solution does: the largest set of targets and places, each of which accepts where exactly those
-    /// of the set do. As many targets of references are compiled one inside another as the options
-    /// say, and the validator's calls make as many runs at most as they say. Unless the
-    /// options say otherwise, the meta validators check the schema before it is compiled.
+    /// Builds a validator of a schema. The resolver has to have the schema as the document under the root's base: that is what is
+    /// compiled, and what the contract speaks of. Where no chain of references returns, the validator means the plain meaning of schema
+    /// and parts, and has its units. Returns or none, each error that it gives points at a keyword of the schema and at a value inside
+    /// the instance, and so does each unit that has an error. Where each keyword of what the root reaches is monotone, the validator
+    /// accepts exactly where the greatest solution does: the largest set of targets and places, each of which accepts where exactly
+    /// those of the set do. As many targets of references are compiled one inside another as the options say, and for unfinished
+    /// matches the validator's calls make as many runs at most as they say (`with_run_limit`). Unless the options say otherwise, the
+    /// meta validators check the schema before it is compiled.
     ///
     /// # Errors
     ///
@@ -60,6 +61,9 @@ impl ValidationOptions {
             (handed S.Resolver T.KeywordTable K.Validate M.Matcher.own resolver.now table.now matcher.now)
             self.now (view schema.now) v) }
         ensures points { IfOk result (λ v. PointsPlainly
+            (handed S.Resolver T.KeywordTable K.Validate M.Matcher.own resolver.now table.now matcher.now)
+            self.now (view schema.now) v) }
+        ensures units_point { IfOk result (λ v. UnitsPointPlainly
             (handed S.Resolver T.KeywordTable K.Validate M.Matcher.own resolver.now table.now matcher.now)
             self.now (view schema.now) v) }
         ensures greatest { IfOk result (λ v. AcceptsAsSchema
@@ -122,6 +126,9 @@ impl ValidationOptions {
             (handed S.Resolver T.KeywordTable K.Validate M.Matcher.own resolver.now table.now matcher.now)
             self.now (view schema.now) v) }
         ensures points { IfOk result (λ v. PointsPlainly
+            (handed S.Resolver T.KeywordTable K.Validate M.Matcher.own resolver.now table.now matcher.now)
+            self.now (view schema.now) v) }
+        ensures units_point { IfOk result (λ v. UnitsPointPlainly
             (handed S.Resolver T.KeywordTable K.Validate M.Matcher.own resolver.now table.now matcher.now)
             self.now (view schema.now) v) }
         ensures greatest { IfOk result (λ v. AcceptsAsSchema

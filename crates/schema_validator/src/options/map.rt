@@ -10,7 +10,7 @@ ghost use Rattle.schema_validator.specs.Entries.{RefusesAlone, RefusesEntry, Ref
 ghost use Rattle.schema_validator.specs.FirstCauses.{FirstOfMap};
 ghost use Rattle.schema_validator.specs.Handed.{handed};
 ghost use Rattle.schema_validator.specs.Mapped.{EachAcceptsGreatest, EachHasPlainUnits, EachIsCompiledFrom, EachMeansPlainly};
-ghost use Rattle.schema_validator.specs.Mapped.{EachPointsPlainly};
+ghost use Rattle.schema_validator.specs.Mapped.{EachPointsPlainly, EachsUnitsPoint};
 ghost use Rattle.schema_validator.specs.Mapped.{HoldsCompiled, HoldsEach, MapIsBuilt, MapRefused, name_of};
 ghost use Rattle.schema_validator.specs.Roots.{IsRootKey, root_parts};
 
@@ -67,6 +67,9 @@ impl ValidationOptions {
             (handed S.Resolver T.KeywordTable K.Validate M.Matcher.own resolver.now table.now matcher.now)
             self.now (view schema.now) m) }
         ensures points { IfOk result (λ m. EachPointsPlainly
+            (handed S.Resolver T.KeywordTable K.Validate M.Matcher.own resolver.now table.now matcher.now)
+            self.now (view schema.now) m) }
+        ensures units_point { IfOk result (λ m. EachsUnitsPoint
             (handed S.Resolver T.KeywordTable K.Validate M.Matcher.own resolver.now table.now matcher.now)
             self.now (view schema.now) m) }
         ensures greatest { IfOk result (λ m. EachAcceptsGreatest

@@ -20,6 +20,7 @@ returns g c =
       means = IfOk-weaker result _ _ (λ m is. is.means) all;
       units = IfOk-weaker result _ _ (λ m is. is.units) all;
       points = IfOk-weaker result _ _ (λ m is. is.points) all;
+      units_point = IfOk-weaker result _ _ (λ m is. is.units_point) all;
       greatest = IfOk-weaker result _ _ (λ m is. is.greatest) all;
       programs = IfOk-weaker result _ _ (λ m is. is.programs) all;
       at_each = IfOk-weaker result _ _ (λ m is. is.at_each) all;

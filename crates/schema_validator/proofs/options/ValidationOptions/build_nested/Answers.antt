@@ -19,7 +19,7 @@ use Rattle.schema_validator.proofs.Compilations.{compiled_from_roots, compiles_i
 use Rattle.schema_meaning.specs.ErrorsLead.{EachKeepsAbsorbing}
 use Rattle.schema_meaning.proofs.TurnsGiveRuns.{keeps_of_turns}
 use Rattle.schema_validator.proofs.Greatest.{accepts_as_schema}
-use Rattle.schema_validator.proofs.Pointing.{points_into}
+use Rattle.schema_validator.proofs.Pointing.{points_into, units_point_into}
 use Rattle.schema_validator.proofs.OtherParts.{compiles_too}
 use Rattle.schema_validator.proofs.RootKeys.{one_root_key, root_key_too, root_too}
 use Rattle.schema_validator.proofs.FirstCauses.{compiled_first, document_first}
@@ -145,6 +145,17 @@ returns-clause-points g c =
     λ texts s. keeps_of_turns (k.words texts) s (k.absorbed s) (k.remaining s) (k.can_be texts s) (k.ends texts s) (k.fits texts s) (g.met.K.Validate.turn_laws texts s) (g.met.K.Validate.function_laws texts s) in
     points_into r table m k.words c.args.self.now (view c.args.schema.now) k.shape g.M.Matcher.matching c.in_ok-validator.validator k.absorbed k.is_whole each (g.met.T.KeywordTable.right c.args.table.now)
     (returns-clause-program g c)
+
+pub returns-clause-units_point : goal.returns-clause-units_point
+returns-clause-units_point g c =
+    let r = g.S.Resolver.resolving c.args.resolver.now in
+    let table = table_of (g.T.KeywordTable.owned c.args.table.now) builtin_in (g.T.KeywordTable.script c.args.table.now) in
+    let m = g.M.Matcher.matching c.args.matcher.now in
+    let k = g.K.Validate in
+    let each : (texts : Bool) → EachKeepsAbsorbing (k.words texts) k.absorbed =
+    λ texts s. keeps_of_turns (k.words texts) s (k.absorbed s) (k.remaining s) (k.can_be texts s) (k.ends texts s) (k.fits texts s) (g.met.K.Validate.turn_laws texts s) (g.met.K.Validate.function_laws texts s) in
+    units_point_into r table m k.words c.args.self.now (view c.args.schema.now) k.shape g.M.Matcher.matching c.in_ok-validator.validator k.absorbed k.is_whole each (g.met.T.KeywordTable.right c.args.table.now)
+    g.met.K.Validate.hands_units_on (returns-clause-program g c)
 
 pub returns-clause-built : goal.returns-clause-built
 returns-clause-built g c = λ texts.

@@ -8,7 +8,7 @@ use Rattle.schema_validator.specs.FirstCauses.{FirstOfBuild}
 use Rattle.schema_validator.specs.Greatest.{AcceptsAsSchema}
 use Rattle.schema_validator.specs.Handed.{Options, handed, parts_of, table_of}
 use Rattle.schema_validator.specs.Program.{Program}
-use Rattle.schema_validator.specs.Promised.{HasSchemasUnits, MeansSchema, PointsIntoSchema}
+use Rattle.schema_validator.specs.Promised.{HasSchemasUnits, MeansSchema, PointsIntoSchema, UnitsPointIntoSchema}
 use Rattle.schema_validator.specs.Roots.{Builds}
 use Rattle.schema_validator.proofs.validator.Validator.new.Goals as goal
 
@@ -38,6 +38,15 @@ returns-clause-points g c =
     let k = g.K.Validate in
     subst (λ (o : Options). IfOk c.build-2.result (λ (v : Program g.row.K.Denot g.row.M.Denot). PointsIntoSchema r table m k.words o (view c.args.schema.now) k.shape g.M.Matcher.matching v))
     c.options.ensures.defaults c.build-2.ensures.points
+
+pub returns-clause-units_point : goal.returns-clause-units_point
+returns-clause-units_point g c =
+    let r = g.S.Resolver.resolving c.args.resolver.now in
+    let table = table_of (g.T.KeywordTable.owned c.args.table.now) builtin_in (g.T.KeywordTable.script c.args.table.now) in
+    let m = g.M.Matcher.matching c.args.matcher.now in
+    let k = g.K.Validate in
+    subst (λ (o : Options). IfOk c.build-2.result (λ (v : Program g.row.K.Denot g.row.M.Denot). UnitsPointIntoSchema r table m k.words o (view c.args.schema.now) k.shape g.M.Matcher.matching v))
+    c.options.ensures.defaults c.build-2.ensures.units_point
 
 pub returns-clause-greatest : goal.returns-clause-greatest
 returns-clause-greatest g c =
