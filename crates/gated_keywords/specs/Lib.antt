@@ -1,0 +1,9 @@
+pub mod Firsts
+pub mod GateEnds
+pub mod GateLaws
+pub mod GateMoves
+pub mod GatedKeywords
+pub mod Making
+pub mod Meanings
+pub mod Present
+pub mod Gates

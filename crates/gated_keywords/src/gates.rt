@@ -1,0 +1,112 @@
+//! Gates, and the runs of keywords whose questions stand behind them.
+ghost use Rattle.std.specs.Prelude.{◌≡◌, [], All, Bool, IfOk};
+ghost use Rattle.serde_json.specs.Data.{Data};
+ghost use Rattle.schema_reports.specs.ReportViews.{BorrowsItsPlace};
+ghost use Rattle.schema_parts.specs.FaultViews.{errors_in, faults_in, PassesBorrowed};
+ghost use Rattle.schema_parts.specs.KeywordViews.{answer_of, mode_of, reply_of};
+ghost use Rattle.gated_keywords.specs.GateMoves.{answer_at, run_begin};
+ghost use Rattle.gated_keywords.specs.Gates.{opens};
+ghost use Rattle.gated_keywords.specs.declared.gates.GateStage.TheVariants.{Ended};
+
+use crate::names::{NamesLeft, Texts};
+use keyword_ways::answers::take;
+use schema_parts::keyword::{Answer, Mode, Reply};
+use schema_reports::location::OutOfMemory;
+use std::alloc::Global;
+
+/// When a question behind patterns is asked: where one of them matches, or where none does.
+#[derive(Clone, Copy)]
+pub enum Condition {
+    OneMatches,
+    NoneMatches,
+}
+
+/// The child of a number, behind patterns.
+#[derive(Clone, Copy)]
+pub struct Gate<'s> {
+    pub condition: Condition,
+    pub patterns: &'s [String],
+    pub child: usize,
+}
+
+/// How far a run has come: before its first turn; after the match of the pattern of a number, of the gate of a number; after the
+/// answer to the question of the gate of a number; or at its end.
+#[derive(Clone, Copy)]
+pub enum GateStage {
+    Begun,
+    Tested(usize, usize),
+    Asked(usize),
+    Ended,
+}
+
+/// A run, with the names of the members that are left, the first of which it is at, and the names to tell of.
+#[derive(Drop)]
+pub struct GateRun {
+    pub mode: Mode,
+    pub stage: GateStage,
+    pub names: NamesLeft,
+    pub left: Texts,
+}
+
+/// What a turn does: it ends the run; or it asks whether the pattern of a number of the gate of a number matches the name; or it asks
+/// the child of a gate at the member of the name.
+#[derive(Clone, Copy)]
+pub enum Move<'s> {
+    Halts,
+    Tests(usize, usize, &'s str, &'s str),
+    Asks(usize, usize, &'s str),
+}
+
+/// Whether a gate is open, one of whose patterns matches or none does.
+pub fn opens(condition: Condition, matched: bool) -> bool
+    ensures opens { result ≡ opens condition matched }
+{
+    match condition {
+        Condition::OneMatches => matched,
+        Condition::NoneMatches => !matched,
+    }
+}
+
+impl GateRun {
+    /// A run in this mode, before its first turn, with these members before it.
+    pub fn begin(alloc: Global, mode: Mode, names: NamesLeft) -> GateRun
+        ensures begins { run_begin (mode_of mode) names ≡ result }
+    {
+        GateRun {
+            mode,
+            stage: GateStage::Begun,
+            names,
+            left: Texts::none(alloc),
+        }
+    }
+
+    /// Ends the run.
+    pub fn end(&mut self, alloc: Global)
+        ensures ended { self.new ≡ record { mode = self.old.mode; stage = Ended; names = []; left = [] } }
+    {
+        self.stage = GateStage::Ended;
+        self.names = NamesLeft::none(alloc);
+        self.left = Texts::none(alloc);
+    }
+}
+
+/// Takes the answer to a question; where none was asked, there is nothing to take.
+pub fn take_asked<'i>(
+    alloc: Global,
+    stage: GateStage,
+    reply: Reply<'i>,
+    answer: &mut Answer<'i>,
+) -> Result<(), OutOfMemory>
+    ensures answered { IfOk result (λ _. (texts : Bool) → answer_of texts answer.new
+        ≡ answer_at stage (answer_of texts answer.old) (reply_of texts reply.entry)) }
+    ensures borrows { IfOk result (λ _. (root : Data) → All (BorrowsItsPlace root) (errors_in reply.entry)
+        → All (PassesBorrowed root) (faults_in answer.old) → All (PassesBorrowed root) (faults_in answer.new)) }
+{
+    match stage {
+        GateStage::Asked(_) => take(alloc, reply, answer),
+        _ => {
+            drop(reply);
+            Ok(())
+        }
+    }
+}

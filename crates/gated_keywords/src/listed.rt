@@ -1,0 +1,55 @@
+//! Names among which others are looked up.
+ghost use Rattle.std.specs.Prelude.{◌≡◌, [], IfOk, option_map};
+ghost use Rattle.serde_json.specs.View.{members_view, view};
+ghost use Rattle.gated_keywords.specs.GatedKeywords.{is_one};
+ghost use Rattle.keyword_makers.specs.Members.{names_of};
+
+use schema_reports::location::OutOfMemory;
+use serde_json::{Map, Value};
+use std::alloc::Global;
+use std::collections::BTreeSet;
+use std::marker::Model;
+
+/// Names, in order. To look one up takes a time that is logarithmic in how many there are.
+#[derive(Drop)]
+pub struct Listed {
+    names: BTreeSet<String>,
+}
+
+impl Model for Listed {
+    ghost use Rattle.std.specs.Prelude.{List, map, string_bytes};
+    ghost use Rattle.schema_definitions.specs.Instance.{Text};
+
+    ghost Value = { List Text };
+
+    ghost view = { λ listed. map string_bytes listed.names.keys };
+}
+
+impl Listed {
+    /// No names.
+    pub fn none(alloc: Global) -> Listed
+        ensures none { result ≡ [] }
+    {
+        Listed {
+            names: BTreeSet::new(alloc),
+        }
+    }
+
+    /// Whether a name is one of these.
+    pub fn has(&self, name: &str) -> bool
+        ensures has { result ≡ is_one name.now self.now }
+    {
+        self.names.contains(name)
+    }
+
+    /// The names of an object's members.
+    pub fn of_members(alloc: Global, members: &Map<String, Value>) -> Result<Listed, OutOfMemory>
+        ensures names { IfOk result (λ listed. listed ≡ names_of (members_view members.now.entries)) }
+    {
+        let mut names = BTreeSet::new(alloc);
+        for (name, _) in members {
+            names.insert(name.clone()?)?;
+        }
+        Ok(Listed { names })
+    }
+}
