@@ -5,7 +5,7 @@ use Rattle.std.specs.declared.alloc.Global.{Global}
 use Rattle.std.specs.BTreeMap.{is_at}
 use Rattle.std.specs.BTreeSet.{insert_key}
 use Rattle.std.specs.Cmp.Lexicographic.{slice_cmp}
-use Rattle.std.specs.List.{AllByRecursion, list_any}
+use Rattle.std.specs.List.{AllByRecursion, AllZip, list_any}
 use Rattle.std.specs.List.Sorted.{IsStrictlySortedBy}
 use Rattle.std.specs.Map.{keys_of}
 use Rattle.std.specs.Ordering.{match_ordering, nat_cmp, ordering_reverse}
@@ -65,3 +65,11 @@ pub listed_more : (keys : Strings) (k : String Global) (name : Text) (more all :
 listed_more keys k name more all is ascend h =
     ap (λ xs. xs ++ more) (insert_last keys k (subst (λ l. AreBelow l (map string_bytes keys)) (sym is) (are_below (map string_bytes keys) name more (subst Ascend (sym h) ascend))))
     ∙ (append_assoc (map string_bytes keys) (string_bytes k ∷ []) more ∙ (ap (λ l. map string_bytes keys ++ l ∷ more) is ∙ h))
+
+-- ---- clones
+
+pub cloned_alike : (xs ys : Strings) → AllZip (λ x y. string_bytes y ≡ string_bytes x) xs ys → map string_bytes ys ≡ map string_bytes xs
+cloned_alike [] [] h = refl
+cloned_alike [] (y ∷ ys) h = absurd h
+cloned_alike (x ∷ xs) [] h = absurd h
+cloned_alike (x ∷ xs) (y ∷ ys) h = ap (λ k. k ∷ map string_bytes ys) h.0 ∙ ap (λ ks. string_bytes x ∷ ks) (cloned_alike xs ys h.1)

@@ -1,6 +1,7 @@
 //! Keywords whose questions stand behind matches of names.
 #![tactic(auto)]
 
+pub mod cloning;
 pub mod gates;
 pub mod keyword;
 pub mod listed;

@@ -6,7 +6,7 @@ ghost use Rattle.keyword_makers.specs.Members.{names_of};
 
 use schema_reports::location::OutOfMemory;
 use serde_json::{Map, Value};
-use std::alloc::Global;
+use std::alloc::{AllocError, Global};
 use std::collections::BTreeSet;
 use std::marker::Model;
 
@@ -50,6 +50,16 @@ impl Listed {
         for (name, _) in members {
             names.insert(name.clone()?)?;
         }
+        Ok(Listed { names })
+    }
+}
+
+impl Clone for Listed {
+    ghost is_clone = { λ listed copy. copy ≡ listed };
+
+    /// Returns a clone of the names. Fails only if memory cannot be allocated.
+    fn clone(&self) -> Result<Listed, AllocError> {
+        let names = self.names.clone()?;
         Ok(Listed { names })
     }
 }

@@ -8,7 +8,7 @@ ghost use Rattle.gated_keywords.specs.Firsts.{first_of, later_of};
 use keyword_makers::members::names_of;
 use schema_reports::location::OutOfMemory;
 use serde_json::{Map, Value};
-use std::alloc::Global;
+use std::alloc::{AllocError, Global};
 use std::collections::VecDeque;
 use std::marker::Model;
 
@@ -64,6 +64,16 @@ impl Texts {
         ensures names { IfOk result (λ t. t ≡ names_of (members_view members.now.entries)) }
     {
         let items = names_of(alloc, members)?;
+        Ok(Texts { items })
+    }
+}
+
+impl Clone for Texts {
+    ghost is_clone = { λ texts copy. copy ≡ texts };
+
+    /// Returns a clone of the texts. Fails only if memory cannot be allocated.
+    fn clone(&self) -> Result<Texts, AllocError> {
+        let items = self.items.clone()?;
         Ok(Texts { items })
     }
 }
