@@ -1,0 +1,2 @@
+pub mod NextDependents
+pub mod LaterItems

@@ -1,0 +1,107 @@
+//! `contains`, with `minContains` and `maxContains` beside it.
+ghost use Rattle.std.specs.Prelude.{◌≡◌, IfOk, string_bytes};
+ghost use Rattle.standard_applicators.specs.Containing.{fewer_than, how_many, more_than};
+
+use keyword_ways::items::is_list;
+use keyword_ways::planned::{Asks, Plan, PlannedKeyword};
+use schema_reports::instance::Instance;
+use schema_reports::location::OutOfMemory;
+use std::alloc::Global;
+
+/// `contains`, with how many items are to fit at least, and at most where that is said.
+#[derive(Clone, Copy)]
+pub struct Contains {
+    pub least: usize,
+    pub most: Option<usize>,
+}
+
+/// How an error begins where more items fit than this.
+fn more_than(alloc: Global, most: usize) -> Result<String, OutOfMemory>
+    ensures more { IfOk result (λ text. string_bytes text ≡ more_than most) }
+{
+    let mut text = String::new(alloc);
+    write!(text, "More than {most} of ")?;
+    Ok(text)
+}
+
+/// How an error begins where fewer items fit than this.
+fn fewer_than(alloc: Global, least: usize) -> Result<String, OutOfMemory>
+    ensures fewer { IfOk result (λ text. string_bytes text ≡ fewer_than least) }
+{
+    if least == 1 {
+        return String::from_str(alloc, "None of ");
+    }
+    let mut text = String::new(alloc);
+    write!(text, "Fewer than {least} of ")?;
+    Ok(text)
+}
+
+impl Contains {
+    /// How its error begins, where so many items fit.
+    fn how_many(self, alloc: Global, accepted: usize) -> Result<String, OutOfMemory>
+        ensures how_many { IfOk result (λ text. string_bytes text ≡ how_many self.least self.most accepted) }
+    {
+        match self.most {
+            None => fewer_than(alloc, self.least),
+            Some(most) => {
+                if most < accepted {
+                    more_than(alloc, most)
+                } else {
+                    fewer_than(alloc, self.least)
+                }
+            }
+        }
+    }
+}
+
+impl PlannedKeyword for Contains {
+    ghost use Rattle.std.specs.Prelude.{true};
+    ghost use Rattle.standard_applicators.specs.Containing.{called, error_text, grows, planned, says_monotone};
+
+    type Shape = Contains;
+
+    ghost shape = { λ k. k };
+
+    ghost shows_no_fraction = { λ k. true };
+
+    ghost planned = { planned };
+
+    ghost called = { called };
+
+    ghost error_text = { error_text };
+
+    ghost says_monotone = { says_monotone };
+
+    fn plan(&self, instance: Instance<'_>) -> Plan {
+        if !is_list(instance) {
+            return Plan::Holds(true);
+        }
+        match self.most {
+            None => Plan::AtLeast(Asks::Items, self.least),
+            Some(most) => Plan::Within(Asks::Items, self.least, most),
+        }
+    }
+
+    fn name(&self) -> &str {
+        "contains"
+    }
+
+    fn text(
+        &self,
+        alloc: Global,
+        instance: Instance<'_>,
+        accepted: usize,
+    ) -> Result<String, OutOfMemory> {
+        let mut text = self.how_many(alloc, accepted)?;
+        let shown = instance.text(alloc)?;
+        text.push_str(shown.as_str())?;
+        text.push_str(" are valid under the given schema")?;
+        Ok(text)
+    }
+
+    fn monotone(&self) -> bool {
+        self.most.is_none()
+    }
+
+    ghost grows = { grows };
+}

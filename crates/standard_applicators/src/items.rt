@@ -1,0 +1,101 @@
+//! Children at items: each of several at the item of its number, or the only one at each item after so many.
+ghost use Rattle.std.specs.Prelude.{All, ◌≡◌, ◌+◌, ◌-◌, ◌^◌, ◌<◌, Bool, IfOk, min, option_map};
+ghost use Rattle.serde_json.specs.Data.{Data};
+ghost use Rattle.schema_reports.specs.ReportViews.{BorrowsItsPlace};
+ghost use Rattle.schema_reports.specs.InstanceViews.{subject_of};
+ghost use Rattle.schema_parts.specs.FaultViews.{errors_in, faults_in, PassesBorrowed};
+ghost use Rattle.schema_parts.specs.KeywordViews.{answer_of, reply_of, turn_of};
+ghost use Rattle.keyword_ways.specs.Items.{child_at_item, each_from, first_at_item, item_count};
+ghost use Rattle.keyword_ways.specs.Ways.{asked, passes_on, way_step, way_turn};
+
+use keyword_ways::items::item_count;
+use keyword_ways::passing::next_number;
+use keyword_ways::run::Progress;
+use schema_parts::keyword::{Answer, Below, Mode, Reply, Step};
+use schema_reports::instance::Instance;
+use schema_reports::location::OutOfMemory;
+use std::alloc::Global;
+
+/// The question of a child at the item of its number.
+fn ask_child_at_item<'s>(number: Option<usize>, mode: Mode) -> Step<'s>
+    ensures step { turn_of result ≡ asked mode (option_map child_at_item number) }
+{
+    match number {
+        Some(child) => Step::Ask(child, Below::Item(child), mode),
+        None => Step::Done,
+    }
+}
+
+/// The question of the only child at an item.
+fn ask_first_at_item<'s>(number: Option<usize>, mode: Mode) -> Step<'s>
+    ensures step { turn_of result ≡ asked mode (option_map first_at_item number) }
+{
+    match number {
+        Some(item) => Step::Ask(0, Below::Item(item), mode),
+        None => Step::Done,
+    }
+}
+
+/// Asks each child at the item of its number.
+pub fn turn_listed_items<'s, 'i>(
+    alloc: Global,
+    children: usize,
+    run: &mut Progress,
+    instance: Instance<'i>,
+    reply: Reply<'i>,
+    answer: &mut Answer<'i>,
+) -> Result<Step<'s>, OutOfMemory>
+    ensures turns { IfOk result (λ _. (texts : Bool) → way_turn
+        (passes_on (each_from child_at_item 0 (min children (item_count (subject_of instance.entry)))))
+        (run.old, answer_of texts answer.old) (reply_of texts reply.entry) ≡ (run.new, answer_of texts answer.new)) }
+    ensures steps { IfOk result (λ step. (texts : Bool) → way_step
+        (passes_on (each_from child_at_item 0 (min children (item_count (subject_of instance.entry)))))
+        (run.old, answer_of texts answer.old) (reply_of texts reply.entry) ≡ turn_of step) }
+    ensures borrows { IfOk result (λ _. (root : Data) → All (BorrowsItsPlace root) (errors_in reply.entry)
+        → All (PassesBorrowed root) (faults_in answer.old) → All (PassesBorrowed root) (faults_in answer.new)) }
+{
+    let count = listed_count(children, instance);
+    let mode = run.mode;
+    let number = next_number(alloc, 0, count, run, reply, answer)?;
+    Ok(ask_child_at_item(number, mode))
+}
+
+/// Asks the only child at each item after the first `before`.
+pub fn turn_later_items<'s, 'i>(
+    alloc: Global,
+    before: usize,
+    run: &mut Progress,
+    instance: Instance<'i>,
+    reply: Reply<'i>,
+    answer: &mut Answer<'i>,
+) -> Result<Step<'s>, OutOfMemory>
+    ensures turns { IfOk result (λ _. (texts : Bool) → way_turn
+        (passes_on (each_from first_at_item before (item_count (subject_of instance.entry) - before))) (run.old, answer_of texts answer.old)
+        (reply_of texts reply.entry) ≡ (run.new, answer_of texts answer.new)) }
+    ensures steps { IfOk result (λ step. (texts : Bool) → way_step
+        (passes_on (each_from first_at_item before (item_count (subject_of instance.entry) - before))) (run.old, answer_of texts answer.old)
+        (reply_of texts reply.entry) ≡ turn_of step) }
+    ensures borrows { IfOk result (λ _. (root : Data) → All (BorrowsItsPlace root) (errors_in reply.entry)
+        → All (PassesBorrowed root) (faults_in answer.old) → All (PassesBorrowed root) (faults_in answer.new)) }
+{
+    let count = items_after(before, instance);
+    let mode = run.mode;
+    let number = next_number(alloc, before, count, run, reply, answer)?;
+    Ok(ask_first_at_item(number, mode))
+}
+
+/// How many items come after the first `before`, if any.
+fn items_after(before: usize, instance: Instance<'_>) -> usize
+    ensures count { result ≡ item_count (subject_of instance.entry) - before }
+    ensures fits { before + result < 2 ^ 64 }
+{
+    let all = item_count(instance);
+    if before < all { all - before } else { 0 }
+}
+
+/// How many items there are for so many children.
+fn listed_count(children: usize, instance: Instance<'_>) -> usize
+    ensures count { result ≡ min children (item_count (subject_of instance.entry)) }
+{
+    children.min(item_count(instance))
+}

@@ -1,0 +1,79 @@
+//! What `contains` reads of the limits beside it.
+ghost use Rattle.std.specs.Prelude.{◌≡◌, option_map};
+ghost use Rattle.serde_json.specs.View.{members_view, view};
+ghost use Rattle.schema_keywords.specs.KeywordViews.{draft_of};
+ghost use Rattle.standard_applicators.specs.Limits.{contains_in, has_limits, limit_beside, limit_in, limit_of, refused_limit};
+
+use crate::contains::Contains;
+use keyword_makers::paths::value_in;
+use schema_keywords::keywords::Draft;
+use serde_json::{Map, Value};
+
+/// Whether a draft knows `minContains` and `maxContains`.
+fn has_limits(draft: Draft) -> bool
+    ensures limits { result ≡ has_limits (draft_of draft) }
+{
+    match draft {
+        Draft::Draft4 => false,
+        Draft::Draft6 => false,
+        Draft::Draft7 => false,
+        _ => true,
+    }
+}
+
+/// The limit that a value is.
+fn limit_of(value: &Value) -> Option<usize>
+    ensures limit { result ≡ limit_of (view value.now) }
+{
+    match value.as_u64() {
+        Some(limit) => Some(limit as usize),
+        None => None,
+    }
+}
+
+/// The value of a limit beside `contains`, in a draft that knows it.
+fn limit_beside<'o>(draft: Draft, name: &str, object: &'o Map<String, Value>) -> Option<&'o Value>
+    ensures value { option_map (λ v. view v.now) result ≡ limit_beside (draft_of draft) name.now (members_view object.now.entries) }
+{
+    if has_limits(draft) {
+        value_in(object, name)
+    } else {
+        None
+    }
+}
+
+/// The limit of this name beside `contains`.
+fn limit_in(draft: Draft, name: &str, object: &Map<String, Value>) -> Option<usize>
+    ensures limit { result ≡ limit_in (draft_of draft) name.now (members_view object.now.entries) }
+{
+    match limit_beside(draft, name, object) {
+        Some(value) => limit_of(value),
+        None => None,
+    }
+}
+
+/// The value of a limit beside `contains` that is no number.
+pub fn refused_limit<'o>(
+    draft: Draft,
+    name: &str,
+    object: &'o Map<String, Value>,
+) -> Option<&'o Value>
+    ensures refused { option_map (λ v. view v.now) result ≡ refused_limit (draft_of draft) name.now (members_view object.now.entries) }
+{
+    match limit_beside(draft, name, object) {
+        Some(value) => match limit_of(value) {
+            Some(_) => None,
+            None => Some(value),
+        },
+        None => None,
+    }
+}
+
+/// The `contains` of an object.
+pub fn contains_in(draft: Draft, object: &Map<String, Value>) -> Contains
+    ensures contains { result ≡ contains_in (draft_of draft) (members_view object.now.entries) }
+{
+    let least = limit_in(draft, "minContains", object).unwrap_or(1);
+    let most = limit_in(draft, "maxContains", object);
+    Contains { least, most }
+}

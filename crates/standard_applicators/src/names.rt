@@ -1,0 +1,35 @@
+//! Names that a keyword holds.
+ghost use Rattle.std.specs.Prelude.{◌≡◌, map, string_bytes};
+
+use std::marker::Model;
+
+/// Names, in order.
+#[derive(Drop)]
+pub struct Names {
+    texts: Vec<String>,
+}
+
+impl Model for Names {
+    ghost use Rattle.std.specs.Prelude.{List, map, string_bytes};
+    ghost use Rattle.schema_definitions.specs.Instance.{Text};
+
+    ghost Value = { List Text };
+
+    ghost view = { λ names. map string_bytes names.texts.items };
+}
+
+impl Names {
+    /// These texts, as names.
+    pub fn new(texts: Vec<String>) -> Names
+        ensures names { result ≡ map string_bytes texts.items }
+    {
+        Names { texts }
+    }
+
+    /// The names as a slice.
+    pub fn as_slice(&self) -> &[String]
+        ensures names { map string_bytes result.now ≡ self.now }
+    {
+        self.texts.as_slice()
+    }
+}

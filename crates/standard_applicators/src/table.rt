@@ -1,0 +1,217 @@
+//! The table of the keywords.
+ghost use Rattle.std.specs.Prelude.{◌≡◌, IfOk};
+ghost use Rattle.serde_json.specs.Find.{get_member};
+ghost use Rattle.serde_json.specs.View.{members_view, view};
+ghost use Rattle.schema_keywords.specs.KeywordViews.{draft_of};
+ghost use Rattle.schema_parts.specs.MakerViews as makers;
+ghost use Rattle.keyword_makers.specs.MakerViews.{waiting_of};
+ghost use Rattle.standard_applicators.specs.Makers.{additional_items_script, after_listed, contains_script, dependent_schemas_script};
+ghost use Rattle.standard_applicators.specs.Makers.{items_script, member_script, value_script};
+
+use crate::applicator::StandardApplicator;
+use crate::beside::{is_false, is_older_list, items_before, listed_beside};
+use crate::limits::{contains_in, refused_limit};
+use crate::names::Names;
+use crate::unexpected::NoLaterItems;
+use keyword_makers::lists::{each_schema, list_length};
+use keyword_makers::maker::{Ending, PathsMaker, asks_for, ends, only_child};
+use keyword_makers::members::{names_of, values_below};
+use keyword_makers::paths::value_in;
+use keyword_makers::refusals::malformed;
+use keyword_ways::planned::Planned;
+use schema_keywords::keywords::{Draft, VocabularySet};
+use schema_parts::table::{KeywordOrigin, KeywordTable, MakerReply, MakerStep};
+use schema_reports::location::OutOfMemory;
+use serde_json::{Map, Value};
+use std::alloc::Global;
+
+/// A table of these keywords, in each draft that knows them. No name is its own; a name that is none of theirs makes nothing.
+///
+/// A value of another shape than its keyword's is refused by an error that shows the value and is located at the keyword; so is one
+/// of `minContains` or `maxContains`, which `contains` reads.
+#[derive(Drop)]
+pub struct StandardApplicatorTable {}
+
+/// A maker of these keywords.
+type Maker = PathsMaker<StandardApplicator>;
+
+/// The maker of `contains`.
+fn contains_maker(
+    alloc: Global,
+    name: &str,
+    object: &Map<String, Value>,
+    draft: Draft,
+) -> Result<Maker, OutOfMemory>
+    ensures maker { IfOk result (λ m. waiting_of (λ k. k) m
+        ≡ makers.begun (contains_script (draft_of draft) (members_view object.now.entries) name.now)) }
+{
+    if let Some(value) = refused_limit(draft, "minContains", object) {
+        return malformed(alloc, "minContains", value);
+    }
+    if let Some(value) = refused_limit(draft, "maxContains", object) {
+        return malformed(alloc, "maxContains", value);
+    }
+    let keyword = contains_in(draft, object);
+    only_child(
+        alloc,
+        name,
+        StandardApplicator::Contains(Planned { keyword }),
+    )
+}
+
+/// The maker of `dependentSchemas`.
+fn dependent_schemas_maker(alloc: Global, name: &str, value: &Value) -> Result<Maker, OutOfMemory>
+    ensures maker { IfOk result (λ m. waiting_of (λ k. k) m ≡ makers.begun (dependent_schemas_script name.now (view value.now))) }
+{
+    match value.as_object() {
+        Some(members) => {
+            let names = names_of(alloc, members)?;
+            let paths = values_below(alloc, name, names.as_slice())?;
+            let keyword = StandardApplicator::DependentSchemas(Names::new(names));
+            Ok(asks_for(paths, keyword))
+        }
+        None => malformed(alloc, name, value),
+    }
+}
+
+/// The maker of `items`.
+fn items_maker(
+    alloc: Global,
+    name: &str,
+    value: &Value,
+    object: &Map<String, Value>,
+    draft: Draft,
+) -> Result<Maker, OutOfMemory>
+    ensures maker { IfOk result (λ m. waiting_of (λ k. k) m
+        ≡ makers.begun (items_script (draft_of draft) (members_view object.now.entries) name.now (view value.now))) }
+{
+    if is_older_list(draft, value) {
+        let keyword = StandardApplicator::ListedItems(list_length(value));
+        return each_schema(alloc, name, value, keyword);
+    }
+    let before = items_before(draft, object);
+    only_child(alloc, name, StandardApplicator::LaterItems(before))
+}
+
+/// The maker of `additionalItems` beside a list of so many schemas, if there is one.
+fn after_listed(
+    alloc: Global,
+    listed: Option<usize>,
+    name: &str,
+    value: &Value,
+) -> Result<Maker, OutOfMemory>
+    ensures maker { IfOk result (λ m. waiting_of (λ k. k) m ≡ makers.begun (after_listed listed name.now (view value.now))) }
+{
+    match listed {
+        None => Ok(ends(alloc, Ending::Nothing)),
+        Some(before) => {
+            if is_false(value) {
+                let keyword = StandardApplicator::NoLaterItems(NoLaterItems { before });
+                Ok(ends(alloc, Ending::Keyword(keyword)))
+            } else {
+                only_child(alloc, name, StandardApplicator::LaterItems(before))
+            }
+        }
+    }
+}
+
+/// The maker of `additionalItems`.
+fn additional_items_maker(
+    alloc: Global,
+    name: &str,
+    value: &Value,
+    object: &Map<String, Value>,
+    draft: Draft,
+) -> Result<Maker, OutOfMemory>
+    ensures maker { IfOk result (λ m. waiting_of (λ k. k) m
+        ≡ makers.begun (additional_items_script (draft_of draft) (members_view object.now.entries) name.now (view value.now))) }
+{
+    after_listed(alloc, listed_beside(draft, object), name, value)
+}
+
+/// The maker of a keyword with this value.
+fn value_maker(
+    alloc: Global,
+    name: &str,
+    value: &Value,
+    object: &Map<String, Value>,
+    draft: Draft,
+) -> Result<Maker, OutOfMemory>
+    ensures maker { IfOk result (λ m. waiting_of (λ k. k) m
+        ≡ makers.begun (value_script (draft_of draft) (members_view object.now.entries) name.now (view value.now))) }
+{
+    if name == "contains" {
+        return contains_maker(alloc, name, object, draft);
+    }
+    if name == "dependentSchemas" {
+        return dependent_schemas_maker(alloc, name, value);
+    }
+    if name == "items" {
+        return items_maker(alloc, name, value, object, draft);
+    }
+    if name == "additionalItems" {
+        return additional_items_maker(alloc, name, value, object, draft);
+    }
+    Ok(ends(alloc, Ending::Nothing))
+}
+
+/// The maker of a member of an object, if there is one.
+fn member_maker(
+    alloc: Global,
+    name: &str,
+    object: &Map<String, Value>,
+    draft: Draft,
+) -> Result<Maker, OutOfMemory>
+    ensures maker { IfOk result (λ m. waiting_of (λ k. k) m
+        ≡ makers.begun (member_script (draft_of draft) (members_view object.now.entries) name.now
+        (get_member name.now (members_view object.now.entries)))) }
+{
+    match value_in(object, name) {
+        Some(value) => value_maker(alloc, name, value, object, draft),
+        None => Ok(ends(alloc, Ending::Nothing)),
+    }
+}
+
+impl KeywordTable<StandardApplicator> for StandardApplicatorTable {
+    ghost use Rattle.std.specs.Prelude.{false};
+    ghost use Rattle.standard_applicators.specs.Makers.{standard_script};
+    ghost use Rattle.standard_applicators.specs.MakerLaws.{makes_rightly};
+
+    type Maker = Maker;
+
+    ghost owned = { λ _ name. false };
+
+    ghost script = { λ _. standard_script };
+
+    ghost waiting = { waiting_of (λ k. k) };
+
+    fn owns(&self, _name: &str) -> bool {
+        false
+    }
+
+    fn begin(
+        &self,
+        alloc: Global,
+        origin: KeywordOrigin<'_>,
+        object: &Map<String, Value>,
+        draft: Draft,
+        _vocabularies: &VocabularySet,
+        _formats: bool,
+    ) -> Result<Maker, OutOfMemory> {
+        match origin {
+            KeywordOrigin::Own(_) => Ok(ends(alloc, Ending::Nothing)),
+            KeywordOrigin::Builtin(name) => member_maker(alloc, name, object, draft),
+        }
+    }
+
+    fn turn(
+        &self,
+        alloc: Global,
+        maker: &mut Maker,
+        reply: MakerReply,
+    ) -> Result<MakerStep<StandardApplicator>, OutOfMemory> {
+        maker.turn(alloc, reply)
+    }
+
+    ghost right = { λ _. makes_rightly };
+}

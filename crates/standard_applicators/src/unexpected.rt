@@ -1,0 +1,117 @@
+//! `additionalItems` with the value false: a list has no items but so many.
+ghost use Rattle.std.specs.Prelude.{◌≡◌, ◌++◌, IfOk, false, string_bytes};
+ghost use Rattle.serde_json.specs.View.{items_view, view};
+ghost use Rattle.serde_json.specs.Written.{compact_text, has_float, items_have_float};
+ghost use Rattle.schema_reports.specs.InstanceViews.{subject_of};
+ghost use Rattle.standard_applicators.specs.Unexpected.{items_after, listed, subject_items, were};
+
+use keyword_ways::items::item_count;
+use keyword_ways::leaf::LeafKeyword;
+use schema_reports::instance::Instance;
+use schema_reports::location::OutOfMemory;
+use serde_json::Value;
+use std::alloc::Global;
+
+/// A list may have so many items, and no more.
+#[derive(Clone, Copy)]
+pub struct NoLaterItems {
+    pub before: usize,
+}
+
+/// Adds the text of a value, with this before it.
+fn push_shown(
+    alloc: Global,
+    before: &str,
+    item: &Value,
+    text: &mut String,
+) -> Result<(), OutOfMemory>
+    ensures pushed { IfOk result (λ _. has_float (view item.now) ≡ false
+        → string_bytes text.new ≡ string_bytes text.old ++ (before.now ++ compact_text (view item.now))) }
+{
+    let shown = item.to_string(alloc)?;
+    text.push_str(before)?;
+    text.push_str(shown.as_str())?;
+    Ok(())
+}
+
+/// The texts of values, with a comma between.
+fn listed(alloc: Global, items: &[Value]) -> Result<String, OutOfMemory>
+    ensures text { IfOk result (λ text. items_have_float (items_view items.now) ≡ false
+        → string_bytes text ≡ listed (items_view items.now)) }
+{
+    let mut text = String::new(alloc);
+    let mut between = "";
+    for item in items {
+        push_shown(alloc, between, item, &mut text)?;
+        between = ", ";
+    }
+    Ok(text)
+}
+
+/// The items after the first so many.
+#[tactic(auto, using(crate::proofs::LaterItems::items_dropped, crate::proofs::LaterItems::items_past))]
+fn items_after(list: &[Value], before: usize) -> &[Value]
+    ensures items { items_view result.now ≡ items_after before (items_view list.now) }
+{
+    if before <= list.len() {
+        &list[before..]
+    } else {
+        &[]
+    }
+}
+
+/// The items of a list after the first so many; what is no list has none.
+fn later_items<'i>(instance: Instance<'i>, before: usize) -> &'i [Value]
+    ensures items { items_view result.now ≡ items_after before (subject_items (subject_of instance.entry)) }
+{
+    match instance {
+        Instance::Name(_) => &[],
+        Instance::Value(value) => match value.as_array() {
+            Some(items) => items_after(items.as_slice(), before),
+            None => &[],
+        },
+    }
+}
+
+/// How the error ends where so many items are unexpected.
+fn were(count: usize) -> &'static str
+    ensures were { result.now ≡ were count }
+{
+    if count == 1 {
+        " was unexpected)"
+    } else {
+        " were unexpected)"
+    }
+}
+
+impl LeafKeyword for NoLaterItems {
+    ghost use Rattle.standard_applicators.specs.Unexpected.{accepts, called, error_text};
+
+    type Shape = NoLaterItems;
+
+    ghost shape = { λ k. k };
+
+    ghost called = { called };
+
+    ghost accepts = { accepts };
+
+    ghost error_text = { error_text };
+
+    fn name(&self) -> &str {
+        "additionalItems"
+    }
+
+    fn holds(&self, instance: Instance<'_>) -> bool {
+        item_count(instance) <= self.before
+    }
+
+    #[tactic(auto, using(crate::proofs::LaterItems::later_whole))]
+    fn text(&self, alloc: Global, instance: Instance<'_>) -> Result<String, OutOfMemory> {
+        let shown = listed(alloc, later_items(instance, self.before))?;
+        let count = item_count(instance).saturating_sub(self.before);
+        let mut text = String::from_str(alloc, "Additional items are not allowed (")?;
+        text.push_str(shown.as_str())?;
+        text.push_str(were(count))?;
+        Ok(text)
+    }
+}
