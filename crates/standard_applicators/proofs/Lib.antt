@@ -1,2 +1,4 @@
 pub mod NextDependents
 pub mod LaterItems
+pub mod Meant
+pub mod ContainsMeant

@@ -35,8 +35,11 @@ abbrev pub how_many : ℕ → Option ℕ → ℕ → Text
 how_many least None accepted = fewer_than least
 how_many least (Some most) accepted = if nat_lt most accepted then more_than most else fewer_than least
 
+abbrev pub rest_of : Subject → Text
+rest_of s = subject_text s ++ codes " are valid under the given schema"
+
 abbrev pub error_text : Contains → Subject → ℕ → Text
-error_text k s accepted = how_many k.least k.most accepted ++ (subject_text s ++ codes " are valid under the given schema")
+error_text k s accepted = how_many k.least k.most accepted ++ rest_of s
 
 -- ---- where there is no most, a yes more does no harm
 

@@ -5,3 +5,8 @@ pub mod StandardWays
 pub mod Limits
 pub mod Makers
 pub mod MakerLaws
+pub mod FittingItems
+pub mod ListedItems
+pub mod DependentSchemas
+pub mod OwnErrors
+pub mod Meanings

@@ -9,6 +9,7 @@ pub mod contains;
 pub mod dependents;
 pub mod items;
 pub mod limits;
+pub mod meanings;
 pub mod names;
 pub mod table;
 pub mod unexpected;

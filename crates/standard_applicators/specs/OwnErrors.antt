@@ -1,0 +1,22 @@
+-- Errors of a keyword's own, and errors that it passes on.
+use Rattle.std.specs.Prelude.{List, [], flat_map, map, ◌∷◌, ◌≡◌}
+use Rattle.schema_definitions.specs.Instance.{Text}
+use Rattle.schema_definitions.specs.Keywords.{Answers, Fault, Question, own, passed}
+use Rattle.schema_definitions.specs.Reports.{Error}
+use Rattle.keyword_ways.specs.Ways.{plain}
+
+-- an error of this name with this text, at the keyword itself
+abbrev pub own_error : Text → Text → Fault
+own_error name text = own (plain name text)
+
+-- none where the keyword holds, and this one where it does not
+pub record OneUnless (Holds : Type 0) (error : Fault) (fs : List Fault) : Type 0 where
+  pub none : Holds → fs ≡ []
+  pub one : ¬ Holds → fs ≡ error ∷ []
+
+-- what the schemas say that are asked, those of an earlier question before those of a later one
+abbrev pub errors_of : Answers → List Question → List Error
+errors_of answers asked = flat_map (λ q. (answers q).errors) asked
+
+abbrev pub passed_on : Answers → List Question → List Fault
+passed_on answers asked = map passed (errors_of answers asked)
