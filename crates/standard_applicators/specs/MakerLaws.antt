@@ -10,25 +10,26 @@ use Rattle.keyword_makers.specs.ByValue.{values_lie_below}
 use Rattle.keyword_makers.specs.Making.{only_child}
 use Rattle.keyword_makers.specs.MakingLaws.{asked_rightly, either_rightly, list_rightly, only_rightly}
 use Rattle.keyword_makers.specs.Members.{names_of, values_below}
-use Rattle.keyword_ways.specs.OwnWays.{own_absorbed}
+use Rattle.standard_applicators.specs.Courses.{none_absorbed}
+use Rattle.standard_applicators.specs.DependencyValues.{are_lists_of_texts, schema_names, wants_of}
 use Rattle.standard_applicators.specs.Limits.{contains_in, refused_limit}
-use Rattle.standard_applicators.specs.Makers.{after_listed, contains_script, dependent_schemas_script, is_false, is_older_list, items_before, items_script, listed_beside, member_script, standard_script, unless_refused, value_script}
-use Rattle.standard_applicators.specs.StandardWays.{way}
+use Rattle.standard_applicators.specs.Makers.{after_listed, contains_script, dependencies_in, dependencies_script, dependent_schemas_script, has_prefix, is_false, is_older_list, items_before, items_script, listed_beside, member_script, older_dependencies, standard_script, unless_refused, value_script}
+use Rattle.standard_applicators.specs.StandardCourses.{course}
 use Rattle.standard_applicators.specs.declared.applicator.StandardApplicator.{StandardApplicator}
-use Rattle.standard_applicators.specs.declared.applicator.StandardApplicator.TheVariants.{Contains, DependentSchemas, LaterItems, ListedItems}
+use Rattle.standard_applicators.specs.declared.applicator.StandardApplicator.TheVariants.{Contains, Dependencies, DependentSchemas, LaterItems, ListedItems}
 
 -- no keyword holds a value of the schema
 abbrev pub is_whole : StandardApplicator → Bool
 is_whole k = true
 
 abbrev pub Rightly : Members → Script StandardApplicator → Type 0
-Rightly = MakesRightly (own_absorbed way) is_whole
+Rightly = MakesRightly (none_absorbed course) is_whole
 
 either : (owner : Members) (b : Bool) (x y : Script StandardApplicator) → Rightly owner x → Rightly owner y → Rightly owner (if b then x else y)
-either = either_rightly (own_absorbed way) is_whole
+either = either_rightly (none_absorbed course) is_whole
 
 child_rightly : (owner : Members) (name : Text) (k : StandardApplicator) → Rightly owner (only_child name k)
-child_rightly owner name k = only_rightly (own_absorbed way) is_whole owner name k refl (λ h. refl)
+child_rightly owner name k = only_rightly (none_absorbed course) is_whole owner name k refl (λ h. refl)
 
 refused_rightly : (owner : Members) (name : Text) (o : Option Data) (s : Script StandardApplicator) → Rightly owner s → Rightly owner (unless_refused name o s)
 refused_rightly owner name None s right = right
@@ -41,7 +42,7 @@ contains_rightly owner draft ms name =
     (child_rightly owner name (Contains (record { keyword = contains_in draft ms }))))
 
 dependents_rightly : (owner : Members) (name : Text) (d : Data) → Rightly owner (dependent_schemas_script name d)
-dependents_rightly owner name (object ms) = asked_rightly (own_absorbed way) is_whole owner (a_keyword (DependentSchemas (names_of ms)) []) (refl, (λ h. refl), tt)
+dependents_rightly owner name (object ms) = asked_rightly (none_absorbed course) is_whole owner (a_keyword (DependentSchemas (names_of ms)) []) (refl, (λ h. refl), tt)
     (values_below name (names_of ms)) (values_lie_below name (names_of ms))
 dependents_rightly owner name null = λ h. refl
 dependents_rightly owner name (boolean b) = λ h. refl
@@ -49,9 +50,26 @@ dependents_rightly owner name (number n) = λ h. refl
 dependents_rightly owner name (string t) = λ h. refl
 dependents_rightly owner name (array ds) = λ h. refl
 
+wants_rightly : (owner ms : Members) (name : Text) (d : Data) → Rightly owner (dependencies_in ms name d)
+wants_rightly owner ms name d = either owner (are_lists_of_texts ms) _ _
+    (asked_rightly (none_absorbed course) is_whole owner (a_keyword (Dependencies (wants_of ms) (schema_names ms)) []) (refl, (λ h. refl), tt)
+    (values_below name (schema_names ms)) (values_lie_below name (schema_names ms)))
+    (λ h. refl)
+
+older_rightly : (owner : Members) (name : Text) (d : Data) → Rightly owner (older_dependencies name d)
+older_rightly owner name (object ms) = wants_rightly owner ms name (object ms)
+older_rightly owner name null = λ h. refl
+older_rightly owner name (boolean b) = λ h. refl
+older_rightly owner name (number n) = λ h. refl
+older_rightly owner name (string t) = λ h. refl
+older_rightly owner name (array ds) = λ h. refl
+
+dependencies_rightly : (owner : Members) (draft : Draft) (name : Text) (d : Data) → Rightly owner (dependencies_script draft name d)
+dependencies_rightly owner draft name d = either owner (has_prefix draft) _ _ tt (older_rightly owner name d)
+
 items_rightly : (owner : Members) (draft : Draft) (ms : Members) (name : Text) (d : Data) → Rightly owner (items_script draft ms name d)
 items_rightly owner draft ms name d = either owner (is_older_list draft d) _ _
-    (list_rightly (own_absorbed way) is_whole owner ListedItems name d (λ n. (refl, refl)))
+    (list_rightly (none_absorbed course) is_whole owner ListedItems name d (λ n. (refl, refl)))
     (child_rightly owner name (LaterItems (items_before draft ms)))
 
 after_rightly : (owner : Members) (o : Option ℕ) (name : Text) (d : Data) → Rightly owner (after_listed o name d)
@@ -62,8 +80,9 @@ value_rightly : (owner : Members) (draft : Draft) (name : Text) (d : Data) → R
 value_rightly owner draft name d =
     either owner (bytes_eq name (codes "contains")) _ _ (contains_rightly owner draft owner name)
     (either owner (bytes_eq name (codes "dependentSchemas")) _ _ (dependents_rightly owner name d)
+    (either owner (bytes_eq name (codes "dependencies")) _ _ (dependencies_rightly owner draft name d)
     (either owner (bytes_eq name (codes "items")) _ _ (items_rightly owner draft owner name d)
-    (either owner (bytes_eq name (codes "additionalItems")) _ _ (after_rightly owner (listed_beside draft owner) name d) tt)))
+    (either owner (bytes_eq name (codes "additionalItems")) _ _ (after_rightly owner (listed_beside draft owner) name d) tt))))
 
 member_rightly : (owner : Members) (draft : Draft) (name : Text) (o : Option Data) → Rightly owner (member_script draft owner name o)
 member_rightly owner draft name None = tt

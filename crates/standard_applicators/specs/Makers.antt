@@ -8,9 +8,18 @@ use Rattle.schema_definitions.specs.Making.{Script, a_keyword, nothing, then_end
 use Rattle.keyword_makers.specs.Making.{asks_for, list_script, makes, malformed, only_child}
 use Rattle.keyword_makers.specs.Members.{names_of, values_below}
 use Rattle.keyword_ways.specs.Items.{count_in, items_count}
+use Rattle.standard_applicators.specs.DependencyValues.{are_lists_of_texts, schema_names, wants_of}
 use Rattle.standard_applicators.specs.Limits.{contains_in, refused_limit}
 use Rattle.standard_applicators.specs.declared.applicator.StandardApplicator.{StandardApplicator}
-use Rattle.standard_applicators.specs.declared.applicator.StandardApplicator.TheVariants.{Contains, DependentSchemas, LaterItems, ListedItems, NoLaterItems}
+use Rattle.standard_applicators.specs.declared.applicator.StandardApplicator.TheVariants.{Contains, Dependencies, DependentSchemas, LaterItems, ListedItems, NoLaterItems}
+
+-- ---- the editions
+
+-- the editions in which `items` goes on after `prefixItems`, and `additionalItems` is none (Core 2020-12, 10.3.1.2)
+abbrev pub has_prefix : Draft → Bool
+has_prefix draft_2020_12 = true
+has_prefix draft_unknown = true
+has_prefix _ = false
 
 -- ---- contains
 
@@ -31,13 +40,21 @@ abbrev pub dependent_schemas_script : Text → Data → Script StandardApplicato
 dependent_schemas_script name (object ms) = asks_for (values_below name (names_of ms)) (a_keyword (DependentSchemas (names_of ms)) [])
 dependent_schemas_script name d = malformed name d
 
--- ---- items, additionalItems
+-- ---- dependencies, which the editions from 2020-12 on do not have
 
--- the editions in which `items` goes on after `prefixItems`, and `additionalItems` is none (Core 2020-12, 10.3.1.2)
-abbrev pub has_prefix : Draft → Bool
-has_prefix draft_2020_12 = true
-has_prefix draft_unknown = true
-has_prefix _ = false
+abbrev pub dependencies_in : Members → Text → Data → Script StandardApplicator
+dependencies_in ms name d =
+    if are_lists_of_texts ms then asks_for (values_below name (schema_names ms)) (a_keyword (Dependencies (wants_of ms) (schema_names ms)) [])
+    else malformed name d
+
+abbrev pub older_dependencies : Text → Data → Script StandardApplicator
+older_dependencies name (object ms) = dependencies_in ms name (object ms)
+older_dependencies name d = malformed name d
+
+abbrev pub dependencies_script : Draft → Text → Data → Script StandardApplicator
+dependencies_script draft name d = if has_prefix draft then then_end nothing else older_dependencies name d
+
+-- ---- items, additionalItems
 
 -- how many items come before those of `items` with one schema
 abbrev pub items_before : Draft → Members → ℕ
@@ -72,8 +89,9 @@ abbrev pub value_script : Draft → Members → Text → Data → Script Standar
 value_script draft ms name d =
     if bytes_eq name (codes "contains") then contains_script draft ms name
     else (if bytes_eq name (codes "dependentSchemas") then dependent_schemas_script name d
+    else (if bytes_eq name (codes "dependencies") then dependencies_script draft name d
     else (if bytes_eq name (codes "items") then items_script draft ms name d
-    else (if bytes_eq name (codes "additionalItems") then additional_items_script draft ms name d else then_end nothing)))
+    else (if bytes_eq name (codes "additionalItems") then additional_items_script draft ms name d else then_end nothing))))
 
 abbrev pub member_script : Draft → Members → Text → Option Data → Script StandardApplicator
 member_script draft ms name None = then_end nothing

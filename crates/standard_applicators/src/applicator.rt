@@ -2,10 +2,12 @@
 ghost use Rattle.std.specs.Prelude.{◌≡◌};
 
 use crate::contains::Contains;
+use crate::dependencies::turn_dependencies;
 use crate::dependents::turn_dependents;
 use crate::items::{turn_later_items, turn_listed_items};
 use crate::names::Names;
 use crate::unexpected::NoLaterItems;
+use crate::wants::Wants;
 use keyword_ways::leaf::turn_leaf;
 use keyword_ways::planned::Planned;
 use keyword_ways::run::Progress;
@@ -22,6 +24,8 @@ pub enum StandardApplicator {
     Contains(Planned<Contains>),
     /// `dependentSchemas`, with the names of the schemas, child by child.
     DependentSchemas(Names),
+    /// `dependencies`: the members that want others, and the names of the schemas, child by child.
+    Dependencies(Wants, Names),
     /// `items` with a list of so many schemas.
     ListedItems(usize),
     /// `items` with one schema, or `additionalItems`: how many items come before those that it asks.
@@ -32,35 +36,32 @@ pub enum StandardApplicator {
 
 impl Validate for StandardApplicator {
     ghost use Rattle.std.specs.Prelude.{refl, true};
-    ghost use Rattle.keyword_ways.specs.OwnWays.{own_absorbed, own_can_be, own_ends, own_fits, own_function_laws, own_remaining};
-    ghost use Rattle.keyword_ways.specs.OwnWays.{own_turn_laws, own_words};
-    ghost use Rattle.keyword_ways.specs.WayGrows.{own_grow};
-    ghost use Rattle.keyword_ways.specs.WayHandsOn.{own_hand_units_on};
-    ghost use Rattle.keyword_ways.specs.WayUnits.{own_ask_no_units};
-    ghost use Rattle.keyword_ways.specs.WayVerdicts.{own_ask_verdicts};
-    ghost use Rattle.standard_applicators.specs.StandardWays.{grows, present, says_monotone, way};
+    ghost use Rattle.standard_applicators.specs.CourseLaws.{course_function_laws, course_turn_laws, courses_ask_no_units};
+    ghost use Rattle.standard_applicators.specs.CourseLaws.{courses_ask_verdicts, courses_grow, courses_hand_units_on};
+    ghost use Rattle.standard_applicators.specs.Courses.{any_run, course_words, ends_in, fits_in, none_absorbed, turns_left};
+    ghost use Rattle.standard_applicators.specs.StandardCourses.{course, grows, present, says_monotone};
 
     type Run = Progress;
 
     type Shape = StandardApplicator;
 
-    ghost words = { own_words way };
+    ghost words = { course_words course };
 
     ghost shape = { λ k. k };
 
-    ghost absorbed = { own_absorbed way };
+    ghost absorbed = { none_absorbed course };
 
     ghost is_whole = { λ k. true };
 
     ghost says_monotone = { says_monotone };
 
-    ghost remaining = { own_remaining way };
+    ghost remaining = { turns_left course };
 
-    ghost can_be = { own_can_be way };
+    ghost can_be = { any_run course };
 
-    ghost ends = { own_ends way };
+    ghost ends = { ends_in course };
 
-    ghost fits = { own_fits way };
+    ghost fits = { fits_in course };
 
     fn begin(
         &self,
@@ -86,6 +87,10 @@ impl Validate for StandardApplicator {
             StandardApplicator::DependentSchemas(names) => {
                 turn_dependents(alloc, names.as_slice(), run, instance, reply, answer)
             }
+            StandardApplicator::Dependencies(wants, names) => {
+                let wants = wants.as_slice();
+                turn_dependencies(alloc, wants, names.as_slice(), run, instance, reply, answer)
+            }
             StandardApplicator::ListedItems(count) => {
                 turn_listed_items(alloc, *count, run, instance, reply, answer)
             }
@@ -109,15 +114,15 @@ impl Validate for StandardApplicator {
 
     ghost answers = { λ texts run a. refl };
 
-    ghost turn_laws = { own_turn_laws way };
+    ghost turn_laws = { course_turn_laws course };
 
-    ghost function_laws = { own_function_laws way present };
+    ghost function_laws = { course_function_laws course present };
 
-    ghost grows = { own_grow way says_monotone grows };
+    ghost grows = { courses_grow course says_monotone grows };
 
-    ghost hands_units_on = { own_hand_units_on way };
+    ghost hands_units_on = { courses_hand_units_on course };
 
-    ghost asks_no_units = { own_ask_no_units way };
+    ghost asks_no_units = { courses_ask_no_units course };
 
-    ghost asks_verdicts = { own_ask_verdicts way };
+    ghost asks_verdicts = { courses_ask_verdicts course };
 }

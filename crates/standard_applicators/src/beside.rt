@@ -1,4 +1,4 @@
-//! What `items` and `additionalItems` read of the draft, of their values and of what stands beside them.
+//! What keywords read of the draft, and what `items` and `additionalItems` read of their values and of what stands beside them.
 ghost use Rattle.std.specs.Prelude.{◌≡◌, codes, option_and_then};
 ghost use Rattle.serde_json.specs.Find.{as_array, get_member};
 ghost use Rattle.serde_json.specs.View.{members_view, view};
@@ -11,8 +11,8 @@ use keyword_makers::paths::value_in;
 use schema_keywords::keywords::Draft;
 use serde_json::{Map, Value};
 
-/// Whether `items` goes on after `prefixItems` in this draft.
-fn has_prefix(draft: Draft) -> bool
+/// Whether `items` goes on after `prefixItems` in this draft, which has no `additionalItems` and no `dependencies` then.
+pub fn has_prefix(draft: Draft) -> bool
     ensures prefix { result ≡ has_prefix (draft_of draft) }
 {
     match draft {

@@ -3,6 +3,7 @@ ghost use Rattle.std.specs.Prelude.{Bool};
 ghost use Rattle.schema_definitions.specs.Instance.{Subject};
 ghost use Rattle.schema_definitions.specs.Matching.{Matching};
 ghost use Rattle.standard_applicators.specs.Meanings.{ContainsFaults, ContainsHolds, DependentSchemasFaults, DependentSchemasHolds};
+ghost use Rattle.standard_applicators.specs.Meanings.{DependenciesFaults, DependenciesHold};
 ghost use Rattle.standard_applicators.specs.Meanings.{LaterItemsFaults, LaterItemsHold, ListedItemsFaults, ListedItemsHold};
 ghost use Rattle.standard_applicators.specs.Meanings.{NoLaterItemsFaults, NoLaterItemsHolds};
 
@@ -18,6 +19,14 @@ pub fn contains_means()
 pub fn dependent_schemas_means()
     ensures holds { (texts : Bool) (s : Subject) (matches : Matching) → DependentSchemasHolds texts s matches }
     ensures faults { (texts : Bool) (s : Subject) (matches : Matching) → DependentSchemasFaults texts s matches }
+{}
+
+/// `dependencies` holds exactly where the instance has each name that a member of it wants, and each schema accepts whose name is a
+/// member of it. Its errors are one of its own for each name that is missing, and then those of the schemas, in the order of their
+/// names.
+pub fn dependencies_mean()
+    ensures holds { (texts : Bool) (s : Subject) (matches : Matching) → DependenciesHold texts s matches }
+    ensures faults { (texts : Bool) (s : Subject) (matches : Matching) → DependenciesFaults texts s matches }
 {}
 
 /// `items` with a list of schemas holds exactly where each item fits the schema of its number, if there is one; its errors are

@@ -6,13 +6,15 @@ ghost use Rattle.schema_keywords.specs.KeywordViews.{draft_of};
 ghost use Rattle.schema_parts.specs.MakerViews as makers;
 ghost use Rattle.keyword_makers.specs.MakerViews.{waiting_of};
 ghost use Rattle.standard_applicators.specs.Makers.{additional_items_script, after_listed, contains_script, dependent_schemas_script};
-ghost use Rattle.standard_applicators.specs.Makers.{items_script, member_script, value_script};
+ghost use Rattle.standard_applicators.specs.Makers.{dependencies_script, items_script, member_script, older_dependencies, value_script};
 
 use crate::applicator::StandardApplicator;
-use crate::beside::{is_false, is_older_list, items_before, listed_beside};
+use crate::beside::{has_prefix, is_false, is_older_list, items_before, listed_beside};
+use crate::dependency_values::{are_lists_of_texts, schema_names, wants_of};
 use crate::limits::{contains_in, refused_limit};
 use crate::names::Names;
 use crate::unexpected::NoLaterItems;
+use crate::wants::Wants;
 use keyword_makers::lists::{each_schema, list_length};
 use keyword_makers::maker::{Ending, PathsMaker, asks_for, ends, only_child};
 use keyword_makers::members::{names_of, values_below};
@@ -72,6 +74,38 @@ fn dependent_schemas_maker(alloc: Global, name: &str, value: &Value) -> Result<M
         }
         None => malformed(alloc, name, value),
     }
+}
+
+/// The maker of `dependencies` in a draft that has it.
+fn older_dependencies(alloc: Global, name: &str, value: &Value) -> Result<Maker, OutOfMemory>
+    ensures maker { IfOk result (λ m. waiting_of (λ k. k) m ≡ makers.begun (older_dependencies name.now (view value.now))) }
+{
+    match value.as_object() {
+        Some(members) if are_lists_of_texts(members) => {
+            let wants = Wants::new(wants_of(alloc, members)?);
+            let names = schema_names(alloc, members)?;
+            let paths = values_below(alloc, name, names.as_slice())?;
+            let keyword = StandardApplicator::Dependencies(wants, Names::new(names));
+            Ok(asks_for(paths, keyword))
+        }
+        _ => malformed(alloc, name, value),
+    }
+}
+
+/// The maker of `dependencies`.
+fn dependencies_maker(
+    alloc: Global,
+    name: &str,
+    value: &Value,
+    draft: Draft,
+) -> Result<Maker, OutOfMemory>
+    ensures maker { IfOk result (λ m. waiting_of (λ k. k) m
+        ≡ makers.begun (dependencies_script (draft_of draft) name.now (view value.now))) }
+{
+    if has_prefix(draft) {
+        return Ok(ends(alloc, Ending::Nothing));
+    }
+    older_dependencies(alloc, name, value)
 }
 
 /// The maker of `items`.
@@ -145,6 +179,9 @@ fn value_maker(
     }
     if name == "dependentSchemas" {
         return dependent_schemas_maker(alloc, name, value);
+    }
+    if name == "dependencies" {
+        return dependencies_maker(alloc, name, value, draft);
     }
     if name == "items" {
         return items_maker(alloc, name, value, object, draft);

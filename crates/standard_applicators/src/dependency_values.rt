@@ -1,0 +1,81 @@
+//! The value of `dependencies`: what its members want, and the names of those whose values are schemas.
+ghost use Rattle.std.specs.Prelude.{◌≡◌, ◌++◌, IfOk, map, string_bytes};
+ghost use Rattle.serde_json.specs.View.{items_view, members_view};
+ghost use Rattle.standard_applicators.specs.DependencyValues.{are_lists_of_texts, are_texts, schema_names, text_wants, wants_of};
+
+use crate::wants::Want;
+use keyword_makers::members::push_text;
+use schema_reports::location::OutOfMemory;
+use serde_json::{Map, Value};
+use std::alloc::Global;
+
+/// Whether these are texts.
+#[tactic(auto, using(crate::proofs::ItemSteps::items_at, crate::proofs::ItemSteps::items_end))]
+fn are_texts(values: &[Value]) -> bool
+    ensures texts { result ≡ are_texts (items_view values.now) }
+{
+    for value in values {
+        if !value.is_string() {
+            return false;
+        }
+    }
+    true
+}
+
+/// Whether each of the members that is a list is one of texts.
+pub fn are_lists_of_texts(members: &Map<String, Value>) -> bool
+    ensures lists { result ≡ are_lists_of_texts (members_view members.now.entries) }
+{
+    for (_, value) in members {
+        if let Some(items) = value.as_array() {
+            if !are_texts(items.as_slice()) {
+                return false;
+            }
+        }
+    }
+    true
+}
+
+/// Adds what a member of this name wants: the members that these values name.
+#[tactic(auto, using(crate::proofs::ItemSteps::items_at, crate::proofs::ItemSteps::items_end))]
+fn push_wants(
+    alloc: Global,
+    member: &str,
+    values: &[Value],
+    wants: &mut Vec<Want>,
+) -> Result<(), OutOfMemory>
+    ensures pushed { IfOk result (λ _. wants.new.items ≡ wants.old.items ++ text_wants member.now (items_view values.now)) }
+{
+    for value in values {
+        if let Some(wanted) = value.as_str() {
+            wants.push(Want::new(alloc, member, wanted)?)?;
+        }
+    }
+    Ok(())
+}
+
+/// What the members want whose values are lists.
+pub fn wants_of(alloc: Global, members: &Map<String, Value>) -> Result<Vec<Want>, OutOfMemory>
+    ensures wants { IfOk result (λ wants. wants.items ≡ wants_of (members_view members.now.entries)) }
+{
+    let mut wants = Vec::new(alloc);
+    for (name, value) in members {
+        if let Some(items) = value.as_array() {
+            push_wants(alloc, name.as_str(), items.as_slice(), &mut wants)?;
+        }
+    }
+    Ok(wants)
+}
+
+/// The names of the members whose values are no lists.
+pub fn schema_names(alloc: Global, members: &Map<String, Value>) -> Result<Vec<String>, OutOfMemory>
+    ensures names { IfOk result (λ names. map string_bytes names.items ≡ schema_names (members_view members.now.entries)) }
+{
+    let mut names = Vec::new(alloc);
+    for (name, value) in members {
+        if !value.is_array() {
+            push_text(alloc, name.as_str(), &mut names)?;
+        }
+    }
+    Ok(names)
+}
