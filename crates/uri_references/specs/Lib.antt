@@ -1,0 +1,4 @@
+pub mod Components
+pub mod Paths
+pub mod References
+pub mod Views
