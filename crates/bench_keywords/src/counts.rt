@@ -30,7 +30,7 @@ pub enum CountKind {
 
 impl CountKind {
     /// The keyword's name.
-    fn name(self) -> &'static str
+    pub fn name(self) -> &'static str
         ensures name { result.now ≡ count_name self }
     {
         match self {
@@ -145,7 +145,11 @@ pub fn count_fits(kind: CountKind, limit: u64, instance: Instance<'_>) -> bool
 }
 
 /// The error's text.
-fn count_text(
+///
+/// # Errors
+///
+/// Memory cannot be allocated.
+pub fn count_text(
     alloc: Global,
     kind: CountKind,
     limit: u64,
