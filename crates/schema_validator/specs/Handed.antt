@@ -71,6 +71,7 @@ pub record Handed (S K R C M : Type 0) : Type 0 where
   pub words : Bool → Keywords K R
   pub shape : C → K
   pub is_whole : K → Bool
+  pub says_monotone : K → Bool
   pub matching : M → Matcher
 
 -- what values of the code stand for, by the members of their traits
@@ -83,5 +84,6 @@ handed resolvers tables keywords matchers resolver table matcher = record {
   words = keywords.words;
   shape = keywords.shape;
   is_whole = keywords.is_whole;
+  says_monotone = keywords.says_monotone;
   matching = matchers.matching;
 }

@@ -3,6 +3,7 @@ pub mod Compiled
 pub mod Handed
 pub mod Answers
 pub mod Spoken
+pub mod Solved
 pub mod Evaluated
 pub mod Promised
 pub mod Pointing

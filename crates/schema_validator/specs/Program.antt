@@ -1,5 +1,5 @@
 -- A validator as data, and what its nodes say of an instance.
-use Rattle.std.specs.Prelude.{◌≡◌, ◌≤◌, ℕ, List, Bool, None, [], true, false, length}
+use Rattle.std.specs.Prelude.{◌≡◌, ◌≤◌, ℕ, List, Bool, None, Option, [], true, false, length}
 use Rattle.serde_json.specs.Data.{Data}
 use Rattle.serde_json.specs.Written.{has_float}
 use Rattle.schema_definitions.specs.Drafts.{Draft}
@@ -15,13 +15,15 @@ use Rattle.schema_meaning.specs.Means as means
 use Rattle.schema_meaning.specs.Fractions.{AreWhole}
 use Rattle.node_table.specs.NodeTable.{NodeEntry, numbered}
 
--- the nodes, the number of the root's, the root's draft, the matcher, and how many runs a call makes at most
+-- the nodes, the number of the root's, the root's draft, the matcher, how many runs a call makes at most, and whether each number of the
+-- nodes is one that its solver follows, where it has a solver
 pub record Program (K M : Type 0) : Type 0 where
   pub nodes : List (NodeEntry K)
   pub root : ℕ
   pub draft : Draft
   pub matcher : M
   pub runs : ℕ
+  pub followed : Option (List Bool)
 
 -- S is what is known of a keyword, R a run with its answer so far
 module _ {K S R M : Type 0} (shape : K → S) (words : Bool → Keywords S R) (is_whole : S → Bool) (matching : M → Matcher) (p : Program K M) (instance : Data) where

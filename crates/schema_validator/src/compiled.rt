@@ -1,5 +1,5 @@
 //! Validators of compiled nodes.
-ghost use Rattle.std.specs.Prelude.{◌≡◌, ◌<◌, ◌≤◌, IfOk, length};
+ghost use Rattle.std.specs.Prelude.{◌≡◌, ◌<◌, ◌≤◌, IfOk, None, length};
 ghost use Rattle.schema_keywords.specs.KeywordViews.{draft_of};
 ghost use Rattle.node_table.specs.NodeTable.{numbered};
 ghost use Rattle.schema_validator.specs.Called.{HasUnitsAsCompiled, MeansAsCompiled};
@@ -21,7 +21,7 @@ use std::alloc::Global;
 
 /// Builds a validator from compiled nodes, the number of a key's node and the root's draft. Where the nodes are compiled from
 /// this key and no chain of references returns, the validator means the key's plain meaning and has its units. The matcher is
-/// cloned. Its calls make 64 runs at most.
+/// cloned. Its calls make 64 runs at most for unfinished matches, and it has no solver.
 ///
 /// # Errors
 ///
@@ -37,6 +37,7 @@ pub fn of_compiled<S: Resolver, T: KeywordTable<K>, K: Validate, M: Matcher>(
     requires inside { root.0 < length nodes }
     ensures made { IfOk result (λ v. (v.nodes ≡ nodes) × (v.root ≡ root.0) × (v.draft ≡ draft_of draft)) }
     ensures runs { IfOk result (λ v. v.runs ≡ default_runs) }
+    ensures solver { IfOk result (λ v. v.followed ≡ None) }
     ensures matcher { IfOk result (λ v. M.matching v.matcher ≡ M.matching matcher.now) }
     ensures means { IfOk result (λ v. MeansAsCompiled
         (handed S.Resolver T.KeywordTable K.Validate M.Matcher.own resolver.now table.now matcher.now)
@@ -57,7 +58,7 @@ pub fn of_compiled<S: Resolver, T: KeywordTable<K>, K: Validate, M: Matcher>(
     )
 }
 
-/// Builds a validator as `of_compiled` does, whose calls make so many runs at most.
+/// Builds a validator as `of_compiled` does, whose calls make so many runs at most for unfinished matches, and which has this solver.
 pub(crate) fn of_compiled_within<S: Resolver, T: KeywordTable<K>, K: Validate, M: Matcher>(
     table: &T,
     resolver: &S,
@@ -73,6 +74,7 @@ pub(crate) fn of_compiled_within<S: Resolver, T: KeywordTable<K>, K: Validate, M
     requires solves { SolvesFor K.words (numbered K.shape nodes) (length nodes) finder }
     ensures made { IfOk result (λ v. (v.nodes ≡ nodes) × (v.root ≡ root.0) × (v.draft ≡ draft_of draft)) }
     ensures runs { IfOk result (λ v. v.runs ≡ run_limit) }
+    ensures solver { IfOk result (λ v. v.followed ≡ finder) }
     ensures matcher { IfOk result (λ v. M.matching v.matcher ≡ M.matching matcher.now) }
     ensures means { IfOk result (λ v. MeansAsCompiled
         (handed S.Resolver T.KeywordTable K.Validate M.Matcher.own resolver.now table.now matcher.now)

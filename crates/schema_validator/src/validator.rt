@@ -1,5 +1,6 @@
 //! A validator: what it answers of instances.
-ghost use Rattle.std.specs.Prelude.{◌≡◌, ◌↔◌, [], false, true, Bool, None, Option, IfOk, All, IfSome, IsSome, length, slice_get, ◌<◌, ◌≤◌};
+ghost use Rattle.std.specs.Prelude.{◌≡◌, ◌↔◌, ◌&&◌, ◌<◌, ◌≤◌, [], false, true, Bool, None, Option, IfOk, All, IfSome, IsSome};
+ghost use Rattle.std.specs.Prelude.{is_some, length, slice_get};
 ghost use Rattle.serde_json.specs.View.{view};
 ghost use Rattle.schema_keywords.specs.KeywordViews.{draft_of};
 ghost use Rattle.schema_definitions.specs.Unfinished.{starting};
@@ -19,6 +20,7 @@ ghost use Rattle.schema_validator.specs.Asked.{RunGivesUnit, UnitsFromSomeDepth,
 ghost use Rattle.schema_validator.specs.Greatest.{DecidesAccepted, ErrorsAccepted, EvaluatesAccepted, FirstAccepted, NodesAreMonotone};
 ghost use Rattle.schema_validator.specs.Handed.{default_runs};
 ghost use Rattle.schema_validator.specs.SharedErrors.{AreShared};
+ghost use Rattle.schema_validator.specs.Solved.{BeganFew, RestsOnContext};
 ghost use Rattle.schema_validator.specs.Asked.{RunDecides, RunFindsFirst, RunListsErrors, RunMeets, RunReplies};
 ghost use Rattle.schema_meaning.specs.Numbered.{Ranked};
 ghost use Rattle.schema_verdicts.specs.Finding.{SolvesFor};
@@ -44,6 +46,7 @@ use schema_reports::instance::{Instance, Place};
 use schema_reports::location::{Location, OutOfMemory};
 use schema_reports::reports::{ErrorIterator, ValidationError};
 use schema_search::unfinished_matches::{MAX_ASSUMED_RUNS, errors_under_each, validity_under_each};
+pub use schema_verdicts::eligible::SolvedVerdict;
 use schema_verdicts::eligible::Solver;
 use schema_verdicts::monotone::is_monotone;
 use serde_json::Value;
@@ -75,7 +78,14 @@ impl<K: Validate, M> Model for Validator<K, M> {
 
     ghost coded = { Prim.hlevel (codes, value.the_row.coded) };
 
-    ghost view = { λ v. record { nodes = v.nodes; root = v.root.0; draft = draft_of v.draft; matcher = v.matcher; runs = v.run_limit } };
+    ghost view = { λ v. record {
+      nodes = v.nodes;
+      root = v.root.0;
+      draft = draft_of v.draft;
+      matcher = v.matcher;
+      runs = v.run_limit;
+      followed = v.finder;
+    } };
 
     ghost invariant = { λ v. (v.root.0 < length v.nodes) × (1 ≤ v.run_limit)
         × SolvesFor K.words (numbered K.shape v.nodes) (length v.nodes) v.finder };
@@ -105,10 +115,17 @@ fn unless_refused<'i>(error: Option<ValidationError<'i>>) -> Result<(), Validati
 
 impl<K: Validate, M: Matcher> Validator<K, M> {
     /// Makes a validator of compiled nodes, the number of the root's node, the root's draft, and the matcher. Its calls make 64
-    /// runs at most. Allocates nothing.
+    /// runs at most for unfinished matches, and it has no solver. Allocates nothing.
     pub fn of_nodes(nodes: Nodes<K>, root: SchemaNode, draft: Draft, matcher: M) -> Validator<K, M>
         requires inside { root.0 < length nodes }
-        ensures made { result ≡ record { nodes = nodes; root = root.0; draft = draft_of draft; matcher = matcher; runs = default_runs } }
+        ensures made { result ≡ record {
+          nodes = nodes;
+          root = root.0;
+          draft = draft_of draft;
+          matcher = matcher;
+          runs = default_runs;
+          followed = None;
+        } }
     {
         Validator::of_nodes_within(
             nodes,
@@ -120,7 +137,7 @@ impl<K: Validate, M: Matcher> Validator<K, M> {
         )
     }
 
-    // Makes a validator of compiled nodes, whose calls make so many runs at most.
+    // Makes a validator of compiled nodes, whose calls make so many runs at most for unfinished matches, and which has this solver.
     pub(crate) fn of_nodes_within(
         nodes: Nodes<K>,
         root: SchemaNode,
@@ -132,7 +149,14 @@ impl<K: Validate, M: Matcher> Validator<K, M> {
         requires inside { root.0 < length nodes }
         requires limit { 1 ≤ run_limit }
         requires solves { SolvesFor K.words (numbered K.shape nodes) (length nodes) finder }
-        ensures made { result ≡ record { nodes = nodes; root = root.0; draft = draft_of draft; matcher = matcher; runs = run_limit } }
+        ensures made { result ≡ record {
+          nodes = nodes;
+          root = root.0;
+          draft = draft_of draft;
+          matcher = matcher;
+          runs = run_limit;
+          followed = finder;
+        } }
     {
         Validator {
             nodes,
@@ -253,16 +277,21 @@ impl<K: Validate, M: Matcher> Validator<K, M> {
     }
 
     // The verdict of the root's node by a solver, where nothing is assumed; `None` where no solver may find it.
-    fn solved(
+    fn solved<'i>(
         &self,
         alloc: Global,
         finishes: bool,
-        instance: &Value,
-    ) -> Result<Option<bool>, OutOfMemory>
+        instance: &'i Value,
+    ) -> Result<Option<SolvedVerdict<'i>>, OutOfMemory>
         requires finishes { finishes ≡ true → FinishesEach (M.matching self.now.matcher) }
+        ensures exactly { IfOk result (λ found. is_some found ≡ (is_some self.now.followed && finishes)) }
         ensures finishes { IfOk result (λ found. IfSome found (λ _. FinishesEach (M.matching self.now.matcher))) }
-        ensures says { IfOk result (λ found. IfSome found (λ valid. RunDecides
-            K.Validate M.Matcher.own self.now (view instance.now) [] valid)) }
+        ensures says { IfOk result (λ found. IfSome found (λ v. RunDecides
+            K.Validate M.Matcher.own self.now (view instance.now) [] v.valid)) }
+        ensures depth { IfOk result (λ found. IfSome found (λ v. DecidesFromSomeDepth
+            K.Validate M.Matcher.own self.now (view instance.now) v.valid)) }
+        ensures rests { IfOk result (λ found. IfSome found (RestsOnContext K.Validate M.Matcher.own self.now instance.now)) }
+        ensures few { IfOk result (λ found. IfSome found (BeganFew K.Validate M.Matcher.own self.now instance.now)) }
     {
         self.finder.verdict(
             alloc,
@@ -279,8 +308,8 @@ impl<K: Validate, M: Matcher> Validator<K, M> {
         ensures depth { IfOk result (λ valid. DecidesFromSomeDepth
             K.Validate M.Matcher.own self.now (view instance.now) valid) }
     {
-        if let Some(valid) = self.solved(alloc, self.matcher.finishes(), instance)? {
-            return Ok(valid);
+        if let Some(solved) = self.solved(alloc, self.matcher.finishes(), instance)? {
+            return Ok(solved.valid);
         }
         let first = self.verdict(alloc, instance, MatchAssumptions::new(alloc))?;
         if !first.0.met_unassumed() {
@@ -303,8 +332,8 @@ impl<K: Validate, M: Matcher> Validator<K, M> {
             K.Validate M.Matcher.own self.now (view instance.now) []) }
     {
         if self.matcher.finishes() {
-            if let Some(accepts) = self.solved(alloc, true, instance)? {
-                return Ok(accepts);
+            if let Some(solved) = self.solved(alloc, true, instance)? {
+                return Ok(solved.valid);
             }
             let (met, accepts) = self.verdict(alloc, instance, MatchAssumptions::new(alloc))?;
             drop(met);
@@ -502,6 +531,34 @@ impl<K: Validate, M: Matcher> Validator<K, M> {
     {
         let _ranked = self.node_count();
         Ok(self.valid_under_each(alloc, instance)?)
+    }
+
+    /// Returns whether the instance is valid, as a solver finds it, with the context in which it found that; `None` exactly where the
+    /// validator has no solver. The matcher has to finish every match. The verdict rests on the context, which holds nothing but what
+    /// is so of this instance; with g numbers of nodes that a guarded edge leads to or that are not followed, and p places of the
+    /// instance, no more than g * p * g pairs of them were begun in it, reference cycles included (`SolverContext::begun`). Where the
+    /// matcher says that it finishes every match, `is_valid`, `validate` and `iter_errors` ask this first. It answers `true` exactly
+    /// if the greatest solution of the nodes accepts.
+    ///
+    /// # Errors
+    ///
+    /// Fails out of memory.
+    pub fn solve<'i>(
+        &self,
+        alloc: Global,
+        instance: &'i Value,
+    ) -> Result<Option<SolvedVerdict<'i>>, OutOfMemory>
+        requires finishes { FinishesEach (M.matching self.now.matcher) }
+        ensures exactly { IfOk result (λ found. is_some found ≡ is_some self.now.followed) }
+        ensures depth { IfOk result (λ found. IfSome found (λ v. DecidesFromSomeDepth
+            K.Validate M.Matcher.own self.now (view instance.now) v.valid)) }
+        ensures greatest { IfOk result (λ found. IfSome found (λ v. DecidesAccepted
+            K.Validate M.Matcher.own self.now (view instance.now) v.valid)) }
+        ensures rests { IfOk result (λ found. IfSome found (RestsOnContext K.Validate M.Matcher.own self.now instance.now)) }
+        ensures few { IfOk result (λ found. IfSome found (BeganFew K.Validate M.Matcher.own self.now instance.now)) }
+    {
+        let _ranked = self.node_count();
+        self.solved(alloc, true, instance)
     }
 
     /// Returns the first error as an inner `Err`, and an inner `Ok` if the instance is valid. Where the matcher leaves matches

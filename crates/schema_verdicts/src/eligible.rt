@@ -6,8 +6,8 @@ ghost use Rattle.schema_pairs.specs.Following.{IsFollowing};
 ghost use Rattle.schema_parts.specs.MatcherViews.{FinishesEach};
 ghost use Rattle.node_table.specs.NodeTable.{numbered};
 ghost use Rattle.schema_solver.specs.Asked.{solver_over};
-ghost use Rattle.schema_solver.specs.Solving.{SaysAsNodes};
-ghost use Rattle.schema_verdicts.specs.Finding.{SolvesFor};
+ghost use Rattle.schema_solver.specs.Solving.{BeginsFew, SaysAsNodes};
+ghost use Rattle.schema_verdicts.specs.Finding.{IsFoundAt, SolvesFor};
 
 use crate::monotone::is_monotone;
 use node_table::node::Nodes;
@@ -23,6 +23,14 @@ use schema_solver::solve::solve_root;
 use serde_json::Value;
 use std::alloc::Global;
 use std::marker::Model;
+
+/// A verdict that a solver found, and the context that it found it in: what the verdict rests on, and how many pairs were begun for it
+/// (`SolverContext::begun`).
+#[derive(Drop)]
+pub struct SolvedVerdict<'i> {
+    pub valid: bool,
+    pub context: SolverContext<'i>,
+}
 
 /// Finds the verdicts of some nodes by a solver, where each of their keywords is monotone and the matcher finishes every match, and none
 /// elsewhere. Contracts see which numbers the solver follows, where there is one.
@@ -76,25 +84,31 @@ impl Solver {
     }
 
     /// Returns the verdict of a node of the instance, where a solver may find it: where it finds verdicts of these nodes, and the matcher
-    /// is said to finish every match. Elsewhere it returns `None`. A number that chains of references return to is begun at each place
-    /// at most as often as there are numbers. (Which numbers are followed changes nothing of what is said, so `says` names none.) Fails
-    /// only if memory cannot be allocated.
-    pub fn verdict<K: Validate, M: Matcher>(
+    /// is said to finish every match. Elsewhere it returns `None`. With the verdict it returns the context in which it was found, which
+    /// speaks of this instance and holds nothing but what is so: the verdict is what the node says under each set with all pairs that
+    /// the context answers yes and none that it refused. With g numbers that a guarded edge leads to or that are not followed, and p
+    /// places, that context began at most g * p * g pairs. (Which numbers are followed changes nothing of what is said, so `says` names
+    /// none.) Fails only if memory cannot be allocated.
+    pub fn verdict<'i, K: Validate, M: Matcher>(
         &self,
         alloc: Global,
         nodes: &Nodes<K>,
         matcher: &M,
         finishes: bool,
         node: SchemaNode,
-        instance: &Value,
-    ) -> Result<Option<bool>, OutOfMemory>
+        instance: &'i Value,
+    ) -> Result<Option<SolvedVerdict<'i>>, OutOfMemory>
         requires known { node.0 < length nodes.now }
         requires solves { SolvesFor K.words (numbered K.shape nodes.now) (length nodes.now) self.now }
         requires finishes { finishes ≡ true → FinishesEach (M.matching matcher.now) }
         ensures exactly { IfOk result (λ found. is_some found ≡ (is_some self.now && finishes)) }
         ensures finishes { IfOk result (λ found. IfSome found (λ _. FinishesEach (M.matching matcher.now))) }
-        ensures says { IfOk result (λ found. IfSome found (λ valid. SaysAsNodes
-            (solver_over K.words K.is_whole K.shape nodes.now [] (M.matching matcher.now)) (view instance.now) node.0 valid)) }
+        ensures says { IfOk result (λ found. IfSome found (λ v. SaysAsNodes
+            (solver_over K.words K.is_whole K.shape nodes.now [] (M.matching matcher.now)) (view instance.now) node.0 v.valid)) }
+        ensures rests { IfOk result (λ found. IfSome found (λ v. IfSome self.now (λ followed. IsFoundAt
+            (solver_over K.words K.is_whole K.shape nodes.now followed (M.matching matcher.now)) instance.now node.0 v))) }
+        ensures few { IfOk result (λ found. IfSome found (λ v. IfSome self.now (λ followed. BeginsFew
+            (solver_over K.words K.is_whole K.shape nodes.now followed (M.matching matcher.now)) instance.now v.context.begun))) }
     {
         if let Some(followed) = &self.followed {
             if finishes {
@@ -106,7 +120,7 @@ impl Solver {
                 };
                 let mut context = SolverContext::new(alloc, PlacesOnDemand::of(instance));
                 let valid = solve_root(&engine, node, instance, &mut context)?;
-                return Ok(Some(valid));
+                return Ok(Some(SolvedVerdict { valid, context }));
             }
         }
         Ok(None)

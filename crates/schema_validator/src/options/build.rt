@@ -10,6 +10,7 @@ ghost use Rattle.schema_validator.specs.Checked.{PassesCheck};
 ghost use Rattle.schema_validator.specs.FirstCauses.{FirstOfBuild};
 ghost use Rattle.schema_validator.specs.Greatest.{AcceptsAsSchema};
 ghost use Rattle.schema_validator.specs.Handed.{handed};
+ghost use Rattle.schema_validator.specs.Solved.{SolvesWhereMonotone};
 
 use crate::compiled::of_compiled_within;
 use crate::options::ValidationOptions;
@@ -35,7 +36,8 @@ impl ValidationOptions {
     /// and parts, and has its units. Returns or none, each error that it gives points at a keyword of the schema and at a value inside
     /// the instance, and so does each unit that has an error. Where each keyword of what the root reaches is monotone, the validator
     /// accepts exactly where the greatest solution does: the largest set of targets and places, each of which accepts where exactly
-    /// those of the set do. As many targets of references are compiled one inside another as the options say, and for unfinished
+    /// those of the set do. Where each keyword of its nodes says that it is monotone, and nowhere else, the validator has a solver
+    /// (`Validator::solve`). As many targets of references are compiled one inside another as the options say, and for unfinished
     /// matches the validator's calls make as many runs at most as they say (`with_run_limit`). Unless the options say otherwise, the
     /// meta validators check the schema before it is compiled.
     ///
@@ -72,6 +74,9 @@ impl ValidationOptions {
         ensures program { IfOk result (λ v. IsCompiledFrom
             (handed S.Resolver T.KeywordTable K.Validate M.Matcher.own resolver.now table.now matcher.now)
             self.now (view schema.now) self.now.nested v) }
+        ensures solver { IfOk result (λ v. SolvesWhereMonotone
+            (handed S.Resolver T.KeywordTable K.Validate M.Matcher.own resolver.now table.now matcher.now)
+            v) }
         ensures built { IfOk result (λ _. SchemaBuilds
             (handed S.Resolver T.KeywordTable K.Validate M.Matcher.own resolver.now table.now matcher.now)
             self.now (view schema.now)) }
@@ -137,6 +142,9 @@ impl ValidationOptions {
         ensures program { IfOk result (λ v. IsCompiledFrom
             (handed S.Resolver T.KeywordTable K.Validate M.Matcher.own resolver.now table.now matcher.now)
             self.now (view schema.now) nested v) }
+        ensures solver { IfOk result (λ v. SolvesWhereMonotone
+            (handed S.Resolver T.KeywordTable K.Validate M.Matcher.own resolver.now table.now matcher.now)
+            v) }
         ensures built { IfOk result (λ _. SchemaBuilds
             (handed S.Resolver T.KeywordTable K.Validate M.Matcher.own resolver.now table.now matcher.now)
             self.now (view schema.now)) }

@@ -10,8 +10,8 @@ use schema_reports::location::OutOfMemory;
 use std::alloc::Global;
 
 impl<K: CloneKeyword, M: Matcher> Validator<K, M> {
-    /// Returns a clone of the validator: it has the same root, draft, nodes and limit of runs, and its keywords and its matcher are
-    /// clones, so it answers equally.
+    /// Returns a clone of the validator: it has the same root, draft, nodes, limit of runs and numbers that a solver follows, and its
+    /// keywords and its matcher are clones, so it answers equally.
     ///
     /// # Errors
     ///
@@ -21,6 +21,7 @@ impl<K: CloneKeyword, M: Matcher> Validator<K, M> {
         ensures draft { IfOk result (λ copy. copy.draft ≡ self.now.draft) }
         ensures nodes { IfOk result (λ copy. shaped_nodes K.shape copy.nodes ≡ shaped_nodes K.shape self.now.nodes) }
         ensures matcher { IfOk result (λ copy. M.matching copy.matcher ≡ M.matching self.now.matcher) }
+        ensures solver { IfOk result (λ copy. copy.followed ≡ self.now.followed) }
         ensures runs { IfOk result (λ copy. copy.runs ≡ self.now.runs) }
         ensures says { IfOk result (λ copy. SaySame K.Validate M.Matcher.own copy self.now) }
         ensures answers { IfOk result (λ copy. AnswerSame K.Validate M.Matcher.own copy self.now) }

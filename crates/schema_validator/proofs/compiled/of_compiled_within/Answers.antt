@@ -16,6 +16,9 @@ returns-clause-made g c =
     let made = c.of_nodes_within.ensures.made in
     (ap (λ (p : Program g.row.K.Denot g.row.M.Denot). p.nodes) made, ap (λ (p : Program g.row.K.Denot g.row.M.Denot). p.root) made, ap (λ (p : Program g.row.K.Denot g.row.M.Denot). p.draft) made)
 
+pub returns-clause-solver : goal.returns-clause-solver
+returns-clause-solver g c = ap (λ (p : Program g.row.K.Denot g.row.M.Denot). p.followed) c.of_nodes_within.ensures.made
+
 pub returns-clause-means : goal.returns-clause-means
 returns-clause-means g c = λ options root compiled instance texts speaks.
     let k = g.K.Validate in

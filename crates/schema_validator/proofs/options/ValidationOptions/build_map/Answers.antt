@@ -22,6 +22,7 @@ returns g c =
       points = IfOk-weaker result _ _ (λ m is. is.points) all;
       units_point = IfOk-weaker result _ _ (λ m is. is.units_point) all;
       greatest = IfOk-weaker result _ _ (λ m is. is.greatest) all;
+      solver = IfOk-weaker result _ _ (λ m is. is.solver) all;
       programs = IfOk-weaker result _ _ (λ m is. is.programs) all;
       at_each = IfOk-weaker result _ _ (λ m is. is.at_each) all;
       built = IfOk-weaker result _ _ (λ m is. is_built h options schema root key is.declared (g.V.MetaValidators.checked c.args.metas.now) is.accepted) made;

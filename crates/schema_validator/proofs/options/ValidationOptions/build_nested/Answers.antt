@@ -20,6 +20,7 @@ use Rattle.schema_meaning.specs.ErrorsLead.{EachKeepsAbsorbing}
 use Rattle.schema_meaning.proofs.TurnsGiveRuns.{keeps_of_turns}
 use Rattle.schema_validator.proofs.Greatest.{accepts_as_schema}
 use Rattle.schema_validator.proofs.Pointing.{points_into, units_point_into}
+use Rattle.schema_validator.proofs.Solved.{solves_made}
 use Rattle.schema_validator.proofs.OtherParts.{compiles_too}
 use Rattle.schema_validator.proofs.RootKeys.{one_root_key, root_key_too, root_too}
 use Rattle.schema_validator.proofs.FirstCauses.{compiled_first, document_first}
@@ -156,6 +157,11 @@ returns-clause-units_point g c =
     λ texts s. keeps_of_turns (k.words texts) s (k.absorbed s) (k.remaining s) (k.can_be texts s) (k.ends texts s) (k.fits texts s) (g.met.K.Validate.turn_laws texts s) (g.met.K.Validate.function_laws texts s) in
     units_point_into r table m k.words c.args.self.now (view c.args.schema.now) k.shape g.M.Matcher.matching c.in_ok-validator.validator k.absorbed k.is_whole each (g.met.T.KeywordTable.right c.args.table.now)
     g.met.K.Validate.hands_units_on (returns-clause-program g c)
+
+pub returns-clause-solver : goal.returns-clause-solver
+returns-clause-solver g c =
+    let h = handed g.S.Resolver g.T.KeywordTable g.K.Validate g.M.Matcher c.args.resolver.now c.args.table.now c.args.matcher.now in
+    solves_made h c.in_ok-compiled.compiled.nodes c.in_ok-finder.finder c.in_ok-validator.validator c.in_ok-validator.ensures.made.0 c.in_ok-validator.ensures.solver c.in_ok-finder.ensures.exactly c.in_ok-finder.ensures.follows
 
 pub returns-clause-built : goal.returns-clause-built
 returns-clause-built g c = λ texts.

@@ -7,6 +7,7 @@ use Rattle.schema_meaning.proofs.TurnsGiveRuns.{keeps_of_turns}
 use Rattle.node_table.specs.NodeTable.{numbered}
 use Rattle.schema_contexts.proofs.Matches.{nothing_twice}
 use Rattle.schema_parts.specs.MatcherViews.{FinishesEach}
+use Rattle.schema_verdicts.specs.declared.eligible.SolvedVerdict.{SolvedVerdict}
 use Rattle.schema_validator.specs.Answers.{SaysVerdict}
 use Rattle.schema_validator.specs.Program.{Program}
 use Rattle.schema_validator.proofs.ErrorSearches.{errors_at_once, first_at_once}
@@ -23,8 +24,8 @@ returns-in-Some-clause-first g c = λ yes texts speaks.
     let deep = left nodes (length p.nodes) p.root (subject_in d []) [] in
     let each : EachKeeps (w.words texts) = λ m. (w.absorbed m, keeps_of_turns (w.words texts) m (w.absorbed m) (w.remaining m) (w.can_be texts m) (w.ends texts m) (w.fits texts m) (g.met.K.Validate.turn_laws texts m) (g.met.K.Validate.function_laws texts m)) in
     let one = subst (λ (p : Program g.row.K.Denot g.row.M.Denot). 1 ≤ p.runs) c.self.view_is c.self.invariant.1 in
-    let says = of_some _ c.in-Some.accepts (SaysVerdict w.shape w.words w.is_whole g.M.Matcher.matching p d []) c.in-Some.is c.in_ok-accepts.ensures.says in
-    let none_left = of_some _ c.in-Some.accepts (λ _. FinishesEach (g.M.Matcher.matching p.matcher)) c.in-Some.is c.in_ok-accepts.ensures.finishes in
+    let says = of_some _ c.in-Some.solved (λ (v : SolvedVerdict). SaysVerdict w.shape w.words w.is_whole g.M.Matcher.matching p d [] v.valid) c.in-Some.is c.in_ok-solved.ensures.says in
+    let none_left = of_some _ c.in-Some.solved (λ _. FinishesEach (g.M.Matcher.matching p.matcher)) c.in-Some.is c.in_ok-solved.ensures.finishes in
     let finishes = finishes_of (g.M.Matcher.matching p.matcher) none_left in (
       suc deep,
       λ n more. first_at_once (w.words texts) each (g.M.Matcher.matching p.matcher) nodes d p.root n p.runs one finishes texts (sym yes ∙ says texts speaks nothing_twice n (omega (arith, more))),
@@ -39,8 +40,8 @@ returns-in-Some-clause-errors g c = λ yes texts speaks.
     let deep = left nodes (length p.nodes) p.root (subject_in d []) [] in
     let each : EachKeeps (w.words texts) = λ m. (w.absorbed m, keeps_of_turns (w.words texts) m (w.absorbed m) (w.remaining m) (w.can_be texts m) (w.ends texts m) (w.fits texts m) (g.met.K.Validate.turn_laws texts m) (g.met.K.Validate.function_laws texts m)) in
     let one = subst (λ (p : Program g.row.K.Denot g.row.M.Denot). 1 ≤ p.runs) c.self.view_is c.self.invariant.1 in
-    let says = of_some _ c.in-Some.accepts (SaysVerdict w.shape w.words w.is_whole g.M.Matcher.matching p d []) c.in-Some.is c.in_ok-accepts.ensures.says in
-    let none_left = of_some _ c.in-Some.accepts (λ _. FinishesEach (g.M.Matcher.matching p.matcher)) c.in-Some.is c.in_ok-accepts.ensures.finishes in
+    let says = of_some _ c.in-Some.solved (λ (v : SolvedVerdict). SaysVerdict w.shape w.words w.is_whole g.M.Matcher.matching p d [] v.valid) c.in-Some.is c.in_ok-solved.ensures.says in
+    let none_left = of_some _ c.in-Some.solved (λ _. FinishesEach (g.M.Matcher.matching p.matcher)) c.in-Some.is c.in_ok-solved.ensures.finishes in
     let finishes = finishes_of (g.M.Matcher.matching p.matcher) none_left in (
       suc deep,
       λ n more. errors_at_once (w.words texts) each (g.M.Matcher.matching p.matcher) nodes d p.root n p.runs one finishes texts (sym yes ∙ says texts speaks nothing_twice n (omega (arith, more))),

@@ -21,6 +21,9 @@ invariant_of-result g c =
           (subst (λ (n : ℕ). AreMonotone (w.words texts) (numbered w.shape c.self.inside.nodes) n) (sym count) (said texts))),
     )
 
+pub returns-clause-solver : goal.returns-clause-solver
+returns-clause-solver g c = c.in_ok-clone-3.ensures.same ∙ ap (λ (p : Program g.row.K.Denot g.row.M.Denot). p.followed) c.self.view_is
+
 pub returns-clause-says : goal.returns-clause-says
 returns-clause-says g c =
     let same = c.self.view_is in

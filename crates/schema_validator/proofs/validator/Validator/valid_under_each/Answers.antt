@@ -10,30 +10,20 @@ use Rattle.schema_meaning.proofs.TurnsGiveRuns.{keeps_of_turns}
 use Rattle.node_table.specs.NodeTable.{numbered}
 use Rattle.schema_contexts.proofs.Matches.{nothing_twice}
 use Rattle.schema_parts.proofs.Replies.{if_ok_mono}
+use Rattle.schema_verdicts.specs.declared.eligible.SolvedVerdict.{SolvedVerdict}
 use Rattle.schema_validator.specs.Answers.{MeetsMatches, SaysVerdict}
+use Rattle.schema_validator.specs.Asked.{DecidesFromSomeDepth}
 use Rattle.schema_validator.specs.Program.{Program, Speaks}
-use Rattle.schema_parts.specs.MatcherViews.{FinishesEach}
-use Rattle.schema_validator.proofs.ErrorSearches.{verdict_at_once}
 use Rattle.schema_validator.proofs.Solved.{of_some}
-use Rattle.schema_validator.proofs.Searches.{finishes_of, follows, if_ok_each, none_of, sense, verdict_first, verdict_runs}
+use Rattle.schema_validator.proofs.Searches.{follows, if_ok_each, none_of, sense, verdict_first, verdict_runs}
 use Rattle.schema_validator.proofs.validator.Validator.valid_under_each.Goals as goal
 
 pub returns-in-Some : goal.returns-in-Some
 returns-in-Some g c =
     let w = g.K.Validate in
     let p = c.args.self.now in
-    let d = view c.args.instance.now in
-    let nodes = numbered w.shape p.nodes in
-    let deep = left nodes (length p.nodes) p.root (subject_in d []) [] in
-    let valid = c.in-Some.valid in
-    let one = subst (λ (p : Program g.row.K.Denot g.row.M.Denot). 1 ≤ p.runs) c.self.view_is c.self.invariant.1 in
-    let says = of_some _ valid (SaysVerdict w.shape w.words w.is_whole g.M.Matcher.matching p d []) c.in-Some.is c.in_ok-valid.ensures.says in
-    let none_left = of_some _ valid (λ _. FinishesEach (g.M.Matcher.matching p.matcher)) c.in-Some.is c.in_ok-valid.ensures.finishes in
-    let finishes = finishes_of (g.M.Matcher.matching p.matcher) none_left in
     record {
-      depth = λ texts speaks.
-          let each : EachKeeps (w.words texts) = λ m. (w.absorbed m, keeps_of_turns (w.words texts) m (w.absorbed m) (w.remaining m) (w.can_be texts m) (w.ends texts m) (w.fits texts m) (g.met.K.Validate.turn_laws texts m) (g.met.K.Validate.function_laws texts m)) in
-          (suc deep, λ n more. verdict_at_once (w.words texts) each (g.M.Matcher.matching p.matcher) nodes d p.root n p.runs one finishes valid (says texts speaks nothing_twice n (omega (arith, more))));
+      depth = of_some _ c.in-Some.solved (λ (v : SolvedVerdict). DecidesFromSomeDepth w g.M.Matcher p (view c.args.instance.now) v.valid) c.in-Some.is c.in_ok-solved.ensures.depth;
     }
 
 pub returns-then-not-met_unassumed : goal.returns-then-not-met_unassumed

@@ -16,6 +16,7 @@ use Rattle.schema_validator.specs.Handed.{Options, handed, table_of}
 use Rattle.schema_validator.proofs.CompiledAlone.{alone_in, compiled_alone, program_alone, refuses_alone_in, within_alone}
 use Rattle.schema_validator.proofs.Greatest.{accepts_as_key}
 use Rattle.schema_validator.proofs.Pointing.{points_from_key, units_point_from_key}
+use Rattle.schema_validator.proofs.Solved.{solves_made}
 use Rattle.schema_validator.proofs.options.map.MapBuilding.compiled.Goals as goal
 
 pub of_compiled_within-requires : goal.of_compiled_within-requires
@@ -75,6 +76,7 @@ returns-clause-compiled g c =
       points = points_from_key r (table_of owns builtin_in script) m k.words options schema k.shape g.M.Matcher.matching c.in_ok-validator.validator k.absorbed k.is_whole each (g.met.T.KeywordTable.right self.table.now) key program;
       units_point = units_point_from_key r (table_of owns builtin_in script) m k.words options schema k.shape g.M.Matcher.matching c.in_ok-validator.validator k.absorbed k.is_whole each (g.met.T.KeywordTable.right self.table.now) g.met.K.Validate.hands_units_on key program;
       greatest = accepts_as_key h keeps (g.met.S.Resolver.same self.resolver.now) options schema c.in_ok-validator.validator key program;
+      solver = solves_made h nodes c.in_ok-finder.finder c.in_ok-validator.validator made.0 c.in_ok-validator.ensures.solver c.in_ok-finder.ensures.exactly c.in_ok-finder.ensures.follows;
       program = program;
       within = subst (λ (ns : List (NodeEntry g.row.K.Denot)). length ns ≤ options.limit) (sym made.0) within;
       compiles = λ texts. alone_in r owns script m (k.words texts) options k.shape options.limit options.nested key keys nodes (done texts);
