@@ -5,3 +5,5 @@ pub mod UnmetWants
 pub mod Meant
 pub mod ContainsMeant
 pub mod WantsMeant
+pub mod ToldAlike
+pub mod AtOnce

@@ -8,7 +8,7 @@ use crate::items::{turn_later_items, turn_listed_items};
 use crate::names::Names;
 use crate::unexpected::NoLaterItems;
 use crate::wants::Wants;
-use keyword_ways::leaf::turn_leaf;
+use keyword_ways::leaf::{LeafKeyword, turn_leaf};
 use keyword_ways::planned::Planned;
 use keyword_ways::run::Progress;
 use schema_parts::keyword::{Answer, Mode, Reply, Step, Validate};
@@ -100,6 +100,14 @@ impl Validate for StandardApplicator {
             StandardApplicator::NoLaterItems(keyword) => {
                 turn_leaf(keyword, alloc, run, instance, reply, answer)
             }
+        }
+    }
+
+    fn is_valid_at_once(&self, instance: Instance<'_>) -> Option<bool> {
+        match self {
+            StandardApplicator::Contains(keyword) => keyword.is_valid_at_once(instance),
+            StandardApplicator::NoLaterItems(keyword) => Some(keyword.holds(instance)),
+            _ => None,
         }
     }
 

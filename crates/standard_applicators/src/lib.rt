@@ -8,6 +8,7 @@
 
 pub mod applicator;
 mod beside;
+mod cloning;
 pub mod contains;
 pub mod dependencies;
 mod dependency_values;

@@ -1,6 +1,7 @@
 //! Names that a keyword holds.
 ghost use Rattle.std.specs.Prelude.{◌≡◌, map, string_bytes};
 
+use std::alloc::AllocError;
 use std::marker::Model;
 
 /// Names, in order.
@@ -31,5 +32,16 @@ impl Names {
         ensures names { map string_bytes result.now ≡ self.now }
     {
         self.texts.as_slice()
+    }
+}
+
+impl Clone for Names {
+    ghost is_clone = { λ names copy. copy ≡ names };
+
+    /// Returns a clone of the names. Fails only if memory cannot be allocated.
+    #[tactic(auto, using(crate::proofs::ToldAlike::told_alike))]
+    fn clone(&self) -> Result<Names, AllocError> {
+        let texts = self.texts.clone()?;
+        Ok(Names { texts })
     }
 }

@@ -14,7 +14,7 @@ use keyword_ways::members::has_member;
 use schema_parts::keyword::{Answer, Mode};
 use schema_reports::instance::Instance;
 use schema_reports::location::OutOfMemory;
-use std::alloc::Global;
+use std::alloc::{AllocError, Global};
 use std::marker::Model;
 
 /// A member of an object, and another that it wants.
@@ -60,6 +60,17 @@ impl Want {
     }
 }
 
+impl Clone for Want {
+    ghost is_clone = { λ want copy. copy ≡ want };
+
+    /// Returns a clone. Fails only if memory cannot be allocated.
+    fn clone(&self) -> Result<Want, AllocError> {
+        let member = self.member.clone()?;
+        let wanted = self.wanted.clone()?;
+        Ok(Want { member, wanted })
+    }
+}
+
 /// Members that want others, in order.
 #[derive(Drop)]
 pub struct Wants {
@@ -88,6 +99,17 @@ impl Wants {
         ensures wants { result.now ≡ self.now }
     {
         self.items.as_slice()
+    }
+}
+
+impl Clone for Wants {
+    ghost is_clone = { λ wants copy. copy ≡ wants };
+
+    /// Returns a clone. Fails only if memory cannot be allocated.
+    fn clone(&self) -> Result<Wants, AllocError> {
+        Ok(Wants {
+            items: self.items.clone()?,
+        })
     }
 }
 
