@@ -44,7 +44,11 @@ pub fn tell_type<'i>(
 }
 
 /// The error's text for one name.
-pub fn type_text(alloc: Global, name: TypeName, instance: Instance<'_>) -> Result<String, OutOfMemory>
+pub fn type_text(
+    alloc: Global,
+    name: TypeName,
+    instance: Instance<'_>,
+) -> Result<String, OutOfMemory>
     ensures text { IfOk result (λ text. subject_has_float (subject_of instance.entry) ≡ false → string_bytes text
         ≡ type_text name (subject_of instance.entry)) }
 {
