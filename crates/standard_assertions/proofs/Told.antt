@@ -4,15 +4,14 @@ use Rattle.serde_json.specs.Data.{Data}
 use Rattle.schema_definitions.specs.Instance.{Subject, Text}
 use Rattle.schema_parts.specs.KeywordViews.{is_nil}
 use Rattle.keyword_ways.specs.Ways.{unless}
-use Rattle.standard_assertions.specs.Assertions.{error_text, error_texts}
-use Rattle.standard_assertions.specs.declared.assertion.Assertion.{Assertion}
+use Rattle.standard_assertions.specs.Assertions.{Shape, error_text, error_texts}
 use Rattle.standard_assertions.specs.declared.assertion.Assertion.TheVariants as assertion
 
 told_unless : (b : Bool) (t : Text) → is_nil (unless b t) ≡ false → unless b t ≡ t ∷ []
 told_unless true t h = cc
 told_unless false t h = refl
 
-pub told_once : (m : Assertion) (s : Subject) → ((d : Data) → ¬ (m ≡ assertion.DependentRequired d)) → is_nil (error_texts m s) ≡ false
+pub told_once : (m : Shape) (s : Subject) → ((d : Data) → ¬ (m ≡ assertion.DependentRequired d)) → is_nil (error_texts m s) ≡ false
     → error_texts m s ≡ error_text m s ∷ []
 told_once (assertion.Type i t) s other h = told_unless _ _ h
 told_once (assertion.Types i ts) s other h = told_unless _ _ h

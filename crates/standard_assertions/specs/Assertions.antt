@@ -1,6 +1,7 @@
 -- The keywords that assert by themselves: of each the name that its errors go by, of which instances it holds, and what its errors say.
 -- Each but `dependentRequired` has one error where it does not hold. (Validation 2020-12, 6)
 use Rattle.std.specs.Prelude.{Bool, List, [], map, not, true, codes}
+use Rattle.serde_json.specs.Data.{Data}
 use Rattle.serde_json.specs.Find.{is_float}
 use Rattle.serde_json.specs.Written.{has_float}
 use Rattle.schema_definitions.specs.Instance.{Subject, Text}
@@ -16,7 +17,11 @@ use Rattle.standard_assertions.specs.Types.{fits, fits_one}
 use Rattle.standard_assertions.specs.declared.assertion.Assertion.{Assertion}
 use Rattle.standard_assertions.specs.declared.assertion.Assertion.TheVariants as assertion
 
-abbrev pub called : Assertion → Text
+-- a keyword, of which the values are known that it holds
+abbrev pub Shape : Type 0
+Shape = Assertion Data
+
+abbrev pub called : Shape → Text
 called (assertion.Type integers t) = codes "type"
 called (assertion.Types integers ts) = codes "type"
 called (assertion.Const constant) = codes "const"
@@ -27,7 +32,7 @@ called (assertion.Size kind limit) = size_name kind
 called assertion.UniqueItems = codes "uniqueItems"
 called (assertion.DependentRequired dependents) = codes "dependentRequired"
 
-abbrev pub holds : Assertion → Subject → Bool
+abbrev pub holds : Shape → Subject → Bool
 holds (assertion.Type integers t) s = fits integers t s
 holds (assertion.Types integers ts) s = fits_one integers ts s
 holds (assertion.Const constant) s = is_constant constant s
@@ -39,7 +44,7 @@ holds assertion.UniqueItems s = has_distinct_items s
 holds (assertion.DependentRequired dependents) s = is_nil (missing_dependents dependents s)
 
 -- what its one error says; `dependentRequired` has one for each name that is missing
-abbrev pub error_text : Assertion → Subject → Text
+abbrev pub error_text : Shape → Subject → Text
 error_text (assertion.Type integers t) s = type_text t s
 error_text (assertion.Types integers ts) s = types_text ts s
 error_text (assertion.Const constant) s = constant_text constant
@@ -51,12 +56,12 @@ error_text assertion.UniqueItems s = distinct_text s
 error_text (assertion.DependentRequired dependents) s = []
 
 -- what its errors say, in order: none where it holds
-abbrev pub error_texts : Assertion → Subject → List Text
+abbrev pub error_texts : Shape → Subject → List Text
 error_texts (assertion.DependentRequired dependents) s = map required_text (missing_dependents dependents s)
 error_texts m s = unless (holds m s) (error_text m s)
 
 -- whether no text of it shows a fraction of the schema
-abbrev pub shows_no_fraction : Assertion → Bool
+abbrev pub shows_no_fraction : Shape → Bool
 shows_no_fraction (assertion.Type integers t) = true
 shows_no_fraction (assertion.Types integers ts) = true
 shows_no_fraction (assertion.Const constant) = not (has_float constant)

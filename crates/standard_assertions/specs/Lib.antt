@@ -2,8 +2,11 @@ pub mod Assertions
 pub mod Constants
 pub mod Dependents
 pub mod Limits
+pub mod Made
+pub mod MadeLaws
 pub mod Multiples
 pub mod NumberCoding
+pub mod Shapes
 pub mod Sizes
 pub mod Types
 pub mod Values

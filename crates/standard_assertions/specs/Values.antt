@@ -10,7 +10,7 @@ use Rattle.schema_definitions.specs.Instance.{Text}
 use Rattle.json_values.specs.Numbers.{at_most, is_whole, less}
 use Rattle.bench_keywords.specs.declared.type_names.TypeName.{TypeName}
 use Rattle.bench_keywords.specs.declared.type_names.TypeName.TheVariants as type
-use Rattle.standard_assertions.specs.declared.assertion.Assertion.{Assertion}
+use Rattle.standard_assertions.specs.Assertions.{Shape}
 use Rattle.standard_assertions.specs.declared.assertion.Assertion.TheVariants as assertion
 use Rattle.standard_assertions.specs.declared.limits.LimitKind.{LimitKind}
 use Rattle.standard_assertions.specs.declared.sizes.SizeKind.{SizeKind}
@@ -51,26 +51,26 @@ types_of no_items = Some []
 types_of (item d ds) = both (type_of d) (types_of ds)
 
 -- one name, or a list of names; an empty list is accepted, and no instance is of one of its types
-abbrev pub type_made : Integers → Data → Option Assertion
+abbrev pub type_made : Integers → Data → Option Shape
 type_made integers (string t) = option_map (assertion.Type integers) (type_named t)
 type_made integers (array ds) = option_map (assertion.Types integers) (types_of ds)
 type_made integers _ = None
 
 -- ---- enum, whose value is a list; an empty one is accepted, and no instance is one of its values
 
-abbrev pub enum_made : Data → Option Assertion
+abbrev pub enum_made : Data → Option Shape
 enum_made d = if is_some (as_array d) then Some (assertion.Enum d) else None
 
 -- ---- numbers
 
-abbrev pub limit_made : LimitKind → Data → Option Assertion
+abbrev pub limit_made : LimitKind → Data → Option Shape
 limit_made kind d = option_map (assertion.Limit kind) (as_number d)
 
 -- a divisor is above 0
 abbrev pub divisor : Num → Option Num
 divisor x = if less (unsigned 0) x then Some x else None
 
-abbrev pub multiple_made : Data → Option Assertion
+abbrev pub multiple_made : Data → Option Shape
 multiple_made d = option_map assertion.MultipleOf (option_and_then divisor (as_number d))
 
 -- ---- sizes
@@ -85,7 +85,7 @@ natural_of (float x) = if is_whole (float x) && at_most (unsigned 0) (float x) t
 abbrev pub size_limit : Draft → Data → Option ℕ
 size_limit draft d = if is_draft_4 draft then option_and_then as_u64 (as_number d) else option_and_then natural_of (as_number d)
 
-abbrev pub size_made : SizeKind → Draft → Data → Option Assertion
+abbrev pub size_made : SizeKind → Draft → Data → Option Shape
 size_made kind draft d = option_map (assertion.Size kind) (size_limit draft d)
 
 -- ---- dependentRequired
@@ -107,5 +107,5 @@ abbrev pub has_text_lists : Option Members → Bool
 has_text_lists None = false
 has_text_lists (Some ms) = are_text_lists ms
 
-abbrev pub dependents_made : Data → Option Assertion
+abbrev pub dependents_made : Data → Option Shape
 dependents_made d = if has_text_lists (as_object d) then Some (assertion.DependentRequired d) else None

@@ -23,17 +23,18 @@ use schema_reports::instance::Instance;
 use schema_reports::location::OutOfMemory;
 use std::alloc::Global;
 
-/// A keyword that asserts by itself. It holds of each instance that is of another type than the keyword speaks of.
+/// A keyword that asserts by itself, with `V` for each value of the schema that it holds. It holds of each instance that is of another
+/// type than the keyword speaks of.
 #[derive(Drop)]
-pub enum Assertion {
+pub enum Assertion<V = HeldValue> {
     /// `type` with one name.
     Type(Integers, TypeName),
     /// `type` with a list of names.
     Types(Integers, TypeList),
     /// `const`, with its value.
-    Const(HeldValue),
+    Const(V),
     /// `enum`, with its value, a list.
-    Enum(HeldValue),
+    Enum(V),
     /// A keyword that limits numbers, with its limit.
     Limit(LimitKind, HeldNumber),
     /// `multipleOf`, with its divisor.
@@ -43,7 +44,7 @@ pub enum Assertion {
     /// `uniqueItems` that is true.
     UniqueItems,
     /// `dependentRequired`, with its value: an object of lists of names.
-    DependentRequired(HeldValue),
+    DependentRequired(V),
 }
 
 /// Of more items than these `uniqueItems` is not told at once, since without memory each pair of them would be compared.

@@ -9,5 +9,6 @@ pub mod limits;
 pub mod multiples;
 pub mod numbers;
 pub mod sizes;
+pub mod table;
 pub mod types;
 pub mod values;

@@ -1,0 +1,188 @@
+//! The table that makes the keywords that assert by themselves.
+ghost use Rattle.std.specs.Prelude.{◌≡◌, IfOk};
+ghost use Rattle.serde_json.specs.Find.{as_bool, get_member};
+ghost use Rattle.serde_json.specs.View.{members_view, view};
+ghost use Rattle.schema_keywords.specs.KeywordViews.{draft_of};
+ghost use Rattle.keyword_makers.specs.ByObject.{formed};
+ghost use Rattle.standard_assertions.specs.Made.{excludes, here_if, limit_here, made_of_lists, made_of_numbers, unique_made};
+ghost use Rattle.standard_assertions.specs.Shapes.{shape_of};
+
+use crate::assertion::Assertion;
+use crate::limits::LimitKind;
+use crate::sizes::SizeKind;
+use crate::values::{
+    dependents_made, enum_made, integers_of, is_draft_4, limit_made, multiple_made, size_made,
+    type_made,
+};
+use json_values::held::HeldValue;
+use keyword_makers::by_object::{MakesByObject, ObjectKeyword};
+use keyword_makers::by_value::Children;
+use keyword_makers::paths::value_in;
+use keyword_ways::leaves::Telling;
+use schema_keywords::keywords::Draft;
+use schema_reports::location::OutOfMemory;
+use serde_json::{Map, Value};
+use std::alloc::Global;
+
+/// What a member of an object makes.
+type Made = ObjectKeyword<Telling<Assertion>>;
+
+/// A keyword without children, or a refusal of its value.
+fn here_if(made: Option<Assertion>) -> Made
+    ensures here { formed shape_of result ≡ here_if made }
+{
+    match made {
+        Some(keyword) => ObjectKeyword::Keyword(Telling { keyword }, Children::Childless),
+        None => ObjectKeyword::Malformed,
+    }
+}
+
+/// Whether the truth value beside a limit of draft 4, where there is one, excludes the limit; nothing where it is no truth value.
+fn excludes(object: &Map<String, Value>, beside: &str) -> Option<bool>
+    ensures excludes { result ≡ excludes (get_member beside.now (members_view object.now.entries)) }
+{
+    match value_in(object, beside) {
+        Some(value) => value.as_bool(),
+        None => Some(false),
+    }
+}
+
+/// `minimum` or `maximum`, by the member of a name beside it.
+fn limit_here(
+    including: LimitKind,
+    excluding: LimitKind,
+    beside: &'static str,
+    draft: Draft,
+    object: &Map<String, Value>,
+    value: &Value,
+) -> Made
+    ensures made { formed shape_of result ≡ limit_here including excluding beside.now (draft_of draft)
+        (members_view object.now.entries) (view value.now) }
+{
+    if !is_draft_4(draft) {
+        return here_if(limit_made(including, value));
+    }
+    match excludes(object, beside) {
+        None => ObjectKeyword::MalformedBeside(beside),
+        Some(true) => here_if(limit_made(excluding, value)),
+        Some(false) => here_if(limit_made(including, value)),
+    }
+}
+
+/// `uniqueItems`.
+fn unique_made(value: &Value) -> Made
+    ensures made { formed shape_of result ≡ unique_made (as_bool (view value.now)) }
+{
+    match value.as_bool() {
+        None => ObjectKeyword::Malformed,
+        Some(true) => here_if(Some(Assertion::UniqueItems)),
+        Some(false) => ObjectKeyword::Nothing,
+    }
+}
+
+/// A keyword that speaks of lists or of objects.
+fn made_of_lists(
+    alloc: Global,
+    draft: Draft,
+    name: &str,
+    value: &Value,
+) -> Result<Made, OutOfMemory>
+    ensures made { IfOk result (λ m. formed shape_of m ≡ made_of_lists (draft_of draft) name.now (view value.now)) }
+{
+    if name == "minItems" {
+        Ok(here_if(size_made(SizeKind::MinItems, draft, value)))
+    } else if name == "maxItems" {
+        Ok(here_if(size_made(SizeKind::MaxItems, draft, value)))
+    } else if name == "uniqueItems" {
+        Ok(unique_made(value))
+    } else if name == "maxProperties" {
+        Ok(here_if(size_made(SizeKind::MaxProperties, draft, value)))
+    } else if name == "dependentRequired" {
+        Ok(here_if(dependents_made(alloc, value)?))
+    } else {
+        Ok(ObjectKeyword::Nothing)
+    }
+}
+
+/// A keyword that speaks of numbers, or one of the others.
+fn made_of_numbers(
+    alloc: Global,
+    draft: Draft,
+    object: &Map<String, Value>,
+    name: &str,
+    value: &Value,
+) -> Result<Made, OutOfMemory>
+    ensures made { IfOk result (λ m. formed shape_of m
+        ≡ made_of_numbers (draft_of draft) (members_view object.now.entries) name.now (view value.now)) }
+{
+    if name == "minimum" {
+        let (including, excluding) = (LimitKind::Minimum, LimitKind::MinimumExcluded);
+        Ok(limit_here(
+            including,
+            excluding,
+            "exclusiveMinimum",
+            draft,
+            object,
+            value,
+        ))
+    } else if name == "maximum" {
+        let (including, excluding) = (LimitKind::Maximum, LimitKind::MaximumExcluded);
+        Ok(limit_here(
+            including,
+            excluding,
+            "exclusiveMaximum",
+            draft,
+            object,
+            value,
+        ))
+    } else if name == "exclusiveMinimum" {
+        Ok(here_if(limit_made(LimitKind::ExclusiveMinimum, value)))
+    } else if name == "exclusiveMaximum" {
+        Ok(here_if(limit_made(LimitKind::ExclusiveMaximum, value)))
+    } else if name == "multipleOf" {
+        Ok(here_if(multiple_made(value)))
+    } else {
+        made_of_lists(alloc, draft, name, value)
+    }
+}
+
+/// The keywords that assert by themselves, by name and value, and for draft 4's `minimum` and `maximum` by what stands beside them.
+/// No name is the table's own.
+#[derive(Drop)]
+pub struct AssertionTable {}
+
+impl MakesByObject<Telling<Assertion>> for AssertionTable {
+    ghost use Rattle.std.specs.Prelude.{false, refl};
+    ghost use Rattle.standard_assertions.specs.Made.{made};
+    ghost use Rattle.standard_assertions.specs.MadeLaws.{made_right};
+
+    ghost owned = { λ t name. false };
+
+    ghost made = { λ t. made };
+
+    fn owns(&self, _name: &str) -> bool {
+        false
+    }
+
+    fn make(
+        &self,
+        alloc: Global,
+        name: &str,
+        value: &Value,
+        object: &Map<String, Value>,
+        draft: Draft,
+    ) -> Result<Made, OutOfMemory> {
+        if name == "type" {
+            Ok(here_if(type_made(alloc, integers_of(draft), value)?))
+        } else if name == "const" {
+            let constant = HeldValue::of(alloc, value)?;
+            Ok(here_if(Some(Assertion::Const(constant))))
+        } else if name == "enum" {
+            Ok(here_if(enum_made(alloc, value)?))
+        } else {
+            made_of_numbers(alloc, draft, object, name, value)
+        }
+    }
+
+    ghost right = { λ t draft object name value found. made_right _ (λ k. refl) draft object name value found };
+}
