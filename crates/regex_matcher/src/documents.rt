@@ -1,8 +1,8 @@
 //! The patterns that documents hold.
 ghost use Rattle.std.specs.Prelude.{◌≡◌, ◌++◌, ◌∷◌, [], IfOk, map, string_bytes};
 ghost use Rattle.serde_json.specs.View.{items_view, members_view, view};
-ghost use Rattle.regex_matcher.specs.SchemaPatterns.{given_by, member_names_of, names_of, patterns_in, patterns_in_items, patterns_in_members};
-ghost use Rattle.regex_matcher.specs.SchemaPatterns.{patterns_of, text_of};
+ghost use Rattle.regex_matcher.specs.SchemaPatterns.{given_by, member_names_of, names_of, patterns_in, patterns_in_items};
+ghost use Rattle.regex_matcher.specs.SchemaPatterns.{patterns_in_members, patterns_of, text_of};
 
 use schema_reports::location::OutOfMemory;
 use serde_json::{Map, Value};
@@ -27,7 +27,8 @@ pub fn patterns_of(alloc: Global, documents: &[&Value]) -> Result<Vec<String>, O
 // Adds the patterns of a value.
 #[cycle(walk)]
 fn push_patterns(alloc: Global, value: &Value, texts: &mut Vec<String>) -> Result<(), OutOfMemory>
-    ensures pushed { IfOk result (λ _. map string_bytes texts.new.items ≡ map string_bytes texts.old.items ++ patterns_in (view value.now)) }
+    ensures pushed { IfOk result (λ _. map string_bytes texts.new.items
+        ≡ map string_bytes texts.old.items ++ patterns_in (view value.now)) }
 {
     match value {
         Value::Null => Ok(()),

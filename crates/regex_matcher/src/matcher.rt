@@ -75,7 +75,7 @@ impl<'r> RegexMatcher<'r> {
     fn kept_answer(&self, pattern: &str, subject: &str) -> Option<Match>
         ensures answer { IfSome result (λ m. match_of m ≡ (regex_matcher self.now.unreadable).is_match pattern.now subject.now) }
     {
-        let place = self.patterns.place_of(pattern)?;
+        let place = self.patterns.likely_place(pattern)?;
         let found = found_by(self.searches.get(place)?, pattern, subject)?;
         Some(self.unreadable.answer(found))
     }

@@ -87,11 +87,16 @@ impl Patterns {
         Ok(())
     }
 
+    // Where a pattern may stand in the table, by its hash: who asks compares.
+    pub(crate) fn likely_place(&self, pattern: &str) -> Option<usize> {
+        self.places.get(pattern).copied()
+    }
+
     /// Where a pattern stands in the table, if it does.
     pub fn place_of(&self, pattern: &str) -> Option<usize>
         ensures place { IfSome result (λ i. slice_get self.now i ≡ Some pattern.now) }
     {
-        let place = *self.places.get(pattern)?;
+        let place = self.likely_place(pattern)?;
         let compiled = self.compiled.get(place)?;
         if compiled.source() != pattern {
             return None;

@@ -2,3 +2,4 @@ pub mod Components
 pub mod Paths
 pub mod References
 pub mod Views
+pub mod Whole

@@ -7,9 +7,9 @@ ghost use Rattle.uri_references.specs.Views.{components_of, found_of};
 
 use std::alloc::{AllocError, Global};
 
-/// A component that ends at certain marks.
+// A component that ends at certain marks.
 #[derive(Clone, Copy)]
-pub enum Component {
+enum Component {
     Scheme,
     Authority,
     Path,
@@ -70,9 +70,9 @@ impl Component {
     }
 }
 
-/// A component, if it is there, and what follows it.
+// A component, if it is there, and what follows it.
 #[derive(Clone, Copy)]
-pub struct Found<'t> {
+struct Found<'t> {
     component: Option<&'t str>,
     left: &'t str,
 }

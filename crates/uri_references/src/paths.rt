@@ -5,9 +5,9 @@ ghost use Rattle.uri_references.specs.Views.{walk_of};
 
 use std::alloc::{AllocError, Global};
 
-/// What is kept of the segments of a path so far.
+// What is kept of the segments of a path so far.
 #[derive(Drop)]
-pub struct Walk {
+struct Walk {
     pieces: Vec<String>,
     begun: bool,
     open_end: bool,

@@ -6,6 +6,6 @@ use Rattle.regex_matcher.proofs.patterns.Patterns.place_of.Goals as goal
 pub returns : goal.returns
 returns c =
     let found = c.in_ok-compiled.ensures.lookup in
-    let there = slice_get_read c.deref.result.now _ c.in_ok-place.field-0.now c.in_ok-compiled.compiled.now refl found.3.0 found.1 in
+    let there = slice_get_read c.deref.result.now _ c.in_ok-place.place c.in_ok-compiled.compiled.now refl found.3.0 found.1 in
     let text = sym c.source.ensures.source ∙ same_text _ _ c.if-ne.ensures in
     record { place = rw (← c.self.view_is, ← c.deref.ensures.value) (there ∙ ap Some text) }
