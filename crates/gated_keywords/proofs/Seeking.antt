@@ -52,6 +52,15 @@ module _ (gates : List Gate) (form : Form) (s : Subject) (m : Mode) where
   seeks_past i e left (k ∷ ks) = ap (λ gs. if has_member k s then at_gates gates form s m (k ∷ ks) left k i gs (λ left'. seeks gates form s m 0 left' ks) else seeks gates form s m 0 left ks) e
       ∙ ap (λ gs. if has_member k s then at_gates gates form s m (k ∷ ks) left k (i + 1) gs (λ left'. seeks gates form s m 0 left' ks) else seeks gates form s m 0 left ks) (sym (past_none i gates e))
 
+  -- so the run goes on from the next member
+  pub seeks_next : (i : ℕ) → drop i gates ≡ [] → (left names : List Text) → seeks gates form s m i left names ≡ seeks gates form s m 0 left (later_of names)
+  seeks_next i e left [] = refl
+  seeks_next i e left (k ∷ ks) = ap (λ gs. if has_member k s then at_gates gates form s m (k ∷ ks) left k i gs (λ left'. seeks gates form s m 0 left' ks) else seeks gates form s m 0 left ks) e ∙ same (has_member k s)
+    where
+      same : (b : Bool) → (if b then seeks gates form s m 0 left ks else seeks gates form s m 0 left ks) ≡ seeks gates form s m 0 left ks
+      same true = refl
+      same false = refl
+
   -- a gate that the run goes past
   pub gate_passed : (names left left' : List Text) (k : Text) (j : ℕ) (g : Gate) (next : List Text → Move) → drop j gates ≡ g ∷ drop (j + 1) gates
       → ((next' : List Text → Move) → at_pattern gates form s m names left k j 0 g g.patterns next' ≡ next' left')

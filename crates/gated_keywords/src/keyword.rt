@@ -256,6 +256,28 @@ impl GatedKeyword {
         Ok(Move::Halts)
     }
 
+    /// Looks at the members that are left, from the gate of a number on at the first one. Where no gate is left there, that member is
+    /// not looked up once more.
+    fn go_on<'s, 'i: 's>(
+        &'s self,
+        alloc: Global,
+        run: &mut GateRun,
+        instance: Instance<'i>,
+        number: usize,
+    ) -> Result<Move<'s>, OutOfMemory>
+        ensures seeks { IfOk result (λ made. seeks (gates_of self.now) (form_of self.now) (subject_of instance.entry) run.old.mode number
+            run.old.left run.old.names ≡ move_of made run.new.names run.new.left) }
+        ensures mode { IfOk result (λ _. run.new.mode ≡ run.old.mode) }
+    {
+        match self.gate(number) {
+            Some(_) => self.seek(alloc, run, instance, number),
+            None => {
+                run.names.advance();
+                self.seek(alloc, run, instance, 0)
+            }
+        }
+    }
+
     /// Goes on after a match of a pattern of a gate: settles the gate where the pattern matches, and looks at its next pattern where it
     /// does not.
     fn take_match<'s>(
@@ -301,7 +323,7 @@ impl GatedKeyword {
             (Some(name), Some(gate)) => {
                 match self.take_match(alloc, run, name, number, gate, place, won)? {
                     Some(made) => Ok(made),
-                    None => self.seek(alloc, run, instance, number + 1),
+                    None => self.go_on(alloc, run, instance, number + 1),
                 }
             }
             _ => self.seek(alloc, run, instance, number),
@@ -340,7 +362,7 @@ impl GatedKeyword {
             }
             GateStage::Asked(number) => {
                 if onward {
-                    self.seek(alloc, run, instance, self.next_gate(number))
+                    self.go_on(alloc, run, instance, self.next_gate(number))
                 } else {
                     Ok(Move::Halts)
                 }

@@ -1,8 +1,9 @@
 //! What these keywords mean: each function states a law, and does nothing.
 
-ghost use Rattle.std.specs.Prelude.{Bool};
+ghost use Rattle.std.specs.Prelude.{◌≡◌, ◌∷◌, [], Bool, codes};
 ghost use Rattle.schema_definitions.specs.Instance.{Subject};
 ghost use Rattle.schema_definitions.specs.Matching.{Matching};
+ghost use Rattle.gated_keywords.specs.GatedKeywords.{unexpected_text};
 ghost use Rattle.gated_keywords.specs.Meanings.{NamesLeftOver, NoOthersHold, OthersHold, PatternsHold};
 
 /// `patternProperties` holds exactly where the schema of each pattern accepts each member whose name the pattern matches.
@@ -21,4 +22,11 @@ pub fn additional_properties_means()
 pub fn no_additional_properties_means()
     ensures holds { (texts : Bool) (s : Subject) (matching : Matching) → NoOthersHold texts s matching }
     ensures error { (texts : Bool) (s : Subject) (matching : Matching) → NamesLeftOver texts s matching }
+{}
+
+/// The text of that error, where one name is left over, and where two are.
+pub fn unexpected_names()
+    ensures one { unexpected_text (codes "a" ∷ []) ≡ codes "Additional properties are not allowed ('a' was unexpected)" }
+    ensures two { unexpected_text (codes "a" ∷ codes "b" ∷ [])
+        ≡ codes "Additional properties are not allowed ('a', 'b' were unexpected)" }
 {}

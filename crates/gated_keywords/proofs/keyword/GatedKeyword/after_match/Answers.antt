@@ -18,4 +18,4 @@ returns-in-None-clause-tested c =
     (λ next. c.in_ok-made-in-Some-Some.ensures.takes s next ∙ ap (λ o. moved_by o c.take_match.new.run next) c.in-None.is)
     ∙ (ap (λ m. seeks gates form s m (c.args.number + 1) c.take_match.new.run.left c.args.run.now.names) (sym c.in_ok-made-in-Some-Some.ensures.mode)
     ∙ ap (λ ns. seeks gates form s c.take_match.new.run.mode (c.args.number + 1) c.take_match.new.run.left ns) (sym c.in_ok-made-in-Some-Some.ensures.names)) in
-    subst (λ x. IfOk c.seek.result (λ made. x ≡ move_of made c.seek.new.run.names c.seek.new.run.left)) (sym on) c.seek.ensures.seeks
+    subst (λ x. IfOk c.go_on.result (λ made. x ≡ move_of made c.go_on.new.run.names c.go_on.new.run.left)) (sym on) c.go_on.ensures.seeks
