@@ -45,8 +45,8 @@ const members = [
 
 let seed = 12345;
 function below(n) {
-  seed = (seed * 1103515245 + 12345) % 2147483648;
-  return Math.floor(seed / 65536) % n;
+  seed = (Math.imul(seed, 1664525) + 1013904223) >>> 0;
+  return (seed >>> 16) % n;
 }
 const one = (list) => list[below(list.length)];
 
