@@ -2,7 +2,8 @@
 """The schemas and instances that docs/PERFORMANCE.md counts and measures: python3 tools/cases.py [NAME SIZE]
 
 Without words it lists the names and the sizes that are counted. With a name and a size it prints the schema, the instance and, where
-there is one, the fourth word of engine_bench, a line each.
+there is one, the fourth word of engine_bench, a line each. The cases of STANDARD_CASES are for check_rows: their keywords are the
+standard's, which engine_bench has not.
 """
 
 import json
@@ -181,6 +182,41 @@ def ladder(size):
     return Case(schema, "x", "", apart=("errors", *ONE_VERDICT, "allocations"))
 
 
+def enumeration(size):
+    """So many texts, each among a hundred."""
+    texts = [f"t{k}" for k in range(100)]
+    return Case({"items": {"enum": texts}}, [texts[k % 100] for k in range(size)], [])
+
+
+def unique_numbers(size):
+    """So many numbers that differ, in no order."""
+    return Case({"uniqueItems": True}, [k * 7919 % 10007 for k in range(size)], [])
+
+
+def unique_texts(size):
+    """So many texts that differ, in no order."""
+    return Case({"uniqueItems": True}, [f"t{k * 7919 % 10007}" for k in range(size)], [])
+
+
+def limits(size):
+    """So many records with a number between two limits."""
+    schema = {"items": {"properties": {"v": {"minimum": 0, "maximum": 100000}}}}
+    return Case(schema, [{"v": k} for k in range(size)], [])
+
+
+def additional(size):
+    """So many records of the six names that are allowed."""
+    names = ("id", "name", "street", "town", "code", "note")
+    schema = {"items": {"properties": {name: {} for name in names}, "additionalProperties": False}}
+    return Case(schema, [{name: k for name in names} for k in range(size)], [])
+
+
+def patterns(size):
+    """An object of so many members, each of whose names one of three patterns is found in."""
+    schema = {"patternProperties": {pattern: {"type": "integer"} for pattern in ("a", "b", "c")}}
+    return Case(schema, {f"{'abc'[k % 3]}{k}": k for k in range(size)}, {})
+
+
 # what makes a case of a size, and the sizes that are counted
 CASES = {
     "objects": (objects, (500, 1000, 2000)),
@@ -202,18 +238,28 @@ CASES = {
     "cycles-any-typed": (cycles_any_typed, (8, 16, 32)),
     "ladder": (ladder, (8, 16, 32)),
 }
+# the same, for the standard's keywords
+STANDARD_CASES = {
+    "enumeration": (enumeration, (1000, 2000)),
+    "unique-numbers": (unique_numbers, (1000, 2000)),
+    "unique-texts": (unique_texts, (1000, 2000)),
+    "limits": (limits, (1000, 2000)),
+    "additional": (additional, (1000, 2000)),
+    "patterns": (patterns, (1000, 2000)),
+}
+ALL_CASES = {**CASES, **STANDARD_CASES}
 
 
 def case_of(name, size):
     """The case of a name, in a size."""
-    return CASES[name][0](size)
+    return ALL_CASES[name][0](size)
 
 
 def main():
     if len(sys.argv) == 1:
-        for name, (_, sizes) in CASES.items():
+        for name, (_, sizes) in ALL_CASES.items():
             print(name, *sizes)
-    elif len(sys.argv) == 3 and sys.argv[1] in CASES and sys.argv[2].isdigit():
+    elif len(sys.argv) == 3 and sys.argv[1] in ALL_CASES and sys.argv[2].isdigit():
         print("\n".join(case_of(sys.argv[1], int(sys.argv[2])).words()))
     else:
         sys.exit(__doc__)

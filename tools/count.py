@@ -1,8 +1,8 @@
 #!/usr/bin/env python3
-"""Counts what engine_bench takes: python3 tools/count.py PROGRAM [BEFORE] [--only NAME] [--mode MODE]
+"""Counts what the engine takes: python3 tools/count.py PROGRAM [BEFORE] [--standard] [--only NAME] [--mode MODE]
 
-PROGRAM is the built engine_bench. Every case of cases.py is counted in each of its sizes, and a line is printed for each mode, `name size
-mode count`:
+PROGRAM is the built engine_bench. Every case of CASES in cases.py is counted in each of its sizes, and a line is printed for each mode,
+`name size mode count`:
 
 - valid, errors, list: instructions in that mode of the program, by `valgrind --tool=callgrind`, its line `Collected`.
 - allocations: requests for memory in the mode valid, by `total heap usage` of valgrind.
@@ -12,6 +12,9 @@ mode count`:
 What the program takes for the same instance with the schema `true` is subtracted in each, so the reading of the instance is set aside;
 the reading and the building of the schema are counted. A mode that a case is not counted in has no line.
 
+With --standard PROGRAM is the built check_rows, and the cases are those of STANDARD_CASES, whose keywords engine_bench has not. Each is a
+file of one row with the table `standard`, which has to be accepted; the mode list is not counted then.
+
 BEFORE is what an earlier run printed; the ratio to it is noted. Notes go to standard error: the ratio to the size before and to BEFORE.
 The program ends with 1 where `objects` of 1,000 and of 2,000 records make different numbers of requests for memory. --only and --mode may
 be given several times. Counts depend on the compiler: compare within one kit (`rt version`). They are the same each time, but where
@@ -19,18 +22,22 @@ the program's path has another length some differ by a few in ten thousand. valg
 """
 
 import argparse
+import json
 import os
 import re
 import resource
 import shutil
 import subprocess
 import sys
+import tempfile
 
-from cases import CASES, LONGEST_WORD, case_of
+from cases import ALL_CASES, CASES, LONGEST_WORD, STANDARD_CASES, case_of
 
 INSTRUCTIONS = ("valid", "errors", "list")
 REQUESTS = ("allocations", "run-allocations")
 MODES = INSTRUCTIONS + REQUESTS
+# what a row asks in a mode, and what it wants where the instance is accepted
+ROW_CALLS = {"valid": ("valid", True), "errors": ("iter_errors", [])}
 # what a program is started with beside its words moves them in memory, and a copy of a text that starts elsewhere may take a few
 # instructions more; so it is started with nothing but what valgrind may need to find its own parts, and always in the same folder
 ENVIRONMENT = {name: os.environ[name] for name in ("VALGRIND_LIB",) if name in os.environ}
@@ -38,8 +45,8 @@ ENVIRONMENT = {name: os.environ[name] for name in ("VALGRIND_LIB",) if name in o
 EQUAL_REQUESTS = ("objects", (1000, 2000))
 
 
-def run(tool, line, program, words):
-    """The number that valgrind's tool shows in the line, of the program with the words."""
+def run(tool, line, program, words, statuses):
+    """The number that valgrind's tool shows in the line, of the program with the words, which ends with one of the statuses."""
     valgrind = shutil.which("valgrind")
     if valgrind is None:
         sys.exit("valgrind is not there")
@@ -47,17 +54,17 @@ def run(tool, line, program, words):
     done = subprocess.run(command, stdout=subprocess.DEVNULL, stderr=subprocess.PIPE, env=ENVIRONMENT, cwd="/")
     shown = done.stderr.decode(errors="replace")
     number = re.search(line, shown)
-    if number is None or done.returncode not in (0, 1):
+    if number is None or done.returncode not in statuses:
         sys.exit(f"no count, status {done.returncode}, of {program} {words[0]}:\n{shown[-2000:]}")
     return int(number.group(1).replace(",", ""))
 
 
-def instructions(program, words):
-    return run(["--tool=callgrind", "--callgrind-out-file=/dev/null"], r"Collected : (\d+)", program, words)
+def instructions(program, words, statuses):
+    return run(["--tool=callgrind", "--callgrind-out-file=/dev/null"], r"Collected : (\d+)", program, words, statuses)
 
 
-def requests(program, words):
-    return run(["--undef-value-errors=no"], r"total heap usage: ([\d,]+) allocs", program, words)
+def requests(program, words, statuses):
+    return run(["--undef-value-errors=no"], r"total heap usage: ([\d,]+) allocs", program, words, statuses)
 
 
 class Counter:
@@ -68,14 +75,15 @@ class Counter:
         self.case = case
         self.made = {}
 
+    def taken(self, counted, mode, schema, instance):
+        """What the schema takes on the instance."""
+        return counted(self.program, [mode, schema, instance, *self.case.more], (0, 1))
+
     def apart(self, counted, mode, instance):
         """What the schema takes on the instance, less what `true` takes."""
         key = (counted, mode, instance)
         if key not in self.made:
-            with_schema, with_true = (
-                counted(self.program, [mode, schema, instance, *self.case.more])
-                for schema in (self.case.schema, "true")
-            )
+            with_schema, with_true = (self.taken(counted, mode, schema, instance) for schema in (self.case.schema, "true"))
             self.made[key] = with_schema - with_true
         return self.made[key]
 
@@ -84,6 +92,19 @@ class Counter:
             return self.apart(instructions, mode, self.case.instance)
         taken = self.apart(requests, "valid", self.case.instance)
         return taken if mode == "allocations" else taken - self.apart(requests, "valid", self.case.empty)
+
+
+class RowCounter(Counter):
+    """The same by rows of the standard's table, which are accepted."""
+
+    def taken(self, counted, mode, schema, instance):
+        call, want = ROW_CALLS[mode]
+        parts = {"schema": json.loads(schema), "instance": json.loads(instance), "want": want}
+        row = {"name": "case", "call": call, "table": "standard", **parts}
+        with tempfile.NamedTemporaryFile("w", suffix=".jsonl", encoding="utf-8") as file:
+            file.write(json.dumps(row, separators=(",", ":")) + "\n")
+            file.flush()
+            return counted(self.program, [file.name], (0,))
 
 
 def counts_of(path):
@@ -103,9 +124,10 @@ def note(count, other, what):
 
 def arguments():
     parser = argparse.ArgumentParser(description=__doc__, formatter_class=argparse.RawDescriptionHelpFormatter)
-    parser.add_argument("program", help="the built engine_bench")
+    parser.add_argument("program", help="the built engine_bench, or with --standard the built check_rows")
     parser.add_argument("before", nargs="?", help="what an earlier run printed")
-    parser.add_argument("--only", action="append", choices=sorted(CASES), metavar="NAME", help="count this case alone")
+    parser.add_argument("--standard", action="store_true", help="count the standard's keywords, by check_rows")
+    parser.add_argument("--only", action="append", choices=sorted(ALL_CASES), metavar="NAME", help="count this case alone")
     parser.add_argument("--mode", action="append", choices=MODES, metavar="MODE", help="count in this mode alone")
     return parser.parse_args()
 
@@ -121,17 +143,17 @@ def main():
     before = counts_of(given.before) if given.before else {}
     counts = {}
     more_stack()
-    for name, (_, sizes) in CASES.items():
+    for name, (_, sizes) in (STANDARD_CASES if given.standard else CASES).items():
         if given.only and name not in given.only:
             continue
         smaller = {}
         for size in sizes:
             case = case_of(name, size)
-            if case.too_long():
+            if case.too_long() and not given.standard:
                 sys.exit(f"{name} {size}: a word of more than {LONGEST_WORD} bytes")
-            counter = Counter(given.program, case)
+            counter = (RowCounter if given.standard else Counter)(given.program, case)
             for mode in given.mode or MODES:
-                if mode in case.apart:
+                if mode in case.apart or (given.standard and mode in INSTRUCTIONS and mode not in ROW_CALLS):
                     continue
                 count = counter.count(mode)
                 key = f"{name} {size} {mode}"

@@ -7,7 +7,7 @@ use Rattle.engine_cases.specs.Calls.{call_in}
 use Rattle.engine_cases.specs.declared.call.Call.{Call}
 use Rattle.engine_cases.specs.declared.call.Call.TheVariants.{Check, Clones, Free, Map, Validator}
 use Rattle.engine_cases.specs.declared.case.Table.{Table}
-use Rattle.engine_cases.specs.declared.case.Table.TheVariants.{Bench, Fused, Items, Strings}
+use Rattle.engine_cases.specs.declared.case.Table.TheVariants.{Bench, Fused, Items, Standard, Strings}
 
 -- the table of a name
 abbrev pub table_named : Text → Option Table
@@ -15,7 +15,8 @@ table_named t =
     if bytes_eq t (codes "bench") then Some Bench
     else (if bytes_eq t (codes "fused") then Some Fused
     else (if bytes_eq t (codes "items") then Some Items
-    else (if bytes_eq t (codes "strings") then Some Strings else None)))
+    else (if bytes_eq t (codes "strings") then Some Strings
+    else (if bytes_eq t (codes "standard") then Some Standard else None))))
 
 -- the table that a member names; the bench's where there is no such member
 abbrev pub table_of : Option Data → Option Table
@@ -31,6 +32,7 @@ is_bench Bench = true
 is_bench Fused = false
 is_bench Items = false
 is_bench Strings = false
+is_bench Standard = false
 
 -- a call can be asked by a table: clones by the bench's alone, all else by each
 abbrev pub is_asked_by : Call → Table → Bool

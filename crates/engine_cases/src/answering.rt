@@ -21,6 +21,7 @@ use schema_engine::context::keyword::Validate;
 use schema_engine::context::table::KeywordTable;
 use schema_engine::location::OutOfMemory;
 use serde_json::{Value, json};
+use standard_keywords::table::StandardTable;
 use std::alloc::Global;
 
 // What the engine answers of a case by a table.
@@ -67,5 +68,6 @@ pub fn answer(alloc: Global, case: &Value) -> Result<Value, OutOfMemory>
         Table::Fused => answer_by(alloc, &case, &FusedTable {}),
         Table::Items => answer_by(alloc, &case, &ItemsTable {}),
         Table::Strings => answer_by(alloc, &case, &strings_table()),
+        Table::Standard => answer_by(alloc, &case, &StandardTable {}),
     }
 }

@@ -20,6 +20,8 @@ pub enum Table {
     Items,
     /// That of `x-suffix`, `x-both` and `x-contains-between` in `example_keywords`, and for all other names the bench's.
     Strings,
+    /// That of `standard_keywords`, which makes the standard's keywords.
+    Standard,
 }
 
 /// A case. Its values are borrowed.
@@ -124,6 +126,7 @@ fn table_named(name: &str) -> Option<Table>
         "fused" => Some(Table::Fused),
         "items" => Some(Table::Items),
         "strings" => Some(Table::Strings),
+        "standard" => Some(Table::Standard),
         _ => None,
     }
 }

@@ -5,11 +5,13 @@ use schema_keys::error::BuildError;
 use serde_json::{Value, json};
 use std::alloc::{AllocError, Global};
 
-// Where what was refused stands, for a refusal that says so: a location in the schema, or, by the meta validators, an instance path.
+// Where what was refused stands, for a refusal that says so: a location in the schema, the schema path that a table's error has, or, by
+// the meta validators, an instance path.
 fn place_of(error: &BuildError) -> Option<&str> {
     match error {
         BuildError::NotASchema(location) => Some(location.as_str()),
         BuildError::ReferenceNotText(location) => Some(location.as_str()),
+        BuildError::KeywordRefused(error) => Some(error.schema_path.as_str()),
         BuildError::MetaSchema(error) => Some(error.instance_path.as_str()),
         _ => None,
     }
