@@ -161,7 +161,7 @@ class Suite:
         for _, draft, name, _ in self.rows.values():
             self.counts[draft, name].tests += 1
         for line in done.stdout.splitlines()[:-1]:
-            number, _, given = line.partition("\t")
+            number, _, given = line.removeprefix("wrong: ").partition("\t")
             row, draft, name, words = self.rows[number]
             self.counts[draft, name].failed += 1
             print(f"FAILED {draft} {name}: {words}\n    wanted {json.dumps(row['want'])}, given {given}")

@@ -4,6 +4,7 @@ ghost use Rattle.serde_json.specs.Read.{read as read_text};
 ghost use Rattle.serde_json.specs.View.{view};
 
 use engine_cases::call::Call;
+use engine_cases::case::Table;
 use serde_json::{Category, Value};
 use std::alloc::{AllocError, Global};
 
@@ -133,7 +134,7 @@ fn is_call(value: &Value) -> bool {
 // Whether a value is the name of a table.
 fn is_table(value: &Value) -> bool {
     match value.as_str() {
-        Some(name) => name == "bench" || name == "fused" || name == "items" || name == "strings",
+        Some(name) => Table::named(name).is_some(),
         None => false,
     }
 }

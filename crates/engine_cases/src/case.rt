@@ -24,6 +24,22 @@ pub enum Table {
     Standard,
 }
 
+impl Table {
+    /// Returns the table of this name; `None` where there is none. Allocates nothing.
+    pub fn named(name: &str) -> Option<Table>
+        ensures named { result ≡ table_named name.now }
+    {
+        match name {
+            "bench" => Some(Table::Bench),
+            "fused" => Some(Table::Fused),
+            "items" => Some(Table::Items),
+            "strings" => Some(Table::Strings),
+            "standard" => Some(Table::Standard),
+            _ => None,
+        }
+    }
+}
+
 /// A case. Its values are borrowed.
 #[derive(Clone, Copy)]
 pub struct Case<'c> {
@@ -117,27 +133,13 @@ fn is_asked_by(call: Call, table: Table) -> bool
     }
 }
 
-// The table of this name.
-fn table_named(name: &str) -> Option<Table>
-    ensures named { result ≡ table_named name.now }
-{
-    match name {
-        "bench" => Some(Table::Bench),
-        "fused" => Some(Table::Fused),
-        "items" => Some(Table::Items),
-        "strings" => Some(Table::Strings),
-        "standard" => Some(Table::Standard),
-        _ => None,
-    }
-}
-
 // The table that a member names; the bench's where there is no such member.
 fn table_of(name: Option<&Value>) -> Option<Table>
     ensures table { result ≡ table_of (option_map (λ v. view v.now) name.entry) }
 {
     match name {
         None => Some(Table::Bench),
-        Some(name) => table_named(name.as_str()?),
+        Some(name) => Table::named(name.as_str()?),
     }
 }
 
