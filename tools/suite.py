@@ -5,8 +5,9 @@ PROGRAM is check_rows, as `rt run` leaves it in out/. FOLDER is the suite's `tes
 of a newer state: it has a folder for each draft. Drafts 4, 6, 7, 2019-09 and 2020-12 are run, those that the folder has.
 
 Each test is a row that asks for the verdict by the table `standard`. A group of tests is left out where its schema needs what the parts of
-the rows do not have: another document, a relative reference or a relative identifier, a keyword that the table refuses, or a pattern that
-the rows' matcher, which looks for it as a text, would read otherwise. So are optional groups on formats and contents, annotations here.
+the rows do not have: another document, a relative reference or a relative identifier, or a pattern that the rows' matcher, which looks for
+it as a text, would read otherwise. So are optional groups on formats and contents, annotations here. And a group is left out whose schema
+the table refuses, since it says of a keyword that it is not supported.
 
 It prints each test that fails, and for each draft and file how many tests ran, how many failed and how many groups were left out and why.
 --optional runs the files in `optional` too, whose failures are shown beside the others; --left-out names each group that is left out. It
@@ -25,8 +26,6 @@ import tempfile
 DRAFTS = {"draft4": 4, "draft6": 6, "draft7": 7, "draft2019-09": 2019, "draft2020-12": 2020}
 SUITE = "/usr/share/json-schema-test-suite/tests"
 ANNOTATING = {"format", "contentEncoding", "contentMediaType", "contentSchema"}
-UNEVALUATED = {"unevaluatedProperties", "unevaluatedItems"}
-REFUSED = {4: set(), 6: set(), 7: set(), 2019: UNEVALUATED, 2020: UNEVALUATED}
 REFERENCES = ("$ref", "$dynamicRef", "$recursiveRef")
 META_SCHEMA = re.compile(r"https?://json-schema\.org/draft[-/]")
 # a text with one of these is more than itself as a pattern
@@ -73,7 +72,7 @@ def why_reference_leads_out(below, here):
 
 
 def why_left_out(schema, draft, optional):
-    """Why the rows cannot ask of a schema; None where they can."""
+    """Why the rows cannot ask of a schema; None where they can, but for what the table refuses."""
     identifier = "id" if draft == 4 else "$id"
     here = identifiers_in(schema, identifier)
     for below in objects_in(schema):
@@ -85,8 +84,6 @@ def why_left_out(schema, draft, optional):
             return outside
         if any(PATTERN_SIGNS.search(pattern) for pattern in patterns_of(below)):
             return "regular expression"
-        if not REFUSED[draft].isdisjoint(below):
-            return "keyword that is refused"
         if optional and not ANNOTATING.isdisjoint(below):
             return "annotation"
     return None
@@ -114,58 +111,72 @@ class Count:
         return f"{name:40} {self.tests:5} tests {self.failed:3} failed" + (f"   groups left out: {reasons}" if reasons else "")
 
 
+def unsupported_in(given):
+    """What the table refuses a schema for that it does not support, by what the program gave; None where it is something else."""
+    refusal = re.search(r"'([^']*)': .* is not supported$", given.get("text", "")) if isinstance(given, dict) else None
+    return refusal.group(1).removeprefix("/") if refusal else None
+
+
 class Suite:
     """The rows of the groups that are run, and what came of them."""
 
     def __init__(self, show_left_out):
-        self.rows = {}
+        self.rows = []
         self.counts = {}
         self.show_left_out = show_left_out
 
+    def leave_out(self, draft, name, group, reason):
+        self.counts[draft, name].left_out[reason] += 1
+        if self.show_left_out:
+            print(f"left out, {reason}: {draft} {name}: {group['description']}")
+
     def take(self, draft, name, groups):
         """Takes the groups of a file, or leaves them out."""
-        count = self.counts[draft, name] = Count()
+        self.counts[draft, name] = Count()
         for group in groups:
             reason = why_left_out(group["schema"], DRAFTS[draft], name.startswith("optional"))
             if reason is not None:
-                count.left_out[reason] += 1
-                if self.show_left_out:
-                    print(f"left out, {reason}: {draft} {name}: {group['description']}")
+                self.leave_out(draft, name, group, reason)
                 continue
-            for test in group["tests"]:
-                self.add(draft, name, group, test)
+            self.rows += [(draft, name, group, test) for test in group["tests"]]
 
-    def add(self, draft, name, group, test):
-        number = DRAFTS[draft]
-        row = {
-            "name": f"{len(self.rows)}",
-            "call": "valid",
-            "table": "standard",
-            "draft": number,
-            "default": number,
-            "schema": group["schema"],
-            "instance": test["data"],
-            "want": test["valid"],
-        }
-        self.rows[row["name"]] = (row, draft, name, f"{group['description']}: {test['description']}")
+    def row(self, number):
+        """The row of a test, which is named by its number."""
+        draft, _, group, test = self.rows[number]
+        edition = {"draft": DRAFTS[draft], "default": DRAFTS[draft]}
+        asked = {"schema": group["schema"], "instance": test["data"], "want": test["valid"]}
+        return {"name": str(number), "call": "valid", "table": "standard", **edition, **asked}
 
     def run(self, program):
         """Asks the program of all rows, and prints those that are answered otherwise."""
         with tempfile.TemporaryDirectory() as folder:
             path = os.path.join(folder, "suite.jsonl")
             with open(path, "w", encoding="utf-8") as file:
-                file.writelines(json.dumps(row) + "\n" for row, *_ in self.rows.values())
+                file.writelines(json.dumps(self.row(number)) + "\n" for number in range(len(self.rows)))
             done = subprocess.run([program, path], capture_output=True, text=True, timeout=SECONDS, check=False)
-        if done.returncode not in (0, 1) or not re.search(rf"^{len(self.rows)} rows, \d+ wrong$", done.stdout, re.MULTILINE):
+        lines = done.stdout.splitlines()
+        if done.returncode not in (0, 1) or not lines or lines.pop().split(" rows, ")[0] != str(len(self.rows)):
             sys.exit(f"status {done.returncode} of {program}:\n{done.stdout[-2000:]}{done.stderr[-2000:]}")
-        for _, draft, name, _ in self.rows.values():
+        self.judge(line.removeprefix("wrong: ").partition("\t") for line in lines)
+
+    def judge(self, wrong):
+        """Counts the tests, and tells of those that are wrong, each its number and what was given."""
+        for draft, name, *_ in self.rows:
             self.counts[draft, name].tests += 1
-        for line in done.stdout.splitlines()[:-1]:
-            number, _, given = line.removeprefix("wrong: ").partition("\t")
-            row, draft, name, words = self.rows[number]
+        refused = []
+        for number, _, given in wrong:
+            draft, name, group, test = self.rows[int(number)]
+            unsupported = unsupported_in(json.loads(given))
+            if unsupported is not None:
+                self.counts[draft, name].tests -= 1
+                if group not in refused:
+                    refused.append(group)
+                    self.leave_out(draft, name, group, f"{unsupported} is not supported")
+                continue
             self.counts[draft, name].failed += 1
-            print(f"FAILED {draft} {name}: {words}\n    wanted {json.dumps(row['want'])}, given {given}")
-            print(f"    schema {json.dumps(row['schema'])}\n    instance {json.dumps(row['instance'])}")
+            print(f"FAILED {draft} {name}: {group['description']}: {test['description']}")
+            print(f"    wanted {json.dumps(test['valid'])}, given {given}")
+            print(f"    schema {json.dumps(group['schema'])}\n    instance {json.dumps(test['data'])}")
 
     def sums(self):
         """Prints the counts, and returns how many tests failed that are not optional."""
