@@ -8,7 +8,8 @@ ghost use Rattle.schema_reports.specs.ReportViews.{BorrowsItsPlace, spoken};
 ghost use Rattle.schema_parts.specs.FaultViews.{errors_in, faults_in, PassesBorrowed};
 ghost use Rattle.schema_parts.specs.KeywordViews.{answer_of, reply_of, turn_of};
 ghost use Rattle.keyword_ways.specs.Ways.{at_first, noted};
-ghost use Rattle.standard_applicators.specs.Courses.{course_step, course_turn, ends_run, left_to_ask, spoken_course, tells_first, wants_one};
+ghost use Rattle.standard_applicators.specs.Courses.{course_step, course_turn, ends_run, left_to_ask, spoken_course};
+ghost use Rattle.standard_applicators.specs.Courses.{tells_first, wants_one};
 ghost use Rattle.standard_applicators.specs.Dependents.{dependents_from};
 ghost use Rattle.standard_applicators.specs.Wanting.{missing_texts};
 
