@@ -20,5 +20,6 @@ told_once (assertion.Enum d) s other h = told_unless _ _ h
 told_once (assertion.Limit kind x) s other h = told_unless _ _ h
 told_once (assertion.MultipleOf x) s other h = told_unless _ _ h
 told_once (assertion.Size kind n) s other h = told_unless _ _ h
+told_once (assertion.Count kind n) s other h = told_unless _ _ h
 told_once assertion.UniqueItems s other h = told_unless _ _ h
 told_once (assertion.DependentRequired d) s other h = absurd (other d refl)

@@ -7,6 +7,7 @@ use Rattle.serde_json.specs.Written.{has_float}
 use Rattle.schema_definitions.specs.Instance.{Subject, Text}
 use Rattle.schema_parts.specs.KeywordViews.{is_nil}
 use Rattle.keyword_ways.specs.Ways.{unless}
+use Rattle.bench_keywords.specs.Counts.{count_fits, count_name, count_text}
 use Rattle.bench_keywords.specs.Words.{required_text, type_text, types_text}
 use Rattle.standard_assertions.specs.Constants.{constant_text, distinct_text, has_distinct_items, is_constant, is_listed, listed_text}
 use Rattle.standard_assertions.specs.Dependents.{missing_dependents}
@@ -29,6 +30,7 @@ called (assertion.Enum values) = codes "enum"
 called (assertion.Limit kind limit) = limit_name kind
 called (assertion.MultipleOf divisor) = codes "multipleOf"
 called (assertion.Size kind limit) = size_name kind
+called (assertion.Count kind limit) = count_name kind
 called assertion.UniqueItems = codes "uniqueItems"
 called (assertion.DependentRequired dependents) = codes "dependentRequired"
 
@@ -40,6 +42,7 @@ holds (assertion.Enum values) s = is_listed values s
 holds (assertion.Limit kind limit) s = keeps_limit kind limit s
 holds (assertion.MultipleOf divisor) s = is_multiple divisor s
 holds (assertion.Size kind limit) s = size_fits kind limit s
+holds (assertion.Count kind limit) s = count_fits kind limit s
 holds assertion.UniqueItems s = has_distinct_items s
 holds (assertion.DependentRequired dependents) s = is_nil (missing_dependents dependents s)
 
@@ -52,6 +55,7 @@ error_text (assertion.Enum values) s = listed_text values s
 error_text (assertion.Limit kind limit) s = limit_text kind limit s
 error_text (assertion.MultipleOf divisor) s = multiple_text divisor s
 error_text (assertion.Size kind limit) s = size_text kind limit s
+error_text (assertion.Count kind limit) s = count_text kind limit s
 error_text assertion.UniqueItems s = distinct_text s
 error_text (assertion.DependentRequired dependents) s = []
 
@@ -69,5 +73,6 @@ shows_no_fraction (assertion.Enum values) = not (has_float values)
 shows_no_fraction (assertion.Limit kind limit) = not (is_float limit)
 shows_no_fraction (assertion.MultipleOf divisor) = not (is_float divisor)
 shows_no_fraction (assertion.Size kind limit) = true
+shows_no_fraction (assertion.Count kind limit) = true
 shows_no_fraction assertion.UniqueItems = true
 shows_no_fraction (assertion.DependentRequired dependents) = true

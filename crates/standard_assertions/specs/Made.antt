@@ -9,8 +9,9 @@ use Rattle.schema_definitions.specs.Instance.{Text}
 use Rattle.keyword_makers.specs.ByObject.{MadeHere}
 use Rattle.keyword_makers.specs.declared.by_object.ObjectKeyword.TheVariants as here
 use Rattle.keyword_makers.specs.declared.by_value.Children.TheVariants as children
+use Rattle.bench_keywords.specs.declared.counts.CountKind.TheVariants as count
 use Rattle.standard_assertions.specs.Assertions.{Shape}
-use Rattle.standard_assertions.specs.Values.{dependents_made, enum_made, integers_of, is_draft_4, limit_made, multiple_made, size_made, type_made}
+use Rattle.standard_assertions.specs.Values.{count_made, dependents_made, enum_made, integers_of, is_draft_4, limit_made, multiple_made, size_made, type_made}
 use Rattle.standard_assertions.specs.declared.assertion.Assertion.TheVariants as assertion
 use Rattle.standard_assertions.specs.declared.limits.LimitKind.{LimitKind}
 use Rattle.standard_assertions.specs.declared.limits.LimitKind.TheVariants as limit
@@ -47,13 +48,19 @@ unique_made (Some false) = here.Nothing
 
 -- ---- all of them
 
+abbrev pub made_of_counts : Draft → Text → Data → MadeHere Shape
+made_of_counts draft name d =
+    if bytes_eq name (codes "minLength") then here_if (count_made count.MinLength draft d)
+    else (if bytes_eq name (codes "maxLength") then here_if (count_made count.MaxLength draft d)
+    else (if bytes_eq name (codes "minProperties") then here_if (count_made count.MinProperties draft d) else here.Nothing))
+
 abbrev pub made_of_lists : Draft → Text → Data → MadeHere Shape
 made_of_lists draft name d =
     if bytes_eq name (codes "minItems") then here_if (size_made size.MinItems draft d)
     else (if bytes_eq name (codes "maxItems") then here_if (size_made size.MaxItems draft d)
     else (if bytes_eq name (codes "uniqueItems") then unique_made (as_bool d)
     else (if bytes_eq name (codes "maxProperties") then here_if (size_made size.MaxProperties draft d)
-    else (if bytes_eq name (codes "dependentRequired") then here_if (dependents_made d) else here.Nothing))))
+    else (if bytes_eq name (codes "dependentRequired") then here_if (dependents_made d) else made_of_counts draft name d))))
 
 abbrev pub made_of_numbers : Draft → Members → Text → Data → MadeHere Shape
 made_of_numbers draft object name d =

@@ -8,9 +8,11 @@ use Rattle.schema_definitions.specs.Drafts.{Draft}
 use Rattle.schema_definitions.specs.Instance.{Text}
 use Rattle.json_values.specs.Numbers.{less}
 use Rattle.keyword_makers.specs.ByObject.{IsRightHere, IsWholeWhere, MadeHere, right_by_value}
+use Rattle.bench_keywords.specs.declared.counts.CountKind.{CountKind}
+use Rattle.bench_keywords.specs.declared.counts.CountKind.TheVariants as count
 use Rattle.standard_assertions.specs.Assertions.{Shape, shows_no_fraction}
-use Rattle.standard_assertions.specs.Made.{excludes, here_if, limit_beside, limit_here, made, made_of_lists, made_of_numbers, unique_made}
-use Rattle.standard_assertions.specs.Values.{dependents_made, enum_made, has_text_lists, integers_of, is_draft_4, limit_made, multiple_made, size_limit, size_made, type_made, type_named, types_of}
+use Rattle.standard_assertions.specs.Made.{excludes, here_if, limit_beside, limit_here, made, made_of_counts, made_of_lists, made_of_numbers, unique_made}
+use Rattle.standard_assertions.specs.Values.{count_made, dependents_made, enum_made, has_text_lists, integers_of, is_draft_4, limit_made, multiple_made, size_limit, size_made, type_made, type_named, types_of}
 use Rattle.standard_assertions.specs.declared.assertion.Assertion.TheVariants as assertion
 use Rattle.standard_assertions.specs.declared.limits.LimitKind.{LimitKind}
 use Rattle.standard_assertions.specs.declared.limits.LimitKind.TheVariants as limit
@@ -65,6 +67,9 @@ multiple_whole (object ms) = tt
 size_whole : (kind : SizeKind) (draft : Draft) (d : Data) → IsWholeBy d (size_made kind draft d)
 size_whole kind draft d = by_map (assertion.Size kind) (λ n. refl) d (size_limit draft d)
 
+count_whole : (kind : CountKind) (draft : Draft) (d : Data) → IsWholeBy d (count_made kind draft d)
+count_whole kind draft d = by_map (assertion.Count kind) (λ n. refl) d (size_limit draft d)
+
 dependents_whole : (d : Data) → IsWholeBy d (dependents_made d)
 dependents_whole d = by_test d (has_text_lists (as_object d)) (assertion.DependentRequired d) (λ h. refl)
 
@@ -95,13 +100,19 @@ module _ (absorbed : Shape → List Text) (none : (m : Shape) → [] ≡ absorbe
   unique_whole d (Some true) = λ h. refl
   unique_whole d (Some false) = tt
 
+  counts_whole : (draft : Draft) (name : Text) (d : Data) → IsWholeHere d (made_of_counts draft name d)
+  counts_whole draft name d =
+      either_whole d (bytes_eq name (codes "minLength")) _ _ (if_whole d (count_made count.MinLength draft d) (count_whole count.MinLength draft d))
+      (either_whole d (bytes_eq name (codes "maxLength")) _ _ (if_whole d (count_made count.MaxLength draft d) (count_whole count.MaxLength draft d))
+      (either_whole d (bytes_eq name (codes "minProperties")) _ _ (if_whole d (count_made count.MinProperties draft d) (count_whole count.MinProperties draft d)) tt))
+
   lists_whole : (draft : Draft) (name : Text) (d : Data) → IsWholeHere d (made_of_lists draft name d)
   lists_whole draft name d =
       either_whole d (bytes_eq name (codes "minItems")) _ _ (if_whole d (size_made size.MinItems draft d) (size_whole size.MinItems draft d))
       (either_whole d (bytes_eq name (codes "maxItems")) _ _ (if_whole d (size_made size.MaxItems draft d) (size_whole size.MaxItems draft d))
       (either_whole d (bytes_eq name (codes "uniqueItems")) _ _ (unique_whole d (as_bool d))
       (either_whole d (bytes_eq name (codes "maxProperties")) _ _ (if_whole d (size_made size.MaxProperties draft d) (size_whole size.MaxProperties draft d))
-      (either_whole d (bytes_eq name (codes "dependentRequired")) _ _ (if_whole d (dependents_made d) (dependents_whole d)) tt))))
+      (either_whole d (bytes_eq name (codes "dependentRequired")) _ _ (if_whole d (dependents_made d) (dependents_whole d)) (counts_whole draft name d)))))
 
   numbers_whole : (draft : Draft) (whole : Members) (name : Text) (d : Data) → IsWholeHere d (made_of_numbers draft whole name d)
   numbers_whole draft whole name d =

@@ -8,6 +8,7 @@ use Rattle.serde_json.specs.Find.{as_array, as_number, as_object, as_str, as_u64
 use Rattle.schema_definitions.specs.Drafts.{Draft, draft_4}
 use Rattle.schema_definitions.specs.Instance.{Text}
 use Rattle.json_values.specs.Numbers.{at_most, is_whole, less}
+use Rattle.bench_keywords.specs.declared.counts.CountKind.{CountKind}
 use Rattle.bench_keywords.specs.declared.type_names.TypeName.{TypeName}
 use Rattle.bench_keywords.specs.declared.type_names.TypeName.TheVariants as type
 use Rattle.standard_assertions.specs.Assertions.{Shape}
@@ -17,7 +18,7 @@ use Rattle.standard_assertions.specs.declared.sizes.SizeKind.{SizeKind}
 use Rattle.standard_assertions.specs.declared.types.Integers.{Integers}
 use Rattle.standard_assertions.specs.declared.types.Integers.TheVariants as integers
 
--- the draft whose numbers are taken as they are written: 1.0 is no integer there, and no limit of sizes
+-- the draft whose numbers are taken as they are written: 1.0 is no integer there, and no limit of sizes or counts
 abbrev pub is_draft_4 : Draft → Bool
 is_draft_4 draft_4 = true
 is_draft_4 _ = false
@@ -73,20 +74,23 @@ divisor x = if less (unsigned 0) x then Some x else None
 abbrev pub multiple_made : Data → Option Shape
 multiple_made d = option_map assertion.MultipleOf (option_and_then divisor (as_number d))
 
--- ---- sizes
+-- ---- sizes and counts
 
--- The natural number that a number is, so that 2.0 is 2. One past 2 ^ 64 - 1, which no size reaches, counts as that.
+-- The natural number that a number is, so that 2.0 is 2. One past 2 ^ 64 - 1, which no size and no count reaches, counts as that.
 abbrev pub natural_of : Num → Option ℕ
 natural_of (unsigned n) = Some n
 natural_of (negative z) = None
 natural_of (float x) = if is_whole (float x) && at_most (unsigned 0) (float x) then Some (float_to_unsigned w64 x) else None
 
--- a limit of sizes is a natural number, in draft 4 one that is written as such
+-- a limit of sizes or counts is a natural number, in draft 4 one that is written as such
 abbrev pub size_limit : Draft → Data → Option ℕ
 size_limit draft d = if is_draft_4 draft then option_and_then as_u64 (as_number d) else option_and_then natural_of (as_number d)
 
 abbrev pub size_made : SizeKind → Draft → Data → Option Shape
 size_made kind draft d = option_map (assertion.Size kind) (size_limit draft d)
+
+abbrev pub count_made : CountKind → Draft → Data → Option Shape
+count_made kind draft d = option_map (assertion.Count kind) (size_limit draft d)
 
 -- ---- dependentRequired
 

@@ -14,6 +14,7 @@ use crate::multiples::{is_multiple, multiple_text};
 use crate::numbers::HeldNumber;
 use crate::sizes::{SizeKind, size_fits, size_text};
 use crate::types::{Integers, TypeList, fits, fits_one};
+use bench_keywords::counts::{CountKind, count_fits, count_text};
 use bench_keywords::type_names::TypeName;
 use bench_keywords::types::{type_text, types_text};
 use json_values::held::HeldValue;
@@ -41,6 +42,8 @@ pub enum Assertion<V = HeldValue> {
     MultipleOf(HeldNumber),
     /// A keyword that limits how many items or members there are, with its limit.
     Size(SizeKind, u64),
+    /// A keyword that limits how many characters or members there are, with its limit.
+    Count(CountKind, u64),
     /// `uniqueItems` that is true.
     UniqueItems,
     /// `dependentRequired`, with its value: an object of lists of names.
@@ -63,6 +66,7 @@ impl Assertion {
             Assertion::Limit(kind, limit) => keeps_limit(*kind, limit, instance),
             Assertion::MultipleOf(divisor) => is_multiple(divisor, instance),
             Assertion::Size(kind, limit) => size_fits(*kind, *limit, instance),
+            Assertion::Count(kind, limit) => count_fits(*kind, *limit, instance),
             Assertion::UniqueItems => has_distinct_items_by_pairs(instance),
             Assertion::DependentRequired(dependents) => has_dependents(dependents, instance),
         }
@@ -81,6 +85,7 @@ impl Assertion {
             Assertion::Limit(kind, limit) => limit_text(alloc, *kind, limit, instance),
             Assertion::MultipleOf(divisor) => multiple_text(alloc, divisor, instance),
             Assertion::Size(kind, limit) => size_text(alloc, *kind, *limit, instance),
+            Assertion::Count(kind, limit) => count_text(alloc, *kind, *limit, instance),
             Assertion::UniqueItems => distinct_text(alloc, instance),
             Assertion::DependentRequired(_) => Ok(String::new(alloc)),
         }
@@ -118,6 +123,7 @@ impl TellingKeyword for Assertion {
             Assertion::Limit(kind, _) => kind.name(),
             Assertion::MultipleOf(_) => "multipleOf",
             Assertion::Size(kind, _) => kind.name(),
+            Assertion::Count(kind, _) => kind.name(),
             Assertion::UniqueItems => "uniqueItems",
             Assertion::DependentRequired(_) => "dependentRequired",
         }

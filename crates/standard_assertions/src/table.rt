@@ -4,16 +4,18 @@ ghost use Rattle.serde_json.specs.Find.{as_bool, get_member};
 ghost use Rattle.serde_json.specs.View.{members_view, view};
 ghost use Rattle.schema_keywords.specs.KeywordViews.{draft_of};
 ghost use Rattle.keyword_makers.specs.ByObject.{formed};
-ghost use Rattle.standard_assertions.specs.Made.{excludes, here_if, limit_here, made_of_lists, made_of_numbers, unique_made};
+ghost use Rattle.standard_assertions.specs.Made.{excludes, here_if, limit_here, made_of_counts, made_of_lists, made_of_numbers};
+ghost use Rattle.standard_assertions.specs.Made.{unique_made};
 ghost use Rattle.standard_assertions.specs.Shapes.{shape_of};
 
 use crate::assertion::Assertion;
 use crate::limits::LimitKind;
 use crate::sizes::SizeKind;
 use crate::values::{
-    dependents_made, enum_made, integers_of, is_draft_4, limit_made, multiple_made, size_made,
-    type_made,
+    count_made, dependents_made, enum_made, integers_of, is_draft_4, limit_made, multiple_made,
+    size_made, type_made,
 };
+use bench_keywords::counts::CountKind;
 use json_values::held::HeldValue;
 use keyword_makers::by_object::{MakesByObject, ObjectKeyword};
 use keyword_makers::by_value::Children;
@@ -80,7 +82,22 @@ fn unique_made(value: &Value) -> Made
     }
 }
 
-/// A keyword that speaks of lists or of objects.
+/// A keyword that counts characters or members, and limits their count.
+fn made_of_counts(draft: Draft, name: &str, value: &Value) -> Made
+    ensures made { formed shape_of result ≡ made_of_counts (draft_of draft) name.now (view value.now) }
+{
+    if name == "minLength" {
+        here_if(count_made(CountKind::MinLength, draft, value))
+    } else if name == "maxLength" {
+        here_if(count_made(CountKind::MaxLength, draft, value))
+    } else if name == "minProperties" {
+        here_if(count_made(CountKind::MinProperties, draft, value))
+    } else {
+        ObjectKeyword::Nothing
+    }
+}
+
+/// A keyword that speaks of lists or of objects, or one of those that count.
 fn made_of_lists(
     alloc: Global,
     draft: Draft,
@@ -100,7 +117,7 @@ fn made_of_lists(
     } else if name == "dependentRequired" {
         Ok(here_if(dependents_made(alloc, value)?))
     } else {
-        Ok(ObjectKeyword::Nothing)
+        Ok(made_of_counts(draft, name, value))
     }
 }
 

@@ -3,15 +3,16 @@ ghost use Rattle.std.specs.Prelude.{◌≡◌, IfOk, option_and_then, option_map
 ghost use Rattle.serde_json.specs.Find.{as_array, as_number, as_object};
 ghost use Rattle.serde_json.specs.View.{items_view, members_view, number_view, view};
 ghost use Rattle.schema_keywords.specs.KeywordViews.{draft_of};
-ghost use Rattle.standard_assertions.specs.Values.{are_text_lists, are_texts, dependents_made, enum_made, has_text_lists, integers_of};
-ghost use Rattle.standard_assertions.specs.Values.{is_any_text_list, is_draft_4, limit_made, multiple_made, natural_of, size_limit};
-ghost use Rattle.standard_assertions.specs.Values.{size_made, type_made, type_named, type_of, types_of};
+ghost use Rattle.standard_assertions.specs.Values.{are_text_lists, are_texts, count_made, dependents_made, enum_made, has_text_lists};
+ghost use Rattle.standard_assertions.specs.Values.{integers_of, is_any_text_list, is_draft_4, limit_made, multiple_made, natural_of};
+ghost use Rattle.standard_assertions.specs.Values.{size_limit, size_made, type_made, type_named, type_of, types_of};
 
 use crate::assertion::Assertion;
 use crate::limits::LimitKind;
 use crate::numbers::HeldNumber;
 use crate::sizes::SizeKind;
 use crate::types::{Integers, TypeList};
+use bench_keywords::counts::CountKind;
 use bench_keywords::type_names::TypeName;
 use json_values::held::HeldValue;
 use json_values::multiples::is_whole;
@@ -161,7 +162,7 @@ fn natural_of(number: &Number) -> Option<u64>
     }
 }
 
-/// The limit of sizes that a value is, as the draft reads it.
+/// The limit of sizes or counts that a value is, as the draft reads it.
 fn size_limit(draft: Draft, value: &Value) -> Option<u64>
     ensures limit { result ≡ size_limit (draft_of draft) (view value.now) }
 {
@@ -181,6 +182,16 @@ pub fn size_made(kind: SizeKind, draft: Draft, value: &Value) -> Option<Assertio
 {
     match size_limit(draft, value) {
         Some(limit) => Some(Assertion::Size(kind, limit)),
+        None => None,
+    }
+}
+
+/// A keyword that limits how many characters or members there are.
+pub fn count_made(kind: CountKind, draft: Draft, value: &Value) -> Option<Assertion>
+    ensures made { result ≡ count_made kind (draft_of draft) (view value.now) }
+{
+    match size_limit(draft, value) {
+        Some(limit) => Some(Assertion::Count(kind, limit)),
         None => None,
     }
 }
