@@ -1,0 +1,2 @@
+pub mod SameScripts
+mod Treated

@@ -1,0 +1,3 @@
+pub mod Treatments
+pub mod StandardScripts
+pub mod StandardLaws

@@ -1,0 +1,108 @@
+-- The makers of the standard's table make rightly.
+use Rattle.std.specs.Prelude.{Bool, List, None, Option, Some, [], false, refl, true, ◌≡◌}
+use Rattle.serde_json.specs.Data.{Data, Members}
+use Rattle.serde_json.specs.Find.{get_member}
+use Rattle.schema_definitions.specs.Drafts.{Draft, Vocabularies}
+use Rattle.schema_definitions.specs.Instance.{Text}
+use Rattle.schema_definitions.specs.Making.{Script}
+use Rattle.schema_parts.specs.MakerViews.{MakesRightly}
+use Rattle.keyword_makers.specs.ByObject.{IsRightHere, by_object, makes_by_object}
+use Rattle.gated_keywords.specs.Making.{gated_script}
+use Rattle.gated_keywords.specs.declared.keyword.GatedKeyword.{GatedKeyword}
+use Rattle.joined_keywords.specs.BothScripts.{script_as}
+use Rattle.joined_keywords.specs.BothTables as both
+use Rattle.joined_keywords.specs.Sides.{by_side}
+use Rattle.joined_keywords.specs.declared.both.Both.{Both}
+use Rattle.joined_keywords.specs.declared.both.Both.TheVariants.{First, Second}
+use Rattle.bench_keywords.specs.BenchShape.{BenchShape, is_whole}
+use Rattle.bench_keywords.specs.Laws.{none_absorbed}
+use Rattle.bench_parts.specs.MakerLaws as bench
+use Rattle.bench_parts.specs.Makers.{bench_script}
+use Rattle.standard_applicators.specs.Makers as applicators
+use Rattle.standard_applicators.specs.declared.applicator.StandardApplicator.{StandardApplicator}
+use Rattle.standard_assertions.specs.Made as assertions
+use Rattle.standard_assertions.specs.MadeLaws as assertion_laws
+use Rattle.standard_assertions.specs.Assertions.{Shape as Assertion, shows_no_fraction}
+use Rattle.standard_keywords.specs.StandardScripts.{Shape, made, made_by, refused_at, script_by, standard_script}
+use Rattle.standard_keywords.specs.Treatments.{treated}
+use Rattle.standard_keywords.specs.declared.treatment.Treatment.{Treatment}
+use Rattle.standard_keywords.specs.declared.treatment.Treatment.TheVariants.{Applied, Asserted, Basic, Gated, Refused, Silent}
+
+module _ (absorbed : Assertion → List Text) (none : (m : Assertion) → [] ≡ absorbed m) where
+  right_by : (t : Treatment) (draft : Draft) (object : Members) (name : Text) (d : Data) → get_member name object ≡ Some d
+      → IsRightHere absorbed shows_no_fraction object (made_by t draft object name d)
+  right_by Asserted draft object name d found = assertion_laws.made_right absorbed none draft object name d found
+  right_by Applied draft object name d found = tt
+  right_by Gated draft object name d found = tt
+  right_by Basic draft object name d found = tt
+  right_by Silent draft object name d found = tt
+  right_by Refused draft object name d found = tt
+
+  pub made_right : (draft : Draft) (object : Members) (name : Text) (d : Data) → get_member name object ≡ Some d
+      → IsRightHere absorbed shows_no_fraction object (made draft object name d)
+  made_right draft object name d found = right_by (treated draft object name) draft object name d found
+
+-- what the makers of a table do
+abbrev EachRightly : {K : Type 0} → (K → List Text) → (K → Bool) → (Bool → Text → Members → Draft → Vocabularies → Bool → Script K) → Type 0
+EachRightly absorbed is_whole script = (own : Bool) (name : Text) (object : Members) (draft : Draft) (vocabularies : Vocabularies) (formats : Bool)
+    → MakesRightly absorbed is_whole object (script own name object draft vocabularies formats)
+
+module _ (absorbed : Assertion → List Text) (none : (m : Assertion) → [] ≡ absorbed m)
+    (applicator_absorbed : StandardApplicator → List Text) (applicator_whole : StandardApplicator → Bool) (applicators_right : EachRightly applicator_absorbed applicator_whole applicators.standard_script)
+    (gated_absorbed : GatedKeyword → List Text) (gated_whole : GatedKeyword → Bool) (gates_right : EachRightly gated_absorbed gated_whole gated_script) where
+  -- of the keywords of the last two tables, of the last three, and of all
+  abbrev last_absorbed : Both GatedKeyword BenchShape → List Text
+  last_absorbed = by_side gated_absorbed none_absorbed
+
+  abbrev last_whole : Both GatedKeyword BenchShape → Bool
+  last_whole = by_side gated_whole is_whole
+
+  abbrev later_absorbed : Both StandardApplicator (Both GatedKeyword BenchShape) → List Text
+  later_absorbed = by_side applicator_absorbed last_absorbed
+
+  abbrev later_whole : Both StandardApplicator (Both GatedKeyword BenchShape) → Bool
+  later_whole = by_side applicator_whole last_whole
+
+  abbrev all_absorbed : Shape → List Text
+  all_absorbed = by_side absorbed later_absorbed
+
+  abbrev all_whole : Shape → Bool
+  all_whole = by_side shows_no_fraction later_whole
+
+  refused_rightly : (object : Members) (name : Text) (o : Option Data) → MakesRightly all_absorbed all_whole object (refused_at {K = Shape} name o)
+  refused_rightly object name None = tt
+  refused_rightly object name (Some d) = λ h. refl
+
+  later_rightly : (object : Members) (s : Script (Both StandardApplicator (Both GatedKeyword BenchShape))) → MakesRightly later_absorbed later_whole object s
+      → MakesRightly all_absorbed all_whole object (script_as Second s)
+  later_rightly object s h = both.makes_rightly Second later_absorbed all_absorbed later_whole all_whole (λ m. refl) (λ m. refl) object s h
+
+  last_rightly : (object : Members) (s : Script (Both GatedKeyword BenchShape)) → MakesRightly last_absorbed last_whole object s
+      → MakesRightly all_absorbed all_whole object (script_as Second (script_as Second s))
+  last_rightly object s h = later_rightly object (script_as Second s)
+      (both.makes_rightly Second last_absorbed later_absorbed last_whole later_whole (λ m. refl) (λ m. refl) object s h)
+
+  rightly_by : (t : Treatment) (name : Text) (object : Members) (draft : Draft) (vocabularies : Vocabularies) (formats : Bool)
+      → MakesRightly all_absorbed all_whole object (script_by t name object draft vocabularies formats)
+  rightly_by Asserted name object draft vocabularies formats =
+      both.makes_rightly First absorbed all_absorbed shows_no_fraction all_whole (λ m. refl) (λ m. refl) object
+      (by_object assertions.made false name object draft vocabularies formats)
+      (makes_by_object absorbed shows_no_fraction assertions.made (assertion_laws.made_right absorbed none) false name object draft vocabularies formats)
+  rightly_by Applied name object draft vocabularies formats =
+      later_rightly object (script_as First (applicators.standard_script false name object draft vocabularies formats))
+      (both.makes_rightly First applicator_absorbed later_absorbed applicator_whole later_whole (λ m. refl) (λ m. refl) object
+      (applicators.standard_script false name object draft vocabularies formats) (applicators_right false name object draft vocabularies formats))
+  rightly_by Gated name object draft vocabularies formats =
+      last_rightly object (script_as First (gated_script false name object draft vocabularies formats))
+      (both.makes_rightly First gated_absorbed last_absorbed gated_whole last_whole (λ m. refl) (λ m. refl) object
+      (gated_script false name object draft vocabularies formats) (gates_right false name object draft vocabularies formats))
+  rightly_by Basic name object draft vocabularies formats =
+      last_rightly object (script_as Second (bench_script false name object draft vocabularies formats))
+      (both.makes_rightly Second none_absorbed last_absorbed is_whole last_whole (λ m. refl) (λ m. refl) object
+      (bench_script false name object draft vocabularies formats) (bench.makes_rightly false name object draft vocabularies formats))
+  rightly_by Silent name object draft vocabularies formats = tt
+  rightly_by Refused name object draft vocabularies formats = refused_rightly object name (get_member name object)
+
+  pub makes_rightly : EachRightly all_absorbed all_whole standard_script
+  makes_rightly true name object draft vocabularies formats = tt
+  makes_rightly false name object draft vocabularies formats = rightly_by (treated draft object name) name object draft vocabularies formats

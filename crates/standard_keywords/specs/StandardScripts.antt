@@ -1,0 +1,96 @@
+-- What the makers of the standard's table ask for and make: what those of one of its four tables do, or nothing, or a refusal by name, as each keyword is treated.
+use Rattle.std.specs.Prelude.{Bool, None, Option, Some, false, true}
+use Rattle.serde_json.specs.Data.{Data, Members}
+use Rattle.serde_json.specs.Find.{get_member}
+use Rattle.schema_definitions.specs.Drafts.{Draft, Vocabularies}
+use Rattle.schema_definitions.specs.Instance.{Text}
+use Rattle.schema_definitions.specs.Making.{Script, nothing, refused, then_end}
+use Rattle.keyword_makers.specs.ByObject.{MadeHere, by_object}
+use Rattle.keyword_makers.specs.declared.by_object.ObjectKeyword.TheVariants as here
+use Rattle.keyword_makers.specs.Making.{refused_error}
+use Rattle.gated_keywords.specs.Making.{gated_script}
+use Rattle.gated_keywords.specs.declared.keyword.GatedKeyword.{GatedKeyword}
+use Rattle.joined_keywords.specs.BothScripts.{script_as}
+use Rattle.joined_keywords.specs.declared.both.Both.{Both}
+use Rattle.joined_keywords.specs.declared.both.Both.TheVariants.{First, Second}
+use Rattle.bench_keywords.specs.BenchShape.{BenchShape}
+use Rattle.bench_parts.specs.Makers.{bench_script}
+use Rattle.standard_applicators.specs.Makers as applicators
+use Rattle.standard_applicators.specs.declared.applicator.StandardApplicator.{StandardApplicator}
+use Rattle.standard_assertions.specs.Made as assertions
+use Rattle.standard_assertions.specs.Assertions.{Shape as Assertion}
+use Rattle.standard_keywords.specs.Treatments.{refusal_text, treated}
+use Rattle.standard_keywords.specs.declared.treatment.Treatment.{Treatment}
+use Rattle.standard_keywords.specs.declared.treatment.Treatment.TheVariants.{Applied, Asserted, Basic, Gated, Refused, Silent}
+
+-- a refusal by name, which shows the keyword's value
+abbrev pub refused_at : {K : Type 0} → Text → Option Data → Script K
+refused_at name None = then_end nothing
+refused_at name (Some d) = then_end (refused true (refused_error name d (refusal_text name)))
+
+-- what is known of a keyword apart from its representation
+abbrev pub Shape : Type 0
+Shape = Both Assertion (Both StandardApplicator (Both GatedKeyword BenchShape))
+
+abbrev pub script_by : Treatment → Text → Members → Draft → Vocabularies → Bool → Script Shape
+script_by Asserted name object draft vocabularies formats = script_as First (by_object assertions.made false name object draft vocabularies formats)
+script_by Applied name object draft vocabularies formats = script_as Second (script_as First (applicators.standard_script false name object draft vocabularies formats))
+script_by Gated name object draft vocabularies formats = script_as Second (script_as Second (script_as First (gated_script false name object draft vocabularies formats)))
+script_by Basic name object draft vocabularies formats = script_as Second (script_as Second (script_as Second (bench_script false name object draft vocabularies formats)))
+script_by Silent name object draft vocabularies formats = then_end nothing
+script_by Refused name object draft vocabularies formats = refused_at name (get_member name object)
+
+-- a name of a table's own makes nothing, since none is
+abbrev pub standard_script : Bool → Text → Members → Draft → Vocabularies → Bool → Script Shape
+standard_script true name object draft vocabularies formats = then_end nothing
+standard_script false name object draft vocabularies formats = script_by (treated draft object name) name object draft vocabularies formats
+
+-- ---- the sides of the table
+
+-- what goes to the side of the assertions
+abbrev pub leads_by : Treatment → Bool
+leads_by Asserted = true
+leads_by Applied = false
+leads_by Gated = false
+leads_by Basic = false
+leads_by Silent = true
+leads_by Refused = true
+
+abbrev pub leads_first : Draft → Members → Text → Bool
+leads_first draft object name = leads_by (treated draft object name)
+
+-- what goes to the applicators among the rest
+abbrev pub leads_on_by : Treatment → Bool
+leads_on_by Asserted = false
+leads_on_by Applied = true
+leads_on_by Gated = false
+leads_on_by Basic = false
+leads_on_by Silent = false
+leads_on_by Refused = false
+
+abbrev pub leads_to_applicators : Draft → Members → Text → Bool
+leads_to_applicators draft object name = leads_on_by (treated draft object name)
+
+-- and to the gated ones among the rest
+abbrev pub gates_by : Treatment → Bool
+gates_by Asserted = false
+gates_by Applied = false
+gates_by Gated = true
+gates_by Basic = false
+gates_by Silent = false
+gates_by Refused = false
+
+abbrev pub leads_to_gates : Draft → Members → Text → Bool
+leads_to_gates draft object name = gates_by (treated draft object name)
+
+-- what the assertions' side makes of it
+abbrev pub made_by : Treatment → Draft → Members → Text → Data → MadeHere Assertion
+made_by Asserted draft object name d = assertions.made draft object name d
+made_by Applied draft object name d = here.Nothing
+made_by Gated draft object name d = here.Nothing
+made_by Basic draft object name d = here.Nothing
+made_by Silent draft object name d = here.Nothing
+made_by Refused draft object name d = here.Refused (refusal_text name)
+
+abbrev pub made : Draft → Members → Text → Data → MadeHere Assertion
+made draft object name d = made_by (treated draft object name) draft object name d

@@ -1,0 +1,83 @@
+-- What becomes of a keyword of the standard, draft by draft. A draft that has not a name asks nothing of it (`schema_keywords`), and the
+-- references are the engine's own; so what is said of a name here is said of the drafts that have it. None that asserts or applies is
+-- passed over: what is neither made nor silent is refused. (Core 2020-12, 10 and 11; Validation 2020-12, 6 to 8; Core and Validation
+-- 2019-09; drafts 4, 6 and 7)
+use Rattle.std.specs.List.{list_any}
+use Rattle.std.specs.Prelude.{Bool, List, None, Option, Some, [], bytes_eq, codes, false, if◌then◌else◌, not, ◌&&◌, ◌++◌, ◌||◌, ◌∷◌}
+use Rattle.serde_json.specs.Data.{Data, Members}
+use Rattle.serde_json.specs.Find.{get_member}
+use Rattle.schema_definitions.specs.Drafts.{Draft}
+use Rattle.schema_definitions.specs.Instance.{Text}
+use Rattle.bench_parts.specs.Makers.{has_prefix, is_older_list}
+use Rattle.standard_keywords.specs.declared.treatment.Treatment.{Treatment}
+use Rattle.standard_keywords.specs.declared.treatment.Treatment.TheVariants.{Applied, Asserted, Basic, Gated, Refused, Silent}
+
+abbrev pub is_among : List Text → Text → Bool
+is_among names name = list_any (λ k. bytes_eq name k) names
+
+-- those that `standard_assertions` makes (Validation 2020-12, 6)
+abbrev pub of_numbers : List Text
+of_numbers = codes "multipleOf" ∷ codes "minimum" ∷ codes "maximum" ∷ codes "exclusiveMinimum" ∷ codes "exclusiveMaximum" ∷ []
+
+abbrev pub of_lists_and_objects : List Text
+of_lists_and_objects = codes "minItems" ∷ codes "maxItems" ∷ codes "uniqueItems" ∷ codes "maxProperties" ∷ codes "dependentRequired" ∷ []
+
+abbrev pub is_asserted : Text → Bool
+is_asserted name = is_among (codes "type" ∷ codes "const" ∷ codes "enum" ∷ []) name || (is_among of_numbers name || is_among of_lists_and_objects name)
+
+-- those that the bench's table makes, which assert of texts and members (Validation 2020-12, 6.3 and 6.5) or apply subschemas (Core
+-- 2020-12, 10)
+abbrev pub of_texts_and_members : List Text
+of_texts_and_members = codes "minLength" ∷ codes "maxLength" ∷ codes "pattern" ∷ codes "minProperties" ∷ codes "required" ∷ []
+
+abbrev pub of_places : List Text
+of_places = codes "properties" ∷ codes "propertyNames" ∷ codes "prefixItems" ∷ codes "items" ∷ []
+
+abbrev pub of_branches : List Text
+of_branches = codes "allOf" ∷ codes "anyOf" ∷ codes "oneOf" ∷ codes "not" ∷ codes "if" ∷ []
+
+abbrev pub is_basic : Text → Bool
+is_basic name = is_among of_texts_and_members name || (is_among of_places name || is_among of_branches name)
+
+-- those that `standard_applicators` makes: `contains` and `dependentSchemas` (Core 2020-12, 10.3.1.3 and 10.2.2.4); before 2020-12
+-- `additionalItems` and `dependencies` (draft 7, 6.4.2 and 6.5.7), and an `items` whose value is a list, where each item of it is the
+-- schema of one place (draft 7, 6.4.1; Core 2019-09, 9.3.1.1)
+abbrev pub of_each_draft : List Text
+of_each_draft = codes "contains" ∷ codes "dependentSchemas" ∷ []
+
+abbrev pub of_older_drafts : List Text
+of_older_drafts = codes "additionalItems" ∷ codes "dependencies" ∷ []
+
+abbrev pub is_any_older_list : Draft → Option Data → Bool
+is_any_older_list draft None = false
+is_any_older_list draft (Some d) = is_older_list draft d
+
+abbrev pub is_older_items : Draft → Members → Text → Bool
+is_older_items draft object name = bytes_eq name (codes "items") && is_any_older_list draft (get_member name object)
+
+abbrev pub is_applied : Draft → Members → Text → Bool
+is_applied draft object name =
+    is_among of_each_draft name || (is_older_items draft object name || (not (has_prefix draft) && is_among of_older_drafts name))
+
+-- those that `gated_keywords` makes, whose questions stand behind matches of names (Core 2020-12, 10.3.2.2 and 10.3.2.3)
+abbrev pub is_gated : Text → Bool
+is_gated name = is_among (codes "patternProperties" ∷ codes "additionalProperties" ∷ []) name
+
+-- those that assert nothing here (Validation 2020-12, 7 and 8), and `additionalItems` where the standard has it no longer
+abbrev pub annotating : List Text
+annotating = codes "format" ∷ codes "contentEncoding" ∷ codes "contentMediaType" ∷ codes "contentSchema" ∷ []
+
+abbrev pub is_silent : Draft → Text → Bool
+is_silent draft name = is_among annotating name || (has_prefix draft && bytes_eq name (codes "additionalItems"))
+
+-- what becomes of the member of a name of an object
+abbrev pub treated : Draft → Members → Text → Treatment
+treated draft object name =
+    if is_asserted name then Asserted
+    else (if is_applied draft object name then Applied
+    else (if is_gated name then Gated
+    else (if is_basic name then Basic else (if is_silent draft name then Silent else Refused))))
+
+-- what a refusal says
+abbrev pub refusal_text : Text → Text
+refusal_text name = codes "\"" ++ (name ++ codes "\" is not supported")

@@ -1,0 +1,55 @@
+//! What the assertions' side of the table makes: the assertions, and the refusals.
+ghost use Rattle.std.specs.Prelude.{◌≡◌, IfOk};
+ghost use Rattle.serde_json.specs.View.{members_view, view};
+ghost use Rattle.schema_keywords.specs.KeywordViews.{draft_of};
+
+use crate::treatment::{Treatment, refusal_text, treatment_of};
+use keyword_makers::by_object::{MakesByObject, ObjectKeyword};
+use keyword_ways::leaves::Telling;
+use schema_keywords::keywords::Draft;
+use schema_reports::location::OutOfMemory;
+use serde_json::{Map, Value};
+use standard_assertions::assertion::Assertion;
+use standard_assertions::table::AssertionTable;
+use std::alloc::Global;
+
+/// The assertions of `standard_assertions`, and a refusal of each keyword that is not supported. Nothing is made of any other.
+#[derive(Drop)]
+pub struct AssertionsOrRefusals {}
+
+impl MakesByObject<Telling<Assertion>> for AssertionsOrRefusals {
+    ghost use Rattle.std.specs.Prelude.{false, refl};
+    ghost use Rattle.standard_keywords.specs.StandardScripts.{made};
+    ghost use Rattle.standard_keywords.specs.StandardLaws.{made_right};
+
+    ghost owned = { λ _ name. false };
+
+    ghost made = { λ _. made };
+
+    fn owns(&self, _name: &str) -> bool {
+        false
+    }
+
+    fn make(
+        &self,
+        alloc: Global,
+        name: &str,
+        value: &Value,
+        object: &Map<String, Value>,
+        draft: Draft,
+    ) -> Result<ObjectKeyword<Telling<Assertion>>, OutOfMemory> {
+        match treatment_of(draft, object, name) {
+            Treatment::Asserted => AssertionTable {}.make(alloc, name, value, object, draft),
+            Treatment::Applied => Ok(ObjectKeyword::Nothing),
+            Treatment::Gated => Ok(ObjectKeyword::Nothing),
+            Treatment::Basic => Ok(ObjectKeyword::Nothing),
+            Treatment::Silent => Ok(ObjectKeyword::Nothing),
+            Treatment::Refused => {
+                let text = refusal_text(alloc, name)?;
+                Ok(ObjectKeyword::Refused(text))
+            }
+        }
+    }
+
+    ghost right = { λ _ draft object name value found. made_right _ (λ k. refl) draft object name value found };
+}

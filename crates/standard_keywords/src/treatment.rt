@@ -1,0 +1,197 @@
+//! What becomes of each keyword of the standard.
+ghost use Rattle.std.specs.Prelude.{◌≡◌, IfOk, string_bytes};
+ghost use Rattle.serde_json.specs.View.{members_view};
+ghost use Rattle.schema_keywords.specs.KeywordViews.{draft_of};
+ghost use Rattle.bench_parts.specs.Makers.{has_prefix};
+ghost use Rattle.standard_keywords.specs.Treatments.{annotating, is_among, is_applied, is_asserted, is_basic, is_gated, is_older_items};
+ghost use Rattle.standard_keywords.specs.Treatments.{of_branches, of_each_draft, of_lists_and_objects, of_numbers, of_older_drafts, of_places};
+ghost use Rattle.standard_keywords.specs.Treatments.{is_silent, of_texts_and_members, refusal_text, treated};
+
+use bench_parts::table::schema_values::is_older_list;
+use keyword_makers::paths::value_in;
+use schema_keywords::keywords::Draft;
+use schema_reports::location::OutOfMemory;
+use serde_json::{Map, Value};
+use std::alloc::Global;
+
+/// What becomes of a keyword of the standard.
+#[derive(Clone, Copy)]
+pub enum Treatment {
+    /// `standard_assertions` makes it.
+    Asserted,
+    /// `standard_applicators` makes it.
+    Applied,
+    /// `gated_keywords` makes it.
+    Gated,
+    /// The bench's table makes it.
+    Basic,
+    /// Nothing is made of it: it asserts nothing.
+    Silent,
+    /// The schema is refused.
+    Refused,
+}
+
+/// Whether a name is that of an assertion on numbers.
+fn is_of_numbers(name: &str) -> bool
+    ensures numbers { result ≡ is_among of_numbers name.now }
+{
+    name == "multipleOf"
+        || name == "minimum"
+        || name == "maximum"
+        || name == "exclusiveMinimum"
+        || name == "exclusiveMaximum"
+}
+
+/// Whether a name is that of an assertion on lists or objects.
+fn is_of_lists_or_objects(name: &str) -> bool
+    ensures sizes { result ≡ is_among of_lists_and_objects name.now }
+{
+    name == "minItems"
+        || name == "maxItems"
+        || name == "uniqueItems"
+        || name == "maxProperties"
+        || name == "dependentRequired"
+}
+
+/// Whether `standard_assertions` makes the keyword of a name.
+fn is_asserted(name: &str) -> bool
+    ensures asserted { result ≡ is_asserted name.now }
+{
+    let of_any = name == "type" || name == "const" || name == "enum";
+    of_any || is_of_numbers(name) || is_of_lists_or_objects(name)
+}
+
+/// Whether a name is that of one of the bench's assertions.
+fn is_of_texts_or_members(name: &str) -> bool
+    ensures texts { result ≡ is_among of_texts_and_members name.now }
+{
+    name == "minLength"
+        || name == "maxLength"
+        || name == "pattern"
+        || name == "minProperties"
+        || name == "required"
+}
+
+/// Whether a name is that of a keyword that applies subschemas at places below the instance.
+fn is_of_places(name: &str) -> bool
+    ensures places { result ≡ is_among of_places name.now }
+{
+    name == "properties" || name == "propertyNames" || name == "prefixItems" || name == "items"
+}
+
+/// Whether a name is that of a keyword that applies subschemas at the instance itself.
+fn is_of_branches(name: &str) -> bool
+    ensures branches { result ≡ is_among of_branches name.now }
+{
+    name == "allOf" || name == "anyOf" || name == "oneOf" || name == "not" || name == "if"
+}
+
+/// Whether the bench's table makes the keyword of a name.
+fn is_basic(name: &str) -> bool
+    ensures basic { result ≡ is_basic name.now }
+{
+    is_of_texts_or_members(name) || is_of_places(name) || is_of_branches(name)
+}
+
+/// Whether the member of a name is an `items` whose value is a list, in a draft where its items are the schemas of places.
+fn is_older_items(draft: Draft, object: &Map<String, Value>, name: &str) -> bool
+    ensures older { result ≡ is_older_items (draft_of draft) (members_view object.now.entries) name.now }
+{
+    if name != "items" {
+        return false;
+    }
+    match value_in(object, name) {
+        Some(value) => is_older_list(draft, value),
+        None => false,
+    }
+}
+
+/// Whether `items` goes on after `prefixItems` in this draft, which has no `additionalItems` then.
+fn has_prefix(draft: Draft) -> bool
+    ensures prefix { result ≡ has_prefix (draft_of draft) }
+{
+    match draft {
+        Draft::Draft202012 => true,
+        Draft::Unknown => true,
+        _ => false,
+    }
+}
+
+/// Whether a name is that of a keyword that `standard_applicators` makes in each draft that has it.
+fn is_of_each_draft(name: &str) -> bool
+    ensures each { result ≡ is_among of_each_draft name.now }
+{
+    name == "contains" || name == "dependentSchemas"
+}
+
+/// Whether a name is that of a keyword that the standard has before 2020-12 alone.
+fn is_of_older_drafts(name: &str) -> bool
+    ensures older { result ≡ is_among of_older_drafts name.now }
+{
+    name == "additionalItems" || name == "dependencies"
+}
+
+/// Whether `standard_applicators` makes the keyword of a name.
+fn is_applied(draft: Draft, object: &Map<String, Value>, name: &str) -> bool
+    ensures applied { result ≡ is_applied (draft_of draft) (members_view object.now.entries) name.now }
+{
+    let is_older = !has_prefix(draft) && is_of_older_drafts(name);
+    is_of_each_draft(name) || is_older_items(draft, object, name) || is_older
+}
+
+/// Whether `gated_keywords` makes the keyword of a name.
+fn is_gated(name: &str) -> bool
+    ensures gated { result ≡ is_gated name.now }
+{
+    name == "patternProperties" || name == "additionalProperties"
+}
+
+/// Whether a name is that of a keyword that asserts nothing.
+fn is_annotating(name: &str) -> bool
+    ensures annotating { result ≡ is_among annotating name.now }
+{
+    name == "format"
+        || name == "contentEncoding"
+        || name == "contentMediaType"
+        || name == "contentSchema"
+}
+
+/// Whether nothing is made of a name.
+fn is_silent(draft: Draft, name: &str) -> bool
+    ensures silent { result ≡ is_silent (draft_of draft) name.now }
+{
+    is_annotating(name) || (has_prefix(draft) && name == "additionalItems")
+}
+
+/// What becomes of the member of a name of an object, in a draft that has the name.
+pub fn treatment_of(draft: Draft, object: &Map<String, Value>, name: &str) -> Treatment
+    ensures treated { result ≡ treated (draft_of draft) (members_view object.now.entries) name.now }
+{
+    if is_asserted(name) {
+        Treatment::Asserted
+    } else if is_applied(draft, object, name) {
+        Treatment::Applied
+    } else if is_gated(name) {
+        Treatment::Gated
+    } else if is_basic(name) {
+        Treatment::Basic
+    } else if is_silent(draft, name) {
+        Treatment::Silent
+    } else {
+        Treatment::Refused
+    }
+}
+
+/// What the refusal of a keyword of this name says.
+///
+/// # Errors
+///
+/// Memory cannot be allocated.
+pub fn refusal_text(alloc: Global, name: &str) -> Result<String, OutOfMemory>
+    ensures text { IfOk result (λ text. string_bytes text ≡ refusal_text name.now) }
+{
+    let mut text = String::from_str(alloc, "\"")?;
+    text.push_str(name)?;
+    text.push_str("\" is not supported")?;
+    Ok(text)
+}
