@@ -22,13 +22,17 @@ of_numbers = codes "multipleOf" ∷ codes "minimum" ∷ codes "maximum" ∷ code
 abbrev pub of_lists_and_objects : List Text
 of_lists_and_objects = codes "minItems" ∷ codes "maxItems" ∷ codes "uniqueItems" ∷ codes "maxProperties" ∷ codes "dependentRequired" ∷ []
 
-abbrev pub is_asserted : Text → Bool
-is_asserted name = is_among (codes "type" ∷ codes "const" ∷ codes "enum" ∷ []) name || (is_among of_numbers name || is_among of_lists_and_objects name)
+abbrev pub of_counts : List Text
+of_counts = codes "minLength" ∷ codes "maxLength" ∷ codes "minProperties" ∷ []
 
--- those that the bench's table makes, which assert of texts and members (Validation 2020-12, 6.3 and 6.5) or apply subschemas (Core
+abbrev pub is_asserted : Text → Bool
+is_asserted name =
+    is_among (codes "type" ∷ codes "const" ∷ codes "enum" ∷ []) name || (is_among of_numbers name || (is_among of_lists_and_objects name || is_among of_counts name))
+
+-- those that the bench's table makes, which assert of texts and members (Validation 2020-12, 6.3.3 and 6.5.3) or apply subschemas (Core
 -- 2020-12, 10)
 abbrev pub of_texts_and_members : List Text
-of_texts_and_members = codes "minLength" ∷ codes "maxLength" ∷ codes "pattern" ∷ codes "minProperties" ∷ codes "required" ∷ []
+of_texts_and_members = codes "pattern" ∷ codes "required" ∷ []
 
 abbrev pub of_places : List Text
 of_places = codes "properties" ∷ codes "propertyNames" ∷ codes "prefixItems" ∷ codes "items" ∷ []

@@ -4,7 +4,8 @@ ghost use Rattle.serde_json.specs.View.{members_view};
 ghost use Rattle.schema_keywords.specs.KeywordViews.{draft_of};
 ghost use Rattle.bench_parts.specs.Makers.{has_prefix};
 ghost use Rattle.standard_keywords.specs.Treatments.{annotating, is_among, is_applied, is_asserted, is_basic, is_gated, is_older_items};
-ghost use Rattle.standard_keywords.specs.Treatments.{of_branches, of_each_draft, of_lists_and_objects, of_numbers, of_older_drafts, of_places};
+ghost use Rattle.standard_keywords.specs.Treatments.{of_branches, of_counts, of_each_draft, of_lists_and_objects};
+ghost use Rattle.standard_keywords.specs.Treatments.{of_numbers, of_older_drafts, of_places};
 ghost use Rattle.standard_keywords.specs.Treatments.{is_silent, of_texts_and_members, refusal_text, treated};
 
 use bench_parts::table::schema_values::is_older_list;
@@ -53,23 +54,26 @@ fn is_of_lists_or_objects(name: &str) -> bool
         || name == "dependentRequired"
 }
 
+/// Whether a name is that of a limit of the characters of texts, or of the members that an object has to have at least.
+fn is_of_counts(name: &str) -> bool
+    ensures counts { result ≡ is_among of_counts name.now }
+{
+    name == "minLength" || name == "maxLength" || name == "minProperties"
+}
+
 /// Whether `standard_assertions` makes the keyword of a name.
 fn is_asserted(name: &str) -> bool
     ensures asserted { result ≡ is_asserted name.now }
 {
     let of_any = name == "type" || name == "const" || name == "enum";
-    of_any || is_of_numbers(name) || is_of_lists_or_objects(name)
+    of_any || is_of_numbers(name) || is_of_lists_or_objects(name) || is_of_counts(name)
 }
 
 /// Whether a name is that of one of the bench's assertions.
 fn is_of_texts_or_members(name: &str) -> bool
     ensures texts { result ≡ is_among of_texts_and_members name.now }
 {
-    name == "minLength"
-        || name == "maxLength"
-        || name == "pattern"
-        || name == "minProperties"
-        || name == "required"
+    name == "pattern" || name == "required"
 }
 
 /// Whether a name is that of a keyword that applies subschemas at places below the instance.
