@@ -1,5 +1,5 @@
 -- The members of an instance that is an object, and the questions that are asked at them.
-use Rattle.std.specs.Prelude.{Bool, List, None, Option, Some, [], false, is_some, true, ℕ, ◌+◌, ◌∷◌}
+use Rattle.std.specs.Prelude.{Bool, List, None, Option, Some, [], false, is_some, length, slice_index_or, true, ℕ, ◌+◌, ◌∷◌}
 use Rattle.serde_json.specs.Data.{Members, member, no_members}
 use Rattle.serde_json.specs.Find.{as_object}
 use Rattle.schema_definitions.specs.Instance.{Subject, Text, a_name, a_value, after_step, to_member, to_name}
@@ -25,7 +25,19 @@ abbrev pub subject_names : Subject → List Text
 subject_names (a_value d) = names_of_any (as_object d)
 subject_names (a_name k) = []
 
+-- how many members there are
+abbrev pub member_count : Subject → ℕ
+member_count s = length (subject_names s)
+
+-- the name of the member of a number; an empty one where there is none
+abbrev pub name_at : Subject → ℕ → Text
+name_at s n = slice_index_or (subject_names s) n []
+
 -- ---- questions
+
+-- the only child, at the value of the member of a name
+abbrev pub first_at_member : Text → Question
+first_at_member k = record { child = 0; below = down (to_member k) }
 
 -- the only child, at a name
 abbrev pub at_name : Text → Question

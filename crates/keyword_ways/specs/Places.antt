@@ -8,7 +8,7 @@ use Rattle.serde_json.specs.Data.{Data, Items, Members, array, boolean, item, me
 use Rattle.schema_definitions.specs.Keywords.{Question, down}
 use Rattle.schema_definitions.specs.Laws.{IsPresent, steps_below}
 use Rattle.schema_parts.specs.KeywordViews.{option_list}
-use Rattle.keyword_ways.specs.Members.{at_name, has_member, members_from, names_in, only_if, subject_names}
+use Rattle.keyword_ways.specs.Members.{at_name, first_at_member, has_member, member_count, members_from, name_at, names_in, only_if, subject_names}
 use Rattle.keyword_ways.specs.Somes.{somes}
 use Rattle.keyword_ways.specs.Items.{child_at_item, child_here, each_from, first_at_item, item_count, items_count}
 
@@ -98,6 +98,24 @@ names_present (a_value (array ds)) = All-nil _
 names_present (a_value (object ms)) = All-map (λ q. IsPresent (a_value (object ms)) (steps_below q.below)) at_name (names_in ms)
     (All-weaker (IsNamed ms) (λ k. IsPresent (a_value (object ms)) (to_name k ∷ [])) (λ k h. name_leads k (member_of k ms) h) (names_in ms) (each_named ms))
 
+-- so does the name of a number
+member_of_named : (k : Text) (ms : Members) → IsNamed ms k → has_member k (a_value (object ms)) ≡ true
+member_of_named k ms h = value_leads (member_of k ms) h
+  where
+    value_leads : (o : Option Data) → is_some o ≡ true → is_some (option_and_then (λ d. Some (a_value d)) o) ≡ true
+    value_leads None h = cc
+    value_leads (Some d) h = refl
+
+named_member : (s : Subject) (n : ℕ) → n < member_count s → IsPresent s (to_member (name_at s n) ∷ [])
+named_member (a_name k) n h = absurd (omega arith)
+named_member (a_value null) n h = absurd (omega arith)
+named_member (a_value (boolean b)) n h = absurd (omega arith)
+named_member (a_value (number x)) n h = absurd (omega arith)
+named_member (a_value (string t)) n h = absurd (omega arith)
+named_member (a_value (array ds)) n h = absurd (omega arith)
+named_member (a_value (object ms)) n h =
+    let s : Subject = a_value (object ms) in member_present (name_at s n) s (member_of_named (name_at s n) ms (each_named ms n [] h))
+
 -- ---- what an author asks
 
 -- nothing
@@ -119,3 +137,7 @@ later_items_present s n = each_present first_at_item s n (item_count s - n) (λ 
 -- each of n children at the item of its number
 pub first_items_present : (s : Subject) (n : ℕ) → AsksPresent s (each_from child_at_item 0 (min n (item_count s)))
 first_items_present s n = each_present child_at_item s 0 (min n (item_count s)) (λ k h. item_present s (0 + k) (omega arith))
+
+-- the only child at the value of each member
+pub members_present : (s : Subject) → AsksPresent s (each_from (λ n. first_at_member (name_at s n)) 0 (member_count s))
+members_present s = each_present (λ n. first_at_member (name_at s n)) s 0 (member_count s) (λ k h. named_member s (0 + k) (omega arith))

@@ -4,26 +4,29 @@ use Rattle.std.specs.Prelude.{Bool, List, None, Option, Some, false, if◌then�
 use Rattle.schema_definitions.specs.Instance.{Subject, Text}
 use Rattle.schema_definitions.specs.Keywords.{Question}
 use Rattle.keyword_ways.specs.declared.planned.Asks.{Asks}
-use Rattle.keyword_ways.specs.declared.planned.Asks.TheVariants.{Children, Items}
+use Rattle.keyword_ways.specs.declared.planned.Asks.TheVariants.{Children, Items, Members}
 use Rattle.keyword_ways.specs.declared.planned.Plan.{Plan}
 use Rattle.keyword_ways.specs.declared.planned.Plan.TheVariants.{AtLeast, Holds, PassesOn, Within}
 use Rattle.keyword_ways.specs.Items.{child_here, each_from, first_at_item, item_count}
+use Rattle.keyword_ways.specs.Members.{first_at_member, member_count, name_at}
 use Rattle.keyword_ways.specs.OwnWays.{AlwaysPresent, judge_way, leaf_way}
-use Rattle.keyword_ways.specs.Places.{AsksPresent, children_present, items_present, nothing_asked}
+use Rattle.keyword_ways.specs.Places.{AsksPresent, children_present, items_present, members_present, nothing_asked}
 use Rattle.keyword_ways.specs.Ways.{Way, passes_on, questions}
 
 -- the question of a number
-abbrev pub question_of : Asks → ℕ → Question
-question_of (Children n) = child_here
-question_of Items = first_at_item
+abbrev pub question_of : Asks → Subject → ℕ → Question
+question_of (Children n) s i = child_here i
+question_of Items s i = first_at_item i
+question_of Members s i = first_at_member (name_at s i)
 
 -- how many questions there are
 abbrev pub asks_count : Asks → Subject → ℕ
 asks_count (Children n) s = n
 asks_count Items s = item_count s
+asks_count Members s = member_count s
 
 abbrev pub asks_of : Asks → Subject → List Question
-asks_of asks s = each_from (question_of asks) 0 (asks_count asks s)
+asks_of asks s = each_from (question_of asks s) 0 (asks_count asks s)
 
 -- whether a number is no more than the most, where there is one
 abbrev pub is_under : Option ℕ → ℕ → Bool
@@ -66,6 +69,7 @@ either_says_monotone false p q one other = other
 asks_present : (s : Subject) (asks : Asks) → AsksPresent s (asks_of asks s)
 asks_present s (Children n) = children_present s n
 asks_present s Items = items_present s
+asks_present s Members = members_present s
 
 plan_present : (name : Text) (text : ℕ → Text) (s : Subject) (p : Plan) → AsksPresent s (questions (way_by name text s p))
 plan_present name text s (Holds holds) = nothing_asked s

@@ -1,9 +1,9 @@
 //! Members of instances.
-ghost use Rattle.std.specs.Prelude.{◌≡◌, is_some};
+ghost use Rattle.std.specs.Prelude.{◌≡◌, [], is_some, slice_index_or};
 ghost use Rattle.serde_json.specs.Find.{get_member};
 ghost use Rattle.serde_json.specs.View.{members_view};
 ghost use Rattle.schema_reports.specs.InstanceViews.{subject_of};
-ghost use Rattle.keyword_ways.specs.Members.{has_member, is_object};
+ghost use Rattle.keyword_ways.specs.Members.{has_member, is_object, member_count, name_at, names_in};
 
 use schema_reports::instance::Instance;
 use serde_json::{Map, Value};
@@ -36,5 +36,47 @@ pub fn has_member(instance: Instance<'_>, name: &str) -> bool
             None => false,
         },
         Instance::Name(_) => false,
+    }
+}
+
+/// How many members the instance has, which is none where it is no object.
+#[tactic(auto, using(crate::proofs::MemberCounts::names_in_length))]
+pub fn member_count(instance: Instance<'_>) -> usize
+    ensures count { result ≡ member_count (subject_of instance.entry) }
+{
+    match instance {
+        Instance::Name(_) => 0,
+        Instance::Value(value) => match value.as_object() {
+            Some(members) => members.len(),
+            None => 0,
+        },
+    }
+}
+
+/// The name of the member of a number, in the order of an object; an empty text where there is none.
+fn name_among(members: &Map<String, Value>, number: usize) -> &str
+    ensures name { result.now ≡ slice_index_or (names_in (members_view members.now.entries)) number [] }
+{
+    let mut left = number;
+    for (name, _) in members {
+        if left == 0 {
+            return name.as_str();
+        }
+        left -= 1;
+    }
+    ""
+}
+
+/// The name of the instance's member of a number, in the order of the object; an empty text where there is none. It is found by a walk
+/// over the members before it.
+pub fn name_at<'i>(instance: Instance<'i>, number: usize) -> &'i str
+    ensures name { result.now ≡ name_at (subject_of instance.entry) number }
+{
+    match instance {
+        Instance::Name(_) => "",
+        Instance::Value(value) => match value.as_object() {
+            Some(members) => name_among(members, number),
+            None => "",
+        },
     }
 }

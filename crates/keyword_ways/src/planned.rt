@@ -15,6 +15,7 @@ ghost use Rattle.keyword_ways.specs.Ways.{asked, noted, passes_on, way_step, way
 use crate::answers::{note, refuse};
 use crate::items::item_count;
 use crate::judging::{Judge, Judging, judge_on};
+use crate::members::{member_count, name_at};
 use crate::passing::next_number;
 use crate::run::Progress;
 use crate::telling::tell_on;
@@ -30,6 +31,9 @@ pub enum Asks {
     Children(usize),
     /// The first child, at each item of the instance.
     Items,
+    /// The first child, at the value of each member of the instance, in the order of the object. Each question takes a walk over the
+    /// members before its own.
+    Members,
 }
 
 /// How a keyword goes about an instance.
@@ -140,12 +144,13 @@ fn tell<'i, P: PlannedKeyword>(
 }
 
 /// The question of a number.
-fn ask<'s>(asks: Asks, number: usize, mode: Mode) -> Step<'s>
-    ensures step { turn_of result ≡ asked mode (Some (question_of asks number)) }
+fn ask<'s, 'i: 's>(asks: Asks, number: usize, mode: Mode, instance: Instance<'i>) -> Step<'s>
+    ensures step { turn_of result ≡ asked mode (Some (question_of asks (subject_of instance.entry) number)) }
 {
     match asks {
         Asks::Children(_) => Step::Ask(number, Below::Here, mode),
         Asks::Items => Step::Ask(0, Below::Item(number), mode),
+        Asks::Members => Step::Ask(0, Below::Member(name_at(instance, number)), mode),
     }
 }
 
@@ -156,6 +161,7 @@ fn count_of(asks: Asks, instance: Instance<'_>) -> usize
     match asks {
         Asks::Children(count) => count,
         Asks::Items => item_count(instance),
+        Asks::Members => member_count(instance),
     }
 }
 
@@ -188,7 +194,7 @@ fn turn_telling<'s, 'i, P: PlannedKeyword>(
 }
 
 /// A turn of a keyword that passes on.
-fn turn_passing<'s, 'i>(
+fn turn_passing<'s, 'i: 's>(
     alloc: Global,
     asks: Asks,
     run: &mut Progress,
@@ -206,7 +212,7 @@ fn turn_passing<'s, 'i>(
     let mode = run.mode;
     let count = count_of(asks, instance);
     match next_number(alloc, 0, count, run, reply, answer)? {
-        Some(number) => Ok(ask(asks, number, mode)),
+        Some(number) => Ok(ask(asks, number, mode, instance)),
         None => Ok(Step::Done),
     }
 }
@@ -246,7 +252,7 @@ fn judge_of(wanted: Wanted, instance: Instance<'_>) -> Judge
 }
 
 /// A turn of a keyword that wants so many yeses.
-fn turn_judging<'s, 'i, P: PlannedKeyword>(
+fn turn_judging<'s, 'i: 's, P: PlannedKeyword>(
     keyword: &P,
     alloc: Global,
     wanted: Wanted,
@@ -272,7 +278,7 @@ fn turn_judging<'s, 'i, P: PlannedKeyword>(
     let mode = run.mode;
     let judging = judge_on(alloc, judge_of(wanted, instance), run, reply, answer)?;
     match judging {
-        Judging::Asks(number, asked) => Ok(ask(wanted.asks, number, asked)),
+        Judging::Asks(number, asked) => Ok(ask(wanted.asks, number, asked, instance)),
         Judging::Judged(accepted) => {
             if !is_wanted(wanted, accepted) {
                 tell(keyword, alloc, mode, instance, accepted, answer)?;
