@@ -155,7 +155,7 @@ pub fn turn_judge<'s, 'i, J: JudgeKeyword>(
 }
 
 /// A keyword that judges, as the engine takes it.
-#[derive(Drop)]
+#[derive(Clone, Drop)]
 pub struct Judged<J> {
     pub keyword: J,
 }

@@ -98,7 +98,7 @@ pub fn turn_leaf<'s, 'i, L: LeafKeyword>(
 }
 
 /// A keyword that asks nothing, as the engine takes it.
-#[derive(Drop)]
+#[derive(Clone, Drop)]
 pub struct Leaf<L> {
     pub keyword: L,
 }

@@ -64,7 +64,7 @@ pub trait TellingKeyword: Drop {
 }
 
 /// A keyword that asks nothing, as the engine takes it.
-#[derive(Drop)]
+#[derive(Clone, Drop)]
 pub struct Telling<T> {
     pub keyword: T,
 }

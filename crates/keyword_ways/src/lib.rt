@@ -15,6 +15,7 @@
 
 pub mod answers;
 pub mod branching;
+pub mod cloning;
 pub mod items;
 pub mod judge;
 pub mod judging;

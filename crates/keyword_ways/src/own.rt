@@ -64,7 +64,7 @@ pub trait OwnKeyword: Drop {
 }
 
 /// An author's keyword, as the engine takes it.
-#[derive(Drop)]
+#[derive(Clone, Drop)]
 pub struct ByTurns<K> {
     pub keyword: K,
 }

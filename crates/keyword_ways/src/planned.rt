@@ -114,7 +114,7 @@ pub trait PlannedKeyword: Drop {
 }
 
 /// A keyword of the engine, by its plan.
-#[derive(Drop)]
+#[derive(Clone, Drop)]
 pub struct Planned<P> {
     pub keyword: P,
 }
