@@ -1,5 +1,6 @@
--- Instances that are texts.
-use Rattle.std.specs.Prelude.{Option, Some}
+-- Instances that are texts, and a text among others.
+use Rattle.std.specs.List.{list_any}
+use Rattle.std.specs.Prelude.{Bool, List, Option, Some, bytes_eq}
 use Rattle.serde_json.specs.Find.{as_str}
 use Rattle.schema_definitions.specs.Instance.{Subject, Text, a_name, a_value}
 
@@ -7,3 +8,6 @@ use Rattle.schema_definitions.specs.Instance.{Subject, Text, a_name, a_value}
 abbrev pub as_text : Subject → Option Text
 as_text (a_value d) = as_str d
 as_text (a_name k) = Some k
+
+abbrev pub is_among : List Text → Text → Bool
+is_among names name = list_any (λ k. bytes_eq name k) names
