@@ -1,7 +1,8 @@
 -- Numbers of JSON as mathematics has them, with no rounding: their order, which of them are integers, and which are multiples of another.
 -- (JSON Schema Validation 2020-12, 6.1.1 and 6.2.1 to 6.2.5)
-use Rattle.std.specs.Prelude.{Bool, IsTrue, false, int_lt, suc, true, ℤ, negsuc, pos, ◌%◌, ◌*◌, ◌==◌, ◌&&◌, ◌||◌, if◌then◌else◌}
-use Rattle.std.specs.Float.{Float, fin, float_is_finite}
+use Rattle.std.specs.Prelude.{Bool, IsTrue, None, Option, Some, false, int_lt, suc, true, ℕ, ℤ, negsuc, pos, ◌%◌, ◌*◌, ◌==◌, ◌&&◌, ◌||◌, if◌then◌else◌}
+use Rattle.std.specs.Float.{Float, fin, float_is_finite, float_to_unsigned}
+use Rattle.std.specs.Int.{w64}
 use Rattle.std.specs.Ordering.{is_eq, is_le, is_lt, nan_last_cmp}
 use Rattle.std.specs.declared.cmp.Ordering.{Ordering}
 use lib.Ieee.{binary64, div}
@@ -40,6 +41,12 @@ same_number x y = is_eq (order x y)
 -- 1.0 is an integer
 abbrev pub is_whole : Num → Bool
 is_whole x = num (value_of x) % den (value_of x) == 0
+
+-- The natural number that a number is, so that 2.0 is 2. One past 2 ^ 64 - 1, which nothing that is counted here reaches, counts as that.
+abbrev pub natural_of : Num → Option ℕ
+natural_of (unsigned n) = Some n
+natural_of (negative z) = None
+natural_of (float x) = if is_whole (float x) && at_most (unsigned 0) (float x) then Some (float_to_unsigned w64 x) else None
 
 -- x divided by a d above 0 is an integer: the fraction (num x * den d) / (den x * num d) is one
 abbrev pub is_multiple_of : Num → Num → Bool

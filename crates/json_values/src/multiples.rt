@@ -5,11 +5,12 @@ ghost use Rattle.std.specs.Float.{float_is_finite};
 ghost use lib.Ieee.Positive.{den, num};
 ghost use Rattle.serde_json.specs.Find.{as_number};
 ghost use Rattle.serde_json.specs.View.{number_view, view};
-ghost use Rattle.json_values.specs.Numbers.{is_multiple_of, is_rounded_multiple_of, is_whole, value_of};
+ghost use Rattle.json_values.specs.Numbers.{is_multiple_of, is_rounded_multiple_of, is_whole, natural_of, value_of};
 ghost use Rattle.json_values.specs.Sizes.{units, IsReduced, IsSizeOf};
 
-use crate::numbers::{Kind, held_as};
+use crate::numbers::{Kind, held_as, is_at_most};
 use serde_json::{Number, Value};
+use std::num::saturating_f64_to_u64;
 
 /// `digits` times 2 to the `power`, in units of 2^-1074, the smallest float; the digits are odd or 0.
 #[derive(Clone, Copy)]
@@ -78,6 +79,25 @@ pub fn is_whole(number: &Number) -> bool
         Kind::Natural(_) => true,
         Kind::Negative(_) => true,
         Kind::Fraction(x) => is_whole_float(x),
+    }
+}
+
+/// The natural number that a number is, if it is one: 2.0 is 2. One past the largest `u64`, which no size and no length reaches, counts
+/// as that.
+pub fn natural_of(number: &Number) -> Option<u64>
+    ensures natural { result ≡ natural_of (number_view number.now) }
+{
+    if let Some(natural) = number.as_u64() {
+        return Some(natural);
+    }
+    if !number.is_f64() {
+        return None;
+    }
+    let fraction = number.as_f64()?;
+    if is_whole(number) && is_at_most(&Number::from(0u64), number) {
+        Some(saturating_f64_to_u64(fraction))
+    } else {
+        None
     }
 }
 
