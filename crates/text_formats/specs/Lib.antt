@@ -1,0 +1,10 @@
+pub mod Addresses
+pub mod Characters
+pub mod Cutting
+pub mod Dates
+pub mod Durations
+pub mod Emails
+pub mod Hostnames
+pub mod Parts
+pub mod Pointers
+pub mod Uuids

@@ -1,0 +1,148 @@
+//! Addresses of the Internet Protocol. (RFC 3986, 3.2.2; RFC 4291, 2.2)
+ghost use Rattle.std.specs.Prelude.{◌≡◌, ◌≤◌, ◌+◌, IfSome, length, ◌<◌, ◌^◌};
+ghost use Rattle.std.specs.List.{list_all};
+ghost use Rattle.text_formats.specs.Addresses as spec;
+ghost use Rattle.text_formats.specs.Characters as Characters;
+ghost use Rattle.text_formats.specs.Cutting.{parts};
+
+use crate::characters::{is_digit, is_hex_digit, value};
+use crate::cutting::cut;
+use crate::parts::Part;
+
+// Whether a text is a number of 0 to 255 with no leading zero.
+pub(crate) fn is_octet(text: &[u8]) -> bool
+    ensures octet { result ≡ spec.is_octet text.now }
+{
+    match text {
+        [a] => is_digit(*a),
+        [a, b] => is_digit(*a) && is_digit(*b) && 1 <= value(*a),
+        [a, b, c] => {
+            is_digit(*a)
+                && is_digit(*b)
+                && is_digit(*c)
+                && 1 <= value(*a)
+                && 100 * value(*a) + 10 * value(*b) + value(*c) <= 255
+        }
+        _ => false,
+    }
+}
+
+pub(crate) fn is_ipv4_in(text: &[u8]) -> bool
+    ensures ipv4 { result ≡ spec.is_ipv4 text.now }
+{
+    text.iter().filter(|byte| **byte == b'.').count() == 3 && Part::Octet.is_each(text, b'.')
+}
+
+/// Whether a text is an IPv4 address, as `127.0.0.1`.
+pub fn is_ipv4(text: &str) -> bool
+    ensures ipv4 { result ≡ spec.is_ipv4 text.now }
+{
+    is_ipv4_in(text.as_bytes())
+}
+
+fn are_hex_digits(text: &[u8]) -> bool
+    ensures digits { result ≡ list_all Characters.is_hex_digit text.now }
+{
+    text.iter().all(|byte| is_hex_digit(*byte))
+}
+
+fn is_group(text: &[u8]) -> bool
+    ensures group { result ≡ spec.is_group text.now }
+{
+    1 <= text.len() && text.len() <= 4 && are_hex_digits(text)
+}
+
+fn last_groups(may_be_ipv4: bool, text: &[u8]) -> Option<usize>
+    ensures groups { result ≡ spec.last_groups may_be_ipv4 text.now }
+    ensures few { IfSome result (λ n. n ≤ 2) }
+{
+    if is_group(text) {
+        Some(1)
+    } else if may_be_ipv4 && is_ipv4_in(text) {
+        Some(2)
+    } else {
+        None
+    }
+}
+
+fn groups(may_be_ipv4: bool, text: &[u8]) -> Option<usize>
+    ensures groups { result ≡ spec.groups may_be_ipv4 (parts 58 text.now) }
+    ensures few { IfSome result (λ n. n ≤ length text.now + 2) }
+{
+    let mut count = 0;
+    let mut rest = text;
+    while let Some((group, left)) = cut(rest, b':') {
+        if !is_group(group) {
+            return None;
+        }
+        count += 1;
+        rest = left;
+    }
+    match last_groups(may_be_ipv4, rest) {
+        Some(last) => Some(count + last),
+        None => None,
+    }
+}
+
+fn groups_if_any(may_be_ipv4: bool, text: &[u8]) -> Option<usize>
+    ensures groups { result ≡ spec.groups_if_any may_be_ipv4 text.now }
+    ensures few { IfSome result (λ n. n ≤ length text.now + 2) }
+{
+    if text.is_empty() {
+        Some(0)
+    } else {
+        groups(may_be_ipv4, text)
+    }
+}
+
+// Where the first `::` stands.
+fn gap(text: &[u8]) -> Option<usize>
+    ensures gap { result ≡ spec.gap_from 0 text.now }
+    ensures within { IfSome result (λ n. n + 2 ≤ length text.now) }
+{
+    let mut at = 0;
+    let mut rest = text;
+    loop {
+        match rest {
+            [b':', b':', ..] => return Some(at),
+            [_, left @ ..] => {
+                at += 1;
+                rest = left;
+            }
+            [] => return None,
+        }
+    }
+}
+
+fn leave_a_group(left: Option<usize>, right: Option<usize>) -> bool
+    requires few_left { IfSome left (λ n. n ≤ 2 ^ 63) }
+    requires few_right { IfSome right (λ n. n < 2 ^ 63) }
+    ensures leave { result ≡ spec.leave_a_group left right }
+{
+    match left {
+        Some(left) => match right {
+            Some(right) => left + right <= 7,
+            None => false,
+        },
+        None => false,
+    }
+}
+
+pub(crate) fn is_ipv6_in(text: &[u8]) -> bool
+    ensures ipv6 { result ≡ spec.is_ipv6 text.now }
+{
+    match gap(text) {
+        Some(at) => {
+            let left = groups_if_any(false, &text[..at]);
+            leave_a_group(left, groups_if_any(true, &text[at + 2..]))
+        }
+        None => groups_if_any(true, text) == Some(8),
+    }
+}
+
+/// Whether a text is an IPv6 address, as `2001:db8::1`.
+pub fn is_ipv6(text: &str) -> bool
+    ensures ipv6 { result ≡ spec.is_ipv6 text.now }
+{
+    is_ipv6_in(text.as_bytes())
+}

@@ -1,0 +1,111 @@
+//! Addresses of electronic mail. (RFC 5321, 4.1.2)
+ghost use Rattle.std.specs.Prelude.{◌≡◌, option_map};
+ghost use Rattle.std.specs.List.{list_all};
+ghost use Rattle.text_formats.specs.Cutting as Cutting;
+ghost use Rattle.text_formats.specs.Emails as spec;
+
+use crate::addresses::{is_ipv4_in, is_ipv6_in};
+use crate::characters::{is_digit, is_letter};
+use crate::cutting::{after, cut, split};
+use crate::parts::Part;
+
+fn is_atom_character(byte: u8) -> bool
+    ensures atom { result ≡ spec.is_atom_character byte }
+{
+    is_letter(byte) || is_digit(byte) || b"!#$%&'*+-/=?^_`{|}~".contains(&byte)
+}
+
+fn are_atom_characters(text: &[u8]) -> bool
+    ensures atom { result ≡ list_all spec.is_atom_character text.now }
+{
+    text.iter().all(|byte| is_atom_character(*byte))
+}
+
+// Whether a text is an atom: one character at least, and no space, quotation mark or other mark that has a sense of its own.
+pub(crate) fn is_atom(text: &[u8]) -> bool
+    ensures atom { result ≡ spec.is_atom text.now }
+{
+    !text.is_empty() && are_atom_characters(text)
+}
+
+fn is_quoted_character(byte: u8) -> bool
+    ensures quoted { result ≡ spec.is_quoted_character byte }
+{
+    matches!(byte, 32..=33 | 35..=91 | 93..=126)
+}
+
+// What follows the quotation mark that closes a text.
+fn after_quoted(text: &[u8]) -> Option<&[u8]>
+    ensures after { option_map (λ t. t.now) result ≡ spec.after_quoted text.now }
+{
+    let mut rest = text;
+    loop {
+        match rest {
+            [b'"', left @ ..] => return Some(left),
+            [b'\\', 32..=126, left @ ..] => rest = left,
+            [first, left @ ..] if is_quoted_character(*first) => rest = left,
+            _ => return None,
+        }
+    }
+}
+
+fn after_dot_string(text: &[u8]) -> Option<&[u8]>
+    ensures after { option_map (λ t. t.now) result ≡ spec.after_dot_string (Cutting.cut 64 text.now) }
+{
+    match cut(text, b'@') {
+        Some((front, back)) if Part::Atom.is_each(front, b'.') => Some(back),
+        _ => None,
+    }
+}
+
+// What follows a local part and `@`.
+fn after_local_part(text: &[u8]) -> Option<&[u8]>
+    ensures after { option_map (λ t. t.now) result ≡ spec.after_local_part text.now }
+{
+    match text {
+        [b'"', rest @ ..] => match after_quoted(rest) {
+            Some(left) => after(left, b'@'),
+            None => None,
+        },
+        _ => after_dot_string(text),
+    }
+}
+
+fn is_literal(text: &[u8]) -> bool
+    ensures literal { result ≡ spec.is_literal text.now }
+{
+    let (tag, address) = split(text, 5);
+    is_ipv4_in(text) || tag == b"IPv6:".as_slice() && is_ipv6_in(address)
+}
+
+fn is_literal_before_bracket(text: &[u8]) -> bool
+    ensures literal { result ≡ spec.is_literal_before (Cutting.cut 93 text.now) }
+{
+    match cut(text, b']') {
+        Some((literal, rest)) => is_literal(literal) && rest.is_empty(),
+        None => false,
+    }
+}
+
+fn is_domain(text: &[u8]) -> bool
+    ensures domain { result ≡ spec.is_domain text.now }
+{
+    match text {
+        [] => false,
+        [b'[', literal @ ..] => is_literal_before_bracket(literal),
+        _ => Part::Label.is_each(text, b'.'),
+    }
+}
+
+/// Whether a text is an address of electronic mail, as `joe.bloggs@example.com`.
+pub fn is_email(text: &str) -> bool
+    ensures email { result ≡ spec.is_email text.now }
+{
+    let bytes = text.as_bytes();
+    match after_local_part(bytes) {
+        Some(domain) => bytes.len().saturating_sub(domain.len()) <= 65
+            && domain.len() <= 255
+            && is_domain(domain),
+        None => false,
+    }
+}

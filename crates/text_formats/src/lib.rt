@@ -1,0 +1,14 @@
+//! Whether a text is of a format that JSON Schema names: dates and times, addresses, references, pointers and more, each by the grammar of
+//! the standard that defines it.
+#![tactic(auto)]
+
+pub mod addresses;
+pub mod characters;
+pub mod cutting;
+pub mod dates;
+pub mod durations;
+pub mod emails;
+pub mod hostnames;
+pub mod parts;
+pub mod pointers;
+pub mod uuids;

@@ -1,0 +1,45 @@
+//! The parts of a text round a mark.
+ghost use Rattle.std.specs.Prelude.{◌≡◌};
+ghost use Rattle.std.specs.List.{list_all};
+ghost use Rattle.text_formats.specs.Cutting.{parts};
+ghost use Rattle.text_formats.specs.Parts as spec;
+
+use crate::addresses::is_octet;
+use crate::cutting::cut;
+use crate::emails::is_atom;
+use crate::hostnames::is_label;
+
+// What each part may be: an atom of an address of mail, a label of a host's name, a number of an IPv4 address.
+#[derive(Clone, Copy)]
+pub(crate) enum Part {
+    Atom,
+    Label,
+    Octet,
+}
+
+impl Part {
+    fn is(self, text: &[u8]) -> bool
+        ensures part { result ≡ spec.is_part self text.now }
+    {
+        match self {
+            Part::Atom => is_atom(text),
+            Part::Label => is_label(text),
+            Part::Octet => is_octet(text),
+        }
+    }
+
+    #[tactic(auto, using(crate::proofs::Parting::each_after, crate::proofs::Parting::each_alone))]
+    // Whether each part of a text round a mark is one.
+    pub(crate) fn is_each(self, text: &[u8], mark: u8) -> bool
+        ensures each { result ≡ list_all (spec.is_part self) (parts mark text.now) }
+    {
+        let mut rest = text;
+        while let Some((part, left)) = cut(rest, mark) {
+            if !self.is(part) {
+                return false;
+            }
+            rest = left;
+        }
+        self.is(rest)
+    }
+}
