@@ -2,20 +2,27 @@
 //! say, and how many there are. It ends with 0 where none is, else with 1.
 #![tactic(auto)]
 
-mod asking;
-mod comparing;
-mod equality;
-mod growing;
-mod judging;
-mod reading;
-
-use crate::judging::{Tally, Wrong, count_wrong, summary};
 use anyhow::Context;
+use case_rows::asking::Answering;
+use case_rows::judging::{Tally, Wrong, count_wrong, summary};
+use engine_cases::answer;
+use serde_json::Value;
+use standard_keywords::table::StandardTable;
+use std::alloc::{AllocError, Global};
 use std::collections::BTreeSet;
 use std::env::Env;
 use std::process::ExitCode;
 use std::rt::Files;
 use std::{env, fs, io};
+
+/// The engine, with the tables of cases.
+struct Engine {}
+
+impl Answering for Engine {
+    fn answer(&self, alloc: Global, case: &Value) -> Result<Value, AllocError> {
+        answer(alloc, case, &StandardTable {})
+    }
+}
 
 /// Judges the rows of a file, and prints a line for each that is wrong.
 fn check_file<R: Files + Print + AllocGlobal>(
@@ -28,7 +35,7 @@ fn check_file<R: Files + Print + AllocGlobal>(
         if line.trim().is_empty() {
             continue;
         }
-        if let Some(wrong) = tally.judge(rt.alloc(), line)? {
+        if let Some(wrong) = tally.judge(rt.alloc(), &Engine {}, line)? {
             tell(rt, wrong, number.saturating_add(1), file)?;
         }
     }

@@ -1,17 +1,17 @@
 //! From a case to its answer.
 ghost use Rattle.std.specs.Prelude.{◌≡◌, IfOk};
 ghost use Rattle.serde_json.specs.View.{view};
-ghost use Rattle.engine_cases.specs.Calls.{no_case};
-ghost use Rattle.engine_cases.specs.Cases.{IsNoCase};
+ghost use Rattle.case_rows.specs.Calls.{no_case};
+ghost use Rattle.case_rows.specs.Cases.{IsNoCase};
 
 use crate::building::answered;
-use crate::call::Call;
-use crate::case::{Case, Table};
 use crate::checking::checked;
 use crate::clones::answered_alike;
 use crate::free_calls::answered_free;
 use crate::maps::answered_by_map;
 use bench_parts::table::BenchTable;
+use case_rows::call::Call;
+use case_rows::case::{Case, Table};
 use example_keywords::strings::StringTable;
 use fused_keywords::table::FusedTable;
 use joined_keywords::table::BothTable;
@@ -21,7 +21,6 @@ use schema_engine::context::keyword::Validate;
 use schema_engine::context::table::KeywordTable;
 use schema_engine::location::OutOfMemory;
 use serde_json::{Value, json};
-use standard_keywords::table::StandardTable;
 use std::alloc::Global;
 
 // What the engine answers of a case by a table.
@@ -52,12 +51,17 @@ fn strings_table() -> BothTable<TableByValue<StringTable>, BenchTable> {
 
 /// Returns what the engine answers of a case: as its call says, or `{"refused": number, "at": place, "text": text}` where the schema
 /// is refused, its place `null` for refusals that have none, or `{"disagree": ..}` where calls that are to agree do not. A value
-/// that is no case is answered `{"fault": text}`.
+/// that is no case is answered `{"fault": text}`. The table of the standard's keywords stands in a crate above, and is handed in: a
+/// case whose table is `standard` is answered by it.
 ///
 /// # Errors
 ///
 /// Fails only out of memory.
-pub fn answer(alloc: Global, case: &Value) -> Result<Value, OutOfMemory>
+pub fn answer<K: Validate, T: KeywordTable<K>>(
+    alloc: Global,
+    case: &Value,
+    standard: &T,
+) -> Result<Value, OutOfMemory>
     ensures fault { IfOk result (λ v. IsNoCase (view case.now) → view v ≡ no_case) }
 {
     let Some(case) = Case::read(case) else {
@@ -68,6 +72,6 @@ pub fn answer(alloc: Global, case: &Value) -> Result<Value, OutOfMemory>
         Table::Fused => answer_by(alloc, &case, &FusedTable {}),
         Table::Items => answer_by(alloc, &case, &ItemsTable {}),
         Table::Strings => answer_by(alloc, &case, &strings_table()),
-        Table::Standard => answer_by(alloc, &case, &StandardTable {}),
+        Table::Standard => answer_by(alloc, &case, standard),
     }
 }

@@ -1,12 +1,12 @@
 //! Builds of validators.
 
 use crate::asking::asked;
-use crate::call::Question;
-use crate::case::Case;
 use crate::refusals::refusal;
 use crate::setting::Setting;
 use bench_parts::matcher::BenchMatcher;
 use bench_parts::meta::BenchMeta;
+use case_rows::call::Question;
+use case_rows::case::Case;
 use schema_engine::context::keyword::Validate;
 use schema_engine::context::table::KeywordTable;
 use schema_engine::location::OutOfMemory;

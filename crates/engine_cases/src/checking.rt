@@ -1,10 +1,10 @@
 //! The check of a schema by the meta validators alone.
 
-use crate::case::Case;
 use crate::refusals::{refusal, text_or_null};
 use crate::setting::{default_draft, resolver_of};
 use bench_parts::meta::BenchMeta;
 use bench_resolver::resolver::places::root_place;
+use case_rows::case::Case;
 use schema_engine::location::OutOfMemory;
 use schema_keys::check::validate_schema;
 use schema_keys::error::BuildError;

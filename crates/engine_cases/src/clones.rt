@@ -3,12 +3,12 @@
 use crate::answers::disagreement;
 use crate::asking::asked;
 use crate::building::built;
-use crate::call::Question;
-use crate::case::Case;
 use crate::refusals::refusal;
 use bench_keywords::keyword::BenchKeyword;
 use bench_parts::matcher::BenchMatcher;
 use bench_parts::table::BenchTable;
+use case_rows::call::Question;
+use case_rows::case::Case;
 use schema_engine::location::OutOfMemory;
 use schema_engine::validator::Validator;
 use serde_json::Value;

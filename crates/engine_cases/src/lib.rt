@@ -9,8 +9,6 @@ pub mod answering;
 mod answers;
 mod asking;
 mod building;
-pub mod call;
-pub mod case;
 mod checking;
 mod clones;
 mod free_calls;

@@ -1,12 +1,12 @@
 //! Maps of validators.
 
 use crate::asking::all_errors;
-use crate::call::MapQuestion;
-use crate::case::{Case, number_of};
 use crate::refusals::refusal;
 use crate::setting::Setting;
 use bench_parts::matcher::BenchMatcher;
 use bench_parts::meta::BenchMeta;
+use case_rows::call::MapQuestion;
+use case_rows::case::{Case, number_of};
 use schema_engine::context::keyword::Validate;
 use schema_engine::context::table::KeywordTable;
 use schema_engine::location::OutOfMemory;

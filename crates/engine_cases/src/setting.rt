@@ -1,9 +1,9 @@
 //! What the schema of a case is built with.
 
-use crate::case::Case;
 use bench_parts::matcher::BenchMatcher;
 use bench_resolver::resolver::BenchResolver;
 use bench_resolver::resolver::documents::Document;
+use case_rows::case::Case;
 use schema_engine::keywords::{Draft, Vocabulary, VocabularySet};
 use schema_engine::location::OutOfMemory;
 use schema_engine::options::ValidationOptions;

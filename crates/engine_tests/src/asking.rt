@@ -2,6 +2,7 @@
 use bench_parts::matcher::BenchMatcher;
 use bench_parts::meta::BenchMeta;
 use bench_resolver::resolver::BenchResolver;
+use case_rows::tables::{column, list_at, number_at, push_all};
 use schema_engine::options::ValidationOptions;
 use schema_engine::validator::Validator;
 use schema_keys::error::BuildError;
@@ -14,7 +15,6 @@ use schema_reports::location::OutOfMemory;
 use schema_reports::reports::ErrorIterator;
 use serde_json::Value;
 use std::alloc::{AllocError, Global};
-use unit_tests::table::{column, list_at, number_at, push_all};
 
 /// The resolver of a row's schema, and the matcher that leaves the row's patterns unfinished.
 #[derive(Drop)]

@@ -1,10 +1,11 @@
 //! A thousand references one inside the other. The rows have two hundred: Rattle's own compiler, which builds the program that reads
 //! them too, has no room for more on a usual stack.
+use bench_parts::table::BenchTable;
+use case_rows::tables::{column, text_at};
 use engine_cases::answer;
 use schema_reports::location::OutOfMemory;
 use serde_json::Value;
 use std::alloc::Global;
-use unit_tests::table::{column, text_at};
 
 /// Adds the definitions of a chain: each refers to the next, and the last is of texts.
 fn push_chain(alloc: Global, count: u16, text: &mut String) -> Result<(), OutOfMemory> {
@@ -39,7 +40,7 @@ fn a_thousand_references_are_listed(rt: HostRuntime) -> Result<(), serde_json::E
     let mut path = "/$ref".repeat(alloc, 1000)?;
     path.push_str("/type")?;
     let case = case_of(alloc, 999)?;
-    let given = answer(alloc, &case)?;
+    let given = answer(alloc, &case, &BenchTable {})?;
     assert!(rt; tells(&given, 1002, path.as_str()));
     Ok(())
 }

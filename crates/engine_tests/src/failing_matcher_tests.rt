@@ -5,6 +5,7 @@ use bench_keywords::keyword::BenchKeyword;
 use bench_parts::meta::BenchMeta;
 use bench_parts::table::BenchTable;
 use bench_resolver::resolver::BenchResolver;
+use case_rows::tables::{column, number_at};
 use schema_engine::validate;
 use schema_engine::validator::Validator;
 use schema_keywords::keywords::VocabularySet;
@@ -17,7 +18,6 @@ use schema_reports::location::OutOfMemory;
 use serde_json::Value;
 use std::alloc::{AllocError, Global};
 use std::cell::Cell;
-use unit_tests::table::{column, number_at};
 
 /// A matcher that leaves every match unfinished, since its engine fails. It counts down to the question at which it wants memory, where
 /// that is not 0, and once it has wanted memory it fails as before.

@@ -10,6 +10,7 @@ use bench_keywords::keyword::BenchKeyword;
 use bench_keywords::names::NamesRun;
 use bench_keywords::texts::text_of;
 use bench_parts::matcher::BenchMatcher;
+use case_rows::tables::{column, list_at, text_at};
 use node_table::node::{Entry, EntryForm, NodeForm, Nodes};
 use schema_engine::validator::Validator;
 use schema_keywords::keywords::Draft;
@@ -19,7 +20,6 @@ use schema_reports::location::{Location, OutOfMemory};
 use serde_json::Value;
 use std::alloc::Global;
 use std::marker::Model;
-use unit_tests::table::{column, list_at, text_at};
 
 /// A keyword that goes a detour: where errors are wanted, it first asks whether each of these patterns matches the instance,
 /// and drops the replies. Then it goes on as the keyword that it stands for.

@@ -9,6 +9,7 @@ use crate::reservation_tests::{RESERVATIONS, tell_numbers};
 use crate::vocabulary_tests::{VOCABULARIES, tell_names};
 use bench_keywords::keyword::BenchKeyword;
 use bench_parts::table::BenchTable;
+use case_rows::tables::{wanted_of, wrong_row};
 use keyword_makers::by_value::TableByValue;
 use law_tests::both_once::BothOnce;
 use law_tests::items::ItemsKeyword;
@@ -16,7 +17,6 @@ use law_tests::items_table::ItemsTable;
 use schema_reports::location::OutOfMemory;
 use serde_json::Value;
 use std::alloc::Global;
-use unit_tests::table::{wanted_of, wrong_row};
 
 /// What the rows of a table are about.
 #[derive(Clone, Copy)]

@@ -6,6 +6,7 @@ use bench_parts::meta::BenchMeta;
 use bench_parts::table::BenchTable;
 use bench_resolver::resolver::BenchResolver;
 use bench_resolver::resolver::vocabularies::DraftVocabularies;
+use case_rows::tables::{column, text_at};
 use schema_engine::keywords::{Vocabulary, VocabularySet};
 use schema_engine::options::ValidationOptions;
 use schema_parts::keyword::Validate;
@@ -15,7 +16,6 @@ use schema_parts::table::KeywordTable;
 use schema_reports::location::OutOfMemory;
 use serde_json::Value;
 use std::alloc::Global;
-use unit_tests::table::{column, text_at};
 
 /// The usual vocabularies, and the custom one beside them in 2019-09 alone.
 fn requiring_in_2019_09(alloc: Global) -> Result<DraftVocabularies, OutOfMemory> {

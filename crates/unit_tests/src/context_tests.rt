@@ -1,7 +1,7 @@
 //! What a `Context` answers that no call of the engine asks: a table's makers may, so no row of `check_rows` says it. Whether formats
 //! are checked: by the option, or else by the vocabularies, or in the drafts before 2019-09.
-use crate::table::{column, number_at, push_all, text_at};
 use bench_resolver::resolver::BenchResolver;
+use case_rows::tables::{column, number_at, push_all, text_at};
 use schema_keys::context::Context;
 use schema_keys::key::SchemaKey;
 use schema_keys::options::CompileOptions;

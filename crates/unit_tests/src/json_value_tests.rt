@@ -1,5 +1,5 @@
 //! Numbers and equality of JSON values, at their edges.
-use crate::table::{column, list_at, text_at};
+use case_rows::tables::{column, list_at, text_at};
 use json_values::distinct::are_all_distinct;
 use json_values::equality::{are_all_distinct_by_pairs, is_equal};
 use json_values::held::HeldValue;

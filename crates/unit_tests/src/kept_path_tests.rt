@@ -1,6 +1,6 @@
 //! How many evaluation paths are kept: none of the first 4,095 under a reference, and from then on each that is asked for, once. Which
 //! path a call gives is in clauses, and how many are kept is not.
-use crate::table::{column, list_at, text_at};
+use case_rows::tables::{column, list_at, text_at};
 use schema_contexts::evaluation_path::EvaluationPath;
 use schema_contexts::kept_paths::KeptPaths;
 use schema_reports::location::{Location, OutOfMemory};

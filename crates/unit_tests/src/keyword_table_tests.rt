@@ -1,6 +1,6 @@
 //! The table of the standard's keywords, cell by cell, as it is published: the definition, which the clauses cite, is another copy of
 //! it.
-use crate::table::{column, text_at};
+use case_rows::tables::{column, text_at};
 use schema_keywords::keywords::{
     BuiltinKeyword, Draft, Keyword, KeywordForm, Vocabulary, VocabularySet, builtin_row,
     keyword_is_leaf, keyword_priority,

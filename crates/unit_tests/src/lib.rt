@@ -1,7 +1,6 @@
 //! Tests that ask no validator, of what no clause says: what the program `engine_bench` writes, what a `Context` tells a table's makers,
 //! how many evaluation paths are kept, the standard's keywords as they are published, numbers and equality of values, sizes in bytes, and
-//! public calls that nothing else makes; and the tables of rows that tests read, with the walk over them. A row begins with the text that
-//! is to be told of it.
+//! public calls that nothing else makes. A row begins with the text that is to be told of it.
 #![tactic(auto)]
 
 #[cfg(test)]
@@ -20,4 +19,3 @@ mod program_tests;
 mod rows;
 #[cfg(test)]
 mod single_call_tests;
-pub mod table;

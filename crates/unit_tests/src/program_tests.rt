@@ -1,9 +1,9 @@
 //! What the program `engine_bench` writes and how it ends, through `run`: printed texts to the letter, statuses, faults in the words,
 //! words that are not UTF-8, and writers that refuse; and the words of a process.
-use crate::table::{column, list_at, number_at};
 use bench_program::program::arguments::given_words;
 use bench_program::program::faults::Fault;
 use bench_program::program::{refuse, run};
+use case_rows::tables::{column, list_at, number_at};
 use schema_reports::location::OutOfMemory;
 use serde_json::Value;
 use std::alloc::Global;

@@ -5,7 +5,7 @@ use crate::json_value_tests::{VALUES, tell_values};
 use crate::kept_path_tests::{KEPT, tell_kept};
 use crate::keyword_table_tests::{KEYWORDS, tell_keyword};
 use crate::program_tests::{ANSWERS, FAULTS, WRITES, tell_program};
-use crate::table::{wanted_of, wrong_row};
+use case_rows::tables::{wanted_of, wrong_row};
 use schema_reports::location::OutOfMemory;
 use serde_json::Value;
 use std::alloc::Global;
