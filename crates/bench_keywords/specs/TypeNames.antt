@@ -1,5 +1,6 @@
 -- The types that a value may have. (Core 2020-12, 4.2.1; Validation 2020-12, 6.1.1)
-use Rattle.std.specs.Prelude.{Bool, true, false, ◌||◌, codes, is_some, option_and_then}
+use Rattle.std.specs.Prelude.{Bool, List, None, Option, Some, [], bytes_eq, true, false, if◌then◌else◌, ◌||◌, ◌∷◌, codes, is_some, option_and_then}
+use Rattle.serde_json.specs.Data.{Data, Items, item, no_items}
 use Rattle.serde_json.specs.Find.{as_null, as_bool, as_number, as_str, as_array, as_object, as_i64, as_u64}
 use Rattle.schema_definitions.specs.Instance.{Text, Subject, a_value, a_name}
 use Rattle.bench_keywords.specs.declared.type_names.TypeName.{TypeName}
@@ -30,3 +31,28 @@ fits type.Integer (a_name k) = false
 fits type.Number (a_name k) = false
 fits type.Array (a_name k) = false
 fits type.Object (a_name k) = false
+
+-- the type of a name, and of the name that a value is
+abbrev pub type_named : Text → Option TypeName
+type_named t =
+    if bytes_eq t (codes "null") then Some type.Null
+    else (if bytes_eq t (codes "boolean") then Some type.Boolean
+    else (if bytes_eq t (codes "integer") then Some type.Integer
+    else (if bytes_eq t (codes "number") then Some type.Number
+    else (if bytes_eq t (codes "string") then Some type.Text
+    else (if bytes_eq t (codes "array") then Some type.Array
+    else (if bytes_eq t (codes "object") then Some type.Object else None))))))
+
+-- one before others, where all are there
+abbrev pub both : {A : Type 0} → Option A → Option (List A) → Option (List A)
+both None rest = None
+both (Some a) None = None
+both (Some a) (Some rest) = Some (a ∷ rest)
+
+abbrev pub type_of : Data → Option TypeName
+type_of d = option_and_then type_named (as_str d)
+
+-- the types that values name, where each names one
+abbrev pub types_of : Items → Option (List TypeName)
+types_of no_items = Some []
+types_of (item d ds) = both (type_of d) (types_of ds)

@@ -12,7 +12,8 @@ use Rattle.bench_keywords.specs.declared.counts.CountKind.{CountKind}
 use Rattle.bench_keywords.specs.declared.counts.CountKind.TheVariants as count
 use Rattle.standard_assertions.specs.Assertions.{Shape, shows_no_fraction}
 use Rattle.standard_assertions.specs.Made.{excludes, here_if, limit_beside, limit_here, made, made_of_counts, made_of_lists, made_of_numbers, unique_made}
-use Rattle.standard_assertions.specs.Values.{count_made, dependents_made, enum_made, has_text_lists, integers_of, is_draft_4, limit_made, multiple_made, size_limit, size_made, type_made, type_named, types_of}
+use Rattle.bench_keywords.specs.TypeNames.{type_named, types_of}
+use Rattle.standard_assertions.specs.Values.{count_made, dependents_made, enum_made, has_text_lists, integers_of, is_draft_4, limit_made, multiple_made, size_limit, size_made, type_made}
 use Rattle.standard_assertions.specs.declared.assertion.Assertion.TheVariants as assertion
 use Rattle.standard_assertions.specs.declared.limits.LimitKind.{LimitKind}
 use Rattle.standard_assertions.specs.declared.limits.LimitKind.TheVariants as limit

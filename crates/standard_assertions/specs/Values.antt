@@ -1,16 +1,12 @@
 -- What the values of these keywords make, as their draft reads them; nothing where a value is malformed. (Validation 2020-12, 6; of drafts 4
 -- and 6, 5 and 6)
-use Rattle.std.specs.Int.{w64}
-use Rattle.std.specs.Float.{float_to_unsigned}
-use Rattle.std.specs.Prelude.{Bool, List, None, Option, Some, [], bytes_eq, codes, false, if◌then◌else◌, is_some, option_and_then, option_map, ℕ, ◌&&◌, ◌∷◌, true}
-use Rattle.serde_json.specs.Data.{Data, Items, Members, Num, array, float, item, member, negative, no_items, no_members, string, unsigned}
+use Rattle.std.specs.Prelude.{Bool, None, Option, Some, false, if◌then◌else◌, is_some, option_and_then, option_map, ℕ, ◌&&◌, true}
+use Rattle.serde_json.specs.Data.{Data, Items, Members, Num, array, item, member, no_items, no_members, string, unsigned}
 use Rattle.serde_json.specs.Find.{as_array, as_number, as_object, as_str, as_u64}
 use Rattle.schema_definitions.specs.Drafts.{Draft, draft_4}
-use Rattle.schema_definitions.specs.Instance.{Text}
-use Rattle.json_values.specs.Numbers.{at_most, is_whole, less}
+use Rattle.json_values.specs.Numbers.{less, natural_of}
 use Rattle.bench_keywords.specs.declared.counts.CountKind.{CountKind}
-use Rattle.bench_keywords.specs.declared.type_names.TypeName.{TypeName}
-use Rattle.bench_keywords.specs.declared.type_names.TypeName.TheVariants as type
+use Rattle.bench_keywords.specs.TypeNames.{type_named, types_of}
 use Rattle.standard_assertions.specs.Assertions.{Shape}
 use Rattle.standard_assertions.specs.declared.assertion.Assertion.TheVariants as assertion
 use Rattle.standard_assertions.specs.declared.limits.LimitKind.{LimitKind}
@@ -27,29 +23,6 @@ is_draft_4 _ = false
 
 abbrev pub integers_of : Draft → Integers
 integers_of draft = if is_draft_4 draft then integers.Written else integers.Valued
-
-abbrev pub type_named : Text → Option TypeName
-type_named t =
-    if bytes_eq t (codes "null") then Some type.Null
-    else (if bytes_eq t (codes "boolean") then Some type.Boolean
-    else (if bytes_eq t (codes "integer") then Some type.Integer
-    else (if bytes_eq t (codes "number") then Some type.Number
-    else (if bytes_eq t (codes "string") then Some type.Text
-    else (if bytes_eq t (codes "array") then Some type.Array
-    else (if bytes_eq t (codes "object") then Some type.Object else None))))))
-
-abbrev pub type_of : Data → Option TypeName
-type_of d = option_and_then type_named (as_str d)
-
-abbrev pub both : Option TypeName → Option (List TypeName) → Option (List TypeName)
-both None rest = None
-both (Some t) None = None
-both (Some t) (Some ts) = Some (t ∷ ts)
-
--- the types that values name, where each names one
-abbrev pub types_of : Items → Option (List TypeName)
-types_of no_items = Some []
-types_of (item d ds) = both (type_of d) (types_of ds)
 
 -- one name, or a list of names; an empty list is accepted, and no instance is of one of its types
 abbrev pub type_made : Integers → Data → Option Shape
@@ -76,13 +49,7 @@ multiple_made d = option_map assertion.MultipleOf (option_and_then divisor (as_n
 
 -- ---- sizes and counts
 
--- The natural number that a number is, so that 2.0 is 2. One past 2 ^ 64 - 1, which no size and no count reaches, counts as that.
-abbrev pub natural_of : Num → Option ℕ
-natural_of (unsigned n) = Some n
-natural_of (negative z) = None
-natural_of (float x) = if is_whole (float x) && at_most (unsigned 0) (float x) then Some (float_to_unsigned w64 x) else None
-
--- a limit of sizes or counts is a natural number, in draft 4 one that is written as such
+-- a limit of sizes or counts is a natural number, however it is written, so that 2.0 is 2; in draft 4 one that is written as such
 abbrev pub size_limit : Draft → Data → Option ℕ
 size_limit draft d = if is_draft_4 draft then option_and_then as_u64 (as_number d) else option_and_then natural_of (as_number d)
 

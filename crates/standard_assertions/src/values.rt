@@ -1,11 +1,11 @@
 //! The values of these keywords, as their draft reads them.
 ghost use Rattle.std.specs.Prelude.{◌≡◌, IfOk, option_and_then, option_map};
 ghost use Rattle.serde_json.specs.Find.{as_array, as_number, as_object};
-ghost use Rattle.serde_json.specs.View.{items_view, members_view, number_view, view};
+ghost use Rattle.serde_json.specs.View.{items_view, members_view, view};
 ghost use Rattle.schema_keywords.specs.KeywordViews.{draft_of};
 ghost use Rattle.standard_assertions.specs.Values.{are_text_lists, are_texts, count_made, dependents_made, enum_made, has_text_lists};
-ghost use Rattle.standard_assertions.specs.Values.{integers_of, is_any_text_list, is_draft_4, limit_made, multiple_made, natural_of};
-ghost use Rattle.standard_assertions.specs.Values.{size_limit, size_made, type_made, type_named, type_of, types_of};
+ghost use Rattle.standard_assertions.specs.Values.{integers_of, is_any_text_list, is_draft_4, limit_made, multiple_made};
+ghost use Rattle.standard_assertions.specs.Values.{size_limit, size_made, type_made};
 
 use crate::assertion::Assertion;
 use crate::limits::LimitKind;
@@ -13,15 +13,14 @@ use crate::numbers::HeldNumber;
 use crate::sizes::SizeKind;
 use crate::types::{Integers, TypeList};
 use bench_keywords::counts::CountKind;
-use bench_keywords::type_names::TypeName;
+use bench_keywords::type_names::{type_named, types_of};
 use json_values::held::HeldValue;
-use json_values::multiples::is_whole;
-use json_values::numbers::{is_at_most, is_less};
+use json_values::multiples::natural_of;
+use json_values::numbers::is_less;
 use schema_keywords::keywords::Draft;
 use schema_reports::location::OutOfMemory;
 use serde_json::{Map, Number, Value};
 use std::alloc::Global;
-use std::num::saturating_f64_to_u64;
 
 /// Whether the draft takes numbers as they are written.
 pub fn is_draft_4(draft: Draft) -> bool
@@ -41,53 +40,6 @@ pub fn integers_of(draft: Draft) -> Integers
     }
 }
 
-/// The type of this name.
-fn type_named(name: &str) -> Option<TypeName>
-    ensures named { result ≡ type_named name.now }
-{
-    if name == "null" {
-        Some(TypeName::Null)
-    } else if name == "boolean" {
-        Some(TypeName::Boolean)
-    } else if name == "integer" {
-        Some(TypeName::Integer)
-    } else if name == "number" {
-        Some(TypeName::Number)
-    } else if name == "string" {
-        Some(TypeName::Text)
-    } else if name == "array" {
-        Some(TypeName::Array)
-    } else if name == "object" {
-        Some(TypeName::Object)
-    } else {
-        None
-    }
-}
-
-/// The type that a value names.
-fn type_of(value: &Value) -> Option<TypeName>
-    ensures named { result ≡ type_of (view value.now) }
-{
-    match value.as_str() {
-        Some(name) => type_named(name),
-        None => None,
-    }
-}
-
-/// The types that values name, if each names one.
-fn types_of(alloc: Global, values: &[Value]) -> Result<Option<TypeList>, OutOfMemory>
-    ensures named { IfOk result (λ types. types ≡ types_of (items_view values.now)) }
-{
-    let mut names = Vec::new(alloc);
-    for value in values {
-        match type_of(value) {
-            Some(name) => names.push(name)?,
-            None => return Ok(None),
-        }
-    }
-    Ok(Some(TypeList { names }))
-}
-
 /// `type`.
 pub fn type_made(
     alloc: Global,
@@ -102,7 +54,7 @@ pub fn type_made(
             None => Ok(None),
         },
         Value::Array(values) => match types_of(alloc, values.as_slice())? {
-            Some(types) => Ok(Some(Assertion::Types(integers, types))),
+            Some(names) => Ok(Some(Assertion::Types(integers, TypeList { names }))),
             None => Ok(None),
         },
         _ => Ok(None),
@@ -138,25 +90,6 @@ pub fn multiple_made(value: &Value) -> Option<Assertion>
     let divisor = HeldNumber::of(value)?;
     if is_less(&Number::from(0u64), divisor.as_number()) {
         Some(Assertion::MultipleOf(divisor))
-    } else {
-        None
-    }
-}
-
-/// The natural number that a number is, if it is one: 2.0 is 2. One past the largest `u64`, which no size reaches, counts as
-/// that.
-fn natural_of(number: &Number) -> Option<u64>
-    ensures natural { result ≡ natural_of (number_view number.now) }
-{
-    if let Some(natural) = number.as_u64() {
-        return Some(natural);
-    }
-    if !number.is_f64() {
-        return None;
-    }
-    let fraction = number.as_f64()?;
-    if is_whole(number) && is_at_most(&Number::from(0u64), number) {
-        Some(saturating_f64_to_u64(fraction))
     } else {
         None
     }
