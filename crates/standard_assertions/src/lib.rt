@@ -3,6 +3,7 @@
 #![tactic(auto)]
 
 pub mod assertion;
+pub mod cloning;
 pub mod constants;
 pub mod dependents;
 pub mod limits;

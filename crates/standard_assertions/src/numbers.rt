@@ -6,7 +6,7 @@ ghost use Rattle.serde_json.specs.Written.{number_text};
 
 use schema_reports::location::OutOfMemory;
 use serde_json::{Number, Value};
-use std::alloc::Global;
+use std::alloc::{AllocError, Global};
 use std::marker::Model;
 
 /// A number that is kept, as a keyword keeps its limit. Contracts see the number alone, so that a keyword that holds one is its
@@ -55,5 +55,16 @@ impl HeldNumber {
         ensures text { IfOk result (λ s. is_float self.now ≡ false → string_bytes s ≡ number_text self.now) }
     {
         Value::Number(self.number).to_string(alloc)
+    }
+}
+
+impl Clone for HeldNumber {
+    ghost is_clone = { λ held copy. copy ≡ held };
+
+    /// Returns a clone of the number.
+    fn clone(&self) -> Result<HeldNumber, AllocError> {
+        Ok(HeldNumber {
+            number: self.number,
+        })
     }
 }

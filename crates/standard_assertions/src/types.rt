@@ -7,6 +7,7 @@ ghost use Rattle.standard_assertions.specs.Types.{fits, fits_one, is_integer_val
 use bench_keywords::type_names::TypeName;
 use json_values::multiples::is_integer_valued;
 use schema_reports::instance::Instance;
+use std::alloc::AllocError;
 use std::marker::Model;
 
 /// Which numbers are integers.
@@ -31,6 +32,16 @@ impl Model for TypeList {
     ghost Value = { List TypeName };
 
     ghost view = { λ types. types.names.items };
+}
+
+impl Clone for TypeList {
+    ghost is_clone = { λ types copy. copy ≡ types };
+
+    /// Returns a clone of the list. Fails only if memory cannot be allocated.
+    fn clone(&self) -> Result<TypeList, AllocError> {
+        let names = self.names.clone()?;
+        Ok(TypeList { names })
+    }
 }
 
 /// Whether an instance is of the type; a name is a text.
