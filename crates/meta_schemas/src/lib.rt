@@ -1,0 +1,118 @@
+//! The meta-schemas of drafts 4, 6, 7, 2019-09 and 2020-12, as texts of JSON, each with the URI that schemas refer to it by. They are
+//! written from the standard's tables of keywords, and accept and refuse what the standard's own do (`tools/meta_schemas.py`). Their
+//! definitions that schemas are known to refer to go by the standard's names.
+#![tactic(auto)]
+
+ghost use Rattle.std.specs.Prelude.{◌≡◌, map};
+ghost use Rattle.schema_keywords.specs.KeywordViews.{draft_of};
+ghost use Rattle.meta_schemas.specs.declared.MetaSchema.{MetaSchema};
+ghost use Rattle.meta_schemas.specs.MetaUris.{uri_of, vocabulary_uris};
+
+mod draft2019_09;
+mod draft2020_12;
+mod draft4;
+mod draft6;
+mod draft7;
+
+use schema_keywords::keywords::Draft;
+
+/// A meta-schema, or the meta-schema of a vocabulary.
+#[derive(Clone, Copy)]
+pub struct MetaSchema {
+    /// The URI that it is found under, without a fragment.
+    pub uri: &'static str,
+    /// Its text, which is JSON.
+    pub text: &'static str,
+}
+
+/// The meta-schema of a draft. A draft that is not known has that of 2020-12.
+pub fn meta_schema(draft: Draft) -> MetaSchema
+    ensures uri { result.uri.now ≡ uri_of (draft_of draft) }
+{
+    match draft {
+        Draft::Draft4 => MetaSchema {
+            uri: "http://json-schema.org/draft-04/schema",
+            text: draft4::TEXT,
+        },
+        Draft::Draft6 => MetaSchema {
+            uri: "http://json-schema.org/draft-06/schema",
+            text: draft6::TEXT,
+        },
+        Draft::Draft7 => MetaSchema {
+            uri: "http://json-schema.org/draft-07/schema",
+            text: draft7::TEXT,
+        },
+        Draft::Draft201909 => MetaSchema {
+            uri: "https://json-schema.org/draft/2019-09/schema",
+            text: draft2019_09::SCHEMA,
+        },
+        Draft::Draft202012 | Draft::Unknown => MetaSchema {
+            uri: "https://json-schema.org/draft/2020-12/schema",
+            text: draft2020_12::SCHEMA,
+        },
+    }
+}
+
+/// The meta-schemas of the vocabularies of 2019-09 and then of 2020-12.
+pub fn vocabulary_meta_schemas() -> [MetaSchema; 14]
+    ensures uris { map (λ (m : MetaSchema). m.uri.now) result ≡ vocabulary_uris }
+{
+    [
+        MetaSchema {
+            uri: "https://json-schema.org/draft/2019-09/meta/core",
+            text: draft2019_09::CORE,
+        },
+        MetaSchema {
+            uri: "https://json-schema.org/draft/2019-09/meta/applicator",
+            text: draft2019_09::APPLICATOR,
+        },
+        MetaSchema {
+            uri: "https://json-schema.org/draft/2019-09/meta/validation",
+            text: draft2019_09::VALIDATION,
+        },
+        MetaSchema {
+            uri: "https://json-schema.org/draft/2019-09/meta/meta-data",
+            text: draft2019_09::META_DATA,
+        },
+        MetaSchema {
+            uri: "https://json-schema.org/draft/2019-09/meta/format",
+            text: draft2019_09::FORMAT,
+        },
+        MetaSchema {
+            uri: "https://json-schema.org/draft/2019-09/meta/content",
+            text: draft2019_09::CONTENT,
+        },
+        MetaSchema {
+            uri: "https://json-schema.org/draft/2020-12/meta/core",
+            text: draft2020_12::CORE,
+        },
+        MetaSchema {
+            uri: "https://json-schema.org/draft/2020-12/meta/applicator",
+            text: draft2020_12::APPLICATOR,
+        },
+        MetaSchema {
+            uri: "https://json-schema.org/draft/2020-12/meta/unevaluated",
+            text: draft2020_12::UNEVALUATED,
+        },
+        MetaSchema {
+            uri: "https://json-schema.org/draft/2020-12/meta/validation",
+            text: draft2020_12::VALIDATION,
+        },
+        MetaSchema {
+            uri: "https://json-schema.org/draft/2020-12/meta/meta-data",
+            text: draft2020_12::META_DATA,
+        },
+        MetaSchema {
+            uri: "https://json-schema.org/draft/2020-12/meta/format-annotation",
+            text: draft2020_12::FORMAT_ANNOTATION,
+        },
+        MetaSchema {
+            uri: "https://json-schema.org/draft/2020-12/meta/format-assertion",
+            text: draft2020_12::FORMAT_ASSERTION,
+        },
+        MetaSchema {
+            uri: "https://json-schema.org/draft/2020-12/meta/content",
+            text: draft2020_12::CONTENT,
+        },
+    ]
+}
