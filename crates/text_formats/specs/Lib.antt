@@ -4,7 +4,10 @@ pub mod Cutting
 pub mod Dates
 pub mod Durations
 pub mod Emails
+pub mod Formats
 pub mod Hostnames
+pub mod Iris
 pub mod Parts
 pub mod Pointers
+pub mod Uris
 pub mod Uuids

@@ -1,11 +1,9 @@
 //! Addresses of the Internet Protocol. (RFC 3986, 3.2.2; RFC 4291, 2.2)
 ghost use Rattle.std.specs.Prelude.{◌≡◌, ◌≤◌, ◌+◌, IfSome, length, ◌<◌, ◌^◌};
-ghost use Rattle.std.specs.List.{list_all};
 ghost use Rattle.text_formats.specs.Addresses as spec;
-ghost use Rattle.text_formats.specs.Characters as Characters;
 ghost use Rattle.text_formats.specs.Cutting.{parts};
 
-use crate::characters::{is_digit, is_hex_digit, value};
+use crate::characters::{are_hex_digits, is_digit, value};
 use crate::cutting::cut;
 use crate::parts::Part;
 
@@ -38,12 +36,6 @@ pub fn is_ipv4(text: &str) -> bool
     ensures ipv4 { result ≡ spec.is_ipv4 text.now }
 {
     is_ipv4_in(text.as_bytes())
-}
-
-fn are_hex_digits(text: &[u8]) -> bool
-    ensures digits { result ≡ list_all Characters.is_hex_digit text.now }
-{
-    text.iter().all(|byte| is_hex_digit(*byte))
 }
 
 fn is_group(text: &[u8]) -> bool

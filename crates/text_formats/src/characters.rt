@@ -1,5 +1,6 @@
 //! Classes of ASCII characters, and what decimal digits stand for.
 ghost use Rattle.std.specs.Prelude.{◌≡◌, ◌<◌, ◌+◌, IsTrue, length};
+ghost use Rattle.std.specs.List.{list_all};
 ghost use Rattle.text_formats.specs.Characters as spec;
 
 // `0` to `9`.
@@ -21,6 +22,18 @@ pub(crate) fn is_hex_digit(byte: u8) -> bool
     ensures hex_digit { result ≡ spec.is_hex_digit byte }
 {
     byte.is_ascii_hexdigit()
+}
+
+pub(crate) fn are_digits(text: &[u8]) -> bool
+    ensures digits { result ≡ list_all spec.is_digit text.now }
+{
+    text.iter().all(|byte| is_digit(*byte))
+}
+
+pub(crate) fn are_hex_digits(text: &[u8]) -> bool
+    ensures digits { result ≡ list_all spec.is_hex_digit text.now }
+{
+    text.iter().all(|byte| is_hex_digit(*byte))
 }
 
 // What a decimal digit stands for.
