@@ -1,10 +1,8 @@
 -- What `contains` reads of the limits beside it. (Validation 2020-12, 6.4.4 and 6.4.5)
-use Rattle.std.specs.Float.{float_to_unsigned}
-use Rattle.std.specs.Int.{w64}
-use Rattle.std.specs.Prelude.{Bool, None, Option, Some, codes, false, if◌then◌else◌, option_and_then, true, unwrap_or, ℕ, ◌&&◌}
-use Rattle.serde_json.specs.Data.{Data, Members, Num, float, negative, unsigned}
+use Rattle.std.specs.Prelude.{Bool, None, Option, Some, codes, false, if◌then◌else◌, option_and_then, true, unwrap_or, ℕ}
+use Rattle.serde_json.specs.Data.{Data, Members}
 use Rattle.serde_json.specs.Find.{as_number, get_member}
-use Rattle.json_values.specs.Numbers.{at_most, is_whole}
+use Rattle.json_values.specs.Numbers.{natural_of}
 use Rattle.schema_definitions.specs.Drafts.{Draft, draft_4, draft_6, draft_7}
 use Rattle.schema_definitions.specs.Instance.{Text}
 use Rattle.standard_applicators.specs.declared.contains.Contains.{Contains}
@@ -19,13 +17,7 @@ has_limits _ = true
 abbrev pub limit_beside : Draft → Text → Members → Option Data
 limit_beside draft name ms = if has_limits draft then get_member name ms else None
 
--- a limit is a natural number, however it is written, so that 2.0 is 2; one past 2 ^ 64 - 1, which no list is as long as, counts as
--- that
-abbrev pub natural_of : Num → Option ℕ
-natural_of (unsigned n) = Some n
-natural_of (negative z) = None
-natural_of (float x) = if is_whole (float x) && at_most (unsigned 0) (float x) then Some (float_to_unsigned w64 x) else None
-
+-- a limit is a natural number, however it is written, so that 2.0 is 2
 abbrev pub limit_of : Data → Option ℕ
 limit_of d = option_and_then natural_of (as_number d)
 

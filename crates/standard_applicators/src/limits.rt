@@ -1,16 +1,14 @@
 //! What `contains` reads of the limits beside it.
 ghost use Rattle.std.specs.Prelude.{◌≡◌, option_map};
-ghost use Rattle.serde_json.specs.View.{members_view, number_view, view};
+ghost use Rattle.serde_json.specs.View.{members_view, view};
 ghost use Rattle.schema_keywords.specs.KeywordViews.{draft_of};
-ghost use Rattle.standard_applicators.specs.Limits.{contains_in, has_limits, limit_beside, limit_in, limit_of, natural_of, refused_limit};
+ghost use Rattle.standard_applicators.specs.Limits.{contains_in, has_limits, limit_beside, limit_in, limit_of, refused_limit};
 
 use crate::contains::Contains;
-use json_values::multiples::is_whole;
-use json_values::numbers::is_at_most;
+use json_values::multiples::natural_of;
 use keyword_makers::paths::value_in;
 use schema_keywords::keywords::Draft;
-use serde_json::{Map, Number, Value};
-use std::num::saturating_f64_to_u64;
+use serde_json::{Map, Value};
 
 /// Whether a draft knows `minContains` and `maxContains`.
 fn has_limits(draft: Draft) -> bool
@@ -21,25 +19,6 @@ fn has_limits(draft: Draft) -> bool
         Draft::Draft6 => false,
         Draft::Draft7 => false,
         _ => true,
-    }
-}
-
-/// The natural number that a number is, if it is one: 2.0 is 2. One past the largest `u64`, which no list is as long as, counts as
-/// that.
-fn natural_of(number: &Number) -> Option<u64>
-    ensures natural { result ≡ natural_of (number_view number.now) }
-{
-    if let Some(natural) = number.as_u64() {
-        return Some(natural);
-    }
-    if !number.is_f64() {
-        return None;
-    }
-    let float = number.as_f64()?;
-    if is_whole(number) && is_at_most(&Number::from(0u64), number) {
-        Some(saturating_f64_to_u64(float))
-    } else {
-        None
     }
 }
 
