@@ -14,12 +14,13 @@ use Rattle.keyword_makers.specs.Making.{makes_if}
 use Rattle.keyword_makers.specs.MakingLaws.{IsPlainIf, asked_rightly, either_rightly, list_rightly, made_rightly, member_whole}
 use Rattle.bench_keywords.specs.BenchShape.{BenchShape, applies, has_count, has_prefix_items, has_properties, has_type, has_types, is_whole, requires}
 use Rattle.bench_keywords.specs.declared.counts.CountKind.{CountKind}
+use Rattle.bench_keywords.specs.TypeNames.{type_named, types_of}
 use Rattle.bench_keywords.specs.declared.type_names.TypeName.{TypeName}
 use Rattle.bench_keywords.specs.declared.counts.CountKind.TheVariants.{MaxLength, MinLength, MinProperties}
 use Rattle.bench_keywords.specs.Laws.{none_absorbed}
 use Rattle.keyword_makers.specs.ByValue.{values_lie_below}
 use Rattle.keyword_makers.specs.Members.{names_of, values_below}
-use Rattle.bench_parts.specs.Makers.{bench_script, count_shape, is_older_list, items_script, member_script, pattern_shape, properties_script, required_shape, schema_script, texts_of, type_named, type_shape, types_of, value_script}
+use Rattle.bench_parts.specs.Makers.{bench_script, count_shape, is_older_list, items_script, member_script, pattern_shape, properties_script, required_shape, schema_script, texts_of, type_shape, value_script}
 
 abbrev pub Rightly : Members → Script BenchShape → Type 0
 Rightly = MakesRightly none_absorbed is_whole

@@ -1,5 +1,5 @@
 -- What the maker of each keyword asks for, and how it ends.
-use Rattle.std.specs.Prelude.{Bool, List, None, Option, Some, [], bytes_eq, codes, false, if◌then◌else◌, is_some, not, option_and_then, option_map, true, ℕ, ◌&&◌, ◌∷◌}
+use Rattle.std.specs.Prelude.{Bool, List, None, Option, Some, [], bytes_eq, codes, false, if◌then◌else◌, is_some, not, option_and_then, option_map, true, ℕ, ◌&&◌}
 use Rattle.serde_json.specs.Data.{Data, Items, Members, array, item, no_items, object, string}
 use Rattle.serde_json.specs.Written.{compact_text, has_float}
 use Rattle.serde_json.specs.Find.{as_array, as_number, as_u64, get_member}
@@ -11,36 +11,12 @@ use Rattle.schema_applicators.specs.ApplicatorShape.{has_all_of, has_any_of, has
 use Rattle.keyword_makers.specs.Branches.{has_branch, if_script}
 use Rattle.keyword_makers.specs.Members.{names_of, values_below}
 use Rattle.keyword_makers.specs.Making.{asks_for, list_script, makes_if, malformed, only_child}
-use Rattle.bench_keywords.specs.declared.type_names.TypeName.{TypeName}
-use Rattle.bench_keywords.specs.declared.type_names.TypeName.TheVariants as type
+use Rattle.bench_keywords.specs.TypeNames.{both, type_named, types_of}
 use Rattle.bench_keywords.specs.BenchShape.{BenchShape, applies, has_count, has_items, has_pattern, has_prefix_items, has_properties, has_property_names, has_type, has_types, requires}
 use Rattle.bench_keywords.specs.declared.counts.CountKind.{CountKind}
 use Rattle.bench_keywords.specs.declared.counts.CountKind.TheVariants.{MaxLength, MinLength, MinProperties}
 
 -- ---- type
-
-abbrev pub type_named : Text → Option TypeName
-type_named t =
-    if bytes_eq t (codes "null") then Some type.Null
-    else (if bytes_eq t (codes "boolean") then Some type.Boolean
-    else (if bytes_eq t (codes "integer") then Some type.Integer
-    else (if bytes_eq t (codes "number") then Some type.Number
-    else (if bytes_eq t (codes "string") then Some type.Text
-    else (if bytes_eq t (codes "array") then Some type.Array
-    else (if bytes_eq t (codes "object") then Some type.Object else None))))))
-
-abbrev pub both : {A : Type 0} → Option A → Option (List A) → Option (List A)
-both None rest = None
-both (Some a) None = None
-both (Some a) (Some rest) = Some (a ∷ rest)
-
-abbrev pub type_of : Data → Option TypeName
-type_of (string t) = type_named t
-type_of _ = None
-
-abbrev pub types_of : Items → Option (List TypeName)
-types_of no_items = Some []
-types_of (item d ds) = both (type_of d) (types_of ds)
 
 abbrev pub type_shape : Data → Option BenchShape
 type_shape (string t) = option_map has_type (type_named t)

@@ -1,64 +1,16 @@
 //! The values of keywords.
 ghost use Rattle.std.specs.Prelude.{◌≡◌, IfOk, map, option_map, string_bytes};
 ghost use Rattle.serde_json.specs.View.{items_view, view};
-ghost use Rattle.bench_parts.specs.Makers.{count_shape, pattern_shape, required_shape, texts_of, type_named, type_of};
-ghost use Rattle.bench_parts.specs.Makers.{type_shape, types_of};
+ghost use Rattle.bench_parts.specs.Makers.{count_shape, pattern_shape, required_shape, texts_of, type_shape};
 ghost use Rattle.bench_keywords.specs.Shapes.{shape_of};
 
 use bench_keywords::counts::CountKind;
 use bench_keywords::keyword::BenchKeyword;
-use bench_keywords::type_names::TypeName;
+use bench_keywords::type_names::{type_named, types_of};
 use keyword_makers::members::push_text;
 use schema_reports::location::OutOfMemory;
 use serde_json::Value;
 use std::alloc::Global;
-
-/// The type of this name.
-fn type_named(name: &str) -> Option<TypeName>
-    ensures named { result ≡ type_named name.now }
-{
-    if name == "null" {
-        Some(TypeName::Null)
-    } else if name == "boolean" {
-        Some(TypeName::Boolean)
-    } else if name == "integer" {
-        Some(TypeName::Integer)
-    } else if name == "number" {
-        Some(TypeName::Number)
-    } else if name == "string" {
-        Some(TypeName::Text)
-    } else if name == "array" {
-        Some(TypeName::Array)
-    } else if name == "object" {
-        Some(TypeName::Object)
-    } else {
-        None
-    }
-}
-
-/// The type that a value names.
-fn type_of(value: &Value) -> Option<TypeName>
-    ensures named { result ≡ type_of (view value.now) }
-{
-    match value {
-        Value::String(name) => type_named(name.as_str()),
-        _ => None,
-    }
-}
-
-/// The types that values name, if each names one.
-fn types_of(alloc: Global, values: &[Value]) -> Result<Option<Vec<TypeName>>, OutOfMemory>
-    ensures named { IfOk result (λ names. option_map (λ v. v.items) names ≡ types_of (items_view values.now)) }
-{
-    let mut names = Vec::new(alloc);
-    for value in values {
-        match type_of(value) {
-            Some(name) => names.push(name)?,
-            None => return Ok(None),
-        }
-    }
-    Ok(Some(names))
-}
 
 /// `type`.
 pub fn type_keyword(alloc: Global, value: &Value) -> Result<Option<BenchKeyword>, OutOfMemory>
