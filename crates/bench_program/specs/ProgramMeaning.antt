@@ -20,6 +20,7 @@ use Rattle.schema_validator.specs.ProgramOf.{IsProgramOf}
 use Rattle.schema_validator.specs.Promised.{HasSchemasUnits, MeansSchema, OfSchema}
 use Rattle.schema_validator.specs.Roots.{Builds, RefusesBuild}
 use Rattle.bench_resolver.specs.BenchAnswers.{bench_resolving}
+use Rattle.bench_subschemas.specs.declared.rules.Rule.TheVariants.{Narrow}
 use Rattle.bench_subschemas.specs.BenchResolving.{document_uri}
 use Rattle.bench_resolver.specs.BenchDocuments.{BenchDocument, HasCustom, HasDrafts}
 use Rattle.bench_parts.specs.BenchMatching.{bench_matcher}
@@ -70,8 +71,10 @@ module _ (p : Program BenchKeyword (List Text)) (instance : Data) where
 abbrev pub bench_table : Table BenchShape
 bench_table = table_of (λ name. false) builtin_in bench_script
 
--- a resolver of this document alone, under its own URI, in 2020-12, where no vocabulary is required beside the draft's own
+-- a resolver of this document alone by the narrow rule, under its own URI, in 2020-12, where no vocabulary is required beside the
+-- draft's own
 pub record Resolves (schema : Data) (r : BenchDocument) : Type 0 where
+  pub rule : r.rule ≡ Narrow
   pub document : view r.document ≡ schema
   pub uri : r.uri ≡ document_uri draft_2020_12 schema
   pub alone : r.others ≡ []

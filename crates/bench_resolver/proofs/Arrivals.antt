@@ -5,13 +5,13 @@ use Rattle.schema_definitions.specs.Instance.{Place, Step, Text, a_value, after_
 use Rattle.schema_definitions.specs.Drafts.{Draft}
 use Rattle.schema_definitions.specs.Resolving.{Found}
 use Rattle.bench_subschemas.specs.BenchResolving.{data_of, detected}
-use Rattle.bench_resolver.specs.BenchResources.{Resource}
+use Rattle.bench_resolver.specs.BenchResources.{Table}
 use Rattle.bench_resolver.specs.BenchStates.{Point, entered_below}
 use Rattle.bench_resolver.specs.BenchLookups.{arrived, is_subschema, nothing_there}
 
-module _ (resources : List Resource) (reference : Text) (document : ℕ) (draft : Draft) (schema : Data) (since : Place) (reached : Data) (gone : Place) (s : Point) (step : Step) (path : Place) where
+module _ (table : Table) (reference : Text) (document : ℕ) (draft : Draft) (schema : Data) (since : Place) (reached : Data) (gone : Place) (s : Point) (step : Step) (path : Place) where
   abbrev arrives : Place → Result (Found Point) Text
-  arrives p = arrived resources reference document draft schema since reached gone s p
+  arrives p = arrived table reference document draft schema since reached gone s p
 
   -- nothing stands there
   pub arrives_nowhere : data_of (after_step step (a_value reached)) ≡ None → arrives (step ∷ path) ≡ Err (nothing_there reference)
@@ -19,17 +19,17 @@ module _ (resources : List Resource) (reference : Text) (document : ℕ) (draft 
 
   module _ (below : Data) (stands : data_of (after_step step (a_value reached)) ≡ Some below) where
     -- a value that is no subschema
-    pub arrives_past : is_subschema (since ++ step ∷ []) schema ≡ false
-        → arrives (step ∷ path) ≡ arrived resources reference document draft schema (since ++ step ∷ []) below (gone ++ step ∷ []) s path
+    pub arrives_past : is_subschema table.rule draft (since ++ step ∷ []) schema ≡ false
+        → arrives (step ∷ path) ≡ arrived table reference document draft schema (since ++ step ∷ []) below (gone ++ step ∷ []) s path
     arrives_past e = rw (stands, e, arrived) refl
 
     -- a subschema, which is entered or refused
-    pub arrives_inside : (inside : Point) → is_subschema (since ++ step ∷ []) schema ≡ true
-        → entered_below resources s (detected draft below) (record { document = document; path = gone ++ step ∷ [] }) below ≡ Ok inside
-        → arrives (step ∷ path) ≡ arrived resources reference document (detected draft below) below [] below (gone ++ step ∷ []) inside path
+    pub arrives_inside : (inside : Point) → is_subschema table.rule draft (since ++ step ∷ []) schema ≡ true
+        → entered_below table s (detected draft below) (record { document = document; path = gone ++ step ∷ [] }) below ≡ Ok inside
+        → arrives (step ∷ path) ≡ arrived table reference document (detected draft below) below [] below (gone ++ step ∷ []) inside path
     arrives_inside inside e f = rw (stands, e, f, arrived) refl
 
-    pub arrives_refused : (text : Text) → is_subschema (since ++ step ∷ []) schema ≡ true
-        → entered_below resources s (detected draft below) (record { document = document; path = gone ++ step ∷ [] }) below ≡ Err text
+    pub arrives_refused : (text : Text) → is_subschema table.rule draft (since ++ step ∷ []) schema ≡ true
+        → entered_below table s (detected draft below) (record { document = document; path = gone ++ step ∷ [] }) below ≡ Err text
         → arrives (step ∷ path) ≡ Err text
     arrives_refused text e f = rw (stands, e, f, arrived) refl

@@ -6,8 +6,8 @@ pub mod PointerTexts
 pub mod PointersLead
 pub mod Insides
 pub mod BenchRows
+pub mod StandardRows
 pub mod Arrivals
-pub mod Fragments
 pub mod Numbers
 pub mod Resources
 pub mod Walks

@@ -1,5 +1,5 @@
 -- One or two steps, and the subschemas of a schema that they lead to.
-use Rattle.std.proofs.Common.{◌≡◌, ◌∙◌, ℕ, zero, suc, ◌+◌, ◌<◌, ◌==◌, ◌&&◌, Bool, true, false, List, [], ◌∷◌, ◌++◌, Option, Some, None, Ordering, Less, Equal, Greater, String, Global, get_or, length, take, map, refl, sym, ap, subst, string_bytes, string_cmp, nat_cmp, is_eq, bytes_eq, arith}
+use Rattle.std.proofs.Common.{◌≡◌, ◌∙◌, ℕ, zero, suc, ◌+◌, ◌<◌, ◌≤◌, ◌==◌, ◌&&◌, Bool, true, false, List, [], ◌∷◌, ◌++◌, Option, Some, None, Ordering, Less, Equal, Greater, String, Global, drop, get_or, length, take, map, refl, sym, ap, subst, string_bytes, string_cmp, nat_cmp, is_eq, bytes_eq, arith}
 use Rattle.std.specs.Prelude.{◌||◌, flat_map}
 use Rattle.std.specs.List.{AllByRecursion, list_any}
 use Rattle.std.specs.List.Sorted.{IsStrictlySortedBy}
@@ -7,16 +7,18 @@ use Rattle.std.specs.Map.{keys_of}
 use Rattle.std.specs.Ordering.{match_ordering}
 use Rattle.std.specs.Cmp.Lexicographic.{slice_cmp}
 use Rattle.std.proofs.lemmas.Bool.{eq-eqb, ne_eqb}
-use Rattle.std.proofs.lemmas.List.{length-map}
+use Rattle.std.proofs.lemmas.List.{drop_all, drop_more, length-map}
 use Rattle.std.proofs.lemmas.List.Folds.{list_any-append}
 use Rattle.std.proofs.lemmas.Map.Text.{is_eq-slice_cmp}
 use Rattle.serde_json.specs.Data.{Data, Items, Members, array, boolean, item, member, no_items, no_members, null, number, object, string}
 use Rattle.serde_json.specs.Find.{as_object, at, get, get_item, get_member}
 use Rattle.serde_json.specs.View.{members_view, view}
 use Rattle.serde_json.proofs.Views.{Entry}
+use Rattle.schema_definitions.specs.Drafts.{Draft}
 use Rattle.schema_definitions.specs.Instance.{Place, Step, Text, same_place, same_step, to_item, to_member}
 use Rattle.schema_reports.proofs.Found.{same-from-equal}
 use Rattle.schema_reports.proofs.Places.{differ_in_length}
+use Rattle.bench_subschemas.specs.declared.rules.Rule.{Rule}
 use Rattle.bench_subschemas.specs.BenchResolving.{below_list, below_object, below_value, is_schema, items_below, members_below, names_of_lists, names_of_objects, names_of_values, place_if}
 use Rattle.bench_resolver.specs.BenchLookups.{is_subschema}
 use Rattle.bench_resolver.specs.OnWay.{item_among, leads_to_item, leads_to_member, member_among, pairs_below, schema_found, singles_below}
@@ -36,22 +38,23 @@ combined true true x y e = refl
 combined true false x y e = e
 combined false b x y e = e
 
--- a test of lists that are put together one after the other
-module _ {A : Type 0} (p : A → Bool) where
-  one : (a : List A) → list_any p (a ++ []) ≡ list_any p a
-  one a = list_any-append p a [] ∙ or_false (list_any p a)
+-- a test of what belongs to each element of a list, one element after the other
+module _ {X A B : Type 0} (key : X → A) (f : A → List B) (p : B → Bool) (xs : List X) (i : ℕ) (x : X) where
+  abbrev left : ℕ → Bool
+  left n = list_any p (flat_map f (map key (drop n xs)))
 
-  next : (a b : List A) (y : Bool) → list_any p b ≡ y → list_any p (a ++ b) ≡ (list_any p a || y)
-  next a b y e = list_any-append p a b ∙ ap (λ z. list_any p a || z) e
+  any_next : i < length xs → x ≡ get_or xs i x → left i ≡ (list_any p (f (key x)) || left (i + 1))
+  any_next l at = ap (λ (ys : List X). list_any p (flat_map f (map key ys))) (drop_more xs i x l) ∙ ap (λ (y : X). list_any p (f (key y) ++ flat_map f (map key (drop (i + 1) xs)))) (sym at)
+      ∙ list_any-append p (f (key x)) (flat_map f (map key (drop (i + 1) xs)))
 
-  pub three : (a b c : List A) → list_any p (a ++ (b ++ (c ++ []))) ≡ (list_any p a || (list_any p b || list_any p c))
-  three a b c = next a _ _ (next b _ _ (one c))
+  pub any_found : (whole : Bool) → i < length xs → x ≡ get_or xs i x → whole ≡ left i → list_any p (f (key x)) ≡ true → true ≡ whole
+  any_found whole l at so_far here = sym (so_far ∙ any_next l at ∙ ap (λ b. b || left (i + 1)) here)
 
-  pub four : (a b c d : List A) → list_any p (a ++ (b ++ (c ++ (d ++ [])))) ≡ (list_any p a || (list_any p b || (list_any p c || list_any p d)))
-  four a b c d = next a _ _ (three b c d)
+  pub any_past : (whole : Bool) → i < length xs → x ≡ get_or xs i x → whole ≡ left i → list_any p (f (key x)) ≡ false → whole ≡ left (i + 1)
+  any_past whole l at so_far here = so_far ∙ any_next l at ∙ ap (λ b. b || left (i + 1)) here
 
-  pub six : (a b c d e g : List A) → list_any p (a ++ (b ++ (c ++ (d ++ (e ++ (g ++ [])))))) ≡ (list_any p a || (list_any p b || (list_any p c || (list_any p d || (list_any p e || list_any p g)))))
-  six a b c d e g = next a _ _ (next b _ _ (four c d e g))
+pub any_done : {X A B : Type 0} (key : X → A) (f : A → List B) (p : B → Bool) (xs : List X) (i : ℕ) (whole : Bool) → length xs ≤ i → whole ≡ list_any p (flat_map f (map key (drop i xs))) → false ≡ whole
+any_done key f p xs i whole l so_far = sym (so_far ∙ ap (λ ys. list_any p (flat_map f (map key ys))) (drop_all i xs l))
 
 -- ---- members, items and values
 
@@ -252,11 +255,12 @@ long_value k (Some d) = go (is_schema d)
     go true = (refl, tt)
     go false = tt
 
-pub long_pairs : (d : Data) → Long 2 (pairs_below d)
-long_pairs d = long-append 2 _ _ (long-flat 2 (λ k. below_object k (get k d)) (λ k. long_object k (get k d)) names_of_objects) (long-flat 2 (λ k. below_list k (get k d)) (λ k. long_list k (get k d)) names_of_lists)
+module _ (rule : Rule) (draft : Draft) where
+  pub long_pairs : (d : Data) → Long 2 (pairs_below rule draft d)
+  long_pairs d = long-append 2 _ _ (long-flat 2 (λ k. below_object k (get k d)) (λ k. long_object k (get k d)) (names_of_objects rule draft)) (long-flat 2 (λ k. below_list k (get k d)) (λ k. long_list k (get k d)) (names_of_lists rule draft))
 
-pub long_singles : (d : Data) → Long 1 (singles_below d)
-long_singles d = long-flat 1 (λ k. below_value k (get k d)) (λ k. long_value k (get k d)) names_of_values
+  pub long_singles : (d : Data) → Long 1 (singles_below rule draft d)
+  long_singles d = long-flat 1 (λ k. below_value k (get k d)) (λ k. long_value k (get k d)) (names_of_values rule draft)
 
 -- a path of another length is none of them
 none_of_length : (path : Place) (n : ℕ) (ps : List Place) → Long n ps → (length path ≡ n → ⊥) → list_any (same_place path) ps ≡ false
@@ -265,19 +269,24 @@ none_of_length path n (p ∷ ps) l h = rw (differ_in_length path p (λ e. h (e �
 
 -- ---- a path to a subschema
 
-pub is_single : (s : Step) (d : Data) → is_subschema (s ∷ []) d ≡ list_any (same_place (s ∷ [])) (singles_below d)
-is_single s d = list_any-append (same_place (s ∷ [])) (pairs_below d) (singles_below d) ∙ ap (λ b. b || list_any (same_place (s ∷ [])) (singles_below d)) (none_of_length (s ∷ []) 2 (pairs_below d) (long_pairs d) (λ e. absurd (omega arith)))
+module _ (rule : Rule) (draft : Draft) where
+  pub is_single : (s : Step) (d : Data) → is_subschema rule draft (s ∷ []) d ≡ list_any (same_place (s ∷ [])) (singles_below rule draft d)
+  is_single s d = list_any-append (same_place (s ∷ [])) (pairs_below rule draft d) (singles_below rule draft d)
+      ∙ ap (λ b. b || list_any (same_place (s ∷ [])) (singles_below rule draft d)) (none_of_length (s ∷ []) 2 (pairs_below rule draft d) (long_pairs rule draft d) (λ e. absurd (omega arith)))
 
-pub is_pair : (s t : Step) (d : Data) → is_subschema (s ∷ t ∷ []) d ≡ list_any (same_place (s ∷ t ∷ [])) (pairs_below d)
-is_pair s t d = list_any-append (same_place (s ∷ t ∷ [])) (pairs_below d) (singles_below d)
-    ∙ ap (λ b. list_any (same_place (s ∷ t ∷ [])) (pairs_below d) || b) (none_of_length (s ∷ t ∷ []) 1 (singles_below d) (long_singles d) (λ e. absurd (omega arith)))
-    ∙ or_false _
+  pub is_pair : (s t : Step) (d : Data) → is_subschema rule draft (s ∷ t ∷ []) d ≡ list_any (same_place (s ∷ t ∷ [])) (pairs_below rule draft d)
+  is_pair s t d = list_any-append (same_place (s ∷ t ∷ [])) (pairs_below rule draft d) (singles_below rule draft d)
+      ∙ ap (λ b. list_any (same_place (s ∷ t ∷ [])) (pairs_below rule draft d) || b) (none_of_length (s ∷ t ∷ []) 1 (singles_below rule draft d) (long_singles rule draft d) (λ e. absurd (omega arith)))
+      ∙ or_false _
 
-pub is_neither : {A : Type 0} (f : A → Step) (xs : List A) (d : Data) → (length xs ≡ 1 → ⊥) → (length xs ≡ 2 → ⊥) → is_subschema (map f xs) d ≡ false
-is_neither f xs d g h =
-    let path = map f xs in
-    list_any-append (same_place path) (pairs_below d) (singles_below d)
-    ∙ rw (none_of_length path 2 (pairs_below d) (long_pairs d) (λ e. h (sym (length-map xs f) ∙ e)), none_of_length path 1 (singles_below d) (long_singles d) (λ e. g (sym (length-map xs f) ∙ e))) refl
+  pub is_neither : {A : Type 0} (f : A → Step) (xs : List A) (d : Data) → (length xs ≡ 1 → ⊥) → (length xs ≡ 2 → ⊥) → is_subschema rule draft (map f xs) d ≡ false
+  is_neither f xs d g h =
+      let path = map f xs in
+      list_any-append (same_place path) (pairs_below rule draft d) (singles_below rule draft d)
+      ∙ rw (
+        none_of_length path 2 (pairs_below rule draft d) (long_pairs rule draft d) (λ e. h (sym (length-map xs f) ∙ e)),
+        none_of_length path 1 (singles_below rule draft d) (long_singles rule draft d) (λ e. g (sym (length-map xs f) ∙ e)),
+      ) refl
 
 -- the first steps, as they are read from the list
 module _ {A B : Type 0} (f : A → B) where

@@ -5,6 +5,7 @@ use Rattle.std.proofs.lemmas.List.{flat_map_more, get_or-map, length-map, length
 use Rattle.std.proofs.lemmas.Slice.Eq.{bytes_eq-Decides}
 use Rattle.schema_definitions.specs.Instance.{Text}
 use Rattle.schema_definitions.specs.Drafts.{Draft}
+use Rattle.bench_subschemas.specs.declared.rules.Rule.{Rule}
 use Rattle.bench_subschemas.specs.BenchResolving.{without_fragment}
 use Rattle.bench_resolver.specs.BenchKeys.{number_in}
 use Rattle.bench_resolver.specs.BenchAnswers.{entrance, entrance_at}
@@ -29,16 +30,16 @@ adds_both xs ys a b c first second = λ found.
 
 -- ---- resources of documents, one more
 
-pub documents-append : (draft : Draft) (n : ℕ) (ds : List Document) (d : Document) → document_resources draft n (ds ++ d ∷ []) ≡ document_resources draft n ds ++ document_resource draft (n + length ds) d ∷ []
-documents-append draft n [] d = let e : n ≡ n + 0 = omega arith in ap (λ m. document_resource draft m d ∷ []) e
-documents-append draft n (x ∷ ds) d = let e : n + 1 + length ds ≡ n + suc (length ds) = omega arith in
-    ap (λ l. document_resource draft n x ∷ l) (documents-append draft (n + 1) ds d ∙ ap (λ m. document_resources draft (n + 1) ds ++ document_resource draft m d ∷ []) e)
+pub documents-append : (rule : Rule) (draft : Draft) (n : ℕ) (ds : List Document) (d : Document) → document_resources rule draft n (ds ++ d ∷ []) ≡ document_resources rule draft n ds ++ document_resource rule draft (n + length ds) d ∷ []
+documents-append rule draft n [] d = let e : n ≡ n + 0 = omega arith in ap (λ m. document_resource rule draft m d ∷ []) e
+documents-append rule draft n (x ∷ ds) d = let e : n + 1 + length ds ≡ n + suc (length ds) = omega arith in
+    ap (λ l. document_resource rule draft n x ∷ l) (documents-append rule draft (n + 1) ds d ∙ ap (λ m. document_resources rule draft (n + 1) ds ++ document_resource rule draft m d ∷ []) e)
 
-pub embedded-append : (draft : Draft) (n : ℕ) (ds : List Document) (d : Document) → embedded_resources draft n (ds ++ d ∷ []) ≡ embedded_resources draft n ds ++ embedded draft (n + length ds) d
-embedded-append draft n [] d = let e : n ≡ n + 0 = omega arith in append-nil (embedded draft n d) ∙ ap (λ m. embedded draft m d) e
-embedded-append draft n (x ∷ ds) d = let e : n + 1 + length ds ≡ n + suc (length ds) = omega arith in
-    ap (λ l. embedded draft n x ++ l) (embedded-append draft (n + 1) ds d ∙ ap (λ m. embedded_resources draft (n + 1) ds ++ embedded draft m d) e)
-    ∙ sym (append_assoc (embedded draft n x) (embedded_resources draft (n + 1) ds) (embedded draft (n + suc (length ds)) d))
+pub embedded-append : (rule : Rule) (draft : Draft) (n : ℕ) (ds : List Document) (d : Document) → embedded_resources rule draft n (ds ++ d ∷ []) ≡ embedded_resources rule draft n ds ++ embedded rule draft (n + length ds) d
+embedded-append rule draft n [] d = let e : n ≡ n + 0 = omega arith in append-nil (embedded rule draft n d) ∙ ap (λ m. embedded rule draft m d) e
+embedded-append rule draft n (x ∷ ds) d = let e : n + 1 + length ds ≡ n + suc (length ds) = omega arith in
+    ap (λ l. embedded rule draft n x ++ l) (embedded-append rule draft (n + 1) ds d ∙ ap (λ m. embedded_resources rule draft (n + 1) ds ++ embedded rule draft m d) e)
+    ∙ sym (append_assoc (embedded rule draft n x) (embedded_resources rule draft (n + 1) ds) (embedded rule draft (n + suc (length ds)) d))
 
 -- ---- a resource that is found stays where it is
 
@@ -71,11 +72,11 @@ is_entered : (listed : List Resource) (n : ℕ) (r : Resource) → slice_get lis
 is_entered listed n r e = rw (e, entrance_at) refl
 
 -- the first document is found under its URI
-pub root_found : (draft : Draft) (d : Document) (ds : List Document) → IsSome (entrance (resources_of draft (d ∷ ds)) (without_fragment d.uri))
-root_found draft d ds = subst (λ u. IsSome (entrance_at (resources_of draft (d ∷ ds)) (number_of u (resources_of draft (d ∷ ds))))) (sym (no_fragment_left d.uri))
-    (subst (λ o. IsSome (entrance_at (resources_of draft (d ∷ ds)) o)) (sym h.number) (is_entered (resources_of draft (d ∷ ds)) 0 (document_resource draft 0 d) h.there)) where
-      h : Stays (without_fragment d.uri) 0 (document_resource draft 0 d) (resources_of draft (d ∷ ds))
-      h = stays (embedded_resources draft 0 (d ∷ ds)) _ 0 (document_resource draft 0 d) _ (stays (document_resources draft 1 ds) _ 0 (document_resource draft 0 d) _ (first_stays (document_resource draft 0 d)))
+pub root_found : (rule : Rule) (draft : Draft) (d : Document) (ds : List Document) → IsSome (entrance (resources_of rule draft (d ∷ ds)) (without_fragment d.uri))
+root_found rule draft d ds = subst (λ u. IsSome (entrance_at (resources_of rule draft (d ∷ ds)) (number_of u (resources_of rule draft (d ∷ ds))))) (sym (no_fragment_left d.uri))
+    (subst (λ o. IsSome (entrance_at (resources_of rule draft (d ∷ ds)) o)) (sym h.number) (is_entered (resources_of rule draft (d ∷ ds)) 0 (document_resource rule draft 0 d) h.there)) where
+      h : Stays (without_fragment d.uri) 0 (document_resource rule draft 0 d) (resources_of rule draft (d ∷ ds))
+      h = stays (embedded_resources rule draft 0 (d ∷ ds)) _ 0 (document_resource rule draft 0 d) _ (stays (document_resources rule draft 1 ds) _ 0 (document_resource rule draft 0 d) _ (first_stays (document_resource rule draft 0 d)))
 
 -- ---- turns of the code
 
@@ -99,7 +100,7 @@ taken_length f g xs i less = length-take-le i (map g (map f xs)) (omega (arith, 
 all_taken : {A B C : Type 0} (f : A → B) (g : B → C) (xs : List A) (i : ℕ) → length xs ≤ i → take i (map g (map f xs)) ≡ map g (map f xs)
 all_taken f g xs i l = take_all i (map g (map f xs)) (omega (arith, length-map xs f, length-map (map f xs) g))
 
-module _ {A B : Type 0} (draft : Draft) (first : Document) (f : A → B) (g : B → Document) (xs : List A) (i : ℕ) (old new : Gathered) where
+module _ {A B : Type 0} (rule : Rule) (draft : Draft) (first : Document) (f : A → B) (g : B → Document) (xs : List A) (i : ℕ) (old new : Gathered) where
   -- the first so many after the root's
   abbrev some_of : ℕ → List Document
   some_of n = first ∷ take n (map g (map f xs))
@@ -111,21 +112,21 @@ module _ {A B : Type 0} (draft : Draft) (first : Document) (f : A → B) (g : B 
     number : i + 1 ≡ 0 + length (some_of i)
     number = omega (arith, taken_length f g xs i less)
 
-    pub next_document : Adds (document_resources draft 0 (some_of i)) old new → Adds (document_resource draft (i + 1) (g (f x)) ∷ []) new later → Adds (document_resources draft 0 (some_of (i + 1))) old later
+    pub next_document : Adds (document_resources rule draft 0 (some_of i)) old new → Adds (document_resource rule draft (i + 1) (g (f x)) ∷ []) new later → Adds (document_resources rule draft 0 (some_of (i + 1))) old later
     next_document so_far added = subst (λ rs. Adds rs old later)
-        (ap (λ m. document_resources draft 0 (some_of i) ++ document_resource draft m (g (f x)) ∷ []) number ∙ sym (documents-append draft 0 (some_of i) (g (f x))) ∙ ap (document_resources draft 0) (sym taken))
-        (adds_both (document_resources draft 0 (some_of i)) (document_resource draft (i + 1) (g (f x)) ∷ []) old new later so_far added)
+        (ap (λ m. document_resources rule draft 0 (some_of i) ++ document_resource rule draft m (g (f x)) ∷ []) number ∙ sym (documents-append rule draft 0 (some_of i) (g (f x))) ∙ ap (document_resources rule draft 0) (sym taken))
+        (adds_both (document_resources rule draft 0 (some_of i)) (document_resource rule draft (i + 1) (g (f x)) ∷ []) old new later so_far added)
 
-    pub next_embedded : Adds (embedded_resources draft 0 (some_of i)) old new → Adds (embedded draft (i + 1) (g (f x))) new later → Adds (embedded_resources draft 0 (some_of (i + 1))) old later
+    pub next_embedded : Adds (embedded_resources rule draft 0 (some_of i)) old new → Adds (embedded rule draft (i + 1) (g (f x))) new later → Adds (embedded_resources rule draft 0 (some_of (i + 1))) old later
     next_embedded so_far added = subst (λ rs. Adds rs old later)
-        (ap (λ m. embedded_resources draft 0 (some_of i) ++ embedded draft m (g (f x))) number ∙ sym (embedded-append draft 0 (some_of i) (g (f x))) ∙ ap (embedded_resources draft 0) (sym taken))
-        (adds_both (embedded_resources draft 0 (some_of i)) (embedded draft (i + 1) (g (f x))) old new later so_far added)
+        (ap (λ m. embedded_resources rule draft 0 (some_of i) ++ embedded rule draft m (g (f x))) number ∙ sym (embedded-append rule draft 0 (some_of i) (g (f x))) ∙ ap (embedded_resources rule draft 0) (sym taken))
+        (adds_both (embedded_resources rule draft 0 (some_of i)) (embedded rule draft (i + 1) (g (f x))) old new later so_far added)
 
-  pub all_documents : length xs ≤ i → Adds (document_resources draft 0 (some_of i)) old new → Adds (document_resources draft 0 (first ∷ map g (map f xs))) old new
-  all_documents l = subst (λ ds. Adds (document_resources draft 0 (first ∷ ds)) old new) (all_taken f g xs i l)
+  pub all_documents : length xs ≤ i → Adds (document_resources rule draft 0 (some_of i)) old new → Adds (document_resources rule draft 0 (first ∷ map g (map f xs))) old new
+  all_documents l = subst (λ ds. Adds (document_resources rule draft 0 (first ∷ ds)) old new) (all_taken f g xs i l)
 
-  pub all_embedded : length xs ≤ i → Adds (embedded_resources draft 0 (some_of i)) old new → Adds (embedded_resources draft 0 (first ∷ map g (map f xs))) old new
-  all_embedded l = subst (λ ds. Adds (embedded_resources draft 0 (first ∷ ds)) old new) (all_taken f g xs i l)
+  pub all_embedded : length xs ≤ i → Adds (embedded_resources rule draft 0 (some_of i)) old new → Adds (embedded_resources rule draft 0 (first ∷ map g (map f xs))) old new
+  all_embedded l = subst (λ ds. Adds (embedded_resources rule draft 0 (first ∷ ds)) old new) (all_taken f g xs i l)
 
 -- those of the root's document alone
 pub only_embedded : (rs : List Resource) (old new : Gathered) → Adds rs old new → Adds (rs ++ []) old new

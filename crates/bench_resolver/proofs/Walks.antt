@@ -1,5 +1,5 @@
 -- The walk of a document goes down, and keeps what it looks for.
-use Rattle.std.proofs.Common.{◌≡◌, ◌∙◌, ◌<◌, ◌≤◌, ◌+◌, ◌-◌, ℕ, zero, suc, Bool, true, false, List, [], ◌∷◌, ◌++◌, Option, codes, cond, drop, length, length-append, map, get_or, refl, sym, ap, subst, arith, append-nil, append_assoc, option_and_then, take}
+use Rattle.std.proofs.Common.{◌≡◌, ◌∙◌, ◌<◌, ◌≤◌, ◌+◌, ◌-◌, ℕ, zero, suc, Bool, true, false, List, [], ◌∷◌, ◌++◌, Option, cond, drop, length, length-append, map, get_or, refl, sym, ap, subst, arith, append-nil, append_assoc, option_and_then, take}
 use Rattle.std.specs.Prelude.{None, Some, flat_map, is_some, ◌||◌}
 use Rattle.std.specs.List.{filter}
 use Rattle.std.proofs.lemmas.List.{drop_all, drop_more, flat_map_more}
@@ -9,14 +9,15 @@ use Rattle.serde_json.specs.View.{view}
 use Rattle.schema_definitions.specs.Drafts.{Draft}
 use Rattle.schema_definitions.specs.Instance.{Place, Subject, Text, a_name, a_value, subject_at}
 use Rattle.schema_meaning.proofs.Falls.{path_falls}
-use Rattle.bench_subschemas.specs.BenchResolving.{data_of, detected, identifier, subschemas, text_member}
+use Rattle.bench_subschemas.specs.declared.rules.Rule.{Rule}
+use Rattle.bench_subschemas.specs.BenchResolving.{data_of, detected, dynamic_name, identifier, plain_name, subschemas}
 use Rattle.bench_subschemas.specs.FoundSchemas.{Found, found_at}
 use Rattle.bench_subschemas.specs.FoundViews.{found_of, path_of}
 use Rattle.bench_subschemas.specs.PlainSchemas.{IsPlain}
 use Rattle.bench_subschemas.specs.declared.subschemas.FoundSchema.{FoundSchema}
-use Rattle.bench_resolver.specs.BenchResources.{Visited, goes_into, name_if, names_at, resource_if, uri_at, visited_at, visited_below, visited_if}
+use Rattle.bench_resolver.specs.BenchResources.{Visited, goes_into, identified, name_if, names_at, resource_if, visited_at, visited_below, visited_if}
 use Rattle.bench_resolver.specs.BenchSpeaking.{kept_if, speaking, speaks}
-use Rattle.bench_resolver.specs.BenchUris.{own_uri}
+use Rattle.bench_resolver.specs.BenchUris.{base_inside, own_uri}
 use Rattle.bench_resolver.specs.OnWay.{pairs_below, singles_below}
 use Rattle.bench_resolver.proofs.OnWay.{Long, long_pairs, long_singles}
 
@@ -33,8 +34,8 @@ both : (ps qs : List Place) → HaveSteps ps → HaveSteps qs → HaveSteps (ps 
 both [] qs h k = k
 both (p ∷ ps) qs h k = (h.0, both ps qs h.1 k)
 
-pub subschemas_have : (d : Data) → HaveSteps (subschemas d)
-subschemas_have d = both (pairs_below d) (singles_below d) (of_long 1 (pairs_below d) (long_pairs d)) (of_long 0 (singles_below d) (long_singles d))
+pub subschemas_have : (rule : Rule) (draft : Draft) (d : Data) → HaveSteps (subschemas rule draft d)
+subschemas_have rule draft d = both (pairs_below rule draft d) (singles_below rule draft d) (of_long 1 (pairs_below rule draft d) (long_pairs rule draft d)) (of_long 0 (singles_below rule draft d) (long_singles rule draft d))
 
 pub lower : (schema below : Data) (p : Place) → 0 < length p → subject_at schema p ≡ Some (a_value below) → depth below < depth schema
 lower schema below [] l h = absurd (omega arith)
@@ -42,20 +43,21 @@ lower schema below (s ∷ p) l h = let e : suc (depth below) < suc (depth schema
 
 -- ---- what the walk keeps
 
--- what is kept below what was found in a schema
-abbrev pub from : Bool → ℕ → Place → Draft → Found → List Visited
-from everywhere n path draft f = filter (speaking everywhere) (visited_at (visited_below everywhere n) everywhere (path ++ f.path) draft f.schema)
+-- what is kept below what was found in a schema; the base is the one inside it
+abbrev pub from : Rule → Bool → ℕ → Place → Text → Draft → Found → List Visited
+from rule everywhere n path base draft f = filter (speaking rule everywhere) (visited_at rule (visited_below rule everywhere n) everywhere (path ++ f.path) base draft f.schema)
 
 module _ {A B : Type 0} (p : B → Bool) (f : A → List B) where
   filter_flat : (xs : List A) → filter p (flat_map f xs) ≡ flat_map (λ x. filter p (f x)) xs
   filter_flat [] = refl
   filter_flat (x ∷ xs) = filter-append p (f x) (flat_map f xs) ∙ ap (λ ys. filter p (f x) ++ ys) (filter_flat xs)
 
-kept_below : (everywhere : Bool) (n : ℕ) (path : Place) (draft : Draft) (schema : Data) (ps : List Place)
-    → flat_map (from everywhere n path draft) (map (found_at schema) ps)
-    ≡ flat_map (λ p. filter (speaking everywhere) (visited_at (visited_below everywhere n) everywhere (path ++ p) draft (data_of (subject_at schema p)))) ps
-kept_below everywhere n path draft schema [] = refl
-kept_below everywhere n path draft schema (p ∷ ps) = ap (λ ys. from everywhere n path draft (found_at schema p) ++ ys) (kept_below everywhere n path draft schema ps)
+kept_below : (rule : Rule) (everywhere : Bool) (n : ℕ) (path : Place) (base : Text) (draft : Draft) (schema : Data) (ps : List Place)
+    → flat_map (from rule everywhere n path base draft) (map (found_at schema) ps)
+    ≡ flat_map (λ p. filter (speaking rule everywhere) (visited_at rule (visited_below rule everywhere n) everywhere (path ++ p) base draft (data_of (subject_at schema p)))) ps
+kept_below rule everywhere n path base draft schema [] = refl
+kept_below rule everywhere n path base draft schema (p ∷ ps) =
+    ap (λ ys. from rule everywhere n path base draft (found_at schema p) ++ ys) (kept_below rule everywhere n path base draft schema ps)
 
 -- ---- what was found lies deeper
 
@@ -86,9 +88,10 @@ next_found f items k x l at = ap (λ (xs : List FoundSchema). flat_map f (map fo
 pub turned : {A : Type 0} (old new x rest next whole : List A) → old ++ rest ≡ whole → rest ≡ x ++ next → new ≡ old ++ x → new ++ next ≡ whole
 turned old new x rest next whole so_far one_more added = ap (λ ys. ys ++ next) added ∙ append_assoc old x next ∙ ap (λ ys. old ++ ys) (sym one_more) ∙ so_far
 
-kept_first : (everywhere b : Bool) (v : Visited) (rest : List Visited) → speaking everywhere v ≡ b → kept_if b v ++ filter (speaking everywhere) rest ≡ filter (speaking everywhere) (v ∷ rest)
-kept_first everywhere true v rest e = ap (λ b. cond b (v ∷ filter (speaking everywhere) rest) (filter (speaking everywhere) rest)) (sym e)
-kept_first everywhere false v rest e = ap (λ b. cond b (v ∷ filter (speaking everywhere) rest) (filter (speaking everywhere) rest)) (sym e)
+kept_first : (rule : Rule) (everywhere b : Bool) (v : Visited) (rest : List Visited) → speaking rule everywhere v ≡ b
+    → kept_if b v ++ filter (speaking rule everywhere) rest ≡ filter (speaking rule everywhere) (v ∷ rest)
+kept_first rule everywhere true v rest e = ap (λ b. cond b (v ∷ filter (speaking rule everywhere) rest) (filter (speaking rule everywhere) rest)) (sym e)
+kept_first rule everywhere false v rest e = ap (λ b. cond b (v ∷ filter (speaking rule everywhere) rest) (filter (speaking rule everywhere) rest)) (sym e)
 
 -- the way, one step longer
 pub way_more : (path : Place) (way : List FoundSchema) (f : FoundSchema) → path ++ flat_map path_of (way ++ f ∷ []) ≡ (path ++ flat_map path_of way) ++ path_of f
@@ -105,61 +108,64 @@ one_back way longer back f n count is rest =
     let less : n - 1 ≡ length way = omega arith in
     rest ∙ ap (λ m. take m longer) less ∙ ap (take (length way)) is ∙ take_first way (f ∷ [])
 
-module _ (everywhere : Bool) (n : ℕ) (path : Place) (draft : Draft) (below : Data) (q : Place) (d : Draft) (is : d ≡ detected draft below) where
-  pub leaves : goes_into everywhere d below ≡ false → from everywhere n path draft (record { path = q; schema = Some below }) ≡ []
-  leaves goes = ap (λ (d' : Draft). filter (speaking everywhere) (visited_if (visited_below everywhere n) (path ++ q) d' below (goes_into everywhere d' below))) (sym is)
-      ∙ ap (λ b. filter (speaking everywhere) (visited_if (visited_below everywhere n) (path ++ q) d below b)) goes
+module _ (rule : Rule) (everywhere : Bool) (n : ℕ) (path : Place) (base : Text) (draft : Draft) (below : Data) (q : Place) (d : Draft) (is : d ≡ detected draft below) where
+  pub leaves : goes_into everywhere d below ≡ false → from rule everywhere n path base draft (record { path = q; schema = Some below }) ≡ []
+  leaves goes = ap (λ (d' : Draft). filter (speaking rule everywhere) (visited_if rule (visited_below rule everywhere n) (path ++ q) base d' below (goes_into everywhere d' below))) (sym is)
+      ∙ ap (λ b. filter (speaking rule everywhere) (visited_if rule (visited_below rule everywhere n) (path ++ q) base d below b)) goes
 
-  pub goes_on : (old kept new : List Visited) (at : Place) → at ≡ path ++ q → goes_into everywhere d below ≡ true
-      → kept ≡ old ++ kept_if (speaks everywhere d below) (record { path = at; draft = d; schema = below })
-      → new ≡ kept ++ filter (speaking everywhere) (visited_below everywhere n at d below)
-      → new ≡ old ++ from everywhere n path draft (record { path = q; schema = Some below })
-  goes_on old kept new at there goes k m =
-      let v : Visited = record { path = at; draft = d; schema = below } in
-      let rest = visited_below everywhere n at d below in
-      m ∙ ap (λ (xs : List Visited). xs ++ filter (speaking everywhere) rest) k ∙ append_assoc old (kept_if (speaks everywhere d below) v) (filter (speaking everywhere) rest)
+  pub goes_on : (old kept new : List Visited) (at : Place) (inside : Text) → at ≡ path ++ q → inside ≡ base_inside rule base d below → goes_into everywhere d below ≡ true
+      → kept ≡ old ++ kept_if (speaks rule everywhere d below) (record { path = at; base = base; draft = d; schema = below })
+      → new ≡ kept ++ filter (speaking rule everywhere) (visited_below rule everywhere n at inside d below)
+      → new ≡ old ++ from rule everywhere n path base draft (record { path = q; schema = Some below })
+  goes_on old kept new at inside there based goes k m =
+      let v : Visited = record { path = at; base = base; draft = d; schema = below } in
+      let rest = visited_below rule everywhere n at (base_inside rule base d below) d below in
+      m ∙ ap (λ (t : Text). kept ++ filter (speaking rule everywhere) (visited_below rule everywhere n at t d below)) based
+      ∙ ap (λ (xs : List Visited). xs ++ filter (speaking rule everywhere) rest) k ∙ append_assoc old (kept_if (speaks rule everywhere d below) v) (filter (speaking rule everywhere) rest)
       ∙ ap (λ (xs : List Visited). old ++ xs) (
-      kept_first everywhere (speaks everywhere d below) v rest refl
-      ∙ ap (λ (p : Place). filter (speaking everywhere) (record { path = p; draft = d; schema = below } ∷ visited_below everywhere n p d below)) there
-      ∙ ap (λ b. filter (speaking everywhere) (visited_if (visited_below everywhere n) (path ++ q) d below b)) (sym goes)
-      ∙ ap (λ (d' : Draft). filter (speaking everywhere) (visited_if (visited_below everywhere n) (path ++ q) d' below (goes_into everywhere d' below))) is
+      kept_first rule everywhere (speaks rule everywhere d below) v rest refl
+      ∙ ap (λ (p : Place). filter (speaking rule everywhere) (record { path = p; base = base; draft = d; schema = below } ∷ visited_below rule everywhere n p (base_inside rule base d below) d below)) there
+      ∙ ap (λ b. filter (speaking rule everywhere) (visited_if rule (visited_below rule everywhere n) (path ++ q) base d below b)) (sym goes)
+      ∙ ap (λ (d' : Draft). filter (speaking rule everywhere) (visited_if rule (visited_below rule everywhere n) (path ++ q) base d' below (goes_into everywhere d' below))) is
       )
 
 -- a schema that has nothing for the resolver adds nothing
-module _ (everywhere : Bool) (path : Place) (draft : Draft) (below : Data) (plain : IsPlain below) where
-  quiet : (b : Bool) → speaks b draft below ≡ false
+module _ (rule : Rule) (everywhere : Bool) (path : Place) (base : Text) (draft : Draft) (below : Data) (plain : IsPlain rule below) where
+  quiet : (b : Bool) → speaks rule b draft below ≡ false
   quiet true = ap is_some (plain.no_identifier draft)
-  quiet false = ap (λ o. is_some o || is_some (text_member (codes "$dynamicAnchor") below)) plain.no_anchor ∙ ap is_some plain.no_dynamic_anchor
+  quiet false = ap (λ o. is_some o || is_some (dynamic_name rule draft below)) (plain.no_name draft) ∙ ap is_some (plain.no_dynamic_name draft)
 
-  nothing_deeper : (n : ℕ) → visited_below everywhere n path draft below ≡ []
-  nothing_deeper zero = refl
-  nothing_deeper (suc n) = ap (flat_map (λ p. visited_at (visited_below everywhere n) everywhere (path ++ p) draft (data_of (subject_at below p)))) plain.no_subschemas
+  nothing_deeper : (n : ℕ) (inside : Text) → visited_below rule everywhere n path inside draft below ≡ []
+  nothing_deeper zero inside = refl
+  nothing_deeper (suc n) inside = ap (flat_map (λ p. visited_at rule (visited_below rule everywhere n) everywhere (path ++ p) inside draft (data_of (subject_at below p)))) (plain.no_subschemas draft)
 
-  nothing_if : (n : ℕ) (b : Bool) → filter (speaking everywhere) (visited_if (visited_below everywhere n) path draft below b) ≡ []
+  nothing_if : (n : ℕ) (b : Bool) → filter (speaking rule everywhere) (visited_if rule (visited_below rule everywhere n) path base draft below b) ≡ []
   nothing_if n false = refl
   nothing_if n true =
-      let v : Visited = record { path = path; draft = draft; schema = below } in
-      let rest = filter (speaking everywhere) (visited_below everywhere n path draft below) in
-      ap (λ b. cond b (v ∷ rest) rest) (quiet everywhere) ∙ ap (filter (speaking everywhere)) (nothing_deeper n)
+      let v : Visited = record { path = path; base = base; draft = draft; schema = below } in
+      let inside = base_inside rule base draft below in
+      let rest = filter (speaking rule everywhere) (visited_below rule everywhere n path inside draft below) in
+      ap (λ b. cond b (v ∷ rest) rest) (quiet everywhere) ∙ ap (filter (speaking rule everywhere)) (nothing_deeper n inside)
 
-pub adds_nothing : (everywhere : Bool) (n : ℕ) (path : Place) (draft : Draft) (below : Data) (q : Place) → IsPlain below → from everywhere n path draft (record { path = q; schema = Some below }) ≡ []
-adds_nothing everywhere n path draft below q plain = nothing_if everywhere (path ++ q) (detected draft below) below plain n (goes_into everywhere (detected draft below) below)
+pub adds_nothing : (rule : Rule) (everywhere : Bool) (n : ℕ) (path : Place) (base : Text) (draft : Draft) (below : Data) (q : Place) → IsPlain rule below
+    → from rule everywhere n path base draft (record { path = q; schema = Some below }) ≡ []
+adds_nothing rule everywhere n path base draft below q plain = nothing_if rule everywhere (path ++ q) base (detected draft below) below plain n (goes_into everywhere (detected draft below) below)
 
 pub passed : {A : Type 0} (old none : List A) → none ≡ [] → old ≡ old ++ none
 passed old none e = sym (append-nil old) ∙ ap (λ ys. old ++ ys) (sym e)
 
 -- all of them
-pub finished : (everywhere : Bool) (path : Place) (draft : Draft) (schema : Data) (items : List FoundSchema) (k : ℕ) (old new : List Visited) → map found_of items ≡ map (found_at schema) (subschemas schema)
-    → length items ≤ k
-    → ((n : ℕ) → depth schema ≤ n → new ++ flat_map (from everywhere n path draft) (map found_of (drop k items)) ≡ old ++ flat_map (from everywhere n path draft) (map found_of items))
-    → (n : ℕ) → depth schema < n → new ≡ old ++ filter (speaking everywhere) (visited_below everywhere n path draft schema)
-finished everywhere path draft schema items k old new paths l so_far zero less = absurd (omega arith)
-finished everywhere path draft schema items k old new paths l so_far (suc n) less =
-    let f = from everywhere n path draft in
+pub finished : (rule : Rule) (everywhere : Bool) (path : Place) (base : Text) (draft : Draft) (schema : Data) (items : List FoundSchema) (k : ℕ) (old new : List Visited)
+    → map found_of items ≡ map (found_at schema) (subschemas rule draft schema) → length items ≤ k
+    → ((n : ℕ) → depth schema ≤ n → new ++ flat_map (from rule everywhere n path base draft) (map found_of (drop k items)) ≡ old ++ flat_map (from rule everywhere n path base draft) (map found_of items))
+    → (n : ℕ) → depth schema < n → new ≡ old ++ filter (speaking rule everywhere) (visited_below rule everywhere n path base draft schema)
+finished rule everywhere path base draft schema items k old new paths l so_far zero less = absurd (omega arith)
+finished rule everywhere path base draft schema items k old new paths l so_far (suc n) less =
+    let f = from rule everywhere n path base draft in
     sym (append-nil new) ∙ ap (λ (xs : List FoundSchema). new ++ flat_map f (map found_of xs)) (sym (drop_all k items l)) ∙ so_far n (omega arith) ∙ ap (λ (fs : List Found). old ++ flat_map f fs) paths
     ∙ ap (λ (vs : List Visited). old ++ vs) (
-    kept_below everywhere n path draft schema (subschemas schema)
-    ∙ sym (filter_flat (speaking everywhere) (λ p. visited_at (visited_below everywhere n) everywhere (path ++ p) draft (data_of (subject_at schema p))) (subschemas schema))
+    kept_below rule everywhere n path base draft schema (subschemas rule draft schema)
+    ∙ sym (filter_flat (speaking rule everywhere) (λ p. visited_at rule (visited_below rule everywhere n) everywhere (path ++ p) base draft (data_of (subject_at schema p))) (subschemas rule draft schema))
     )
 
 -- ---- what the walk leaves aside adds nothing
@@ -178,14 +184,13 @@ no_names v None (Some y) e = absurd (let none : ⊥ = cc in none)
 no_names v (Some x) b e = absurd (let none : ⊥ = cc in none)
 
 -- names stand in the schemas that are kept
-pub names_kept : (vs kept : List Visited) → kept ≡ filter (speaking false) vs → flat_map names_at vs ≡ flat_map names_at kept
-names_kept vs kept e = sym (skips (speaking false) names_at (λ v. no_names v (text_member (codes "$anchor") v.schema) (text_member (codes "$dynamicAnchor") v.schema)) vs) ∙ ap (flat_map names_at) (sym e)
+pub names_kept : (rule : Rule) (vs kept : List Visited) → kept ≡ filter (speaking rule false) vs → flat_map (names_at rule) vs ≡ flat_map (names_at rule) kept
+names_kept rule vs kept e = sym (skips (speaking rule false) (names_at rule) (λ v. no_names v (plain_name rule v.draft v.schema) (dynamic_name rule v.draft v.schema)) vs) ∙ ap (flat_map (names_at rule)) (sym e)
 
-no_uri : (document : ℕ) (v : Visited) (o : Option Text) → is_some o ≡ false → resource_if document v (option_and_then own_uri o) ≡ []
-no_uri document v None e = refl
-no_uri document v (Some t) e = absurd (let none : ⊥ = cc in none)
+no_uri : (rule : Rule) (document : ℕ) (v : Visited) (o : Option Text) → is_some o ≡ false → resource_if rule document v (option_and_then (own_uri rule v.base) o) ≡ []
+no_uri rule document v None e = refl
+no_uri rule document v (Some t) e = absurd (let none : ⊥ = cc in none)
 
 -- and resources begin with them
-pub resources_kept : (document : ℕ) (vs kept : List Visited) → kept ≡ filter (speaking true) vs → flat_map (λ v. resource_if document v (uri_at v)) vs ≡ flat_map (λ v. resource_if document v (uri_at v)) kept
-resources_kept document vs kept e = sym (skips (speaking true) (λ v. resource_if document v (uri_at v)) (λ v. no_uri document v (identifier v.draft v.schema)) vs)
-    ∙ ap (flat_map (λ v. resource_if document v (uri_at v))) (sym e)
+pub resources_kept : (rule : Rule) (document : ℕ) (vs kept : List Visited) → kept ≡ filter (speaking rule true) vs → flat_map (identified rule document) vs ≡ flat_map (identified rule document) kept
+resources_kept rule document vs kept e = sym (skips (speaking rule true) (identified rule document) (λ v. no_uri rule document v (identifier v.draft v.schema)) vs) ∙ ap (flat_map (identified rule document)) (sym e)

@@ -1,21 +1,20 @@
 -- What the resolver of some documents answers. (Core 2020-12, 8.2 and 9.1)
-use Rattle.std.specs.List.{list_any}
-use Rattle.std.specs.Prelude.{List, None, Option, Some, [], bytes_eq, map, slice_get, ℕ, ◌≡◌, ◌∷◌, string_bytes}
+use Rattle.std.specs.Prelude.{List, None, Option, Some, [], map, slice_get, ℕ, ◌≡◌, ◌∷◌, string_bytes}
 use Rattle.schema_definitions.specs.Instance.{Text}
 use Rattle.schema_definitions.specs.Drafts.{Draft, Vocabularies, at_path}
 use Rattle.schema_definitions.specs.Resolving.{Entrance, Resolver}
 use Rattle.schema_parts.specs.declared.resolver.LookupError.{LookupError}
 use Rattle.schema_parts.specs.declared.resolver.LookupError.TheVariants.{OutOfMemory, Refused}
-use Rattle.bench_subschemas.specs.BenchResolving.{detected, identifier, known_keywords, root_draft, subschemas_of, without_fragment}
+use Rattle.bench_subschemas.specs.BenchResolving.{detected, identifier, is_known, root_draft, subschemas_of, without_fragment}
 use Rattle.bench_resolver.specs.BenchDocuments.{BenchDocument, Document, documents_of, value_in, vocabularies_in}
 use Rattle.bench_resolver.specs.BenchUris.{resolve_uri}
-use Rattle.bench_resolver.specs.BenchResources.{Resource, number_of, place_of_resource, resources_of}
+use Rattle.bench_resolver.specs.BenchResources.{Resource, Table, number_of, place_of_resource, table_for}
 use Rattle.bench_resolver.specs.BenchStates.{Point, entered, root_of, same_point}
 use Rattle.bench_resolver.specs.BenchLookups.{looked_up, looked_up_recursive}
 
 -- where a run begins: with one resource entered
 abbrev pub entrance_in : ℕ → Resource → Entrance Point
-entrance_in n r = record { place = place_of_resource r; state = record { base = r.uri; entered = n ∷ [] } }
+entrance_in n r = record { place = place_of_resource r; state = record { base = r.base; entered = n ∷ [] } }
 
 abbrev pub entrance_at : List Resource → Option ℕ → Option (Entrance Point)
 entrance_at resources None = None
@@ -25,27 +24,27 @@ abbrev pub entrance : List Resource → Text → Option (Entrance Point)
 entrance resources uri = entrance_at resources (number_of (without_fragment uri) resources)
 
 -- a resolver of documents in a default draft, with the vocabularies of each draft
-abbrev pub resolving_of : Draft → (Draft → Vocabularies) → List Document → List Resource → Resolver Point
-resolving_of default_draft vocabularies documents resources = record {
+abbrev pub resolving_of : Draft → (Draft → Vocabularies) → List Document → Table → Resolver Point
+resolving_of default_draft vocabularies documents table = record {
   same_state = same_point;
   value = value_in documents;
-  root = entrance resources;
-  lookup = looked_up resources documents;
-  lookup_recursive = looked_up_recursive resources;
-  in_subresource = λ s d p. entered resources documents s d p (value_in documents p);
-  resolve_uri = λ s reference. resolve_uri s.base reference;
+  root = entrance table.resources;
+  lookup = looked_up table documents;
+  lookup_recursive = looked_up_recursive table;
+  in_subresource = λ s d p. entered table documents s d p (value_in documents p);
+  resolve_uri = λ s reference. resolve_uri table.rule s.base reference;
   base_uri = λ s. s.base;
-  resource_root = root_of resources;
+  resource_root = root_of table;
   find_vocabularies = λ s d p. vocabularies d;
   detect = detected;
   draft_for = root_draft;
   id = identifier;
-  subresources_of = λ d p. map (at_path p) (subschemas_of (value_in documents p));
-  is_known_keyword = λ d name. list_any (bytes_eq name) known_keywords;
+  subresources_of = λ d p. map (at_path p) (subschemas_of table.rule d (value_in documents p));
+  is_known_keyword = λ d name. is_known table.rule d name;
 }
 
-abbrev pub table_of : BenchDocument → List Resource
-table_of r = resources_of r.default_draft (documents_of r)
+abbrev pub table_of : BenchDocument → Table
+table_of r = table_for r.rule r.default_draft (documents_of r)
 
 abbrev pub bench_resolving : BenchDocument → Resolver Point
 bench_resolving r = resolving_of r.default_draft (λ d. vocabularies_in d r.vocabularies) (documents_of r) (table_of r)

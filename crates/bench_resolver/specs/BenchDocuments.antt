@@ -1,5 +1,5 @@
--- What the resolver holds: documents, each under a URI, their default draft, and the vocabularies of each draft. The first document
--- is the root's. (Core 2020-12, 8.2.1 and 9.1.1)
+-- What the resolver holds: documents, each under a URI, the rule by which they are read, their default draft, and the vocabularies of
+-- each draft. The first document is the root's. (Core 2020-12, 8.2.1 and 9.1.1)
 use Rattle.std.specs.Prelude.{List, None, Option, Some, map, slice_get, ◌≡◌, ◌++◌, ◌∷◌}
 use Rattle.serde_json.specs.Data.{Data}
 use Rattle.serde_json.specs.View.{view}
@@ -8,6 +8,7 @@ use Rattle.schema_definitions.specs.Instance.{Text, subject_at}
 use Rattle.schema_definitions.specs.Drafts.{Draft, SchemaPlace, Vocabularies, Vocabulary, draft_2019_09, draft_2020_12, draft_4, draft_6, draft_7, draft_unknown, has_vocabulary}
 use Rattle.schema_definitions.specs.VocabularySets.{custom_of}
 use Rattle.bench_resolver.specs.declared.resolver.vocabularies.DraftVocabularies.{DraftVocabularies}
+use Rattle.bench_subschemas.specs.declared.rules.Rule.{Rule}
 use Rattle.bench_subschemas.specs.BenchResolving.{data_of, draft_vocabularies}
 
 -- an unknown draft counts as 2020-12
@@ -38,6 +39,7 @@ pub record GivenDocument : Type 0 where
   pub value : Value
 
 pub record BenchDocument : Type 0 where
+  pub rule : Rule
   pub uri : Text
   pub document : Value
   pub others : List GivenDocument

@@ -1,11 +1,12 @@
--- Worked rows: where references lead in small documents, by computation. (Core 2020-12, 8.2; section 6 of RFC 6901)
+-- Worked rows of the narrow rule: where references lead in small documents, by computation. (Core 2020-12, 8.2; section 6 of RFC 6901)
 use Rattle.std.specs.Prelude.{Bool, Err, List, Ok, Result, [], codes, false, true, ℕ, ◌≡◌, ◌++◌, ◌∷◌}
 use Rattle.serde_json.specs.Data.{Data, array, boolean, item, member, no_items, no_members, object, string}
 use Rattle.schema_definitions.specs.Instance.{Place, Text, to_member}
 use Rattle.schema_definitions.specs.Drafts.{Draft, draft_2019_09, draft_2020_12, draft_7}
 use Rattle.schema_definitions.specs.Resolving.{Found}
+use Rattle.bench_subschemas.specs.declared.rules.Rule.TheVariants.{Narrow}
 use Rattle.bench_resolver.specs.BenchDocuments.{Document}
-use Rattle.bench_resolver.specs.BenchResources.{resources_of}
+use Rattle.bench_resolver.specs.BenchResources.{Table, table_for}
 use Rattle.bench_resolver.specs.BenchStates.{Point, no_identified, root_of}
 use Rattle.bench_resolver.specs.BenchUris.{not_resolved, resolve_uri}
 use Rattle.bench_resolver.specs.BenchLookups.{looked_up, looked_up_recursive, no_name, no_resource, nothing_there}
@@ -36,8 +37,12 @@ under uri d = record { uri = uri; value = d } ∷ []
 abbrev pub in_these : Text → List ℕ → Point
 in_these uri ns = record { base = uri; entered = ns }
 
+-- the resources of documents by the narrow rule
+abbrev pub table_in : List Document → Table
+table_in documents = table_for Narrow draft_2020_12 documents
+
 abbrev pub leads : List Document → Point → Text → Bool → Result (Found Point) Text
-leads documents s reference dynamic = looked_up (resources_of draft_2020_12 documents) documents s reference dynamic
+leads documents s reference dynamic = looked_up (table_in documents) documents s reference dynamic
 
 -- where a reference leads from the root of a document that is alone
 abbrev pub leads_alone : Data → Text → Result (Found Point) Text
@@ -85,7 +90,7 @@ PointerEnters = leads_alone embedding (codes "#/$defs/e/$defs/t") ≡ found_in d
 
 -- which begins at that schema
 abbrev pub EnteredBegins : Type 0
-EnteredBegins = root_of (resources_of draft_2020_12 (alone embedding)) (in_these (codes "http://x/e") (0 ∷ 1 ∷ [])) ≡ record { document = 0; path = below_defs (codes "e") }
+EnteredBegins = root_of (table_in (alone embedding)) (in_these (codes "http://x/e") (0 ∷ 1 ∷ [])) ≡ record { document = 0; path = below_defs (codes "e") }
 
 -- and is found under its URI, with pointers and names of its own
 abbrev pub UriLeads : Type 0
@@ -158,7 +163,7 @@ recursing outer = object (member (codes "$defs") (one (codes "n") (two (codes "$
     (member (codes "$id") (string (codes "http://x/r")) (member (codes "$recursiveAnchor") (boolean outer) (member (codes "$schema") (string (codes "https://json-schema.org/draft/2019-09/schema")) no_members))))
 
 abbrev pub recurs : Bool → Result (Found Point) Text
-recurs outer = looked_up_recursive (resources_of draft_2020_12 (under (codes "http://x/r") (recursing outer))) (in_these (codes "http://x/n") (0 ∷ 1 ∷ []))
+recurs outer = looked_up_recursive (table_in (under (codes "http://x/r") (recursing outer))) (in_these (codes "http://x/n") (0 ∷ 1 ∷ []))
 
 -- a recursive reference leads to the outermost root that is recursive
 abbrev pub RecursiveLeadsOut : Type 0
@@ -198,11 +203,11 @@ HashLeadsToTheRoot = from_first (codes "#") ≡ found_in draft_2020_12 0 [] (cod
 
 -- what a fragment stands for is the base without its own
 abbrev pub BaseLosesItsFragment : Type 0
-BaseLosesItsFragment = resolve_uri (codes "http://x/b#z") (codes "#s") ≡ Ok (codes "http://x/b#s")
+BaseLosesItsFragment = resolve_uri Narrow (codes "http://x/b#z") (codes "#s") ≡ Ok (codes "http://x/b#s")
 
 -- a `:` after a `/` makes no scheme
 abbrev pub LateColonIsRefused : Type 0
-LateColonIsRefused = resolve_uri (codes "http://x/b") (codes "a/b:c") ≡ Err (not_resolved (codes "a/b:c"))
+LateColonIsRefused = resolve_uri Narrow (codes "http://x/b") (codes "a/b:c") ≡ Err (not_resolved (codes "a/b:c"))
 
 -- ---- pointers and names that are written oddly
 

@@ -1,17 +1,18 @@
 -- What a walk of a document looks for: identifiers, or names.
-use Rattle.std.specs.Prelude.{Bool, List, [], codes, false, is_some, true, ◌||◌, ◌∷◌}
+use Rattle.std.specs.Prelude.{Bool, List, [], false, is_some, true, ◌||◌, ◌∷◌}
 use Rattle.serde_json.specs.Data.{Data}
 use Rattle.schema_definitions.specs.Drafts.{Draft}
-use Rattle.bench_subschemas.specs.BenchResolving.{identifier, text_member}
+use Rattle.bench_subschemas.specs.declared.rules.Rule.{Rule}
+use Rattle.bench_subschemas.specs.BenchResolving.{dynamic_name, identifier, plain_name}
 use Rattle.bench_resolver.specs.BenchResources.{Visited}
 
 -- whether a schema has an identifier, or a name
-abbrev pub speaks : Bool → Draft → Data → Bool
-speaks true draft schema = is_some (identifier draft schema)
-speaks false draft schema = is_some (text_member (codes "$anchor") schema) || is_some (text_member (codes "$dynamicAnchor") schema)
+abbrev pub speaks : Rule → Bool → Draft → Data → Bool
+speaks rule true draft schema = is_some (identifier draft schema)
+speaks rule false draft schema = is_some (plain_name rule draft schema) || is_some (dynamic_name rule draft schema)
 
-abbrev pub speaking : Bool → Visited → Bool
-speaking everywhere v = speaks everywhere v.draft v.schema
+abbrev pub speaking : Rule → Bool → Visited → Bool
+speaking rule everywhere v = speaks rule everywhere v.draft v.schema
 
 abbrev pub kept_if : Bool → Visited → List Visited
 kept_if true v = v ∷ []

@@ -4,10 +4,11 @@ use Rattle.std.specs.Prelude.{Bool, Err, List, None, Ok, Option, Result, Some, [
 use Rattle.serde_json.specs.Data.{Data}
 use Rattle.schema_definitions.specs.Instance.{Place, Text}
 use Rattle.schema_definitions.specs.Drafts.{Draft, SchemaPlace, same_schema_place}
-use Rattle.bench_subschemas.specs.BenchResolving.{identifier, root_place, without_fragment}
+use Rattle.bench_subschemas.specs.BenchResolving.{identifier, root_place}
+use Rattle.bench_subschemas.specs.declared.rules.Rule.{Rule}
 use Rattle.bench_resolver.specs.BenchDocuments.{Document}
-use Rattle.bench_resolver.specs.BenchUris.{own_uri}
-use Rattle.bench_resolver.specs.BenchResources.{Resource, number_of, place_of_resource}
+use Rattle.bench_resolver.specs.BenchUris.{own_uri, root_base}
+use Rattle.bench_resolver.specs.BenchResources.{Resource, Table, number_of, place_of_resource}
 
 -- a state: the base, and the numbers of the resources in the order of first entry
 pub record Point : Type 0 where
@@ -24,22 +25,22 @@ enter n uri s = record { base = uri; entered = if list_any (nat_eq n) s.entered 
 abbrev pub no_identified : Text → Text
 no_identified id = codes "this resolver finds no resource of its own for the identifier " ++ id
 
--- the URI that a document is found under, without its fragment
-abbrev pub uri_of_document : Option Document → Option Text
-uri_of_document None = None
-uri_of_document (Some d) = Some (without_fragment d.uri)
+-- the URI of a document whose root has an identifier
+abbrev pub uri_of_document : Rule → Draft → Data → Option Document → Option Text
+uri_of_document rule draft schema None = None
+uri_of_document rule draft schema (Some d) = Some (root_base rule d.uri draft schema)
 
-module _ (resources : List Resource) where
+module _ (table : Table) where
   -- the resource under a URI that has no fragment
   abbrev pub resource_under : Text → Option Resource
-  resource_under uri = option_and_then (slice_get resources) (number_of uri resources)
+  resource_under uri = option_and_then (slice_get table.resources) (number_of uri table.resources)
 
   -- the number of a resource that begins at a place
   abbrev pub number_if_at : SchemaPlace → ℕ → Option ℕ
-  number_if_at p n = elim (slice_get resources n) [ None ↦ None | Some x ↦ if same_schema_place (place_of_resource x) p then Some n else None ]
+  number_if_at p n = elim (slice_get table.resources n) [ None ↦ None | Some x ↦ if same_schema_place (place_of_resource x) p then Some n else None ]
 
   abbrev pub number_at : SchemaPlace → Text → Option ℕ
-  number_at p uri = option_and_then (number_if_at p) (number_of uri resources)
+  number_at p uri = option_and_then (number_if_at p) (number_of uri table.resources)
 
   -- where the resource under the state's base begins; the root where there is none
   abbrev pub root_of : Point → SchemaPlace
@@ -53,11 +54,11 @@ module _ (resources : List Resource) where
 
   -- the state inside a schema below a document's root
   abbrev pub entered_below : Point → Draft → SchemaPlace → Data → Result Point Text
-  entered_below s draft p schema = elim (identifier draft schema) [ None ↦ Ok s | Some id ↦ entered_by p id s (own_uri id) ]
+  entered_below s draft p schema = elim (identifier draft schema) [ None ↦ Ok s | Some id ↦ entered_by p id s (own_uri table.rule s.base id) ]
 
-  -- at a document's root: its resource is found under the document's own URI
+  -- at a document's root
   abbrev pub entered_root : List Document → Point → Draft → SchemaPlace → Data → Result Point Text
-  entered_root documents s draft p schema = elim (identifier draft schema) [ None ↦ Ok s | Some id ↦ entered_by p id s (uri_of_document (slice_get documents p.document)) ]
+  entered_root documents s draft p schema = elim (identifier draft schema) [ None ↦ Ok s | Some id ↦ entered_by p id s (uri_of_document table.rule draft schema (slice_get documents p.document)) ]
 
   abbrev pub entered_at : List Document → Point → Draft → SchemaPlace → Place → Data → Result Point Text
   entered_at documents s draft p [] schema = entered_root documents s draft p schema

@@ -19,4 +19,4 @@ abbrev pub held : code.Documents.Documents → List Document
 held d = documents_from (string_bytes d.uri) d.root.now (map given_of d.others.items)
 
 abbrev pub visited_of : walk.Visited.Visited → Visited
-visited_of v = record { path = v.path; draft = draft_of v.draft; schema = view v.schema.now }
+visited_of v = record { path = v.path; base = string_bytes v.base; draft = draft_of v.draft; schema = view v.schema.now }

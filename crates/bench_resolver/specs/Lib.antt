@@ -8,6 +8,7 @@ pub mod BenchSpeaking
 pub mod BenchStates
 pub mod BenchLookups
 pub mod BenchRows
+pub mod StandardRows
 pub mod BenchViews
 pub mod BenchNameViews
 pub mod BenchResourceViews

@@ -3,15 +3,17 @@
 use Rattle.std.specs.Prelude.{Bool, List, None, Option, Some, false, flat_map, ℕ, ◌&&◌, ◌++◌, ◌+◌, ◌||◌}
 use Rattle.serde_json.specs.Data.{Data, Items, Members, array, item, member, no_items, no_members, object}
 use Rattle.serde_json.specs.Find.{get}
+use Rattle.schema_definitions.specs.Drafts.{Draft}
 use Rattle.schema_definitions.specs.Instance.{Place, Step, same_step, to_item, to_member}
+use Rattle.bench_subschemas.specs.declared.rules.Rule.{Rule}
 use Rattle.bench_subschemas.specs.BenchResolving.{below_list, below_object, below_value, is_schema, names_of_lists, names_of_objects, names_of_values}
 
 -- the subschemas that lie two steps below a schema, and those that lie one step below
-abbrev pub pairs_below : Data → List Place
-pairs_below d = flat_map (λ k. below_object k (get k d)) names_of_objects ++ flat_map (λ k. below_list k (get k d)) names_of_lists
+abbrev pub pairs_below : Rule → Draft → Data → List Place
+pairs_below rule draft d = flat_map (λ k. below_object k (get k d)) (names_of_objects rule draft) ++ flat_map (λ k. below_list k (get k d)) (names_of_lists rule draft)
 
-abbrev pub singles_below : Data → List Place
-singles_below d = flat_map (λ k. below_value k (get k d)) names_of_values
+abbrev pub singles_below : Rule → Draft → Data → List Place
+singles_below rule draft d = flat_map (λ k. below_value k (get k d)) (names_of_values rule draft)
 
 -- whether a step leads to a schema among the members, and among the items, of which the first has the index i
 abbrev pub member_among : Step → Members → Bool

@@ -7,10 +7,11 @@ use Rattle.std.proofs.lemmas.Slice.Eq.{bytes_eq-Decides}
 use Rattle.serde_json.specs.Data.{Data, Items, Members, array, boolean, item, member, no_items, no_members, null, number, object, string}
 use Rattle.serde_json.specs.Find.{get}
 use Rattle.schema_definitions.specs.Instance.{Place, Step, Subject, Text, a_name, a_value, item_of, member_of, subject_at, subject_from, to_item, to_member}
-use Rattle.schema_definitions.specs.Drafts.{SchemaPlace, at_path}
+use Rattle.schema_definitions.specs.Drafts.{Draft, SchemaPlace, at_path}
 use Rattle.schema_reports.proofs.Found.{after_member}
 use Rattle.schema_parts.proofs.Replies.{from_append}
 use Rattle.schema_parts.specs.ResolverViews.{Placed, StandsBelow, SubschemasStandBelow, placed_in}
+use Rattle.bench_subschemas.specs.declared.rules.Rule.{Rule}
 use Rattle.bench_subschemas.specs.BenchResolving.{below_list, below_object, below_value, data_of, is_schema, items_below, members_below, names_of_lists, names_of_objects, names_of_values, place_if, subschemas, subschemas_of}
 use Rattle.bench_subschemas.specs.FoundSchemas.{found_at}
 use Rattle.bench_subschemas.specs.FoundViews.{placed_at}
@@ -108,11 +109,14 @@ module _ (k : Text) (d : Data) where
   in_value None e = tt
   in_value (Some v) e = if_schema d (is_schema v) (to_member k ∷ []) [] (to_member k, [], v, refl, after_it k [] d v e) tt
 
-all_stand : (d : Data) → AllByRecursion (StandsIn d) (subschemas d)
-all_stand d = appended d (flat_map (λ k. below_object k (get k d)) names_of_objects ++ flat_map (λ k. below_list k (get k d)) names_of_lists) (flat_map (λ k. below_value k (get k d)) names_of_values)
-    (appended d (flat_map (λ k. below_object k (get k d)) names_of_objects) (flat_map (λ k. below_list k (get k d)) names_of_lists)
-    (of_names d _ (λ k. in_object k d (get k d) refl) names_of_objects) (of_names d _ (λ k. in_list k d (get k d) refl) names_of_lists))
-    (of_names d _ (λ k. in_value k d (get k d) refl) names_of_values)
+all_stand : (rule : Rule) (draft : Draft) (d : Data) → AllByRecursion (StandsIn d) (subschemas rule draft d)
+all_stand rule draft d =
+    let objects = flat_map (λ k. below_object k (get k d)) (names_of_objects rule draft) in
+    let lists = flat_map (λ k. below_list k (get k d)) (names_of_lists rule draft) in
+    let values = flat_map (λ k. below_value k (get k d)) (names_of_values rule draft) in
+    appended d (objects ++ lists) values
+    (appended d objects lists (of_names d _ (λ k. in_object k d (get k d) refl) (names_of_objects rule draft)) (of_names d _ (λ k. in_list k d (get k d) refl) (names_of_lists rule draft)))
+    (of_names d _ (λ k. in_value k d (get k d) refl) (names_of_values rule draft))
 
 -- ---- the law
 
@@ -132,12 +136,12 @@ module _ (r : BenchDocument) (p : SchemaPlace) where
       let one = h.0 in
       ((one.0, one.1, one.2, ap (at_path p) one.3, value_below (slice_get (documents_of r) p.document) p path d one.2 e one.4), placed d e ps h.1)
 
-  below_it : (o : Option Data) → value_in (documents_of r) p ≡ o → AllByRecursion (StandsBelow (bench_resolving r) p) (map (at_path p) (subschemas_of o))
-  below_it None e = tt
-  below_it (Some d) e = placed d e (subschemas d) (all_stand d)
+  below_it : (draft : Draft) (o : Option Data) → value_in (documents_of r) p ≡ o → AllByRecursion (StandsBelow (bench_resolving r) p) (map (at_path p) (subschemas_of r.rule draft o))
+  below_it draft None e = tt
+  below_it draft (Some d) e = placed d e (subschemas r.rule draft d) (all_stand r.rule draft d)
 
 pub subschemas_stand_below : (r : BenchDocument) → SubschemasStandBelow (bench_resolving r)
-subschemas_stand_below r = λ draft p. below_it r p (value_in (documents_of r) p) refl
+subschemas_stand_below r = λ draft p. below_it r p draft (value_in (documents_of r) p) refl
 
 -- ---- subschemas with their values
 
@@ -153,6 +157,6 @@ module _ (r : BenchDocument) (p : SchemaPlace) where
       ∙ ap (λ (qs : List Placed). placed_in (bench_resolving r) (at_path p path) ∷ qs) (values_there d e ps h.1)
 
   -- what is found in a schema stands at its place
-  pub found_there : (d : Data) → value_in (documents_of r) p ≡ Some d
-      → map (placed_at p) (map (found_at d) (subschemas d)) ≡ map (placed_in (bench_resolving r)) (map (at_path p) (subschemas d))
-  found_there d e = values_there d e (subschemas d) (all_stand d)
+  pub found_there : (draft : Draft) (d : Data) → value_in (documents_of r) p ≡ Some d
+      → map (placed_at p) (map (found_at d) (subschemas r.rule draft d)) ≡ map (placed_in (bench_resolving r)) (map (at_path p) (subschemas r.rule draft d))
+  found_there draft d e = values_there d e (subschemas r.rule draft d) (all_stand r.rule draft d)

@@ -1,8 +1,9 @@
 //! The resolver.
-ghost use Rattle.std.specs.Prelude.{◌≡◌, [], IfOk, IsSome, Some, map, string_bytes};
+ghost use Rattle.std.specs.Prelude.{◌≡◌, [], IfOk, IsSome, Some, codes, map, string_bytes};
 ghost use Rattle.serde_json.specs.View.{view};
 ghost use Rattle.schema_definitions.specs.Drafts.{draft_2020_12};
 ghost use Rattle.schema_keywords.specs.KeywordViews.{draft_of};
+ghost use Rattle.bench_subschemas.specs.declared.rules.Rule.TheVariants.{Narrow, Standard};
 ghost use Rattle.bench_subschemas.specs.BenchResolving.{document_uri, root_place};
 ghost use Rattle.bench_resolver.specs.BenchDocuments.{HasCustom, HasDrafts};
 ghost use Rattle.bench_resolver.specs.BenchAnswers.{base_of, bench_resolving};
@@ -32,8 +33,9 @@ use crate::resolver::vocabularies::DraftVocabularies;
 use bench_subschemas::drafts::detected;
 use bench_subschemas::identifiers::{identifier, without_fragment};
 use bench_subschemas::known::is_known;
+use bench_subschemas::rules::Rule;
 use bench_subschemas::subschemas::{subschemas, subschemas_placed};
-pub use bench_subschemas::{drafts, identifiers, known, subschemas};
+pub use bench_subschemas::{drafts, identifiers, known, rules, subschemas};
 use schema_keywords::keywords::{Draft, VocabularySet};
 use schema_parts::resolver::{LookupError, PlacedSchema, Resolver, Target};
 use schema_parts::schema_place::{SchemaPath, SchemaPlace};
@@ -41,6 +43,9 @@ use schema_reports::location::OutOfMemory;
 use serde_json::{Map, Value};
 use std::alloc::Global;
 use std::marker::Model;
+
+/// A resolver of documents by the standard's rule: it is made by `of_document` or `of_documents`.
+pub type StandardResolver<'a> = BenchResolver<'a>;
 
 /// Where a run of the resolver is: in the resource under a base URI, after the resources that it entered, by their numbers.
 #[derive(Clone, PartialEq, Eq, Hash, Drop)]
@@ -63,10 +68,11 @@ impl Model for StatePoint {
 }
 
 /// A resolver of some documents. It finds a resource by its URI, and in it what a pointer or a name leads to. Resources are the
-/// documents, and the subschemas that have an identifier of their own. References that are neither a fragment nor a URI with its
-/// scheme are refused.
+/// documents, and the subschemas that have an identifier of their own. By the narrow rule references that are neither a fragment nor a
+/// URI with its scheme are refused; by the standard's they are resolved against the base.
 #[derive(Drop)]
 pub struct BenchResolver<'a> {
+    rule: Rule,
     documents: Documents<'a>,
     default_draft: Draft,
     vocabularies: DraftVocabularies,
@@ -79,7 +85,7 @@ impl<'a> Model for BenchResolver<'a> {
     ghost use Rattle.serde_json.specs.contracts.value.Value as value;
     ghost use Rattle.schema_keywords.specs.KeywordViews.{draft_of};
     ghost use Rattle.bench_resolver.specs.BenchDocuments.{BenchDocument};
-    ghost use Rattle.bench_resolver.specs.BenchResources.{resources_of};
+    ghost use Rattle.bench_resolver.specs.BenchResources.{table_for};
     ghost use Rattle.bench_resolver.specs.BenchViews.{given_of, held};
 
     ghost Value = { BenchDocument };
@@ -87,6 +93,7 @@ impl<'a> Model for BenchResolver<'a> {
     ghost coded = { Prim.hlevel (codes, value.the_row.coded) };
 
     ghost view = { λ r. record {
+      rule = r.rule;
       uri = string_bytes r.documents.uri;
       document = r.documents.root.now;
       others = map given_of r.documents.others.items;
@@ -94,11 +101,11 @@ impl<'a> Model for BenchResolver<'a> {
       vocabularies = r.vocabularies;
     } };
 
-    ghost invariant = { λ r. r.resources ≡ resources_of (draft_of r.default_draft) (held r.documents) };
+    ghost invariant = { λ r. r.resources ≡ table_for r.rule (draft_of r.default_draft) (held r.documents) };
 }
 
 impl<'a> BenchResolver<'a> {
-    /// A resolver of this document in the draft 2020-12. The document is found under its root's identifier without a fragment, or
+    /// A resolver of this document in the draft 2020-12, by the narrow rule. The document is found under its root's identifier without a fragment, or
     /// under `json-schema:///`. The vocabularies are required ones: they are in force in every draft, beside the draft's own.
     ///
     /// # Errors
@@ -109,6 +116,7 @@ impl<'a> BenchResolver<'a> {
         document: &'a Value,
         vocabularies: VocabularySet,
     ) -> Result<BenchResolver<'a>, OutOfMemory>
+        ensures rule { IfOk result (λ r. r.rule ≡ Narrow) }
         ensures document { IfOk result (λ r. r.document ≡ document.now) }
         ensures uri { IfOk result (λ r. r.uri ≡ document_uri draft_2020_12 (view document.now)) }
         ensures alone { IfOk result (λ r. r.others ≡ []) }
@@ -133,6 +141,7 @@ impl<'a> BenchResolver<'a> {
         document: &'a Value,
         vocabularies: VocabularySet,
     ) -> Result<BenchResolver<'a>, OutOfMemory>
+        ensures rule { IfOk result (λ r. r.rule ≡ Narrow) }
         ensures document { IfOk result (λ r. r.document ≡ document.now) }
         ensures uri { IfOk result (λ r. r.uri ≡ document_uri (draft_of draft) (view document.now)) }
         ensures alone { IfOk result (λ r. r.others ≡ []) }
@@ -153,7 +162,7 @@ impl<'a> BenchResolver<'a> {
         BenchResolver::with_documents(alloc, draft, root, Vec::new(alloc), vocabularies)
     }
 
-    /// A resolver of several documents, each found under the URI that it is given with. The first is the root's.
+    /// A resolver of several documents by the narrow rule, each found under the URI that it is given with. The first is the root's.
     ///
     /// # Errors
     ///
@@ -165,6 +174,85 @@ impl<'a> BenchResolver<'a> {
         others: Vec<Document<'a>>,
         vocabularies: VocabularySet,
     ) -> Result<BenchResolver<'a>, OutOfMemory>
+        ensures rule { IfOk result (λ r. r.rule ≡ Narrow) }
+        ensures document { IfOk result (λ r. r.document ≡ root.entry.value.now) }
+        ensures uri { IfOk result (λ r. r.uri ≡ string_bytes root.entry.uri) }
+        ensures others { IfOk result (λ r. r.others ≡ map given_of others.entry.items) }
+        ensures draft { IfOk result (λ r. r.default_draft ≡ draft_of draft) }
+        ensures drafts { IfOk result (λ r. HasDrafts vocabularies r.vocabularies) }
+        ensures custom { IfOk result (λ r. HasCustom vocabularies r.vocabularies) }
+        ensures root_value { IfOk result (λ r. (bench_resolving r).value root_place ≡ Some (view root.entry.value.now)) }
+        ensures root { IfOk result (λ r. IsSome ((bench_resolving r).root (base_of r))) }
+    {
+        BenchResolver::by_rule(alloc, Rule::Narrow, draft, root, others, vocabularies)
+    }
+
+    /// A resolver of this document by the standard's rule, in a default draft: the one that the document and the way to a target are
+    /// read by, where no `$schema` says otherwise. The document is handed in under `json-schema:///`, and found under its root's
+    /// identifier too. The vocabularies are required ones: they are in force in every draft, beside the draft's own.
+    ///
+    /// # Errors
+    ///
+    /// Fails only if memory cannot be allocated.
+    pub fn of_document(
+        alloc: Global,
+        draft: Draft,
+        document: &'a Value,
+        vocabularies: VocabularySet,
+    ) -> Result<BenchResolver<'a>, OutOfMemory>
+        ensures rule { IfOk result (λ r. r.rule ≡ Standard) }
+        ensures document { IfOk result (λ r. r.document ≡ document.now) }
+        ensures uri { IfOk result (λ r. r.uri ≡ codes "json-schema:///") }
+        ensures alone { IfOk result (λ r. r.others ≡ []) }
+        ensures draft { IfOk result (λ r. r.default_draft ≡ draft_of draft) }
+        ensures drafts { IfOk result (λ r. HasDrafts vocabularies r.vocabularies) }
+        ensures custom { IfOk result (λ r. HasCustom vocabularies r.vocabularies) }
+        ensures root_value { IfOk result (λ r. (bench_resolving r).value root_place ≡ Some (view document.now)) }
+        ensures root { IfOk result (λ r. IsSome ((bench_resolving r).root (base_of r))) }
+    {
+        let root = Document {
+            uri: String::from_str(alloc, "json-schema:///")?,
+            value: document,
+        };
+        BenchResolver::of_documents(alloc, draft, root, Vec::new(alloc), vocabularies)
+    }
+
+    /// A resolver of several documents by the standard's rule. Each is handed in under a URI, and found under it and under its root's
+    /// identifier. The first is the root's. Of several with one URI the first is found.
+    ///
+    /// # Errors
+    ///
+    /// Fails only if memory cannot be allocated.
+    pub fn of_documents(
+        alloc: Global,
+        draft: Draft,
+        root: Document<'a>,
+        others: Vec<Document<'a>>,
+        vocabularies: VocabularySet,
+    ) -> Result<BenchResolver<'a>, OutOfMemory>
+        ensures rule { IfOk result (λ r. r.rule ≡ Standard) }
+        ensures document { IfOk result (λ r. r.document ≡ root.entry.value.now) }
+        ensures uri { IfOk result (λ r. r.uri ≡ string_bytes root.entry.uri) }
+        ensures others { IfOk result (λ r. r.others ≡ map given_of others.entry.items) }
+        ensures draft { IfOk result (λ r. r.default_draft ≡ draft_of draft) }
+        ensures drafts { IfOk result (λ r. HasDrafts vocabularies r.vocabularies) }
+        ensures custom { IfOk result (λ r. HasCustom vocabularies r.vocabularies) }
+        ensures root_value { IfOk result (λ r. (bench_resolving r).value root_place ≡ Some (view root.entry.value.now)) }
+        ensures root { IfOk result (λ r. IsSome ((bench_resolving r).root (base_of r))) }
+    {
+        BenchResolver::by_rule(alloc, Rule::Standard, draft, root, others, vocabularies)
+    }
+
+    /// A resolver of several documents by a rule.
+    fn by_rule(
+        alloc: Global,
+        rule: Rule,
+        draft: Draft,
+        root: Document<'a>,
+        others: Vec<Document<'a>>,
+        vocabularies: VocabularySet,
+    ) -> Result<BenchResolver<'a>, OutOfMemory>
+        ensures rule { IfOk result (λ r. r.rule ≡ rule) }
         ensures document { IfOk result (λ r. r.document ≡ root.entry.value.now) }
         ensures uri { IfOk result (λ r. r.uri ≡ string_bytes root.entry.uri) }
         ensures others { IfOk result (λ r. r.others ≡ map given_of others.entry.items) }
@@ -179,8 +267,9 @@ impl<'a> BenchResolver<'a> {
             root: root.value,
             others,
         };
-        let resources = resources_of(alloc, draft, &documents)?;
+        let resources = resources_of(alloc, rule, draft, &documents)?;
         Ok(BenchResolver {
+            rule,
             documents,
             default_draft: draft,
             vocabularies: DraftVocabularies::with_required(vocabularies)?,
@@ -229,7 +318,7 @@ impl<'a> Resolver for BenchResolver<'a> {
         let mut entered = Vec::new(alloc);
         entered.push(number)?;
         let state = BenchState {
-            base: resource.uri.clone()?,
+            base: resource.base.clone()?,
             entered,
         };
         Ok(Some((state, resource.place()?)))
@@ -297,7 +386,7 @@ impl<'a> Resolver for BenchResolver<'a> {
         state: &BenchState,
         reference: &str,
     ) -> Result<String, LookupError> {
-        resolve_uri(alloc, state.base.as_str(), reference)
+        resolve_uri(alloc, self.rule, state.base.as_str(), reference)
     }
 
     fn base_uri<'s>(&self, state: &'s BenchState) -> &'s str {
@@ -342,11 +431,11 @@ impl<'a> Resolver for BenchResolver<'a> {
     fn subresources_of(
         &self,
         alloc: Global,
-        _draft: Draft,
+        draft: Draft,
         place: &SchemaPlace,
     ) -> Result<Vec<SchemaPlace>, OutOfMemory> {
         match self.documents.value_at(place) {
-            Some(schema) => subschemas(alloc, place, schema),
+            Some(schema) => subschemas(alloc, self.rule, draft, place, schema),
             None => Ok(Vec::new(alloc)),
         }
     }
@@ -354,18 +443,18 @@ impl<'a> Resolver for BenchResolver<'a> {
     fn subschemas_read<'v>(
         &'v self,
         alloc: Global,
-        _draft: Draft,
+        draft: Draft,
         place: &SchemaPlace,
         value: Option<&'v Value>,
     ) -> Result<Vec<PlacedSchema<'v>>, OutOfMemory> {
         match value {
-            Some(schema) => subschemas_placed(alloc, place, schema),
+            Some(schema) => subschemas_placed(alloc, self.rule, draft, place, schema),
             None => Ok(Vec::new(alloc)),
         }
     }
 
-    fn is_known_keyword(&self, _draft: Draft, name: &str) -> bool {
-        is_known(name)
+    fn is_known_keyword(&self, draft: Draft, name: &str) -> bool {
+        is_known(self.rule, draft, name)
     }
 
     ghost same = { λ r a b. same_points a b };

@@ -1,4 +1,5 @@
 pub mod Finding
+pub mod Fragments
 pub mod NoneNamed
 pub mod PlaceLists
 pub mod PlainObjects

@@ -1,11 +1,14 @@
 -- What the resolver says of a document: places, drafts, identifiers, subschemas and vocabularies. (Core 2020-12,
 -- 8.1 and 8.2)
-use Rattle.std.specs.List.{before_first}
+use Rattle.std.specs.List.{after_first, before_first, list_any}
 use Rattle.std.specs.Prelude.{Bool, Err, List, None, Ok, Option, Result, Some, [], bytes_eq, codes, false, flat_map, if◌then◌else◌, is_some, option_and_then, true, ℕ, ◌&&◌, ◌++◌, ◌+◌, ◌==◌, ◌||◌, ◌∷◌}
 use Rattle.serde_json.specs.Data.{Data, Items, Members, array, boolean, item, member, no_items, no_members, null, number, object, string}
 use Rattle.serde_json.specs.Find.{as_str, get}
 use Rattle.schema_definitions.specs.Instance.{Place, Subject, Text, a_name, a_value, to_item, to_member}
 use Rattle.schema_definitions.specs.Drafts.{Draft, SchemaPlace, Vocabularies, applicator_vocabulary, content_vocabulary, core_vocabulary, draft_2019_09, draft_2020_12, draft_4, draft_6, draft_7, draft_unknown, format_annotation_vocabulary, metadata_vocabulary, ref_stands_alone, unevaluated_vocabulary, validation_vocabulary}
+use Rattle.bench_subschemas.specs.declared.rules.Rule.{Rule}
+use Rattle.bench_subschemas.specs.declared.rules.Rule.TheVariants.{Narrow, Standard}
+use Rattle.bench_subschemas.specs.StandardNames as standard
 
 -- the text that stands under a name
 abbrev pub text_member : Text → Data → Option Text
@@ -71,9 +74,43 @@ identifier d v = if ref_stands_alone d && is_some (get (codes "$ref") v) then No
 abbrev pub without_fragment : Text → Text
 without_fragment = before_first (λ x. x == 35)
 
+-- what follows the first `#`
+abbrev pub fragment_of : Text → Text
+fragment_of = after_first (λ x. x == 35)
+
 -- the root's identifier without its fragment, or a URI of the resolver's own, in a default draft
 abbrev pub document_uri : Draft → Data → Text
 document_uri d v = elim (identifier (detected d v) v) [ None ↦ codes "json-schema:///" | Some t ↦ without_fragment t ]
+
+-- ---- names
+
+-- a fragment that is neither empty nor a pointer
+abbrev pub plain_fragment : Text → Option Text
+plain_fragment [] = None
+plain_fragment (x ∷ xs) = if x == 47 then None else Some (x ∷ xs)
+
+-- the name that the fragment of an identifier gives; there is none beside a reference (draft-07 Core, 8.2.3 and 8.3)
+abbrev pub name_in_identifier : Draft → Data → Option Text
+name_in_identifier d v = if is_some (get (codes "$ref") v) then None else option_and_then (λ t. plain_fragment (fragment_of t)) (text_member (identifier_name d) v)
+
+-- in drafts 4 to 7 it stands in the identifier, later under `$anchor` (Core 2019-09, 8.2.3)
+abbrev pub standard_name : Draft → Data → Option Text
+standard_name d v = if ref_stands_alone d then name_in_identifier d v else text_member (codes "$anchor") v
+
+-- a dynamic name, from 2020-12 on; an unknown draft counts as 2020-12 (Core 2020-12, 8.2.2)
+abbrev pub standard_dynamic_name : Draft → Data → Option Text
+standard_dynamic_name draft_2020_12 v = text_member (codes "$dynamicAnchor") v
+standard_dynamic_name draft_unknown v = text_member (codes "$dynamicAnchor") v
+standard_dynamic_name _ v = None
+
+-- the name of a schema, and its dynamic name: by the narrow rule the same in all drafts
+abbrev pub plain_name : Rule → Draft → Data → Option Text
+plain_name Narrow d v = text_member (codes "$anchor") v
+plain_name Standard d v = standard_name d v
+
+abbrev pub dynamic_name : Rule → Draft → Data → Option Text
+dynamic_name Narrow d v = text_member (codes "$dynamicAnchor") v
+dynamic_name Standard d v = standard_dynamic_name d v
 
 -- ---- subschemas
 
@@ -110,22 +147,25 @@ abbrev pub below_value : Text → Option Data → List Place
 below_value k None = []
 below_value k (Some d) = place_if (is_schema d) (to_member k ∷ []) []
 
-abbrev pub names_of_objects : List Text
-names_of_objects = codes "$defs" ∷ codes "definitions" ∷ codes "properties" ∷ []
+abbrev pub names_of_objects : Rule → Draft → List Text
+names_of_objects Narrow d = codes "$defs" ∷ codes "definitions" ∷ codes "properties" ∷ []
+names_of_objects Standard d = standard.names_of_objects d
 
-abbrev pub names_of_lists : List Text
-names_of_lists = codes "allOf" ∷ codes "anyOf" ∷ codes "oneOf" ∷ codes "prefixItems" ∷ []
+abbrev pub names_of_lists : Rule → Draft → List Text
+names_of_lists Narrow d = codes "allOf" ∷ codes "anyOf" ∷ codes "oneOf" ∷ codes "prefixItems" ∷ []
+names_of_lists Standard d = standard.names_of_lists d
 
-abbrev pub names_of_values : List Text
-names_of_values = codes "not" ∷ codes "if" ∷ codes "then" ∷ codes "else" ∷ codes "items" ∷ codes "propertyNames" ∷ []
+abbrev pub names_of_values : Rule → Draft → List Text
+names_of_values Narrow d = codes "not" ∷ codes "if" ∷ codes "then" ∷ codes "else" ∷ codes "items" ∷ codes "propertyNames" ∷ []
+names_of_values Standard d = standard.names_of_values d
 
--- the paths of the subschemas inside a schema
-abbrev pub subschemas : Data → List Place
-subschemas d = flat_map (λ k. below_object k (get k d)) names_of_objects ++ flat_map (λ k. below_list k (get k d)) names_of_lists ++ flat_map (λ k. below_value k (get k d)) names_of_values
+-- the paths of the subschemas inside a schema of a draft
+abbrev pub subschemas : Rule → Draft → Data → List Place
+subschemas rule draft d = flat_map (λ k. below_object k (get k d)) (names_of_objects rule draft) ++ flat_map (λ k. below_list k (get k d)) (names_of_lists rule draft) ++ flat_map (λ k. below_value k (get k d)) (names_of_values rule draft)
 
-abbrev pub subschemas_of : Option Data → List Place
-subschemas_of None = []
-subschemas_of (Some d) = subschemas d
+abbrev pub subschemas_of : Rule → Draft → Option Data → List Place
+subschemas_of rule draft None = []
+subschemas_of rule draft (Some d) = subschemas rule draft d
 
 -- ---- vocabularies and known keywords
 
@@ -148,3 +188,8 @@ known_keywords =
     ∷ codes "dependencies" ∷ codes "dependentSchemas" ∷ codes "allOf" ∷ codes "anyOf" ∷ codes "oneOf" ∷ codes "not" ∷ codes "if"
     ∷ codes "unevaluatedProperties" ∷ codes "unevaluatedItems" ∷ codes "$ref" ∷ codes "$recursiveRef" ∷ codes "$dynamicRef"
     ∷ codes "$schema" ∷ codes "$id" ∷ codes "id" ∷ codes "$anchor" ∷ codes "$dynamicAnchor" ∷ codes "$recursiveAnchor" ∷ codes "$defs" ∷ codes "definitions" ∷ codes "$comment" ∷ codes "$vocabulary" ∷ codes "then" ∷ codes "else" ∷ []
+
+-- whether a draft knows a name: by the narrow rule all drafts know the same
+abbrev pub is_known : Rule → Draft → Text → Bool
+is_known Narrow d name = list_any (bytes_eq name) known_keywords
+is_known Standard d name = list_any (bytes_eq name) (standard.known_names d)

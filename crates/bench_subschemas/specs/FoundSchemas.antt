@@ -1,10 +1,13 @@
 -- Subschemas as they are found in a schema, each with its path; and the names that they lie under.
-use Rattle.std.specs.Prelude.{Bool, List, None, Option, Some, [], false, true, ◌||◌, ◌∷◌}
+use Rattle.std.specs.Prelude.{Bool, List, None, Option, Some, [], codes, false, true, ◌||◌, ◌∷◌}
 use Rattle.std.specs.List.{list_any}
 use Rattle.std.specs.Str.{bytes_eq}
 use Rattle.serde_json.specs.Data.{Data, Members, member, no_members}
 use Rattle.schema_definitions.specs.Instance.{Place, Text, subject_at}
-use Rattle.bench_subschemas.specs.BenchResolving.{data_of, is_schema, names_of_lists, names_of_objects, names_of_values}
+use Rattle.bench_subschemas.specs.declared.rules.Rule.{Rule}
+use Rattle.bench_subschemas.specs.declared.rules.Rule.TheVariants.{Narrow, Standard}
+use Rattle.bench_subschemas.specs.StandardNames as standard
+use Rattle.bench_subschemas.specs.BenchResolving.{data_of, is_schema}
 
 -- a path inside a schema, and what stands there
 pub record Found : Type 0 where
@@ -22,10 +25,16 @@ found_if false f = []
 abbrev pub schema_if : Found → List Found
 schema_if f = found_if (elim f.schema [ None ↦ false | Some d ↦ is_schema d ]) f
 
--- whether subschemas may lie under a name, and under that of one of these members
-abbrev pub names_schemas : Text → Bool
-names_schemas t = list_any (bytes_eq t) names_of_objects || (list_any (bytes_eq t) names_of_lists || list_any (bytes_eq t) names_of_values)
+-- all the names that subschemas may lie under, in any draft
+abbrev pub schema_names : Rule → List Text
+schema_names Narrow = codes "$defs" ∷ codes "definitions" ∷ codes "properties" ∷ codes "allOf" ∷ codes "anyOf" ∷ codes "oneOf" ∷ codes "prefixItems"
+    ∷ codes "not" ∷ codes "if" ∷ codes "then" ∷ codes "else" ∷ codes "items" ∷ codes "propertyNames" ∷ []
+schema_names Standard = standard.schema_names
 
-abbrev pub any_names_schemas : Members → Bool
-any_names_schemas no_members = false
-any_names_schemas (member l d ms) = names_schemas l || any_names_schemas ms
+-- whether subschemas may lie under a name, and under that of one of these members
+abbrev pub names_schemas : Rule → Text → Bool
+names_schemas rule t = list_any (bytes_eq t) (schema_names rule)
+
+abbrev pub any_names_schemas : Rule → Members → Bool
+any_names_schemas rule no_members = false
+any_names_schemas rule (member l d ms) = names_schemas rule l || any_names_schemas rule ms

@@ -1,3 +1,4 @@
+pub mod StandardNames
 pub mod BenchResolving
 pub mod FoundSchemas
 pub mod FoundViews

@@ -1,10 +1,12 @@
-//! Identifiers of schemas.
+//! Identifiers of schemas, and their names.
 ghost use Rattle.std.specs.Prelude.{◌≡◌, option_map};
 ghost use Rattle.serde_json.specs.View.{view};
 ghost use Rattle.schema_keywords.specs.KeywordViews.{draft_of};
-ghost use Rattle.bench_subschemas.specs.BenchResolving.{identifier, identifier_name, unless_fragment, without_fragment};
+ghost use Rattle.bench_subschemas.specs.BenchResolving.{dynamic_name, fragment_of, identifier, identifier_name, name_in_identifier};
+ghost use Rattle.bench_subschemas.specs.BenchResolving.{plain_fragment, plain_name, unless_fragment, without_fragment};
 
 use crate::drafts::text_member;
+use crate::rules::Rule;
 use schema_keywords::keywords::Draft;
 use serde_json::Value;
 
@@ -52,5 +54,63 @@ pub fn without_fragment(uri: &str) -> &str
     match uri.split_once('#') {
         Some((before, _)) => before,
         None => uri,
+    }
+}
+
+/// What follows the first `#`.
+pub fn fragment_of(uri: &str) -> &str
+    ensures fragment { result.now ≡ fragment_of uri.now }
+{
+    match uri.split_once('#') {
+        Some((_, fragment)) => fragment,
+        None => "",
+    }
+}
+
+/// A fragment that is neither empty nor a pointer.
+fn plain_fragment(fragment: &str) -> Option<&str>
+    ensures plain { option_map (λ t. t.now) result ≡ plain_fragment fragment.now }
+{
+    let bytes = fragment.as_bytes();
+    if bytes.len() > 0 && bytes[0] != b'/' {
+        Some(fragment)
+    } else {
+        None
+    }
+}
+
+/// The name that the fragment of an identifier gives.
+fn name_in_identifier<'v>(draft: Draft, value: &'v Value) -> Option<&'v str>
+    ensures name { option_map (λ t. t.now) result ≡ name_in_identifier (draft_of draft) (view value.now) }
+{
+    if value.get("$ref").is_some() {
+        return None;
+    }
+    match text_member(value, identifier_name(draft)) {
+        Some(uri) => plain_fragment(fragment_of(uri)),
+        None => None,
+    }
+}
+
+/// The name of a schema. By the standard's rule the fragment of its identifier in drafts 4 to 7, and its `$anchor` later.
+pub fn plain_name<'v>(rule: Rule, draft: Draft, value: &'v Value) -> Option<&'v str>
+    ensures name { option_map (λ t. t.now) result ≡ plain_name rule (draft_of draft) (view value.now) }
+{
+    match rule {
+        Rule::Standard if draft.is_before_2019_09() => name_in_identifier(draft, value),
+        _ => text_member(value, "$anchor"),
+    }
+}
+
+/// The dynamic name of a schema: its `$dynamicAnchor`, by the standard's rule from 2020-12 on.
+pub fn dynamic_name<'v>(rule: Rule, draft: Draft, value: &'v Value) -> Option<&'v str>
+    ensures name { option_map (λ t. t.now) result ≡ dynamic_name rule (draft_of draft) (view value.now) }
+{
+    match rule {
+        Rule::Narrow => text_member(value, "$dynamicAnchor"),
+        Rule::Standard => match draft {
+            Draft::Draft202012 | Draft::Unknown => text_member(value, "$dynamicAnchor"),
+            _ => None,
+        },
     }
 }

@@ -4,13 +4,17 @@ ghost use Rattle.serde_json.specs.Find.{get};
 ghost use Rattle.serde_json.specs.Data.{object};
 ghost use Rattle.serde_json.specs.View.{members_view, view};
 ghost use Rattle.schema_definitions.specs.Drafts.{at_path};
+ghost use Rattle.schema_keywords.specs.KeywordViews.{draft_of};
 ghost use Rattle.schema_parts.specs.ResolverViews.{place_of, placed_of};
 ghost use Rattle.bench_subschemas.specs.BenchResolving.{below_list, below_object, below_value, is_schema};
-ghost use Rattle.bench_subschemas.specs.BenchResolving.{names_of_lists, names_of_objects, names_of_values, subschemas};
+ghost use Rattle.bench_subschemas.specs.BenchResolving.{subschemas};
 ghost use Rattle.bench_subschemas.specs.FoundSchemas.{found_at, schema_if};
 ghost use Rattle.bench_subschemas.specs.FoundViews.{found_of, path_of, placed_at};
 
 use crate::plain::any_names_schemas;
+use crate::rules::Rule;
+use crate::schema_names::{names_of_lists, names_of_objects, names_of_values};
+use schema_keywords::keywords::Draft;
 use schema_parts::resolver::PlacedSchema;
 use schema_parts::schema_place::{SchemaPath, SchemaPlace, SchemaStep};
 use schema_reports::location::OutOfMemory;
@@ -152,68 +156,69 @@ fn find_value<'v>(
     add_schema(one, found)
 }
 
-/// Adds the schemas in objects.
-#[tactic(auto, using(crate::proofs::PlaceLists::three))]
+/// Adds the schemas among the members of the objects under some names.
 fn find_in_objects<'v>(
     members: &'v Map<String, Value>,
+    keywords: &[&'v str],
     found: &mut Vec<FoundSchema<'v>>,
 ) -> Result<(), OutOfMemory>
     ensures found { IfOk result (λ _. let schema = object (members_view members.now.entries) in
         map found_of found.new.items ≡ map found_of found.old.items
-        ++ map (found_at schema) (flat_map (λ k. below_object k (get k schema)) names_of_objects)) }
+        ++ map (found_at schema) (flat_map (λ k. below_object k (get k schema)) (map (λ k. k.now) keywords.now))) }
 {
-    find_in_object(members, "$defs", found)?;
-    find_in_object(members, "definitions", found)?;
-    find_in_object(members, "properties", found)
+    for keyword in keywords {
+        find_in_object(members, *keyword, found)?;
+    }
+    Ok(())
 }
 
-/// Adds the schemas in lists.
-#[tactic(auto, using(crate::proofs::PlaceLists::four))]
+/// Adds the schemas among the items of the lists under some names.
 fn find_in_lists<'v>(
     members: &'v Map<String, Value>,
+    keywords: &[&'v str],
     found: &mut Vec<FoundSchema<'v>>,
 ) -> Result<(), OutOfMemory>
     ensures found { IfOk result (λ _. let schema = object (members_view members.now.entries) in
         map found_of found.new.items ≡ map found_of found.old.items
-        ++ map (found_at schema) (flat_map (λ k. below_list k (get k schema)) names_of_lists)) }
+        ++ map (found_at schema) (flat_map (λ k. below_list k (get k schema)) (map (λ k. k.now) keywords.now))) }
 {
-    find_in_list(members, "allOf", found)?;
-    find_in_list(members, "anyOf", found)?;
-    find_in_list(members, "oneOf", found)?;
-    find_in_list(members, "prefixItems", found)
+    for keyword in keywords {
+        find_in_list(members, *keyword, found)?;
+    }
+    Ok(())
 }
 
-/// Adds the other schemas.
-#[tactic(auto, using(crate::proofs::PlaceLists::six))]
+/// Adds the schemas under some names.
 fn find_values<'v>(
     members: &'v Map<String, Value>,
+    keywords: &[&'v str],
     found: &mut Vec<FoundSchema<'v>>,
 ) -> Result<(), OutOfMemory>
     ensures found { IfOk result (λ _. let schema = object (members_view members.now.entries) in
         map found_of found.new.items ≡ map found_of found.old.items
-        ++ map (found_at schema) (flat_map (λ k. below_value k (get k schema)) names_of_values)) }
+        ++ map (found_at schema) (flat_map (λ k. below_value k (get k schema)) (map (λ k. k.now) keywords.now))) }
 {
-    find_value(members, "not", found)?;
-    find_value(members, "if", found)?;
-    find_value(members, "then", found)?;
-    find_value(members, "else", found)?;
-    find_value(members, "items", found)?;
-    find_value(members, "propertyNames", found)
+    for keyword in keywords {
+        find_value(members, *keyword, found)?;
+    }
+    Ok(())
 }
 
 /// The subschemas of an object with these members, in order.
 #[tactic(auto, using(crate::proofs::PlaceLists::parts))]
 fn found_in<'v>(
     alloc: Global,
+    rule: Rule,
+    draft: Draft,
     members: &'v Map<String, Value>,
 ) -> Result<Vec<FoundSchema<'v>>, OutOfMemory>
     ensures found { IfOk result (λ found. let schema = object (members_view members.now.entries) in
-        map found_of found.items ≡ map (found_at schema) (subschemas schema)) }
+        map found_of found.items ≡ map (found_at schema) (subschemas rule (draft_of draft) schema)) }
 {
     let mut found = Vec::new(alloc);
-    find_in_objects(members, &mut found)?;
-    find_in_lists(members, &mut found)?;
-    find_values(members, &mut found)?;
+    find_in_objects(members, names_of_objects(rule, draft), &mut found)?;
+    find_in_lists(members, names_of_lists(rule, draft), &mut found)?;
+    find_values(members, names_of_values(rule, draft), &mut found)?;
     Ok(found)
 }
 
@@ -224,14 +229,17 @@ fn found_in<'v>(
 /// Fails only if memory cannot be allocated.
 pub fn subschemas_found<'v>(
     alloc: Global,
+    rule: Rule,
+    draft: Draft,
     schema: &'v Value,
 ) -> Result<Vec<FoundSchema<'v>>, OutOfMemory>
-    ensures found { IfOk result (λ found. map found_of found.items ≡ map (found_at (view schema.now)) (subschemas (view schema.now))) }
+    ensures found { IfOk result (λ found. map found_of found.items ≡ map (found_at (view schema.now))
+        (subschemas rule (draft_of draft) (view schema.now))) }
 {
     match schema {
         Value::Object(members) => {
-            if any_names_schemas(members) {
-                found_in(alloc, members)
+            if any_names_schemas(rule, members) {
+                found_in(alloc, rule, draft, members)
             } else {
                 Ok(Vec::new(alloc))
             }
@@ -298,24 +306,33 @@ fn placed_found<'v>(
 /// Fails only if memory cannot be allocated.
 pub fn subschemas_placed<'v>(
     alloc: Global,
+    rule: Rule,
+    draft: Draft,
     place: &SchemaPlace,
     schema: &'v Value,
 ) -> Result<Vec<PlacedSchema<'v>>, OutOfMemory>
     ensures placed { IfOk result (λ ps. map placed_of ps.items
-        ≡ map (placed_at (place_of place.now)) (map (found_at (view schema.now)) (subschemas (view schema.now)))) }
+        ≡ map (placed_at (place_of place.now)) (map (found_at (view schema.now)) (subschemas rule (draft_of draft) (view schema.now)))) }
 {
-    let found = subschemas_found(alloc, schema)?;
+    let found = subschemas_found(alloc, rule, draft, schema)?;
     placed_found(alloc, place, found.as_slice())
 }
 
 /// The places of the subschemas of a schema, in order.
+///
+/// # Errors
+///
+/// Fails only if memory cannot be allocated.
 pub fn subschemas(
     alloc: Global,
+    rule: Rule,
+    draft: Draft,
     place: &SchemaPlace,
     schema: &Value,
 ) -> Result<Vec<SchemaPlace>, OutOfMemory>
-    ensures places { IfOk result (λ places. map place_of places.items ≡ map (at_path (place_of place.now)) (subschemas (view schema.now))) }
+    ensures places { IfOk result (λ places. map place_of places.items ≡ map (at_path (place_of place.now))
+        (subschemas rule (draft_of draft) (view schema.now))) }
 {
-    let found = subschemas_found(alloc, schema)?;
+    let found = subschemas_found(alloc, rule, draft, schema)?;
     places_found(alloc, place, found.as_slice())
 }

@@ -4,10 +4,8 @@ ghost use Rattle.serde_json.specs.View.{view};
 ghost use Rattle.schema_parts.specs.ResolverViews.{place_of};
 ghost use Rattle.bench_resolver.specs.BenchDocuments.{value_in};
 ghost use Rattle.bench_resolver.specs.BenchViews.{held};
-ghost use Rattle.bench_resolver.specs.BenchStates.{uri_of_document};
 
 use crate::resolver::places::value_after;
-use bench_subschemas::identifiers::without_fragment;
 use schema_parts::schema_place::SchemaPlace;
 use serde_json::Value;
 
@@ -40,15 +38,15 @@ impl<'a> Documents<'a> {
         }
     }
 
-    /// The URI of the document of a number, without its fragment.
+    /// The URI of the document of a number.
     pub fn uri_of(&self, number: usize) -> Option<&str>
-        ensures uri { option_map (λ t. t.now) result ≡ uri_of_document (slice_get (held self.now) number) }
+        ensures uri { option_map (λ t. t.now) result ≡ option_map (λ d. d.uri) (slice_get (held self.now) number) }
     {
         if number == 0 {
-            return Some(without_fragment(self.uri.as_str()));
+            return Some(self.uri.as_str());
         }
         match self.others.get(number - 1) {
-            Some(document) => Some(without_fragment(document.uri.as_str())),
+            Some(document) => Some(document.uri.as_str()),
             None => None,
         }
     }

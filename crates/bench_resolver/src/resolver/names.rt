@@ -2,14 +2,14 @@
 ghost use Rattle.std.specs.Prelude.{◌≡◌, ◌++◌, IfOk, map, option_and_then, option_map, slice_get};
 ghost use Rattle.std.specs.HashMap.{get_by_text};
 ghost use Rattle.bench_resolver.specs.BenchKeys.{IsNumbered};
-ghost use Rattle.bench_subschemas.specs.BenchResolving.{text_member};
 ghost use Rattle.bench_resolver.specs.BenchResources.{dynamic_key, dynamic_number, name_if, name_key, name_number, names_at, names_in};
 ghost use Rattle.bench_resolver.specs.BenchNameViews.{name_of};
 ghost use Rattle.bench_resolver.specs.BenchViews.{visited_of};
 
 use crate::resolver::numbers::add_number;
 use crate::resolver::walk::{Visited, walked};
-use bench_subschemas::drafts::text_member;
+use bench_subschemas::identifiers::{dynamic_name, plain_name};
+use bench_subschemas::rules::Rule;
 use schema_keywords::keywords::Draft;
 use schema_parts::schema_place::SchemaPath;
 use schema_reports::location::OutOfMemory;
@@ -74,18 +74,18 @@ impl Names {
     }
 }
 
-/// Adds the name that a schema may have under a keyword.
+/// Adds a name that a schema may have.
 fn push_name(
     alloc: Global,
     visited: &Visited<'_>,
-    keyword: &str,
+    name: Option<&str>,
     is_dynamic: bool,
     names: &mut Vec<Name>,
 ) -> Result<(), OutOfMemory>
     ensures pushed { IfOk result (λ _. map name_of names.new.items ≡ map name_of names.old.items
-        ++ name_if (text_member keyword.now (visited_of visited.now).schema) is_dynamic (visited_of visited.now)) }
+        ++ name_if (option_map (λ t. t.now) name.entry) is_dynamic (visited_of visited.now)) }
 {
-    if let Some(name) = text_member(visited.schema, keyword) {
+    if let Some(name) = name {
         names.push(Name {
             name: String::from_str(alloc, name)?,
             path: visited.path.clone()?,
@@ -99,14 +99,17 @@ fn push_name(
 /// Adds the names of a schema.
 fn push_names(
     alloc: Global,
+    rule: Rule,
     visited: &Visited<'_>,
     names: &mut Vec<Name>,
 ) -> Result<(), OutOfMemory>
     ensures pushed { IfOk result (λ _. map name_of names.new.items
-        ≡ map name_of names.old.items ++ names_at (visited_of visited.now)) }
+        ≡ map name_of names.old.items ++ names_at rule (visited_of visited.now)) }
 {
-    push_name(alloc, visited, "$anchor", false, names)?;
-    push_name(alloc, visited, "$dynamicAnchor", true, names)
+    let plain = plain_name(rule, visited.draft, visited.schema);
+    push_name(alloc, visited, plain, false, names)?;
+    let dynamic = dynamic_name(rule, visited.draft, visited.schema);
+    push_name(alloc, visited, dynamic, true, names)
 }
 
 /// The text of a dynamic name.
@@ -142,13 +145,13 @@ fn numbered(alloc: Global, names: Vec<Name>) -> Result<Names, OutOfMemory>
 /// # Errors
 ///
 /// Fails only if memory cannot be allocated.
-pub fn names_in(alloc: Global, root: &Visited<'_>) -> Result<Names, OutOfMemory>
-    ensures names { IfOk result (λ n. n ≡ names_in (visited_of root.now)) }
+pub fn names_in(alloc: Global, rule: Rule, root: &Visited<'_>) -> Result<Names, OutOfMemory>
+    ensures names { IfOk result (λ n. n ≡ names_in rule (visited_of root.now)) }
 {
     let mut names = Vec::new(alloc);
-    push_names(alloc, root, &mut names)?;
-    for visited in &walked(alloc, false, &root.path, root.draft, root.schema)? {
-        push_names(alloc, visited, &mut names)?;
+    push_names(alloc, rule, root, &mut names)?;
+    for visited in &walked(alloc, rule, false, &root.path, "", root.draft, root.schema)? {
+        push_names(alloc, rule, visited, &mut names)?;
     }
     numbered(alloc, names)
 }

@@ -1,15 +1,19 @@
 //! Whether a path leads from a schema to one of its subschemas, by the steps of the path.
-ghost use Rattle.std.specs.Prelude.{◌≡◌, ◌∷◌, [], flat_map, option_map};
+ghost use Rattle.std.specs.Prelude.{◌≡◌, ◌∷◌, [], flat_map, map, option_map};
 ghost use Rattle.std.specs.List.{list_any};
 ghost use Rattle.serde_json.specs.Find.{get};
 ghost use Rattle.serde_json.specs.View.{view};
 ghost use Rattle.schema_definitions.specs.Instance.{same_place, same_step, to_member};
+ghost use Rattle.schema_keywords.specs.KeywordViews.{draft_of};
 ghost use Rattle.schema_parts.specs.SchemaViews.{schema_step_of};
-ghost use Rattle.bench_subschemas.specs.BenchResolving.{below_list, below_object, below_value, names_of_lists, names_of_objects};
+ghost use Rattle.bench_subschemas.specs.BenchResolving.{below_list, below_object, below_value};
 ghost use Rattle.bench_resolver.specs.BenchLookups.{is_subschema};
 ghost use Rattle.bench_resolver.specs.OnWay.{leads_to_item, leads_to_member, pairs_below, schema_found, singles_below};
 
+use bench_subschemas::rules::Rule;
+use bench_subschemas::schema_names::{names_of_lists, names_of_objects, names_of_values};
 use bench_subschemas::subschemas::is_schema;
+use schema_keywords::keywords::Draft;
 use schema_parts::schema_place::{SchemaPath, SchemaStep};
 use serde_json::Value;
 
@@ -100,60 +104,77 @@ fn at_value(schema: &Value, keyword: &str, step: &SchemaStep) -> bool
     }
 }
 
-/// Whether two steps lead to a schema in one of the objects.
-#[tactic(auto, using(crate::proofs::OnWay::three))]
-fn in_objects(schema: &Value, first: &SchemaStep, second: &SchemaStep) -> bool
+/// Whether two steps lead to a schema in one of the objects under these names.
+fn in_objects(schema: &Value, keywords: &[&str], first: &SchemaStep, second: &SchemaStep) -> bool
     ensures among { result ≡ list_any (same_place (schema_step_of first.now ∷ schema_step_of second.now ∷ []))
-        (flat_map (λ k. below_object k (get k (view schema.now))) names_of_objects) }
+        (flat_map (λ k. below_object k (get k (view schema.now))) (map (λ k. k.now) keywords.now)) }
 {
-    in_object(schema, "$defs", first, second)
-        || in_object(schema, "definitions", first, second)
-        || in_object(schema, "properties", first, second)
+    for keyword in keywords {
+        if in_object(schema, *keyword, first, second) {
+            return true;
+        }
+    }
+    false
 }
 
-/// Whether two steps lead to a schema in one of the lists.
-#[tactic(auto, using(crate::proofs::OnWay::four))]
-fn in_lists(schema: &Value, first: &SchemaStep, second: &SchemaStep) -> bool
+/// Whether two steps lead to a schema in one of the lists under these names.
+fn in_lists(schema: &Value, keywords: &[&str], first: &SchemaStep, second: &SchemaStep) -> bool
     ensures among { result ≡ list_any (same_place (schema_step_of first.now ∷ schema_step_of second.now ∷ []))
-        (flat_map (λ k. below_list k (get k (view schema.now))) names_of_lists) }
+        (flat_map (λ k. below_list k (get k (view schema.now))) (map (λ k. k.now) keywords.now)) }
 {
-    in_list(schema, "allOf", first, second)
-        || in_list(schema, "anyOf", first, second)
-        || in_list(schema, "oneOf", first, second)
-        || in_list(schema, "prefixItems", first, second)
+    for keyword in keywords {
+        if in_list(schema, *keyword, first, second) {
+            return true;
+        }
+    }
+    false
+}
+
+/// Whether a step leads to one of the schemas under these names.
+fn at_values(schema: &Value, keywords: &[&str], step: &SchemaStep) -> bool
+    ensures among { result ≡ list_any (same_place (schema_step_of step.now ∷ []))
+        (flat_map (λ k. below_value k (get k (view schema.now))) (map (λ k. k.now) keywords.now)) }
+{
+    for keyword in keywords {
+        if at_value(schema, *keyword, step) {
+            return true;
+        }
+    }
+    false
 }
 
 /// Whether two steps lead to a schema in one of the objects and lists.
-fn is_pair(schema: &Value, first: &SchemaStep, second: &SchemaStep) -> bool
+fn is_pair(
+    rule: Rule,
+    draft: Draft,
+    schema: &Value,
+    first: &SchemaStep,
+    second: &SchemaStep,
+) -> bool
     ensures among { result ≡ list_any (same_place (schema_step_of first.now ∷ schema_step_of second.now ∷ []))
-        (pairs_below (view schema.now)) }
+        (pairs_below rule (draft_of draft) (view schema.now)) }
 {
-    in_objects(schema, first, second) || in_lists(schema, first, second)
+    in_objects(schema, names_of_objects(rule, draft), first, second)
+        || in_lists(schema, names_of_lists(rule, draft), first, second)
 }
 
 /// Whether a step leads to one of the other schemas.
-#[tactic(auto, using(crate::proofs::OnWay::six))]
-fn is_single(schema: &Value, step: &SchemaStep) -> bool
-    ensures among { result ≡ list_any (same_place (schema_step_of step.now ∷ [])) (singles_below (view schema.now)) }
+fn is_single(rule: Rule, draft: Draft, schema: &Value, step: &SchemaStep) -> bool
+    ensures among { result ≡ list_any (same_place (schema_step_of step.now ∷ [])) (singles_below rule (draft_of draft) (view schema.now)) }
 {
-    at_value(schema, "not", step)
-        || at_value(schema, "if", step)
-        || at_value(schema, "then", step)
-        || at_value(schema, "else", step)
-        || at_value(schema, "items", step)
-        || at_value(schema, "propertyNames", step)
+    at_values(schema, names_of_values(rule, draft), step)
 }
 
 /// Whether a path leads from a schema to one of its subschemas.
-pub fn is_subschema(path: &SchemaPath, schema: &Value) -> bool
-    ensures subschema { result ≡ is_subschema path.now (view schema.now) }
+pub fn is_subschema(rule: Rule, draft: Draft, path: &SchemaPath, schema: &Value) -> bool
+    ensures subschema { result ≡ is_subschema rule (draft_of draft) path.now (view schema.now) }
 {
     let steps = path.steps();
     if steps.len() == 2 {
-        return is_pair(schema, &steps[0], &steps[1]);
+        return is_pair(rule, draft, schema, &steps[0], &steps[1]);
     }
     if steps.len() == 1 {
-        return is_single(schema, &steps[0]);
+        return is_single(rule, draft, schema, &steps[0]);
     }
     false
 }

@@ -6,10 +6,10 @@ ghost use Rattle.schema_parts.specs.ResolverViews.{found_of, Refuses};
 ghost use Rattle.bench_resolver.specs.BenchAnswers.{RefusesWith};
 ghost use Rattle.bench_resolver.specs.BenchDocuments.{value_in};
 ghost use Rattle.bench_resolver.specs.BenchLookups.{arrived, dynamic_in, first_dynamic, first_recursive, looked_up, looked_up_recursive};
-ghost use Rattle.bench_resolver.specs.BenchLookups.{no_base, no_resource, nothing_there, recursive_in, target_by_fragment, target_by_name};
+ghost use Rattle.bench_resolver.specs.BenchLookups.{no_base, not_at_hand, nothing_there, recursive_in, target_by_fragment, target_by_name};
 ghost use Rattle.bench_resolver.specs.BenchLookups.{target_by_pointer, target_named, target_root};
 ghost use Rattle.bench_resolver.specs.BenchResources.{name_number, place_of_resource};
-ghost use Rattle.bench_resolver.specs.BenchStart.{StartsAtInnermost};
+ghost use Rattle.bench_resolver.specs.BenchStart.{NarrowBasesStand, StartsAtInnermost};
 ghost use Rattle.bench_resolver.specs.BenchStates.{Point};
 ghost use Rattle.bench_resolver.specs.BenchNameViews.{name_of};
 ghost use Rattle.bench_resolver.specs.BenchResourceViews.{resource_of};
@@ -23,9 +23,10 @@ use crate::resolver::places::{refusal, value_below};
 use crate::resolver::pointers::{decoded, path_of_pointer};
 use crate::resolver::resources::{Resource, Resources};
 use crate::resolver::states::{enter, entered_below};
-use crate::resolver::uris::{fragment_of, resolve_uri};
+use crate::resolver::uris::resolve_uri;
 use bench_subschemas::drafts::detected;
-use bench_subschemas::identifiers::without_fragment;
+use bench_subschemas::identifiers::{fragment_of, without_fragment};
+use bench_subschemas::rules::Rule;
 use schema_parts::resolver::{LookupError, Target};
 use schema_parts::schema_place::{SchemaPath, SchemaPlace};
 use schema_reports::location::OutOfMemory;
@@ -40,12 +41,20 @@ fn nothing_there(alloc: Global, reference: &str) -> LookupError
     refusal(alloc, text, reference)
 }
 
-/// The refusal of a reference to a resource that is not there.
-fn no_resource(alloc: Global, reference: &str) -> LookupError
-    ensures refused { RefusesWith (no_resource reference.now) result }
+/// The refusal of a reference to a resource that is not at hand.
+fn not_at_hand(alloc: Global, rule: Rule, reference: &str, uri: &str) -> LookupError
+    ensures refused { RefusesWith (not_at_hand rule reference.now uri.now) result }
 {
-    let text = "this resolver has no resource for the reference ";
-    refusal(alloc, text, reference)
+    match rule {
+        Rule::Narrow => {
+            let text = "this resolver has no resource for the reference ";
+            refusal(alloc, text, reference)
+        }
+        Rule::Standard => {
+            let text = "this resolver has no resource under the URI ";
+            refusal(alloc, text, uri)
+        }
+    }
 }
 
 /// The target at the end of a path below a resource's root. Each subschema on the way that has an identifier is entered, and the
@@ -77,7 +86,7 @@ fn arrived(
         since.push(step.clone()?)?;
         place.path.push(step.clone()?)?;
         reached = below;
-        if is_subschema(&since, schema) {
+        if is_subschema(resources.rule(), draft, &since, schema) {
             draft = detected(draft, below);
             state = entered_below(alloc, resources, state, draft, &place, below)?;
             schema = below;
@@ -132,7 +141,7 @@ fn target_named(
             document: resource.document,
             path: name.path.clone()?,
         },
-        state: enter(alloc, state, number, resource.uri.as_str())?,
+        state: enter(alloc, state, number, resource.base.as_str())?,
         draft: name.draft,
     })
 }
@@ -212,7 +221,7 @@ fn target_root(
 {
     Ok(Target {
         place: resource.place()?,
-        state: enter(alloc, state, number, resource.uri.as_str())?,
+        state: enter(alloc, state, number, resource.base.as_str())?,
         draft: resource.draft,
     })
 }
@@ -236,7 +245,7 @@ fn target_by_fragment(
         return Ok(target_root(alloc, number, resource, state)?);
     }
     if fragment.as_bytes()[0] == b'/' {
-        let inside = enter(alloc, state, number, resource.uri.as_str())?;
+        let inside = enter(alloc, state, number, resource.base.as_str())?;
         return target_by_pointer(
             alloc, documents, resources, reference, resource, inside, fragment,
         );
@@ -250,7 +259,8 @@ fn target_by_fragment(
 ///
 /// # Errors
 ///
-/// A refusal, which names the reference, of one that cannot be resolved, that leads to no resource, or in it to nothing; one of a
+/// A refusal, which names the reference, of one that cannot be resolved, that leads to no resource (the standard's rule names the
+/// URI), or in it to nothing; one of a
 /// subschema on the way whose identifier no resource at its place has; and `OutOfMemory` if memory cannot be allocated.
 pub fn looked_up(
     alloc: Global,
@@ -263,12 +273,13 @@ pub fn looked_up(
     ensures leads { let leads = looked_up resources.now (held documents.now) (point_of state.now) reference.now dynamic in
         MatchResult result (λ t. leads ≡ Ok (found_of point_of t)) (Refuses leads) }
 {
-    let uri = resolve_uri(alloc, state.base.as_str(), reference)?;
+    let rule = resources.rule();
+    let uri = resolve_uri(alloc, rule, state.base.as_str(), reference)?;
     let Some(number) = resources.number_of(without_fragment(uri.as_str())) else {
-        return Err(no_resource(alloc, reference));
+        return Err(not_at_hand(alloc, rule, reference, uri.as_str()));
     };
     let Some(resource) = resources.get(number) else {
-        return Err(no_resource(alloc, reference));
+        return Err(not_at_hand(alloc, rule, reference, uri.as_str()));
     };
     let fragment = fragment_of(uri.as_str());
     target_by_fragment(
@@ -345,8 +356,9 @@ pub fn looked_up_recursive(
 }
 
 /// What lies outside the resource of a pointer's target is the pointer's part up to the innermost subschema with an identifier
-/// that the pointer passes into or ends at, counted from the root of the resource that the reference's URI names. The function does
-/// nothing when it runs.
+/// that the pointer passes into or ends at, counted from the root of the resource that the reference's URI names, if bases lead back to
+/// their resources: by the narrow rule they always do. The function does nothing when it runs.
 pub fn starts_at_the_innermost_resource<K, R>()
     ensures starts { (w : Parts Point K R) → StartsAtInnermost w }
+    ensures narrow { NarrowBasesStand }
 {}

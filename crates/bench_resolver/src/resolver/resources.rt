@@ -1,12 +1,12 @@
 //! The resources of documents.
-ghost use Rattle.std.specs.Prelude.{◌≡◌, ◌∷◌, [], IfOk, option_map, slice_get};
+ghost use Rattle.std.specs.Prelude.{◌≡◌, ◌∷◌, [], IfOk, flat_map, map, option_map, slice_get, string_bytes};
 ghost use Rattle.serde_json.specs.View.{view};
-ghost use Rattle.schema_definitions.specs.Instance.{Text};
 ghost use Rattle.schema_keywords.specs.KeywordViews.{draft_of};
 ghost use Rattle.schema_parts.specs.ResolverViews.{place_of};
 ghost use Rattle.bench_resolver.specs.BenchResources as spec;
 ghost use Rattle.bench_resolver.specs.BenchResources.{document_resource, document_resources, embedded, embedded_resources};
-ghost use Rattle.bench_resolver.specs.BenchResources.{is_recursive, number_of, place_of_resource, resource_if, resources_of, uri_at};
+ghost use Rattle.bench_resolver.specs.BenchResources.{identified, identified_root, is_recursive, number_of, place_of_resource};
+ghost use Rattle.bench_resolver.specs.BenchResources.{root_visited, table_for};
 ghost use Rattle.bench_resolver.specs.BenchStates.{number_at, resource_under};
 ghost use Rattle.bench_resolver.specs.BenchGathered.{Adds};
 ghost use Rattle.bench_resolver.specs.BenchResourceViews.{resource_of};
@@ -15,10 +15,11 @@ ghost use Rattle.bench_resolver.specs.BenchViews.{held, visited_of};
 use crate::resolver::documents::Documents;
 use crate::resolver::names::{Names, names_in};
 use crate::resolver::numbers::add_number;
-use crate::resolver::uris::own_uri;
+use crate::resolver::uris::{root_base, uri_of};
 use crate::resolver::walk::{Visited, walked};
 use bench_subschemas::drafts::detected;
-use bench_subschemas::identifiers::{identifier, without_fragment};
+use bench_subschemas::identifiers::without_fragment;
+use bench_subschemas::rules::Rule;
 use schema_keywords::keywords::Draft;
 use schema_parts::schema_place::{SchemaPath, SchemaPlace};
 use schema_reports::location::OutOfMemory;
@@ -27,11 +28,12 @@ use std::alloc::Global;
 use std::collections::HashMap;
 use std::marker::Model;
 
-/// A resource: the URI that it is found under, where it begins, the draft there, whether its root has `$recursiveAnchor` true, and
+/// A resource: the URI that it is found under, the base inside it, where it begins, the draft there, whether its root has `$recursiveAnchor` true, and
 /// its names.
 #[derive(Drop)]
 pub struct Resource {
     pub uri: String,
+    pub base: String,
     pub document: usize,
     pub path: SchemaPath,
     pub draft: Draft,
@@ -55,39 +57,47 @@ impl Resource {
     }
 }
 
-/// The resources of documents, by their numbers. Contracts see the list.
+/// The resources of documents, by their numbers, and the rule by which they were found. Contracts see the rule and the list.
 #[derive(Drop)]
 pub struct Resources {
+    rule: Rule,
     resources: Vec<Resource>,
     // For each URI the number of its resource.
     numbers: HashMap<String, usize>,
 }
 
 impl Model for Resources {
-    ghost use Rattle.std.specs.Prelude.{List, map};
+    ghost use Rattle.std.specs.Prelude.{map};
     ghost use Rattle.std.specs.HashMap.{get_by_text};
     ghost use Rattle.bench_resolver.specs.BenchKeys.{IsNumbered};
-    ghost use Rattle.bench_resolver.specs.BenchResources.{Resource as resource, resource_key};
+    ghost use Rattle.bench_resolver.specs.BenchResources.{Table, resource_key};
     ghost use Rattle.bench_resolver.specs.BenchResourceViews.{resource_of};
 
-    ghost Value = { List resource };
+    ghost Value = { Table };
 
-    ghost view = { λ r. map resource_of r.resources.items };
+    ghost view = { λ r. record { rule = r.rule; resources = map resource_of r.resources.items } };
 
     ghost invariant = { λ r. IsNumbered (map resource_key (map resource_of r.resources.items)) (get_by_text r.numbers) };
 }
 
 impl Resources {
+    /// The rule by which they were found.
+    pub fn rule(&self) -> Rule
+        ensures rule { result ≡ self.now.rule }
+    {
+        self.rule
+    }
+
     /// The number of the resource with a URI.
     pub fn number_of(&self, uri: &str) -> Option<usize>
-        ensures number { result ≡ number_of uri.now self.now }
+        ensures number { result ≡ number_of uri.now self.now.resources }
     {
         self.numbers.get(uri).copied()
     }
 
     /// The resource of a number.
     pub fn get(&self, number: usize) -> Option<&Resource>
-        ensures resource { option_map (λ r. resource_of r.now) result ≡ slice_get self.now number }
+        ensures resource { option_map (λ r. resource_of r.now) result ≡ slice_get self.now.resources number }
     {
         self.resources.get(number)
     }
@@ -126,19 +136,22 @@ fn is_recursive(schema: &Value) -> bool
 /// The resource that begins with a schema.
 fn resource_of(
     alloc: Global,
-    uri: &str,
+    rule: Rule,
+    uri: String,
+    base: String,
     document: usize,
     root: &Visited<'_>,
 ) -> Result<Resource, OutOfMemory>
-    ensures resource { IfOk result (λ r. resource_of r ≡ spec.resource_of uri.now document (visited_of root.now)) }
+    ensures resource { IfOk result (λ r. resource_of r ≡ spec.resource_of rule (string_bytes uri) (string_bytes base) document (visited_of root.now)) }
 {
     Ok(Resource {
-        uri: String::from_str(alloc, uri)?,
+        uri,
+        base,
         document,
         path: root.path.clone()?,
         draft: root.draft,
         is_recursive: is_recursive(root.schema),
-        names: names_in(alloc, root)?,
+        names: names_in(alloc, rule, root)?,
     })
 }
 
@@ -170,21 +183,76 @@ fn add_resource(
     Ok(())
 }
 
-/// Adds the resource of a schema, where its identifier is a URI with its scheme.
+/// Adds the resource of a schema, where its identifier gives it a URI.
 fn add_identified(
     alloc: Global,
+    rule: Rule,
     document: usize,
     visited: &Visited<'_>,
     gathered: &mut Gathered,
 ) -> Result<(), OutOfMemory>
-    ensures added { IfOk result (λ _. Adds (resource_if document (visited_of visited.now) (uri_at (visited_of visited.now)))
-        gathered.old gathered.new) }
+    ensures added { IfOk result (λ _. Adds (identified rule document (visited_of visited.now)) gathered.old gathered.new) }
 {
-    if let Some(id) = identifier(visited.draft, visited.schema) {
-        if let Some(uri) = own_uri(id) {
-            let resource = resource_of(alloc, uri, document, visited)?;
-            add_resource(alloc, gathered, resource)?;
-        }
+    let own = uri_of(
+        alloc,
+        rule,
+        visited.base.as_str(),
+        visited.draft,
+        visited.schema,
+    )?;
+    if let Some(uri) = own {
+        let base = String::from_str(alloc, uri.as_str())?;
+        let resource = resource_of(alloc, rule, uri, base, document, visited)?;
+        add_resource(alloc, gathered, resource)?;
+    }
+    Ok(())
+}
+
+/// Adds the resource of a document's root under its identifier, by the standard's rule.
+fn add_identified_root(
+    alloc: Global,
+    rule: Rule,
+    document: usize,
+    root: &Visited<'_>,
+    gathered: &mut Gathered,
+) -> Result<(), OutOfMemory>
+    ensures added { IfOk result (λ _. Adds (identified_root rule document (visited_of root.now)) gathered.old gathered.new) }
+{
+    match rule {
+        Rule::Narrow => Ok(()),
+        Rule::Standard => add_identified(alloc, Rule::Standard, document, root, gathered),
+    }
+}
+
+/// A document's root, read in a draft.
+fn root_visited<'a>(
+    alloc: Global,
+    draft: Draft,
+    uri: &str,
+    value: &'a Value,
+) -> Result<Visited<'a>, OutOfMemory>
+    ensures root { IfOk result (λ v. visited_of v ≡ root_visited (draft_of draft) (record { uri = uri.now; value = view value.now })) }
+{
+    Ok(Visited {
+        path: SchemaPath::root(alloc),
+        base: String::from_str(alloc, without_fragment(uri))?,
+        draft: detected(draft, value),
+        schema: value,
+    })
+}
+
+/// Adds the resources of the schemas that the walk of a document has come to.
+fn add_all_identified(
+    alloc: Global,
+    rule: Rule,
+    document: usize,
+    all: &[Visited<'_>],
+    gathered: &mut Gathered,
+) -> Result<(), OutOfMemory>
+    ensures added { IfOk result (λ _. Adds (flat_map (identified rule document) (map visited_of all.now)) gathered.old gathered.new) }
+{
+    for visited in all {
+        add_identified(alloc, rule, document, visited, gathered)?;
     }
     Ok(())
 }
@@ -192,24 +260,36 @@ fn add_identified(
 /// Adds the resources that are embedded in a document.
 fn add_embedded(
     alloc: Global,
+    rule: Rule,
     draft: Draft,
     document: usize,
+    uri: &str,
     value: &Value,
     gathered: &mut Gathered,
 ) -> Result<(), OutOfMemory>
-    ensures added { IfOk result (λ _. (uri : Text) →
-        Adds (embedded (draft_of draft) document (record { uri = uri; value = view value.now })) gathered.old gathered.new) }
+    ensures added { IfOk result (λ _. Adds (embedded rule (draft_of draft) document (record { uri = uri.now; value = view value.now }))
+        gathered.old gathered.new) }
 {
-    let root = SchemaPath::root(alloc);
-    for visited in &walked(alloc, true, &root, detected(draft, value), value)? {
-        add_identified(alloc, document, visited, gathered)?;
-    }
+    let root = root_visited(alloc, draft, uri, value)?;
+    let base = root_base(alloc, rule, uri, root.draft, value)?;
+    let all = walked(
+        alloc,
+        rule,
+        true,
+        &root.path,
+        base.as_str(),
+        root.draft,
+        value,
+    )?;
+    add_identified_root(alloc, rule, document, &root, gathered)?;
+    add_all_identified(alloc, rule, document, all.as_slice(), gathered)?;
     Ok(())
 }
 
 /// Adds the resource that is a whole document.
 fn add_document(
     alloc: Global,
+    rule: Rule,
     draft: Draft,
     document: usize,
     uri: &str,
@@ -217,44 +297,32 @@ fn add_document(
     gathered: &mut Gathered,
 ) -> Result<(), OutOfMemory>
     ensures added { IfOk result (λ _.
-        let added = document_resource (draft_of draft) document (record { uri = uri.now; value = view value.now }) in
+        let added = document_resource rule (draft_of draft) document (record { uri = uri.now; value = view value.now }) in
         Adds (added ∷ []) gathered.old gathered.new) }
 {
-    let root = Visited {
-        path: SchemaPath::root(alloc),
-        draft: detected(draft, value),
-        schema: value,
-    };
-    let resource = resource_of(alloc, without_fragment(uri), document, &root)?;
-    add_resource(alloc, gathered, resource)
+    let root = root_visited(alloc, draft, uri, value)?;
+    let own = String::from_str(alloc, without_fragment(uri))?;
+    let base = root_base(alloc, rule, uri, root.draft, value)?;
+    let resource = resource_of(alloc, rule, own, base, document, &root)?;
+    add_resource(alloc, gathered, resource)?;
+    Ok(())
 }
 
 /// Adds the resources that are whole documents, the root's first.
 fn add_documents(
     alloc: Global,
+    rule: Rule,
     draft: Draft,
     documents: &Documents<'_>,
     gathered: &mut Gathered,
 ) -> Result<(), OutOfMemory>
-    ensures added { IfOk result (λ _. Adds (document_resources (draft_of draft) 0 (held documents.now)) gathered.old gathered.new) }
+    ensures added { IfOk result (λ _. Adds (document_resources rule (draft_of draft) 0 (held documents.now)) gathered.old gathered.new) }
 {
-    add_document(
-        alloc,
-        draft,
-        0,
-        documents.uri.as_str(),
-        documents.root,
-        gathered,
-    )?;
+    let uri = documents.uri.as_str();
+    add_document(alloc, rule, draft, 0, uri, documents.root, gathered)?;
     for (i, other) in documents.others.iter().enumerate() {
-        add_document(
-            alloc,
-            draft,
-            i + 1,
-            other.uri.as_str(),
-            other.value,
-            gathered,
-        )?;
+        let uri = other.uri.as_str();
+        add_document(alloc, rule, draft, i + 1, uri, other.value, gathered)?;
     }
     Ok(())
 }
@@ -262,39 +330,44 @@ fn add_documents(
 /// Adds the resources that are embedded in documents, the root's first.
 fn add_all_embedded(
     alloc: Global,
+    rule: Rule,
     draft: Draft,
     documents: &Documents<'_>,
     gathered: &mut Gathered,
 ) -> Result<(), OutOfMemory>
-    ensures added { IfOk result (λ _. Adds (embedded_resources (draft_of draft) 0 (held documents.now)) gathered.old gathered.new) }
+    ensures added { IfOk result (λ _. Adds (embedded_resources rule (draft_of draft) 0 (held documents.now)) gathered.old gathered.new) }
 {
-    add_embedded(alloc, draft, 0, documents.root, gathered)?;
+    let uri = documents.uri.as_str();
+    add_embedded(alloc, rule, draft, 0, uri, documents.root, gathered)?;
     for (i, other) in documents.others.iter().enumerate() {
-        add_embedded(alloc, draft, i + 1, other.value, gathered)?;
+        let uri = other.uri.as_str();
+        add_embedded(alloc, rule, draft, i + 1, uri, other.value, gathered)?;
     }
     Ok(())
 }
 
-/// The resources of documents: the documents themselves, and then what is embedded in them. Each document is walked once, and each
-/// resource once more for its names.
+/// The resources of documents, found by a rule: the documents themselves, and then what is embedded in them. Each document is walked
+/// once, and each resource once more for its names.
 ///
 /// # Errors
 ///
 /// Fails only if memory cannot be allocated.
 pub fn resources_of(
     alloc: Global,
+    rule: Rule,
     draft: Draft,
     documents: &Documents<'_>,
 ) -> Result<Resources, OutOfMemory>
-    ensures resources { IfOk result (λ r. r ≡ resources_of (draft_of draft) (held documents.now)) }
+    ensures resources { IfOk result (λ r. r ≡ table_for rule (draft_of draft) (held documents.now)) }
 {
     let mut gathered = Gathered {
         resources: Vec::new(alloc),
         numbers: HashMap::new(alloc),
     };
-    add_documents(alloc, draft, documents, &mut gathered)?;
-    add_all_embedded(alloc, draft, documents, &mut gathered)?;
+    add_documents(alloc, rule, draft, documents, &mut gathered)?;
+    add_all_embedded(alloc, rule, draft, documents, &mut gathered)?;
     Ok(Resources {
+        rule,
         resources: gathered.resources,
         numbers: gathered.numbers,
     })

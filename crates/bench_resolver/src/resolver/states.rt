@@ -1,19 +1,20 @@
 //! Where a run of the resolver is.
-ghost use Rattle.std.specs.Prelude.{◌≡◌, IfOk, MatchResult, Ok, nat_eq, option_map};
+ghost use Rattle.std.specs.Prelude.{◌≡◌, IfOk, MatchResult, Ok, nat_eq, option_map, slice_get, string_bytes};
 ghost use Rattle.std.specs.List.{list_any};
 ghost use Rattle.serde_json.specs.View.{view};
 ghost use Rattle.schema_keywords.specs.KeywordViews.{draft_of};
 ghost use Rattle.schema_parts.specs.ResolverViews.{Refuses, place_of};
 ghost use Rattle.bench_resolver.specs.BenchAnswers.{RefusesWith};
-ghost use Rattle.bench_resolver.specs.BenchStates.{enter, entered, entered_below, entered_by, entered_root, no_identified};
+ghost use Rattle.bench_resolver.specs.BenchStates.{enter, entered, entered_below, entered_by, entered_root, no_identified, uri_of_document};
 ghost use Rattle.bench_resolver.specs.BenchViews.{held, point_of};
 
 use crate::resolver::BenchState;
 use crate::resolver::documents::Documents;
 use crate::resolver::places::refusal;
 use crate::resolver::resources::Resources;
-use crate::resolver::uris::own_uri;
+use crate::resolver::uris::{own_uri, root_base};
 use bench_subschemas::identifiers::identifier;
+use bench_subschemas::rules::Rule;
 use schema_keywords::keywords::Draft;
 use schema_parts::resolver::LookupError;
 use schema_parts::schema_place::SchemaPlace;
@@ -71,16 +72,16 @@ fn entered_by(
     place: &SchemaPlace,
     id: &str,
     state: &BenchState,
-    uri: Option<&str>,
+    uri: Option<String>,
 ) -> Result<BenchState, LookupError>
     ensures entered { let entered = entered_by resources.now (place_of place.now) id.now (point_of state.now)
-        (option_map (λ t. t.now) uri.entry) in MatchResult result (λ s. entered ≡ Ok (point_of s)) (Refuses entered) }
+        (option_map string_bytes uri) in MatchResult result (λ s. entered ≡ Ok (point_of s)) (Refuses entered) }
 {
     let Some(uri) = uri else {
         return Err(no_identified(alloc, id));
     };
-    match resources.number_at(place, uri) {
-        Some(number) => Ok(enter(alloc, state, number, uri)?),
+    match resources.number_at(place, uri.as_str()) {
+        Some(number) => Ok(enter(alloc, state, number, uri.as_str())?),
         None => Err(no_identified(alloc, id)),
     }
 }
@@ -102,8 +103,29 @@ pub fn entered_below(
         in MatchResult result (λ s. entered ≡ Ok (point_of s)) (Refuses entered) }
 {
     match identifier(draft, schema) {
-        Some(id) => entered_by(alloc, resources, place, id, &state, own_uri(id)),
+        Some(id) => {
+            let uri = own_uri(alloc, resources.rule(), state.base.as_str(), id)?;
+            entered_by(alloc, resources, place, id, &state, uri)
+        }
         None => Ok(state),
+    }
+}
+
+/// The URI of the document of a number, whose root is this schema.
+fn uri_of_document(
+    alloc: Global,
+    rule: Rule,
+    documents: &Documents<'_>,
+    number: usize,
+    draft: Draft,
+    schema: &Value,
+) -> Result<Option<String>, OutOfMemory>
+    ensures uri { IfOk result (λ o. option_map string_bytes o
+        ≡ uri_of_document rule (draft_of draft) (view schema.now) (slice_get (held documents.now) number)) }
+{
+    match documents.uri_of(number) {
+        Some(uri) => Ok(Some(root_base(alloc, rule, uri, draft, schema)?)),
+        None => Ok(None),
     }
 }
 
@@ -122,7 +144,8 @@ fn entered_root(
 {
     match identifier(draft, schema) {
         Some(id) => {
-            let uri = documents.uri_of(place.document);
+            let rule = resources.rule();
+            let uri = uri_of_document(alloc, rule, documents, place.document, draft, schema)?;
             entered_by(alloc, resources, place, id, &state, uri)
         }
         None => Ok(state),

@@ -1,12 +1,20 @@
-//! References and URIs (sections 3 and 4 of RFC 3986).
-ghost use Rattle.std.specs.Prelude.{◌≡◌, ◌++◌, MatchResult, Ok, option_map, string_bytes};
+//! References and URIs (sections 3, 4 and 5.2 of RFC 3986).
+ghost use Rattle.std.specs.Prelude.{◌≡◌, ◌++◌, IfOk, MatchResult, Ok, option_and_then, option_map, string_bytes, unwrap_or};
+ghost use Rattle.serde_json.specs.View.{view};
+ghost use Rattle.schema_keywords.specs.KeywordViews.{draft_of};
 ghost use Rattle.schema_parts.specs.ResolverViews.{Refuses};
-ghost use Rattle.bench_resolver.specs.BenchUris.{fragment_of, is_absolute, own_uri, resolve_uri};
+ghost use Rattle.bench_subschemas.specs.BenchResolving.{identifier};
+ghost use Rattle.bench_resolver.specs.BenchUris.{is_absolute, own_uri, resolve_narrowly, resolve_uri, root_base};
 
 use crate::resolver::places::refusal;
-use bench_subschemas::identifiers::without_fragment;
+use bench_subschemas::identifiers::{identifier, without_fragment};
+use bench_subschemas::rules::Rule;
+use schema_keywords::keywords::Draft;
 use schema_parts::resolver::LookupError;
+use schema_reports::location::OutOfMemory;
+use serde_json::Value;
 use std::alloc::Global;
+use uri_references::references::resolve;
 
 /// Whether a `:` stands before any `/`, `?` or `#`.
 fn is_absolute(uri: &str) -> bool
@@ -23,36 +31,94 @@ fn is_absolute(uri: &str) -> bool
     false
 }
 
-/// What follows the first `#`.
-pub fn fragment_of(uri: &str) -> &str
-    ensures fragment { result.now ≡ fragment_of uri.now }
-{
-    match uri.split_once('#') {
-        Some((_, fragment)) => fragment,
-        None => "",
-    }
-}
-
-/// The URI that an identifier gives its schema.
-pub fn own_uri(identifier: &str) -> Option<&str>
-    ensures uri { option_map (λ t. t.now) result ≡ own_uri identifier.now }
-{
-    if is_absolute(identifier) {
-        Some(without_fragment(identifier))
-    } else {
-        None
-    }
-}
-
-/// What a reference stands for from a base: the base without its fragment, this base followed by a fragment, or a URI with its
-/// scheme.
+/// The URI that an identifier gives its schema, where this is the base around it.
 ///
 /// # Errors
 ///
-/// A refusal of any other reference, and `OutOfMemory` if memory cannot be allocated.
-pub fn resolve_uri(alloc: Global, base: &str, reference: &str) -> Result<String, LookupError>
-    ensures resolved { MatchResult result (λ t. resolve_uri base.now reference.now ≡ Ok (string_bytes t))
-        (Refuses (resolve_uri base.now reference.now)) }
+/// Fails only if memory cannot be allocated.
+pub fn own_uri(
+    alloc: Global,
+    rule: Rule,
+    base: &str,
+    identifier: &str,
+) -> Result<Option<String>, OutOfMemory>
+    ensures uri { IfOk result (λ o. option_map string_bytes o ≡ own_uri rule base.now identifier.now) }
+{
+    match rule {
+        Rule::Narrow => {
+            if is_absolute(identifier) {
+                Ok(Some(String::from_str(alloc, without_fragment(identifier))?))
+            } else {
+                Ok(None)
+            }
+        }
+        Rule::Standard => {
+            let uri = resolve(alloc, base, identifier)?;
+            Ok(Some(String::from_str(alloc, without_fragment(uri.as_str()))?))
+        }
+    }
+}
+
+/// The URI that the identifier of a schema gives it, where this is the base around it.
+///
+/// # Errors
+///
+/// Fails only if memory cannot be allocated.
+pub fn uri_of(
+    alloc: Global,
+    rule: Rule,
+    base: &str,
+    draft: Draft,
+    schema: &Value,
+) -> Result<Option<String>, OutOfMemory>
+    ensures uri { IfOk result (λ o. option_map string_bytes o
+        ≡ option_and_then (own_uri rule base.now) (identifier (draft_of draft) (view schema.now))) }
+{
+    match identifier(draft, schema) {
+        Some(id) => own_uri(alloc, rule, base, id),
+        None => Ok(None),
+    }
+}
+
+/// A URI of its own, or the base.
+pub fn or_base<'t>(own: &'t Option<String>, base: &'t str) -> &'t str
+    ensures base { result.now ≡ unwrap_or (option_map string_bytes own.now) base.now }
+{
+    match own {
+        Some(uri) => uri.as_str(),
+        None => base,
+    }
+}
+
+/// The base inside a document that is handed in under a URI.
+///
+/// # Errors
+///
+/// Fails only if memory cannot be allocated.
+pub fn root_base(
+    alloc: Global,
+    rule: Rule,
+    uri: &str,
+    draft: Draft,
+    schema: &Value,
+) -> Result<String, OutOfMemory>
+    ensures base { IfOk result (λ t. string_bytes t ≡ root_base rule uri.now (draft_of draft) (view schema.now)) }
+{
+    let around = without_fragment(uri);
+    match rule {
+        Rule::Narrow => String::from_str(alloc, around),
+        Rule::Standard => {
+            let own = uri_of(alloc, Rule::Standard, around, draft, schema)?;
+            String::from_str(alloc, or_base(&own, around))
+        }
+    }
+}
+
+/// What a reference stands for from a base by the narrow rule: the base without its fragment, this base followed by a fragment, or a
+/// URI with its scheme.
+fn resolve_narrowly(alloc: Global, base: &str, reference: &str) -> Result<String, LookupError>
+    ensures resolved { MatchResult result (λ t. resolve_narrowly base.now reference.now ≡ Ok (string_bytes t))
+        (Refuses (resolve_narrowly base.now reference.now)) }
 {
     if reference.is_empty() {
         return Ok(String::from_str(alloc, without_fragment(base))?);
@@ -67,4 +133,25 @@ pub fn resolve_uri(alloc: Global, base: &str, reference: &str) -> Result<String,
     }
     let text = "this resolver does not resolve the reference ";
     Err(refusal(alloc, text, reference))
+}
+
+/// What a reference stands for from a base: by the standard's rule as RFC 3986 has it in 5.2.
+///
+/// # Errors
+///
+/// By the narrow rule a refusal of a reference that is neither empty, nor a fragment, nor a URI with its scheme; and `OutOfMemory` if
+/// memory cannot be allocated.
+pub fn resolve_uri(
+    alloc: Global,
+    rule: Rule,
+    base: &str,
+    reference: &str,
+) -> Result<String, LookupError>
+    ensures resolved { MatchResult result (λ t. resolve_uri rule base.now reference.now ≡ Ok (string_bytes t))
+        (Refuses (resolve_uri rule base.now reference.now)) }
+{
+    match rule {
+        Rule::Narrow => Ok(resolve_narrowly(alloc, base, reference)?),
+        Rule::Standard => Ok(resolve(alloc, base, reference)?),
+    }
 }

@@ -9,9 +9,11 @@ ghost use Rattle.bench_resolver.specs.BenchResources.{goes_into, visited_below, 
 ghost use Rattle.bench_resolver.specs.BenchSpeaking.{kept_if, speaking, speaks};
 ghost use Rattle.bench_resolver.specs.BenchViews.{visited_of};
 
-use bench_subschemas::drafts::{detected, text_member};
-use bench_subschemas::identifiers::identifier;
+use crate::resolver::uris::{or_base, uri_of};
+use bench_subschemas::drafts::detected;
+use bench_subschemas::identifiers::{dynamic_name, identifier, plain_name};
 use bench_subschemas::plain::is_plain;
+use bench_subschemas::rules::Rule;
 use bench_subschemas::subschemas::{FoundSchema, subschemas_found};
 use schema_keywords::keywords::Draft;
 use schema_parts::schema_place::SchemaPath;
@@ -19,10 +21,11 @@ use schema_reports::location::OutOfMemory;
 use serde_json::Value;
 use std::alloc::Global;
 
-/// A schema that the walk comes to: its path, the draft that it is read in, and itself.
+/// A schema that the walk comes to: its path, the base around it, the draft that it is read in, and itself.
 #[derive(Drop)]
 pub struct Visited<'a> {
     pub path: SchemaPath,
+    pub base: String,
     pub draft: Draft,
     pub schema: &'a Value,
 }
@@ -35,13 +38,13 @@ fn goes_into(everywhere: bool, draft: Draft, schema: &Value) -> bool
 }
 
 /// Whether a schema has what the walk looks for: an identifier, if it goes into all schemas, and else a name.
-fn speaks(everywhere: bool, draft: Draft, schema: &Value) -> bool
-    ensures speaks { result ≡ speaks everywhere (draft_of draft) (view schema.now) }
+fn speaks(rule: Rule, everywhere: bool, draft: Draft, schema: &Value) -> bool
+    ensures speaks { result ≡ speaks rule everywhere (draft_of draft) (view schema.now) }
 {
     if everywhere {
         identifier(draft, schema).is_some()
     } else {
-        text_member(schema, "$anchor").is_some() || text_member(schema, "$dynamicAnchor").is_some()
+        plain_name(rule, draft, schema).is_some() || dynamic_name(rule, draft, schema).is_some()
     }
 }
 
@@ -63,20 +66,23 @@ fn path_over(
 /// Adds a schema that the walk has come to, where it has what the walk looks for.
 fn keep<'a>(
     alloc: Global,
+    rule: Rule,
     everywhere: bool,
     path: &SchemaPath,
     way: &[FoundSchema<'a>],
+    base: &str,
     draft: Draft,
     schema: &'a Value,
     visited: &mut Vec<Visited<'a>>,
 ) -> Result<(), OutOfMemory>
     ensures kept { IfOk result (λ _. map visited_of visited.new.items ≡ map visited_of visited.old.items
-        ++ kept_if (speaks everywhere (draft_of draft) (view schema.now))
-        (record { path = path.now ++ flat_map path_of way.now; draft = draft_of draft; schema = view schema.now })) }
+        ++ kept_if (speaks rule everywhere (draft_of draft) (view schema.now))
+        (record { path = path.now ++ flat_map path_of way.now; base = base.now; draft = draft_of draft; schema = view schema.now })) }
 {
-    if speaks(everywhere, draft, schema) {
+    if speaks(rule, everywhere, draft, schema) {
         visited.push(Visited {
             path: path_over(alloc, path, way)?,
+            base: String::from_str(alloc, base)?,
             draft,
             schema,
         })?;
@@ -84,24 +90,27 @@ fn keep<'a>(
     Ok(())
 }
 
-/// Adds the schemas below a schema that have what the walk looks for. The schema lies at a path and then on the way.
+/// Adds the schemas below a schema that have what the walk looks for. The schema lies at a path and then on the way, and the base is
+/// the one inside it.
 fn visit_below<'a>(
     alloc: Global,
+    rule: Rule,
     everywhere: bool,
     path: &SchemaPath,
     way: &mut Vec<FoundSchema<'a>>,
+    base: &str,
     draft: Draft,
     schema: &'a Value,
     visited: &mut Vec<Visited<'a>>,
 ) -> Result<(), OutOfMemory>
     ensures way { IfOk result (λ _. way.new.items ≡ way.old.items) }
     ensures visited { IfOk result (λ _. (n : ℕ) → depth (view schema.now) < n → map visited_of visited.new.items
-        ≡ map visited_of visited.old.items ++ filter (speaking everywhere)
-        (visited_below everywhere n (path.now ++ flat_map path_of way.old.items) (draft_of draft) (view schema.now))) }
+        ≡ map visited_of visited.old.items ++ filter (speaking rule everywhere)
+        (visited_below rule everywhere n (path.now ++ flat_map path_of way.old.items) base.now (draft_of draft) (view schema.now))) }
 {
-    for found in &subschemas_found(alloc, schema)? {
+    for found in &subschemas_found(alloc, rule, draft, schema)? {
         let below = found.schema;
-        if is_plain(below) {
+        if is_plain(rule, below) {
             continue;
         }
         let draft = detected(draft, below);
@@ -109,44 +118,47 @@ fn visit_below<'a>(
             continue;
         }
         way.push(*found)?;
+        let on_way = way.as_slice();
         keep(
-            alloc,
-            everywhere,
-            path,
-            way.as_slice(),
-            draft,
-            below,
-            visited,
+            alloc, rule, everywhere, path, on_way, base, draft, below, visited,
         )?;
-        visit_below(alloc, everywhere, path, way, draft, below, visited)?;
+        let own = uri_of(alloc, rule, base, draft, below)?;
+        let inside = or_base(&own, base);
+        visit_below(
+            alloc, rule, everywhere, path, way, inside, draft, below, visited,
+        )?;
         way.pop();
     }
     Ok(())
 }
 
 /// The schemas below a schema that have an identifier, in the order of the walk, if it goes into all, and else those that have a
-/// name.
+/// name. The base is the one inside the schema.
 ///
 /// # Errors
 ///
 /// Fails only if memory cannot be allocated.
 pub fn walked<'a>(
     alloc: Global,
+    rule: Rule,
     everywhere: bool,
     path: &SchemaPath,
+    base: &str,
     draft: Draft,
     schema: &'a Value,
 ) -> Result<Vec<Visited<'a>>, OutOfMemory>
     ensures walked { IfOk result (λ v. map visited_of v.items
-        ≡ filter (speaking everywhere) (walked everywhere path.now (draft_of draft) (view schema.now))) }
+        ≡ filter (speaking rule everywhere) (walked rule everywhere path.now base.now (draft_of draft) (view schema.now))) }
 {
     let mut visited = Vec::new(alloc);
     let mut way = Vec::new(alloc);
     visit_below(
         alloc,
+        rule,
         everywhere,
         path,
         &mut way,
+        base,
         draft,
         schema,
         &mut visited,

@@ -29,7 +29,7 @@ returns-in_err-validator-clause-fault c =
       unfinished = map string_bytes request.unfinished.items;
       holds = c.in_ok-call.ensures.holds;
       resolver = r;
-      resolves = record { document = ap view given.document; uri = given.uri; alone = given.alone; draft = given.draft; drafts = rw c.new.ensures.empty at given.drafts; custom = rw c.new.ensures.empty at given.custom };
+      resolves = record { rule = given.rule; document = ap view given.document; uri = given.uri; alone = given.alone; draft = given.draft; drafts = rw c.new.ensures.empty at given.drafts; custom = rw c.new.ensures.empty at given.custom };
     } in
     let refused : IsRefused asked e = elim c.in_err-validator.ensures.refused [
       | inl cause ↦ inl (λ spoken.
@@ -61,7 +61,7 @@ returns-clause-answer c =
         unfinished = unfinished;
         holds = c.in_ok-call.ensures.holds;
         resolver = r;
-        resolves = record { document = ap view given.document; uri = given.uri; alone = given.alone; draft = given.draft; drafts = rw c.new.ensures.empty at given.drafts; custom = rw c.new.ensures.empty at given.custom };
+        resolves = record { rule = given.rule; document = ap view given.document; uri = given.uri; alone = given.alone; draft = given.draft; drafts = rw c.new.ensures.empty at given.drafts; custom = rw c.new.ensures.empty at given.custom };
       };
       builds = λ spoken. subst (λ (ps : List Text). Builds (parts_of (bench_resolving r) bench_table (bench_matcher ps) (words spoken) default_options) schema default_options.limit) same (c.in_ok-validator.ensures.built spoken);
       passes = c.in_ok-validator.ensures.passed;

@@ -10,4 +10,4 @@ pub returns-in-Object : goal.returns-in-Object
 returns-in-Object c =
     let members = members_view c.in-Object.members.entries in
     let is : view c.args.schema.now ≡ object members = ap (λ (v : Value). view v) c.in-Object.is ∙ view-Object c.in-Object.members in
-    record { plain = plain_if c.any_speaks.result members (view c.args.schema.now) c.any_speaks.ensures.any is }
+    record { plain = plain_if c.args.rule c.any_speaks.result members (view c.args.schema.now) c.any_speaks.ensures.any is }

@@ -3,6 +3,7 @@ use Rattle.serde_json.specs.Data.{Data, object}
 use Rattle.serde_json.specs.View.{members_view, view}
 use Rattle.serde_json.specs.declared.value.Value.{Value}
 use Rattle.serde_json.proofs.Views.{view-Object}
+use Rattle.schema_keywords.specs.KeywordViews.{draft_of}
 use Rattle.bench_subschemas.specs.BenchResolving.{subschemas}
 use Rattle.bench_subschemas.specs.FoundSchemas.{found_at}
 use Rattle.bench_subschemas.specs.FoundViews.{found_of}
@@ -13,7 +14,7 @@ pub returns-else-any_names_schemas : goal.returns-else-any_names_schemas
 returns-else-any_names_schemas c =
     let members = members_view c.in-Object.members.entries in
     record {
-      found = ap (map found_of) c.new.ensures.items ∙ ap (map (found_at (object members))) (sym (none_named members (sym c.any_names_schemas.ensures.any ∙ c.if-any_names_schemas.false)))
-          ∙ ap (λ (d : Data). map (found_at d) (subschemas d)) (sym (view-Object c.in-Object.members))
-          ∙ ap (λ (v : Value). map (found_at (view v)) (subschemas (view v))) (sym c.in-Object.is);
+      found = ap (map found_of) c.new.ensures.items ∙ ap (map (found_at (object members))) (sym (none_named c.args.rule (draft_of c.args.draft) members (sym c.any_names_schemas.ensures.any ∙ c.if-any_names_schemas.false)))
+          ∙ ap (λ (d : Data). map (found_at d) (subschemas c.args.rule (draft_of c.args.draft) d)) (sym (view-Object c.in-Object.members))
+          ∙ ap (λ (v : Value). map (found_at (view v)) (subschemas c.args.rule (draft_of c.args.draft) (view v))) (sym c.in-Object.is);
     }

@@ -5,9 +5,13 @@ use Rattle.serde_json.specs.View.{view}
 use Rattle.serde_json.specs.declared.value.Value.{Value}
 use Rattle.schema_definitions.specs.Drafts.{at_path}
 use Rattle.schema_parts.specs.ResolverViews.{Placed, place_of, placed_in, placed_of}
-use Rattle.bench_subschemas.specs.BenchResolving.{subschemas_of}
+use Rattle.schema_keywords.specs.KeywordViews.{draft_of}
+use Rattle.bench_subschemas.specs.declared.rules.Rule.{Rule}
+use Rattle.bench_subschemas.specs.BenchResolving.{subschemas, subschemas_of}
+use Rattle.bench_subschemas.specs.FoundSchemas.{found_at}
+use Rattle.bench_subschemas.specs.FoundViews.{placed_at}
 use Rattle.bench_resolver.specs.BenchAnswers.{bench_resolving}
-use Rattle.bench_resolver.specs.BenchDocuments.{documents_of, value_in}
+use Rattle.bench_resolver.specs.BenchDocuments.{BenchDocument, documents_of, value_in}
 use Rattle.bench_resolver.specs.SubschemaLaws.{found_there}
 use Rattle.bench_resolver.proofs.resolver.BenchResolverResolver.subschemas_read.Goals as goal
 
@@ -18,6 +22,8 @@ returns-in-Some c = record {
       let p = place_of c.args.place.now in
       let v : Data = view c.in-Some.schema.now in
       let there : value_in (documents_of r) p ≡ Some v = sym read ∙ ap (option_map (λ (b : Bor Value). view b.now)) c.in-Some.is in
-      let same = found_there r p v there ∙ ap (λ (o : Option Data). map (placed_in (bench_resolving r)) (map (at_path p) (subschemas_of o))) (sym there) in
+      let draft = draft_of c.args.draft in
+      let same = ap (λ (rule : Rule). map (placed_at p) (map (found_at v) (subschemas rule draft v))) (ap (λ (b : BenchDocument). b.rule) c.self.view_is) ∙ found_there r p draft v there
+      ∙ ap (λ (o : Option Data). map (placed_in (bench_resolving r)) (map (at_path p) (subschemas_of r.rule draft o))) (sym there) in
       subst (λ (qs : List Placed). IfOk c.subschemas_placed.result (λ ps. map placed_of ps.items ≡ qs)) same c.subschemas_placed.ensures.placed;
 }

@@ -1,4 +1,4 @@
-use Rattle.std.proofs.Common.{◌≡◌, ◌∙◌, ◌++◌, List, ap, false, map, sym}
+use Rattle.std.proofs.Common.{◌≡◌, ◌∙◌, ◌++◌, [], List, ap, false, map, sym}
 use Rattle.std.specs.Prelude.{flat_map}
 use Rattle.bench_resolver.specs.declared.resolver.names.Name as code
 use Rattle.bench_resolver.specs.BenchResources.{Name, names_at, walked}
@@ -10,8 +10,9 @@ use Rattle.bench_resolver.proofs.resolver.names.names_in.Goals as goal
 pub loop-visited-init : goal.loop-visited-init
 loop-visited-init c =
     let v = visited_of c.args.root.now in
-    let below = walked false v.path v.draft v.schema in
-    let own : map name_of c.push_names.new.names.items ≡ names_at v = c.in_ok-push_names.ensures.pushed ∙ ap (λ (ns : List code.Name). map name_of ns ++ names_at v) c.new-names.ensures.items in
+    let rule = c.args.rule in
+    let below = walked rule false v.path [] v.draft v.schema in
+    let own : map name_of c.push_names.new.names.items ≡ names_at rule v = c.in_ok-push_names.ensures.pushed ∙ ap (λ (ns : List code.Name). map name_of ns ++ names_at rule v) c.new-names.ensures.items in
     let kept = ap (map visited_of) c.deref-visited-items.ensures.value ∙ c.in_ok-walked.ensures.walked in
-    ap (λ (ns : List Name). ns ++ flat_map names_at below) (sym own)
-    ∙ ap (λ (ns : List Name). map name_of c.push_names.new.names.items ++ ns) (names_kept below (map visited_of c.deref-visited-items.result.now) kept)
+    ap (λ (ns : List Name). ns ++ flat_map (names_at rule) below) (sym own)
+    ∙ ap (λ (ns : List Name). map name_of c.push_names.new.names.items ++ ns) (names_kept rule below (map visited_of c.deref-visited-items.result.now) kept)

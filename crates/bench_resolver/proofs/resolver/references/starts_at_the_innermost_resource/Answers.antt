@@ -2,4 +2,4 @@ use Rattle.bench_resolver.proofs.resolver.references.starts_at_the_innermost_res
 use Rattle.bench_resolver.proofs.Starts as lemmas
 
 pub returns : goal.returns
-returns g c = record { starts = λ w. lemmas.starts w }
+returns g c = record { starts = λ w. lemmas.starts w; narrow = lemmas.narrow_bases }

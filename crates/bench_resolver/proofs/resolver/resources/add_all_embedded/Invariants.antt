@@ -7,4 +7,4 @@ use Rattle.bench_resolver.proofs.resolver.resources.add_all_embedded.Given as go
 
 -- those of the documents so far, the root's first
 abbrev pub invariant-loop-i : goal.invariant-loop-i
-invariant-loop-i l = Adds (embedded_resources (draft_of l.draft) 0 (take (suc l.i) (held l.documents))) l.fn.gathered l.gathered
+invariant-loop-i l = Adds (embedded_resources l.rule (draft_of l.draft) 0 (take (suc l.i) (held l.documents))) l.fn.gathered l.gathered

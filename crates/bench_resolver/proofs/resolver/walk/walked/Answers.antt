@@ -18,7 +18,7 @@ returns c =
     let schema = view c.args.schema.now in
     let draft = draft_of c.args.draft in
     let path = c.args.path.now in
-    let kept = λ (p : Place). filter (speaking c.args.everywhere) (visited_below c.args.everywhere (suc (depth schema)) p draft schema) in
+    let kept = λ (p : Place). filter (speaking c.args.rule c.args.everywhere) (visited_below c.args.rule c.args.everywhere (suc (depth schema)) p c.args.base.now draft schema) in
     record {
       walked = c.in_ok-visit_below.ensures.visited (suc (depth schema)) (omega arith)
           ∙ ap (λ (vs : List code.Visited). map visited_of vs ++ kept (path ++ flat_map path_of c.new-way.result.items)) c.new-visited.ensures.items

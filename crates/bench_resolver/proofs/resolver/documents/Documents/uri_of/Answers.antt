@@ -2,11 +2,9 @@ use Rattle.std.proofs.Common.{Bor, List, Option, Some, ap, arith, map, option_ma
 use Rattle.std.specs.Prelude.{slice_get, string_bytes}
 use Rattle.serde_json.specs.View.{view}
 use Rattle.bench_resolver.specs.declared.resolver.documents.Document.{Document}
-use Rattle.bench_subschemas.specs.BenchResolving.{without_fragment}
 use Rattle.bench_resolver.specs.BenchDocuments as spec
 use Rattle.bench_resolver.specs.BenchDocuments.{document_of}
 use Rattle.bench_resolver.specs.BenchViews.{given_of}
-use Rattle.bench_resolver.specs.BenchStates.{uri_of_document}
 use Rattle.bench_resolver.proofs.DocumentLists.{read_other}
 use Rattle.bench_resolver.proofs.resolver.documents.Documents.uri_of.Goals as goal
 
@@ -19,7 +17,7 @@ returns-in-Some c =
     let there = ap (λ (xs : List Document). slice_get (first ∷ map document_of (map given_of xs)) n) (sym c.deref.ensures.value)
     ∙ read_other given_of document_of first c.deref.result.now n (n - 1) c.get.result later c.get.ensures.lookup
     ∙ ap (λ (o : Option (Bor Document)). option_map document_of (option_map given_of (option_map (λ (x : Bor Document). x.now) o))) c.in-Some.is in
-    record { uri = ap (λ t. Some t) (c.without_fragment-in-Some.ensures.before ∙ ap without_fragment c.as_str-in-Some.ensures.value) ∙ sym (ap uri_of_document there) }
+    record { uri = ap (λ t. Some t) c.as_str-in-Some.ensures.value ∙ sym (ap (option_map (λ (d : spec.Document). d.uri)) there) }
 
 pub returns-in-None : goal.returns-in-None
 returns-in-None c =
@@ -30,4 +28,4 @@ returns-in-None c =
     let there = ap (λ (xs : List Document). slice_get (first ∷ map document_of (map given_of xs)) n) (sym c.deref.ensures.value)
     ∙ read_other given_of document_of first c.deref.result.now n (n - 1) c.get.result later c.get.ensures.lookup
     ∙ ap (λ (o : Option (Bor Document)). option_map document_of (option_map given_of (option_map (λ (x : Bor Document). x.now) o))) c.in-None.is in
-    record { uri = sym (ap uri_of_document there) }
+    record { uri = sym (ap (option_map (λ (d : spec.Document). d.uri)) there) }

@@ -1,7 +1,7 @@
 use Rattle.std.proofs.Common.{◌==◌, sym, lit<}
 use Rattle.std.proofs.lemmas.Str.Pattern.{split_once_first}
-use Rattle.bench_resolver.proofs.Fragments.{none_after}
-use Rattle.bench_resolver.proofs.resolver.uris.fragment_of.Goals as goal
+use Rattle.bench_subschemas.proofs.Fragments.{none_after}
+use Rattle.bench_subschemas.proofs.identifiers.fragment_of.Goals as goal
 
 pub returns-in-Some : goal.returns-in-Some
 returns-in-Some c =

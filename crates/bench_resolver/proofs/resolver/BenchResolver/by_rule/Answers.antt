@@ -4,9 +4,9 @@ use Rattle.schema_keywords.specs.KeywordViews.{draft_of}
 use Rattle.bench_resolver.specs.BenchDocuments.{Document, document_of}
 use Rattle.bench_resolver.specs.BenchViews.{given_of}
 use Rattle.bench_resolver.proofs.Resources.{root_found}
-use Rattle.bench_resolver.proofs.resolver.BenchResolver.with_documents.Goals as goal
+use Rattle.bench_resolver.proofs.resolver.BenchResolver.by_rule.Goals as goal
 
 pub returns-clause-root : goal.returns-clause-root
 returns-clause-root c =
     let first : Document = record { uri = string_bytes c.args.root.uri; value = view c.args.root.value.now } in
-    root_found (draft_of c.args.draft) first (map document_of (map given_of c.args.others.items))
+    root_found c.args.rule (draft_of c.args.draft) first (map document_of (map given_of c.args.others.items))
