@@ -1,8 +1,10 @@
 #!/usr/bin/env python3
 """Says whether the documents quote files as they are.
 
-A quoted file is a block of code whose first line names the file after the language, as in ```rust crates/NAME/src/main.rt. Each such
-block of README.md and docs/*.md is compared with the file that it names. Prints a line for each; ends with 1 where one differs.
+A quoted file is a block of code whose first line names the file after the language, as in ```rust crates/NAME/src/main.rt. Where the word
+`part` follows, the block is a part of that file: lines that stand there one after the other, or several such pieces in the file's order, with
+a line `..` between them. Each block of README.md, docs/*.md and crates/*/CALLING.md that names a file is compared with it. Prints a line for
+each; ends with 1 where one differs.
 
 Usage: python3 tools/quotes.py
 """
@@ -12,25 +14,55 @@ from pathlib import Path
 ROOT = Path(__file__).resolve().parent.parent
 
 
+def documents():
+    """The documents of the repository."""
+    return [ROOT / "README.md", *sorted((ROOT / "docs").glob("*.md")), *sorted((ROOT / "crates").glob("*/CALLING.md"))]
+
+
 def quotes(text):
-    """The quoted files of a document: for each its name and its lines."""
-    name, quoted = None, []
+    """The quoted files of a document: for each its name, whether a part of it is quoted, and the lines."""
+    name, quoted, is_part = None, [], False
     for line in text.splitlines():
+        words = line.split()
         if name is not None and line == "```":
-            yield name, quoted
+            yield name, is_part, quoted
             name, quoted = None, []
         elif name is not None:
             quoted.append(line)
-        elif line.startswith("```") and len(line.split()) == 2:
-            name = line.split()[1]
+        elif line.startswith("```") and (len(words) == 2 or words[2:] == ["part"]):
+            name, is_part = words[1], len(words) == 3
 
 
-def difference(name, quoted):
+def place_of(piece, lines, start):
+    """Where a piece stands among the lines, from a line on, or None."""
+    places = range(start, len(lines) - len(piece) + 1)
+    return next((place for place in places if lines[place : place + len(piece)] == piece), None)
+
+
+def missing_piece(lines, quoted):
+    """Which piece of a part is not in the file, in words, or None."""
+    pieces, start = [[]], 0
+    for line in quoted:
+        if line.strip() == "..":
+            pieces.append([])
+        else:
+            pieces[-1].append(line)
+    for piece in pieces:
+        place = place_of(piece, lines, start)
+        if place is None:
+            return f"what begins with `{next((line.strip() for line in piece if line.strip()), '')}` does not stand there so"
+        start = place + len(piece)
+    return None
+
+
+def difference(name, is_part, quoted):
     """Where a quote differs from its file, in words, or None."""
     file = ROOT / name
     if not file.is_file():
         return "there is no such file"
     lines = file.read_text(encoding="utf-8").splitlines()
+    if is_part:
+        return missing_piece(lines, quoted)
     for number, (line, other) in enumerate(zip(lines, quoted), 1):
         if line != other:
             return f"they differ from line {number} on"
@@ -41,9 +73,9 @@ def difference(name, quoted):
 
 def main():
     wrong = 0
-    for document in [ROOT / "README.md", *sorted((ROOT / "docs").glob("*.md"))]:
-        for name, quoted in quotes(document.read_text(encoding="utf-8")):
-            found = difference(name, quoted)
+    for document in documents():
+        for name, is_part, quoted in quotes(document.read_text(encoding="utf-8")):
+            found = difference(name, is_part, quoted)
             wrong += found is not None
             shown = document.relative_to(ROOT)
             print(f"{shown}: {name}: {found or 'quoted as it is'}")
