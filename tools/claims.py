@@ -1,5 +1,5 @@
 #!/usr/bin/env python3
-"""Says what is proved of each public function, from the sources: python3 tools/claims.py [CRATE..] [--words] [--all]
+"""Says what is proved of each public function, from the sources: python3 tools/claims.py [CRATE..] [--words] [--all] [--succeeds]
 or [--contracts FUNCTION..] or [--check]
 
 For each crate of crates.txt (or for those that are named) it prints each public function with the names of its clauses, each trait with
@@ -9,6 +9,7 @@ a trait that has none. A function is public where every module above it is, or w
 
 --words  the first sentence of each function's own words beside it
 --all    functions that only their crate sees too
+--succeeds  only those that answer no `Result`, and so cannot be refused memory, with their signatures
 --contracts  prints the contracts of these functions of the crates in `SCOPE`, as `Validator::is_valid`, in the form of the kit's pages: S is
          what `self` points to, and `parts` what `handed` makes of all that is handed in
 --check  compares docs/CLAIMS.md with the sources, both ways: each clause of each public call has its line there, and each line there names
@@ -261,6 +262,13 @@ def named(item):
     return " ".join([*item.clauses, *asked]) or "no clause"
 
 
+def succeeding(name):
+    """The public functions of a crate that answer no `Result`."""
+    for item in Crate(name).items:
+        if item.kind in ("fn", "method", "trait fn") and item.public and "Result" not in item.signature.rpartition("->")[2]:
+            print(f"{name}::{item.path}{item.signature}")
+
+
 def show(name, shows_words, shows_all):
     crate = Crate(name)
     shown = [i for i in crate.items if i.kind in ("fn", "method", "trait fn") and (i.public or shows_all)]
@@ -310,25 +318,29 @@ def wanted_claims():
 
 
 def told_claims(text):
-    """What docs/CLAIMS.md says: pairs of a call and a clause, each with its line. A row has calls in its first cell and clauses in its
-    second. Where a heading is one name in backticks alone, the names of the calls below it go on from there."""
-    owner = None
+    """What docs/CLAIMS.md says: pairs of a call and a clause, each with its line. The first cell of a table's head says what its rows have:
+    under `Clause` clauses of all calls that the heading names, under `Call` calls and then clauses. Where the heading has one name alone,
+    calls without a type's name are that type's."""
+    named, kind = [], ""
     for number, line in enumerate(text.splitlines(), 1):
-        heading = re.match(r"#+ (.*)", line)
-        if heading:
-            only = re.fullmatch(r"`([\w:]+)`(?:[:,].*)?", heading[1])
-            owner = only[1] if only else None
-        cells = [c.strip() for c in line.strip().strip("|").split("|")]
-        if not line.startswith("|") or len(cells) < 3 or "`" not in cells[0]:
+        if line.startswith("#"):
+            named, kind = re.findall(r"`([\w:]+)`", line), ""
+        cells = [cell.strip() for cell in line.strip().strip("|").split("|")]
+        if not line.startswith("|"):
+            kind = ""
             continue
-        calls = re.findall(r"`([\w:]+)`", cells[0])
-        clauses = re.findall(r"(asks )?`([\w-]+)`", cells[1])
-        for call in calls:
-            call = call if "::" in call or owner is None or call == owner else f"{owner}::{call}"
-            for asked, clause in clauses:
+        if not kind:
+            kind = cells[0]
+            continue
+        calls = named if kind == "Clause" else [owned(call, named) for call in re.findall(r"`([\w:]+)`", cells[0])]
+        for asked, clause in re.findall(r"(asks )?`([\w-]+)`", cells[kind == "Call"]) if kind in ("Clause", "Call") else []:
+            for call in calls:
                 yield number, call, f"{asked}{clause}"
-            if not clauses:
-                yield number, call, None
+
+
+def owned(call, named):
+    """A call by the type that a heading names."""
+    return call if "::" in call or len(named) != 1 or call == named[0] else f"{named[0]}::{call}"
 
 
 def contracts():
@@ -362,7 +374,7 @@ def check():
         if call not in wanted:
             print(f"docs/CLAIMS.md, line {number}: there is no public call `{call}`")
             wrong += 1
-        elif clause is not None and clause not in wanted[call]:
+        elif clause not in wanted[call]:
             print(f"docs/CLAIMS.md, line {number}: `{call}` has no clause `{clause}`")
             wrong += 1
         else:
@@ -370,9 +382,6 @@ def check():
     for call, clauses in sorted(wanted.items()):
         for clause in sorted(clauses - told.get(call, set())):
             print(f"docs/CLAIMS.md says nothing of the clause `{clause}` of `{call}`")
-            wrong += 1
-        if call not in told and not clauses:
-            print(f"docs/CLAIMS.md does not name `{call}`, which has no clause")
             wrong += 1
     pairs = sum(len(c) for c in wanted.values())
     print(f"{len(wanted)} public calls and traits with {pairs} clauses and laws, {wrong} differences")
@@ -384,6 +393,7 @@ def main():
     parser.add_argument("crates", nargs="*", metavar="CRATE")
     parser.add_argument("--words", action="store_true", help="the first sentence of each function's own words")
     parser.add_argument("--all", action="store_true", help="functions that only their crate sees too")
+    parser.add_argument("--succeeds", action="store_true", help="only those that cannot be refused memory")
     parser.add_argument("--contracts", nargs="+", metavar="FUNCTION", help="the contracts of these functions")
     parser.add_argument("--check", action="store_true", help="compare docs/CLAIMS.md with the sources")
     words = parser.parse_args()
@@ -397,7 +407,10 @@ def main():
     for name in words.crates or crates():
         if not (ROOT / "crates" / name).is_dir():
             parser.error(f"there is no crate {name}")
-        show(name, words.words, words.all)
+        if words.succeeds:
+            succeeding(name)
+        else:
+            show(name, words.words, words.all)
     return 0
 
 
