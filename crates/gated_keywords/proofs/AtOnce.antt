@@ -11,10 +11,11 @@ use Rattle.schema_parts.specs.AtOnce.{EndsAtOnce}
 use Rattle.schema_parts.specs.KeywordViews.{fresh, is_nil}
 use Rattle.schema_parts.specs.declared.keyword.Mode.TheVariants as mode
 use Rattle.keyword_ways.specs.Members.{has_member, names_in, subject_names}
+use Rattle.keyword_ways.specs.Texts.{is_among}
 use Rattle.gated_keywords.specs.Gates.{Form, passes, tells}
 use Rattle.gated_keywords.specs.GateLaws.{gated_words}
 use Rattle.gated_keywords.specs.GateMoves.{Move, answer_by, at_gates, at_pattern, halts, seeks, told_in, turn_by}
-use Rattle.gated_keywords.specs.GatedKeywords.{form_of, gates_of, is_one, names_of, other_gate, unlisted}
+use Rattle.gated_keywords.specs.GatedKeywords.{form_of, gates_of, names_of, other_gate, unlisted}
 use Rattle.gated_keywords.specs.Present.{all_members}
 use Rattle.gated_keywords.specs.declared.keyword.GatedKeyword.{GatedKeyword}
 use Rattle.gated_keywords.specs.declared.keyword.GatedKeyword.TheVariants.{AdditionalProperties, NoAdditionalProperties, PatternProperties}
@@ -78,7 +79,7 @@ module _ (texts : Bool) (beside : Neighbours) (s : Subject) where
   }
 
   pub told_at_once : beside.patterns ≡ [] → EndsAtOnce (gated_words gates_of form_of names_of texts) keyword s (is_nil (unlisted beside.listed (subject_names s)))
-  told_at_once none = ends (names_of keyword s) refl (kept_all (λ k. has_member k s ≡ true) (λ k. not (is_one k beside.listed)) (subject_names s) (all_members s)) none
+  told_at_once none = ends (names_of keyword s) refl (kept_all (λ k. has_member k s ≡ true) (λ k. not (is_among beside.listed k)) (subject_names s) (all_members s)) none
 
 -- ---- an object without members
 

@@ -14,13 +14,13 @@ use Rattle.std.proofs.lemmas.Map.Text.{is_eq-slice_cmp}
 use Rattle.serde_json.specs.View.{members_view}
 use Rattle.serde_json.proofs.Views.{Entry}
 use Rattle.schema_definitions.specs.Instance.{Text}
+use Rattle.keyword_ways.specs.Texts.{is_among}
 use Rattle.keyword_makers.specs.Members.{names_of}
-use Rattle.gated_keywords.specs.GatedKeywords.{is_one}
 
 abbrev Strings : Type 0
 Strings = List (String Global)
 
-pub has_text : (k : Text) (keys : Strings) → list_any (is_at (λ x. slice_cmp nat_cmp k (string_bytes x))) keys ≡ is_one k (map string_bytes keys)
+pub has_text : (k : Text) (keys : Strings) → list_any (is_at (λ x. slice_cmp nat_cmp k (string_bytes x))) keys ≡ is_among (map string_bytes keys) k
 has_text k [] = refl
 has_text k (x ∷ keys) = ap (λ b. b || list_any (is_at (λ y. slice_cmp nat_cmp k (string_bytes y))) keys) (is_eq-slice_cmp k (string_bytes x))
     ∙ ap (λ b. bytes_eq k (string_bytes x) || b) (has_text k keys)

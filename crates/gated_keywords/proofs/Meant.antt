@@ -9,9 +9,10 @@ use Rattle.schema_definitions.specs.Matching.{Matching}
 use Rattle.schema_reports.specs.ReportViews.{spoken}
 use Rattle.schema_parts.specs.KeywordViews.{is_nil}
 use Rattle.keyword_ways.specs.Members.{has_member}
+use Rattle.keyword_ways.specs.Texts.{is_among}
 use Rattle.keyword_ways.specs.Ways.{is_matched, plain}
 use Rattle.gated_keywords.specs.Gates.{Gate, Gated, at_member, gated, gated_at, gated_here, name_of, open_ones, pair_with, question_of, told}
-use Rattle.gated_keywords.specs.GatedKeywords.{gates_from, is_one, other_gate, unlisted}
+use Rattle.gated_keywords.specs.GatedKeywords.{gates_from, other_gate, unlisted}
 use Rattle.gated_keywords.specs.Meanings.{is_spoken_of, others_accept, patterns_accept}
 use Rattle.gated_keywords.specs.declared.gates.Condition.TheVariants.{OneMatches}
 use Rattle.gated_keywords.specs.declared.keyword.Neighbours.{Neighbours}
@@ -93,8 +94,8 @@ module _ (matching : Matching) where
 
       pub others_mean : (ks : List Text) → All (λ k. has_member k s ≡ true) ks → others ks ≡ list_all (others_accept matching accepts beside) ks
       others_mean [] h = refl
-      others_mean (k ∷ ks) h = other_first (is_one k beside.listed) k ks (All-head (λ k. has_member k s ≡ true) k ks h)
-          ∙ (ap (λ x. x && others ks) (or_assoc (is_one k beside.listed) (list_any (λ p. matching.matches p k) beside.patterns) (accepts (at_member 0 k)))
+      others_mean (k ∷ ks) h = other_first (is_among beside.listed k) k ks (All-head (λ k. has_member k s ≡ true) k ks h)
+          ∙ (ap (λ x. x && others ks) (or_assoc (is_among beside.listed k) (list_any (λ p. matching.matches p k) beside.patterns) (accepts (at_member 0 k)))
           ∙ ap (λ x. others_accept matching accepts beside k && x) (others_mean ks (All-tail (λ k. has_member k s ≡ true) k ks h)))
 
   -- ---- the names that are left over
@@ -118,7 +119,7 @@ module _ (matching : Matching) where
 
     pub names_mean : (ks : List Text) → All (λ k. has_member k s ≡ true) ks → names_open ks ≡ filter (λ k. not (is_spoken_of matching beside k)) ks
     names_mean [] h = refl
-    names_mean (k ∷ ks) h = name_first (is_one k beside.listed) k ks (All-head (λ k. has_member k s ≡ true) k ks h)
+    names_mean (k ∷ ks) h = name_first (is_among beside.listed k) k ks (All-head (λ k. has_member k s ≡ true) k ks h)
         ∙ ap (λ ns. if not (is_spoken_of matching beside k) then k ∷ ns else ns) (names_mean ks (All-tail (λ k. has_member k s ≡ true) k ks h))
 
     -- none is left over where each is spoken of

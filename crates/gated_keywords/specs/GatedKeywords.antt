@@ -1,8 +1,9 @@
 -- The gates of `patternProperties` and `additionalProperties`. (Core 2020-12, 10.3.2.2 and 10.3.2.3)
 use Rattle.std.specs.List.{filter}
-use Rattle.std.specs.Prelude.{Bool, List, None, Option, Some, [], bytes_eq, codes, false, if◌then◌else◌, map, not, string_bytes, ℕ, ◌++◌, ◌+◌, ◌||◌, ◌∷◌}
+use Rattle.std.specs.Prelude.{List, None, Option, Some, [], codes, if◌then◌else◌, map, not, string_bytes, ℕ, ◌++◌, ◌+◌, ◌∷◌}
 use Rattle.schema_definitions.specs.Instance.{Subject, Text}
 use Rattle.keyword_ways.specs.Members.{has_member, subject_names}
+use Rattle.keyword_ways.specs.Texts.{is_among}
 use Rattle.gated_keywords.specs.Gates as gates
 use Rattle.gated_keywords.specs.Gates.{Form, at_member, passes, tells}
 use Rattle.gated_keywords.specs.GateMoves as moves
@@ -53,13 +54,9 @@ gates_of (NoAdditionalProperties beside) = other_gate beside.patterns ∷ []
 
 -- ---- the members that it looks at
 
-abbrev pub is_one : Text → List Text → Bool
-is_one k [] = false
-is_one k (l ∷ ls) = bytes_eq k l || is_one k ls
-
 -- the names that are not listed, in order
 abbrev pub unlisted : List Text → List Text → List Text
-unlisted listed names = filter (λ k. not (is_one k listed)) names
+unlisted listed names = filter (λ k. not (is_among listed k)) names
 
 abbrev pub names_of : GatedKeyword → Subject → List Text
 names_of (PatternProperties patterns) s = subject_names s

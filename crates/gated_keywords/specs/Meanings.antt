@@ -6,10 +6,11 @@ use Rattle.schema_definitions.specs.Keywords.{Answers, Question, own}
 use Rattle.schema_definitions.specs.Matching.{Matching}
 use Rattle.schema_reports.specs.ReportViews.{spoken}
 use Rattle.keyword_ways.specs.Members.{subject_names}
+use Rattle.keyword_ways.specs.Texts.{is_among}
 use Rattle.keyword_ways.specs.Ways.{plain}
 use Rattle.gated_keywords.specs.GateLaws.{gated_words}
 use Rattle.gated_keywords.specs.Gates.{at_member, told}
-use Rattle.gated_keywords.specs.GatedKeywords.{form_of, gates_of, is_one, names_of, unexpected_text}
+use Rattle.gated_keywords.specs.GatedKeywords.{form_of, gates_of, names_of, unexpected_text}
 use Rattle.gated_keywords.specs.declared.keyword.GatedKeyword.TheVariants.{AdditionalProperties, NoAdditionalProperties, PatternProperties}
 use Rattle.gated_keywords.specs.declared.keyword.Neighbours.{Neighbours}
 
@@ -21,7 +22,7 @@ patterns_accept matching accepts i (p ∷ ps) k = (not (matching.matches p k) ||
 
 -- a member's name is listed in `properties`, or a pattern of `patternProperties` matches it (Core 2020-12, 10.3.2.3)
 abbrev pub is_spoken_of : Matching → Neighbours → Text → Bool
-is_spoken_of matching beside k = is_one k beside.listed || list_any (λ p. matching.matches p k) beside.patterns
+is_spoken_of matching beside k = is_among beside.listed k || list_any (λ p. matching.matches p k) beside.patterns
 
 -- the schema accepts a member that is not spoken of
 abbrev pub others_accept : Matching → (Question → Bool) → Neighbours → Text → Bool

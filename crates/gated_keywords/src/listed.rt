@@ -1,7 +1,7 @@
 //! Names among which others are looked up.
 ghost use Rattle.std.specs.Prelude.{◌≡◌, [], IfOk, option_map};
 ghost use Rattle.serde_json.specs.View.{members_view, view};
-ghost use Rattle.gated_keywords.specs.GatedKeywords.{is_one};
+ghost use Rattle.keyword_ways.specs.Texts.{is_among};
 ghost use Rattle.keyword_makers.specs.Members.{names_of};
 
 use schema_reports::location::OutOfMemory;
@@ -37,7 +37,7 @@ impl Listed {
 
     /// Whether a name is one of these.
     pub fn has(&self, name: &str) -> bool
-        ensures has { result ≡ is_one name.now self.now }
+        ensures has { result ≡ is_among self.now name.now }
     {
         self.names.contains(name)
     }

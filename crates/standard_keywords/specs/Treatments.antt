@@ -2,18 +2,15 @@
 -- references are the engine's own; so what is said of a name here is said of the drafts that have it. None that asserts or applies is
 -- passed over: what is neither made nor silent is refused. (Core 2020-12, 10 and 11; Validation 2020-12, 6 to 8; Core and Validation
 -- 2019-09; drafts 4, 6 and 7)
-use Rattle.std.specs.List.{list_any}
 use Rattle.std.specs.Prelude.{Bool, List, None, Option, Some, [], bytes_eq, codes, false, if◌then◌else◌, not, ◌&&◌, ◌++◌, ◌||◌, ◌∷◌}
 use Rattle.serde_json.specs.Data.{Data, Members}
 use Rattle.serde_json.specs.Find.{get_member}
 use Rattle.schema_definitions.specs.Drafts.{Draft}
 use Rattle.schema_definitions.specs.Instance.{Text}
+use Rattle.keyword_ways.specs.Texts.{is_among}
 use Rattle.bench_parts.specs.Makers.{has_prefix, is_older_list}
 use Rattle.standard_keywords.specs.declared.treatment.Treatment.{Treatment}
 use Rattle.standard_keywords.specs.declared.treatment.Treatment.TheVariants.{Applied, Asserted, Basic, Gated, Refused, Silent}
-
-abbrev pub is_among : List Text → Text → Bool
-is_among names name = list_any (λ k. bytes_eq name k) names
 
 -- those that `standard_assertions` makes (Validation 2020-12, 6)
 abbrev pub of_numbers : List Text

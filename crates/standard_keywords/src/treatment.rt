@@ -2,8 +2,9 @@
 ghost use Rattle.std.specs.Prelude.{◌≡◌, IfOk, string_bytes};
 ghost use Rattle.serde_json.specs.View.{members_view};
 ghost use Rattle.schema_keywords.specs.KeywordViews.{draft_of};
+ghost use Rattle.keyword_ways.specs.Texts.{is_among};
 ghost use Rattle.bench_parts.specs.Makers.{has_prefix};
-ghost use Rattle.standard_keywords.specs.Treatments.{annotating, is_among, is_applied, is_asserted, is_basic, is_gated, is_older_items};
+ghost use Rattle.standard_keywords.specs.Treatments.{annotating, is_applied, is_asserted, is_basic, is_gated, is_older_items};
 ghost use Rattle.standard_keywords.specs.Treatments.{of_branches, of_counts, of_each_draft, of_lists_and_objects};
 ghost use Rattle.standard_keywords.specs.Treatments.{of_numbers, of_older_drafts, of_places};
 ghost use Rattle.standard_keywords.specs.Treatments.{is_silent, of_texts_and_members, refusal_text, treated};
