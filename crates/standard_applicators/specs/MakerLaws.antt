@@ -13,7 +13,7 @@ use Rattle.keyword_makers.specs.Members.{names_of, values_below}
 use Rattle.standard_applicators.specs.Courses.{none_absorbed}
 use Rattle.standard_applicators.specs.DependencyValues.{are_lists_of_texts, schema_names, wants_of}
 use Rattle.standard_applicators.specs.Limits.{contains_in, refused_limit}
-use Rattle.standard_applicators.specs.Makers.{after_listed, contains_script, dependencies_in, dependencies_script, dependent_schemas_script, has_prefix, is_false, is_older_list, items_before, items_script, listed_beside, member_script, older_dependencies, standard_script, unless_refused, value_script}
+use Rattle.standard_applicators.specs.Makers.{after_listed, contains_script, dependencies_in, dependencies_script, dependent_schemas_script, is_false, is_older_list, items_before, items_script, listed_beside, member_script, standard_script, unless_refused, value_script}
 use Rattle.standard_applicators.specs.StandardCourses.{course}
 use Rattle.standard_applicators.specs.declared.applicator.StandardApplicator.{StandardApplicator}
 use Rattle.standard_applicators.specs.declared.applicator.StandardApplicator.TheVariants.{Contains, Dependencies, DependentSchemas, LaterItems, ListedItems}
@@ -56,16 +56,13 @@ wants_rightly owner ms name d = either owner (are_lists_of_texts ms) _ _
     (values_below name (schema_names ms)) (values_lie_below name (schema_names ms)))
     (λ h. refl)
 
-older_rightly : (owner : Members) (name : Text) (d : Data) → Rightly owner (older_dependencies name d)
-older_rightly owner name (object ms) = wants_rightly owner ms name (object ms)
-older_rightly owner name null = λ h. refl
-older_rightly owner name (boolean b) = λ h. refl
-older_rightly owner name (number n) = λ h. refl
-older_rightly owner name (string t) = λ h. refl
-older_rightly owner name (array ds) = λ h. refl
-
-dependencies_rightly : (owner : Members) (draft : Draft) (name : Text) (d : Data) → Rightly owner (dependencies_script draft name d)
-dependencies_rightly owner draft name d = either owner (has_prefix draft) _ _ tt (older_rightly owner name d)
+dependencies_rightly : (owner : Members) (name : Text) (d : Data) → Rightly owner (dependencies_script name d)
+dependencies_rightly owner name (object ms) = wants_rightly owner ms name (object ms)
+dependencies_rightly owner name null = λ h. refl
+dependencies_rightly owner name (boolean b) = λ h. refl
+dependencies_rightly owner name (number n) = λ h. refl
+dependencies_rightly owner name (string t) = λ h. refl
+dependencies_rightly owner name (array ds) = λ h. refl
 
 items_rightly : (owner : Members) (draft : Draft) (ms : Members) (name : Text) (d : Data) → Rightly owner (items_script draft ms name d)
 items_rightly owner draft ms name d = either owner (is_older_list draft d) _ _
@@ -80,7 +77,7 @@ value_rightly : (owner : Members) (draft : Draft) (name : Text) (d : Data) → R
 value_rightly owner draft name d =
     either owner (bytes_eq name (codes "contains")) _ _ (contains_rightly owner draft owner name)
     (either owner (bytes_eq name (codes "dependentSchemas")) _ _ (dependents_rightly owner name d)
-    (either owner (bytes_eq name (codes "dependencies")) _ _ (dependencies_rightly owner draft name d)
+    (either owner (bytes_eq name (codes "dependencies")) _ _ (dependencies_rightly owner name d)
     (either owner (bytes_eq name (codes "items")) _ _ (items_rightly owner draft owner name d)
     (either owner (bytes_eq name (codes "additionalItems")) _ _ (after_rightly owner (listed_beside draft owner) name d) tt))))
 

@@ -40,19 +40,17 @@ abbrev pub dependent_schemas_script : Text → Data → Script StandardApplicato
 dependent_schemas_script name (object ms) = asks_for (values_below name (names_of ms)) (a_keyword (DependentSchemas (names_of ms)) [])
 dependent_schemas_script name d = malformed name d
 
--- ---- dependencies, which the editions from 2020-12 on do not have
+-- ---- dependencies. From 2019-09 on `dependentRequired` and `dependentSchemas` stand for it; schemas that still have it mean what they meant.
+-- (draft 7, 6.5.7; the meta-schemas of 2019-09 and 2020-12 say its shape)
 
 abbrev pub dependencies_in : Members → Text → Data → Script StandardApplicator
 dependencies_in ms name d =
     if are_lists_of_texts ms then asks_for (values_below name (schema_names ms)) (a_keyword (Dependencies (wants_of ms) (schema_names ms)) [])
     else malformed name d
 
-abbrev pub older_dependencies : Text → Data → Script StandardApplicator
-older_dependencies name (object ms) = dependencies_in ms name (object ms)
-older_dependencies name d = malformed name d
-
-abbrev pub dependencies_script : Draft → Text → Data → Script StandardApplicator
-dependencies_script draft name d = if has_prefix draft then then_end nothing else older_dependencies name d
+abbrev pub dependencies_script : Text → Data → Script StandardApplicator
+dependencies_script name (object ms) = dependencies_in ms name (object ms)
+dependencies_script name d = malformed name d
 
 -- ---- items, additionalItems
 
@@ -89,7 +87,7 @@ abbrev pub value_script : Draft → Members → Text → Data → Script Standar
 value_script draft ms name d =
     if bytes_eq name (codes "contains") then contains_script draft ms name
     else (if bytes_eq name (codes "dependentSchemas") then dependent_schemas_script name d
-    else (if bytes_eq name (codes "dependencies") then dependencies_script draft name d
+    else (if bytes_eq name (codes "dependencies") then dependencies_script name d
     else (if bytes_eq name (codes "items") then items_script draft ms name d
     else (if bytes_eq name (codes "additionalItems") then additional_items_script draft ms name d else then_end nothing))))
 

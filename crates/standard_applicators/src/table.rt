@@ -6,10 +6,10 @@ ghost use Rattle.schema_keywords.specs.KeywordViews.{draft_of};
 ghost use Rattle.schema_parts.specs.MakerViews as makers;
 ghost use Rattle.keyword_makers.specs.MakerViews.{waiting_of};
 ghost use Rattle.standard_applicators.specs.Makers.{additional_items_script, after_listed, contains_script, dependent_schemas_script};
-ghost use Rattle.standard_applicators.specs.Makers.{dependencies_script, items_script, member_script, older_dependencies, value_script};
+ghost use Rattle.standard_applicators.specs.Makers.{dependencies_script, items_script, member_script, value_script};
 
 use crate::applicator::StandardApplicator;
-use crate::beside::{has_prefix, is_false, is_older_list, items_before, listed_beside};
+use crate::beside::{is_false, is_older_list, items_before, listed_beside};
 use crate::dependency_values::{are_lists_of_texts, schema_names, wants_of};
 use crate::limits::{contains_in, refused_limit};
 use crate::names::Names;
@@ -76,9 +76,9 @@ fn dependent_schemas_maker(alloc: Global, name: &str, value: &Value) -> Result<M
     }
 }
 
-/// The maker of `dependencies` in a draft that has it.
-fn older_dependencies(alloc: Global, name: &str, value: &Value) -> Result<Maker, OutOfMemory>
-    ensures maker { IfOk result (λ m. waiting_of (λ k. k) m ≡ makers.begun (older_dependencies name.now (view value.now))) }
+/// The maker of `dependencies`.
+fn dependencies_maker(alloc: Global, name: &str, value: &Value) -> Result<Maker, OutOfMemory>
+    ensures maker { IfOk result (λ m. waiting_of (λ k. k) m ≡ makers.begun (dependencies_script name.now (view value.now))) }
 {
     match value.as_object() {
         Some(members) if are_lists_of_texts(members) => {
@@ -90,22 +90,6 @@ fn older_dependencies(alloc: Global, name: &str, value: &Value) -> Result<Maker,
         }
         _ => malformed(alloc, name, value),
     }
-}
-
-/// The maker of `dependencies`.
-fn dependencies_maker(
-    alloc: Global,
-    name: &str,
-    value: &Value,
-    draft: Draft,
-) -> Result<Maker, OutOfMemory>
-    ensures maker { IfOk result (λ m. waiting_of (λ k. k) m
-        ≡ makers.begun (dependencies_script (draft_of draft) name.now (view value.now))) }
-{
-    if has_prefix(draft) {
-        return Ok(ends(alloc, Ending::Nothing));
-    }
-    older_dependencies(alloc, name, value)
 }
 
 /// The maker of `items`.
@@ -181,7 +165,7 @@ fn value_maker(
         return dependent_schemas_maker(alloc, name, value);
     }
     if name == "dependencies" {
-        return dependencies_maker(alloc, name, value, draft);
+        return dependencies_maker(alloc, name, value);
     }
     if name == "items" {
         return items_maker(alloc, name, value, object, draft);

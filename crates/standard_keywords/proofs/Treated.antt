@@ -39,7 +39,7 @@ a_format = refl
 dependencies_before : treated draft_2019_09 no_members (codes "dependencies") ≡ Applied
 dependencies_before = refl
 
-dependencies_since : treated draft_2020_12 no_members (codes "dependencies") ≡ Refused
+dependencies_since : treated draft_2020_12 no_members (codes "dependencies") ≡ Applied
 dependencies_since = refl
 
 more_members : treated draft_4 no_members (codes "additionalProperties") ≡ Gated

@@ -40,14 +40,12 @@ of_branches = codes "allOf" ∷ codes "anyOf" ∷ codes "oneOf" ∷ codes "not" 
 abbrev pub is_basic : Text → Bool
 is_basic name = is_among of_texts_and_members name || (is_among of_places name || is_among of_branches name)
 
--- those that `standard_applicators` makes: `contains` and `dependentSchemas` (Core 2020-12, 10.3.1.3 and 10.2.2.4); before 2020-12
--- `additionalItems` and `dependencies` (draft 7, 6.4.2 and 6.5.7), and an `items` whose value is a list, where each item of it is the
--- schema of one place (draft 7, 6.4.1; Core 2019-09, 9.3.1.1)
+-- those that `standard_applicators` makes: `contains` and `dependentSchemas` (Core 2020-12, 10.3.1.3 and 10.2.2.4) and `dependencies` (draft
+-- 7, 6.5.7), which from 2019-09 on stands in no section and still in the meta-schemas, for the sake of older schemas; before 2020-12
+-- `additionalItems` (draft 7, 6.4.2), and an `items` whose value is a list, where each item of it is the schema of one place (draft 7,
+-- 6.4.1; Core 2019-09, 9.3.1.1)
 abbrev pub of_each_draft : List Text
-of_each_draft = codes "contains" ∷ codes "dependentSchemas" ∷ []
-
-abbrev pub of_older_drafts : List Text
-of_older_drafts = codes "additionalItems" ∷ codes "dependencies" ∷ []
+of_each_draft = codes "contains" ∷ codes "dependentSchemas" ∷ codes "dependencies" ∷ []
 
 abbrev pub is_any_older_list : Draft → Option Data → Bool
 is_any_older_list draft None = false
@@ -58,7 +56,7 @@ is_older_items draft object name = bytes_eq name (codes "items") && is_any_older
 
 abbrev pub is_applied : Draft → Members → Text → Bool
 is_applied draft object name =
-    is_among of_each_draft name || (is_older_items draft object name || (not (has_prefix draft) && is_among of_older_drafts name))
+    is_among of_each_draft name || (is_older_items draft object name || (not (has_prefix draft) && bytes_eq name (codes "additionalItems")))
 
 -- those that `gated_keywords` makes, whose questions stand behind matches of names (Core 2020-12, 10.3.2.2 and 10.3.2.3)
 abbrev pub is_gated : Text → Bool

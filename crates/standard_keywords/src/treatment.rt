@@ -6,7 +6,7 @@ ghost use Rattle.keyword_ways.specs.Texts.{is_among};
 ghost use Rattle.bench_parts.specs.Makers.{has_prefix};
 ghost use Rattle.standard_keywords.specs.Treatments.{annotating, is_applied, is_asserted, is_basic, is_gated, is_older_items};
 ghost use Rattle.standard_keywords.specs.Treatments.{of_branches, of_counts, of_each_draft, of_lists_and_objects};
-ghost use Rattle.standard_keywords.specs.Treatments.{of_numbers, of_older_drafts, of_places};
+ghost use Rattle.standard_keywords.specs.Treatments.{of_numbers, of_places};
 ghost use Rattle.standard_keywords.specs.Treatments.{is_silent, of_texts_and_members, refusal_text, treated};
 
 use bench_parts::table::schema_values::is_older_list;
@@ -126,21 +126,14 @@ fn has_prefix(draft: Draft) -> bool
 fn is_of_each_draft(name: &str) -> bool
     ensures each { result ≡ is_among of_each_draft name.now }
 {
-    name == "contains" || name == "dependentSchemas"
-}
-
-/// Whether a name is that of a keyword that the standard has before 2020-12 alone.
-fn is_of_older_drafts(name: &str) -> bool
-    ensures older { result ≡ is_among of_older_drafts name.now }
-{
-    name == "additionalItems" || name == "dependencies"
+    name == "contains" || name == "dependentSchemas" || name == "dependencies"
 }
 
 /// Whether `standard_applicators` makes the keyword of a name.
 fn is_applied(draft: Draft, object: &Map<String, Value>, name: &str) -> bool
     ensures applied { result ≡ is_applied (draft_of draft) (members_view object.now.entries) name.now }
 {
-    let is_older = !has_prefix(draft) && is_of_older_drafts(name);
+    let is_older = !has_prefix(draft) && name == "additionalItems";
     is_of_each_draft(name) || is_older_items(draft, object, name) || is_older
 }
 
