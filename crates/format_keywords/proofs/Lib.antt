@@ -1,0 +1,2 @@
+pub mod TextTests
+pub mod Told

@@ -1,0 +1,4 @@
+pub mod Contents
+pub mod FormatMaking
+pub mod FormatWords
+pub mod Shapes
