@@ -20,7 +20,7 @@ struct Engine {}
 
 impl Answering for Engine {
     fn answer(&self, alloc: Global, case: &Value) -> Result<Value, AllocError> {
-        answer(alloc, case, &StandardTable {})
+        answer(alloc, case, &StandardTable::new())
     }
 }
 

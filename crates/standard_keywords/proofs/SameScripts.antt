@@ -20,8 +20,8 @@ use Rattle.standard_applicators.specs.Makers as applicators
 use Rattle.standard_applicators.specs.declared.applicator.StandardApplicator.{StandardApplicator}
 use Rattle.standard_assertions.specs.Made as assertions
 use Rattle.standard_assertions.specs.Assertions.{Shape as Assertion}
-use Rattle.standard_keywords.specs.StandardScripts.{Shape, gates_by, leads_by, leads_first, leads_on_by, leads_to_applicators, leads_to_gates, made, made_by, refused_at, script_by, standard_script}
-use Rattle.standard_keywords.specs.Treatments.{treated}
+use Rattle.standard_keywords.specs.StandardScripts.{Shape, gates_by, leads_by, leads_first, leads_on_by, leads_to_applicators, leads_to_gates, made, made_by, refused_at, script_by, treated_script}
+use Rattle.standard_keywords.specs.Treatments.{refusal_text, treated}
 use Rattle.standard_keywords.specs.declared.treatment.Treatment.{Treatment}
 use Rattle.standard_keywords.specs.declared.treatment.Treatment.TheVariants.{Applied, Asserted, Basic, Gated, Refused, Silent}
 
@@ -37,7 +37,7 @@ done_by Applied draft object name o applied gated basic = script_as Second (scri
 done_by Gated draft object name o applied gated basic = script_as Second (script_as Second (script_as First gated))
 done_by Basic draft object name o applied gated basic = script_as Second (script_as Second (script_as Second basic))
 done_by Silent draft object name o applied gated basic = then_end nothing
-done_by Refused draft object name o applied gated basic = refused_at name o
+done_by Refused draft object name o applied gated basic = refused_at name (refusal_text name) o
 
 -- the tables in turn, as the routes lead
 abbrev in_turn : Treatment → Script Assertion → Script StandardApplicator → Script GatedKeyword → Script BenchShape → Script Shape
@@ -82,7 +82,7 @@ not_asserted = routed_script (λ s k. false) (λ r. leads_to_applicators) (λ t.
 pub same_script : {S R T U V W X : Type 0} (t : RoutedTables S R (RoutedTables T U (RoutedTables V W X))) (own : Bool) (name : Text) (object : Members) (draft : Draft)
     (vocabularies : Vocabularies) (formats : Bool)
     → routed_script (λ s k. false) (λ r. leads_first) (λ s. by_object made) not_asserted t own name object draft vocabularies formats
-    ≡ standard_script own name object draft vocabularies formats
+    ≡ treated_script own name object draft vocabularies formats
 same_script t true name object draft vocabularies formats = refl
 same_script t false name object draft vocabularies formats =
     let applied = applicators.standard_script false name object draft vocabularies formats in

@@ -1,3 +1,4 @@
 pub mod Treatments
+pub mod Patterns
 pub mod StandardScripts
 pub mod StandardLaws

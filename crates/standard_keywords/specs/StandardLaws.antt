@@ -23,8 +23,10 @@ use Rattle.standard_applicators.specs.declared.applicator.StandardApplicator.{St
 use Rattle.standard_assertions.specs.Made as assertions
 use Rattle.standard_assertions.specs.MadeLaws as assertion_laws
 use Rattle.standard_assertions.specs.Assertions.{Shape as Assertion, shows_no_fraction}
-use Rattle.standard_keywords.specs.StandardScripts.{Shape, made, made_by, refused_at, script_by, standard_script}
-use Rattle.standard_keywords.specs.Treatments.{treated}
+use Rattle.standard_keywords.specs.StandardScripts.{Shape, made, made_by, refused_at, script_by, standard_script, treated_script, unless_refused}
+use Rattle.standard_keywords.specs.Patterns.{pattern_refusal}
+use Rattle.standard_keywords.specs.Treatments.{refusal_text, treated}
+use Rattle.standard_keywords.specs.declared.patterns.UnreadablePatterns.{UnreadablePatterns}
 use Rattle.standard_keywords.specs.declared.treatment.Treatment.{Treatment}
 use Rattle.standard_keywords.specs.declared.treatment.Treatment.TheVariants.{Applied, Asserted, Basic, Gated, Refused, Silent}
 
@@ -69,9 +71,14 @@ module _ (absorbed : Assertion → List Text) (none : (m : Assertion) → [] ≡
   abbrev all_whole : Shape → Bool
   all_whole = by_side shows_no_fraction later_whole
 
-  refused_rightly : (object : Members) (name : Text) (o : Option Data) → MakesRightly all_absorbed all_whole object (refused_at {K = Shape} name o)
-  refused_rightly object name None = tt
-  refused_rightly object name (Some d) = λ h. refl
+  refused_rightly : (object : Members) (name text : Text) (o : Option Data) → MakesRightly all_absorbed all_whole object (refused_at {K = Shape} name text o)
+  refused_rightly object name text None = tt
+  refused_rightly object name text (Some d) = λ h. refl
+
+  unless_rightly : (object : Members) (name : Text) (r : Option Text) (o : Option Data) (s : Script Shape) → MakesRightly all_absorbed all_whole object s
+      → MakesRightly all_absorbed all_whole object (unless_refused r name o s)
+  unless_rightly object name None o s h = h
+  unless_rightly object name (Some text) o s h = refused_rightly object name text o
 
   later_rightly : (object : Members) (s : Script (Both StandardApplicator (Both GatedKeyword BenchShape))) → MakesRightly later_absorbed later_whole object s
       → MakesRightly all_absorbed all_whole object (script_as Second s)
@@ -101,8 +108,13 @@ module _ (absorbed : Assertion → List Text) (none : (m : Assertion) → [] ≡
       (both.makes_rightly Second none_absorbed last_absorbed is_whole last_whole (λ m. refl) (λ m. refl) object
       (bench_script false name object draft vocabularies formats) (bench.makes_rightly false name object draft vocabularies formats))
   rightly_by Silent name object draft vocabularies formats = tt
-  rightly_by Refused name object draft vocabularies formats = refused_rightly object name (get_member name object)
+  rightly_by Refused name object draft vocabularies formats = refused_rightly object name (refusal_text name) (get_member name object)
 
-  pub makes_rightly : EachRightly all_absorbed all_whole standard_script
-  makes_rightly true name object draft vocabularies formats = tt
-  makes_rightly false name object draft vocabularies formats = rightly_by (treated draft object name) name object draft vocabularies formats
+  treated_rightly : EachRightly all_absorbed all_whole treated_script
+  treated_rightly true name object draft vocabularies formats = tt
+  treated_rightly false name object draft vocabularies formats = rightly_by (treated draft object name) name object draft vocabularies formats
+
+  pub makes_rightly : (unreadable : UnreadablePatterns) → EachRightly all_absorbed all_whole (standard_script unreadable)
+  makes_rightly unreadable own name object draft vocabularies formats =
+      unless_rightly object name (pattern_refusal unreadable own name (get_member name object)) (get_member name object)
+      (treated_script own name object draft vocabularies formats) (treated_rightly own name object draft vocabularies formats)

@@ -1,4 +1,5 @@
--- What the makers of the standard's table ask for and make: what those of one of its four tables do, or nothing, or a refusal by name, as each keyword is treated.
+-- What the makers of the standard's table ask for and make: what those of one of its four tables do, or nothing, or a refusal by name, as each keyword is treated; before that a refusal for the sake of a
+-- pattern that cannot be read.
 use Rattle.std.specs.Prelude.{Bool, None, Option, Some, false, true}
 use Rattle.serde_json.specs.Data.{Data, Members}
 use Rattle.serde_json.specs.Find.{get_member}
@@ -19,14 +20,16 @@ use Rattle.standard_applicators.specs.Makers as applicators
 use Rattle.standard_applicators.specs.declared.applicator.StandardApplicator.{StandardApplicator}
 use Rattle.standard_assertions.specs.Made as assertions
 use Rattle.standard_assertions.specs.Assertions.{Shape as Assertion}
+use Rattle.standard_keywords.specs.Patterns.{pattern_refusal}
 use Rattle.standard_keywords.specs.Treatments.{refusal_text, treated}
+use Rattle.standard_keywords.specs.declared.patterns.UnreadablePatterns.{UnreadablePatterns}
 use Rattle.standard_keywords.specs.declared.treatment.Treatment.{Treatment}
 use Rattle.standard_keywords.specs.declared.treatment.Treatment.TheVariants.{Applied, Asserted, Basic, Gated, Refused, Silent}
 
--- a refusal by name, which shows the keyword's value
-abbrev pub refused_at : {K : Type 0} → Text → Option Data → Script K
-refused_at name None = then_end nothing
-refused_at name (Some d) = then_end (refused true (refused_error name d (refusal_text name)))
+-- a refusal with this text, which shows the keyword's value
+abbrev pub refused_at : {K : Type 0} → Text → Text → Option Data → Script K
+refused_at name text None = then_end nothing
+refused_at name text (Some d) = then_end (refused true (refused_error name d text))
 
 -- what is known of a keyword apart from its representation
 abbrev pub Shape : Type 0
@@ -38,12 +41,22 @@ script_by Applied name object draft vocabularies formats = script_as Second (scr
 script_by Gated name object draft vocabularies formats = script_as Second (script_as Second (script_as First (gated_script false name object draft vocabularies formats)))
 script_by Basic name object draft vocabularies formats = script_as Second (script_as Second (script_as Second (bench_script false name object draft vocabularies formats)))
 script_by Silent name object draft vocabularies formats = then_end nothing
-script_by Refused name object draft vocabularies formats = refused_at name (get_member name object)
+script_by Refused name object draft vocabularies formats = refused_at name (refusal_text name) (get_member name object)
 
 -- a name of a table's own makes nothing, since none is
-abbrev pub standard_script : Bool → Text → Members → Draft → Vocabularies → Bool → Script Shape
-standard_script true name object draft vocabularies formats = then_end nothing
-standard_script false name object draft vocabularies formats = script_by (treated draft object name) name object draft vocabularies formats
+abbrev pub treated_script : Bool → Text → Members → Draft → Vocabularies → Bool → Script Shape
+treated_script true name object draft vocabularies formats = then_end nothing
+treated_script false name object draft vocabularies formats = script_by (treated draft object name) name object draft vocabularies formats
+
+-- before that the schema is refused, if it is for the sake of a pattern
+abbrev pub unless_refused : Option Text → Text → Option Data → Script Shape → Script Shape
+unless_refused None name o s = s
+unless_refused (Some text) name o s = refused_at name text o
+
+abbrev pub standard_script : UnreadablePatterns → Bool → Text → Members → Draft → Vocabularies → Bool → Script Shape
+standard_script unreadable own name object draft vocabularies formats =
+    unless_refused (pattern_refusal unreadable own name (get_member name object)) name (get_member name object)
+    (treated_script own name object draft vocabularies formats)
 
 -- ---- the sides of the table
 

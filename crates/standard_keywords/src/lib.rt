@@ -1,9 +1,10 @@
 //! The keywords of the standard as one keyword type with one table: those that assert by themselves (`standard_assertions`), those
 //! that apply subschemas (`standard_applicators`, `gated_keywords`), and those of the bench's parts. A keyword of the standard that
 //! asserts or applies and that none of them makes is refused by name, and never passed over (`specs/Treatments` says of each name of
-//! each draft what becomes of it).
+//! each draft what becomes of it). A schema with a pattern that cannot be read is refused, or left to the matcher (`patterns`).
 #![tactic(auto)]
 
 pub mod assertions;
+pub mod patterns;
 pub mod table;
 pub mod treatment;

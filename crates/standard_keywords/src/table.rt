@@ -1,9 +1,16 @@
 //! The keyword table of the standard.
-ghost use Rattle.std.specs.Prelude.{◌≡◌, Bool, not};
+ghost use Rattle.std.specs.Prelude.{◌≡◌, Bool, IfOk, not, string_bytes};
+ghost use Rattle.serde_json.specs.Find.{get_member};
 ghost use Rattle.serde_json.specs.View.{members_view};
 ghost use Rattle.schema_keywords.specs.KeywordViews.{draft_of};
+ghost use Rattle.schema_parts.specs.MakerViews.{begun, name_of};
+ghost use Rattle.keyword_makers.specs.MakerViews.{waiting_of};
+ghost use Rattle.standard_assertions.specs.Shapes.{shape_of as assertion_of};
+ghost use Rattle.standard_keywords.specs.StandardScripts.{refused_at};
+ghost use Rattle.standard_keywords.specs.declared.patterns.UnreadablePatterns.TheVariants as unreadable;
 
 use crate::assertions::AssertionsOrRefusals;
+use crate::patterns::{UnreadablePatterns, pattern_refusal};
 use crate::treatment::{Treatment, treatment_of};
 use bench_keywords::keyword::BenchKeyword;
 use bench_parts::table::BenchTable;
@@ -12,7 +19,9 @@ use gated_keywords::table::GatedTable;
 use joined_keywords::both::Both;
 use joined_keywords::routed::{Route, RoutedTables};
 use keyword_makers::by_object::TableByObject;
-use keyword_makers::maker::PathsMaker;
+use keyword_makers::maker::{Ending, PathsMaker, ends};
+use keyword_makers::paths::value_in;
+use keyword_makers::refusals::refused;
 use keyword_ways::leaves::Telling;
 use schema_keywords::keywords::{Draft, VocabularySet};
 use schema_parts::table::{KeywordOrigin, KeywordTable, MakerReply, MakerStep};
@@ -91,9 +100,33 @@ impl Route for GateRoute {
 
 /// The table of the standard's keywords. No name is its own. What it makes of a keyword of the standard is what `specs/Treatments` says
 /// of its name and draft: it is made, or passed over in silence where it asserts nothing, or the schema is refused by an error that
-/// shows the keyword's value and is located at the keyword. A value of another shape than its keyword's is refused likewise.
+/// shows the keyword's value and is located at the keyword. A value of another shape than its keyword's is refused likewise, and so is one
+/// with a pattern that cannot be read, where the table refuses these (`specs/Patterns`).
 #[derive(Drop)]
-pub struct StandardTable {}
+pub struct StandardTable {
+    /// What becomes of a schema with a pattern that cannot be read.
+    pub unreadable: UnreadablePatterns,
+}
+
+impl StandardTable {
+    /// The table that refuses a schema with a pattern that cannot be read: one that looks around or refers back, or that is none.
+    pub fn new() -> StandardTable
+        ensures refuses { result.unreadable ≡ unreadable.Refused }
+    {
+        StandardTable {
+            unreadable: UnreadablePatterns::Refused,
+        }
+    }
+
+    /// The table that makes its keyword of such a pattern too, and leaves to the matcher what becomes of a match.
+    pub fn leaving_unreadable_patterns() -> StandardTable
+        ensures leaves { result.unreadable ≡ unreadable.LeftToTheMatcher }
+    {
+        StandardTable {
+            unreadable: UnreadablePatterns::LeftToTheMatcher,
+        }
+    }
+}
 
 /// The four tables.
 fn tables() -> Tables {
@@ -114,12 +147,30 @@ fn tables() -> Tables {
     }
 }
 
+/// The maker of a refusal with this text, which shows the keyword's value.
+fn refused_at(
+    alloc: Global,
+    origin: KeywordOrigin<'_>,
+    object: &Map<String, Value>,
+    text: String,
+) -> Result<PathsMaker<Telling<Assertion>>, OutOfMemory>
+    ensures maker { IfOk result (λ m. waiting_of assertion_of m ≡ begun (refused_at (name_of origin.entry) (string_bytes text)
+        (get_member (name_of origin.entry) (members_view object.now.entries)))) }
+{
+    let name = match origin {
+        KeywordOrigin::Own(name) => name,
+        KeywordOrigin::Builtin(name) => name,
+    };
+    match value_in(object, name) {
+        Some(value) => refused(alloc, name, value, text),
+        None => Ok(ends(alloc, Ending::Nothing)),
+    }
+}
+
 impl KeywordTable<StandardKeyword> for StandardTable {
     ghost use Rattle.std.specs.Prelude.{false, refl};
     ghost use Rattle.joined_keywords.specs.BothScripts.{both_waiting};
-    ghost use Rattle.keyword_makers.specs.MakerViews.{waiting_of};
     ghost use Rattle.bench_keywords.specs.Shapes.{shape_of};
-    ghost use Rattle.standard_assertions.specs.Shapes.{shape_of as assertion_of};
     ghost use Rattle.standard_keywords.specs.StandardScripts.{standard_script};
     ghost use Rattle.standard_keywords.specs.StandardLaws.{makes_rightly};
     ghost use Rattle.standard_applicators.specs.MakerLaws.{makes_rightly as applicators_rightly};
@@ -129,7 +180,7 @@ impl KeywordTable<StandardKeyword> for StandardTable {
 
     ghost owned = { λ _ name. false };
 
-    ghost script = { λ _. standard_script };
+    ghost script = { λ table. standard_script table.unreadable };
 
     ghost waiting = { both_waiting (waiting_of assertion_of) (both_waiting (waiting_of (λ k. k))
         (both_waiting (waiting_of (λ k. k)) (waiting_of shape_of))) };
@@ -147,8 +198,17 @@ impl KeywordTable<StandardKeyword> for StandardTable {
         vocabularies: &VocabularySet,
         formats: bool,
     ) -> Result<Maker, OutOfMemory> {
-        let maker = tables().begin(alloc, origin, object, draft, vocabularies, formats)?;
-        Ok(maker)
+        let refusal = pattern_refusal(self.unreadable, alloc, origin, object)?;
+        match refusal {
+            Some(text) => {
+                let maker = refused_at(alloc, origin, object, text)?;
+                Ok(Both::First(maker))
+            }
+            None => {
+                let maker = tables().begin(alloc, origin, object, draft, vocabularies, formats)?;
+                Ok(maker)
+            }
+        }
     }
 
     fn turn(
@@ -160,5 +220,5 @@ impl KeywordTable<StandardKeyword> for StandardTable {
         tables().turn(alloc, maker, reply)
     }
 
-    ghost right = { λ _. makes_rightly _ (λ k. refl) _ _ applicators_rightly _ _ gates_rightly };
+    ghost right = { λ table. makes_rightly _ (λ k. refl) _ _ applicators_rightly _ _ gates_rightly table.unreadable };
 }

@@ -1,0 +1,106 @@
+//! Patterns of a schema that cannot be read as regular expressions.
+ghost use Rattle.std.specs.Prelude.{◌≡◌, ◌∷◌, [], IfOk, option_map, string_bytes};
+ghost use Rattle.serde_json.specs.Find.{get_member};
+ghost use Rattle.serde_json.specs.View.{members_view, view};
+ghost use Rattle.schema_parts.specs.MakerViews.{is_own, name_of};
+ghost use Rattle.keyword_makers.specs.Members.{names_of};
+ghost use Rattle.standard_keywords.specs.Patterns.{pattern_refusal, refusal_among, refusal_in, unreadable_text};
+
+use keyword_makers::paths::value_in;
+use regex_matcher::reading::is_readable;
+use schema_parts::table::KeywordOrigin;
+use schema_reports::instance::Instance;
+use schema_reports::location::OutOfMemory;
+use serde_json::{Map, Value};
+use std::alloc::Global;
+
+/// What becomes of a schema with a pattern that cannot be read as a regular expression: the value of a `pattern`, or a name under a
+/// `patternProperties`.
+#[derive(Clone, Copy)]
+pub enum UnreadablePatterns {
+    /// It is refused, by an error that is located at the keyword and names the pattern.
+    Refused,
+    /// The keyword is made, and what its matches answer is the matcher's.
+    LeftToTheMatcher,
+}
+
+/// What the refusal of a pattern says.
+fn unreadable_text(alloc: Global, pattern: &str) -> Result<String, OutOfMemory>
+    ensures text { IfOk result (λ text. string_bytes text ≡ unreadable_text pattern.now) }
+{
+    let mut text = Instance::Name(pattern).text(alloc)?;
+    text.push_str(" is not a \"regex\"")?;
+    Ok(text)
+}
+
+/// The refusal of a pattern, if it cannot be read.
+fn refusal_of(alloc: Global, pattern: &str) -> Result<Option<String>, OutOfMemory>
+    ensures refusal { IfOk result (λ found. option_map string_bytes found ≡ refusal_among (pattern.now ∷ [])) }
+{
+    if is_readable(alloc, pattern)? {
+        return Ok(None);
+    }
+    let text = unreadable_text(alloc, pattern)?;
+    Ok(Some(text))
+}
+
+/// The refusal of the first of the members' names that cannot be read as a pattern, if there is one.
+fn refusal_of_names(
+    alloc: Global,
+    members: &Map<String, Value>,
+) -> Result<Option<String>, OutOfMemory>
+    ensures refusal { IfOk result (λ found. option_map string_bytes found ≡ refusal_among (names_of (members_view members.now.entries))) }
+{
+    for (name, _) in members {
+        let refusal = refusal_of(alloc, name.as_str())?;
+        if refusal.is_some() {
+            return Ok(refusal);
+        }
+    }
+    Ok(None)
+}
+
+/// The refusal of a member of this name and value, if it holds a pattern that cannot be read.
+fn refusal_in(alloc: Global, name: &str, value: &Value) -> Result<Option<String>, OutOfMemory>
+    ensures refusal { IfOk result (λ found. option_map string_bytes found ≡ refusal_in name.now (view value.now)) }
+{
+    if name == "pattern" {
+        return match value.as_str() {
+            Some(pattern) => refusal_of(alloc, pattern),
+            None => Ok(None),
+        };
+    }
+    if name == "patternProperties" {
+        return match value.as_object() {
+            Some(members) => refusal_of_names(alloc, members),
+            None => Ok(None),
+        };
+    }
+    Ok(None)
+}
+
+/// What the refusal says of what a maker is asked for, if it is refused for the sake of a pattern.
+///
+/// # Errors
+///
+/// Memory cannot be allocated.
+pub fn pattern_refusal(
+    unreadable: UnreadablePatterns,
+    alloc: Global,
+    origin: KeywordOrigin<'_>,
+    object: &Map<String, Value>,
+) -> Result<Option<String>, OutOfMemory>
+    ensures refusal { IfOk result (λ found. option_map string_bytes found ≡ pattern_refusal unreadable (is_own origin.entry)
+        (name_of origin.entry) (get_member (name_of origin.entry) (members_view object.now.entries))) }
+{
+    match unreadable {
+        UnreadablePatterns::LeftToTheMatcher => Ok(None),
+        UnreadablePatterns::Refused => match origin {
+            KeywordOrigin::Own(_) => Ok(None),
+            KeywordOrigin::Builtin(name) => match value_in(object, name) {
+                Some(value) => refusal_in(alloc, name, value),
+                None => Ok(None),
+            },
+        },
+    }
+}
