@@ -1,6 +1,7 @@
 //! The meta-schema of draft 2020-12, and those of its vocabularies.
 
-/// The text of the meta-schema.
+/// The text of the meta-schema. It has the keywords of all its vocabularies itself: where it led to their documents, each order in
+/// which dynamic references pass through these would be compiled by itself.
 pub(crate) const SCHEMA: &str = r##"{
   "$schema": "https://json-schema.org/draft/2020-12/schema",
   "$id": "https://json-schema.org/draft/2020-12/schema",
@@ -15,16 +16,84 @@ pub(crate) const SCHEMA: &str = r##"{
     "https://json-schema.org/draft/2020-12/vocab/content": true
   },
   "type": ["boolean", "object"],
-  "allOf": [
-    {"$ref": "https://json-schema.org/draft/2020-12/meta/core"},
-    {"$ref": "https://json-schema.org/draft/2020-12/meta/applicator"},
-    {"$ref": "https://json-schema.org/draft/2020-12/meta/unevaluated"},
-    {"$ref": "https://json-schema.org/draft/2020-12/meta/validation"},
-    {"$ref": "https://json-schema.org/draft/2020-12/meta/meta-data"},
-    {"$ref": "https://json-schema.org/draft/2020-12/meta/format-annotation"},
-    {"$ref": "https://json-schema.org/draft/2020-12/meta/content"}
-  ],
   "properties": {
+    "$schema": {"$ref": "#/$defs/uriString"},
+    "$id": {"pattern": "^[^#]*#?$", "$ref": "#/$defs/uriReferenceString"},
+    "$ref": {"$ref": "#/$defs/uriReferenceString"},
+    "$dynamicRef": {"$ref": "#/$defs/uriReferenceString"},
+    "$anchor": {"$ref": "#/$defs/anchorString"},
+    "$dynamicAnchor": {"$ref": "#/$defs/anchorString"},
+    "$vocabulary": {
+      "type": "object",
+      "propertyNames": {"$ref": "#/$defs/uriString"},
+      "additionalProperties": {"type": "boolean"}
+    },
+    "$comment": {"type": "string"},
+    "$defs": {"type": "object", "additionalProperties": {"$dynamicRef": "#meta"}},
+
+    "allOf": {"$ref": "#/$defs/schemaArray"},
+    "anyOf": {"$ref": "#/$defs/schemaArray"},
+    "oneOf": {"$ref": "#/$defs/schemaArray"},
+    "not": {"$dynamicRef": "#meta"},
+    "if": {"$dynamicRef": "#meta"},
+    "then": {"$dynamicRef": "#meta"},
+    "else": {"$dynamicRef": "#meta"},
+
+    "prefixItems": {"$ref": "#/$defs/schemaArray"},
+    "items": {"$dynamicRef": "#meta"},
+    "contains": {"$dynamicRef": "#meta"},
+
+    "properties": {"$ref": "#/$defs/schemaMap"},
+    "patternProperties": {"propertyNames": {"format": "regex"}, "$ref": "#/$defs/schemaMap"},
+    "additionalProperties": {"$dynamicRef": "#meta"},
+    "propertyNames": {"$dynamicRef": "#meta"},
+    "dependentSchemas": {"$ref": "#/$defs/schemaMap"},
+
+    "unevaluatedItems": {"$dynamicRef": "#meta"},
+    "unevaluatedProperties": {"$dynamicRef": "#meta"},
+
+    "type": {"anyOf": [
+      {"$ref": "#/$defs/simpleTypes"},
+      {"type": "array", "minItems": 1, "uniqueItems": true, "items": {"$ref": "#/$defs/simpleTypes"}}
+    ]},
+    "const": true,
+    "enum": {"type": "array", "items": true},
+
+    "maximum": {"type": "number"},
+    "exclusiveMaximum": {"type": "number"},
+    "minimum": {"type": "number"},
+    "exclusiveMinimum": {"type": "number"},
+    "multipleOf": {"type": "number", "exclusiveMinimum": 0},
+
+    "maxLength": {"$ref": "#/$defs/nonNegativeInteger"},
+    "minLength": {"$ref": "#/$defs/nonNegativeIntegerDefault0"},
+    "pattern": {"type": "string", "format": "regex"},
+
+    "maxItems": {"$ref": "#/$defs/nonNegativeInteger"},
+    "minItems": {"$ref": "#/$defs/nonNegativeIntegerDefault0"},
+    "uniqueItems": {"type": "boolean", "default": false},
+    "maxContains": {"$ref": "#/$defs/nonNegativeInteger"},
+    "minContains": {"default": 1, "$ref": "#/$defs/nonNegativeInteger"},
+
+    "required": {"$ref": "#/$defs/stringArray"},
+    "dependentRequired": {"type": "object", "additionalProperties": {"$ref": "#/$defs/stringArray"}},
+    "maxProperties": {"$ref": "#/$defs/nonNegativeInteger"},
+    "minProperties": {"$ref": "#/$defs/nonNegativeIntegerDefault0"},
+
+    "title": {"type": "string"},
+    "description": {"type": "string"},
+    "default": true,
+    "examples": {"type": "array", "items": true},
+    "deprecated": {"type": "boolean", "default": false},
+    "readOnly": {"type": "boolean", "default": false},
+    "writeOnly": {"type": "boolean", "default": false},
+
+    "format": {"type": "string"},
+
+    "contentEncoding": {"type": "string"},
+    "contentMediaType": {"type": "string"},
+    "contentSchema": {"$dynamicRef": "#meta"},
+
     "definitions": {"type": "object", "deprecated": true, "default": {}, "additionalProperties": {"$dynamicRef": "#meta"}},
     "dependencies": {
       "type": "object",
@@ -32,11 +101,22 @@ pub(crate) const SCHEMA: &str = r##"{
       "default": {},
       "additionalProperties": {"anyOf": [
         {"$dynamicRef": "#meta"},
-        {"$ref": "https://json-schema.org/draft/2020-12/meta/validation#/$defs/stringArray"}
+        {"$ref": "#/$defs/stringArray"}
       ]}
     },
-    "$recursiveRef": {"deprecated": true, "$ref": "https://json-schema.org/draft/2020-12/meta/core#/$defs/uriReferenceString"},
-    "$recursiveAnchor": {"deprecated": true, "$ref": "https://json-schema.org/draft/2020-12/meta/core#/$defs/anchorString"}
+    "$recursiveRef": {"deprecated": true, "$ref": "#/$defs/uriReferenceString"},
+    "$recursiveAnchor": {"deprecated": true, "$ref": "#/$defs/anchorString"}
+  },
+  "$defs": {
+    "anchorString": {"type": "string", "pattern": "^[A-Za-z_][-._0-9A-Za-z]*$"},
+    "uriString": {"type": "string", "format": "uri"},
+    "uriReferenceString": {"type": "string", "format": "uri-reference"},
+    "schemaArray": {"type": "array", "minItems": 1, "items": {"$dynamicRef": "#meta"}},
+    "schemaMap": {"type": "object", "default": {}, "additionalProperties": {"$dynamicRef": "#meta"}},
+    "nonNegativeInteger": {"type": "integer", "minimum": 0},
+    "nonNegativeIntegerDefault0": {"default": 0, "$ref": "#/$defs/nonNegativeInteger"},
+    "simpleTypes": {"enum": ["null", "boolean", "integer", "number", "string", "array", "object"]},
+    "stringArray": {"type": "array", "default": [], "uniqueItems": true, "items": {"type": "string"}}
   }
 }"##;
 
