@@ -1,0 +1,5 @@
+//! Cases of the formats of `text_formats`.
+#![tactic(auto)]
+
+#[cfg(test)]
+mod tests;

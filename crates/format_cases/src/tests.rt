@@ -1,0 +1,186 @@
+//! The cases of the official suite's optional groups on formats, of drafts 4, 6 and 7 (JSON-Schema-Test-Suite, `optional/format`), that are
+//! texts of a format that is checked by its grammar; and examples of the standards that have the grammars.
+use text_formats::formats::Format;
+
+/// A format's name, a text, and whether it is of the format.
+type Case = (&'static str, &'static str, bool);
+
+/// The suite's.
+const OF_THE_SUITE: [Case; 111] = [
+    ("date", "1963-06-19", true),
+    ("date", "06/19/1963", false),
+    ("date", "2013-350", false),
+    ("date-time", "1963-06-19T08:30:06.283185Z", true),
+    ("date-time", "1963-06-19T08:30:06Z", true),
+    ("date-time", "1937-01-01T12:00:27.87+00:20", true),
+    ("date-time", "1990-12-31T15:59:50.123-08:00", true),
+    ("date-time", "1990-02-31T15:59:60.123-08:00", false),
+    ("date-time", "1990-12-31T15:59:60-24:00", false),
+    ("date-time", "06/19/1963 08:30:06 PST", false),
+    ("date-time", "1963-06-19t08:30:06.283185z", true),
+    ("date-time", "2013-350T01:01:01", false),
+    ("date-time", "1963-06-19T08:30:06.28123+01:00Z", false),
+    ("email", "joe.bloggs@example.com", true),
+    ("email", "2962", false),
+    ("hostname", "www.example.com", true),
+    ("hostname", "-a-host-name-that-starts-with--", false),
+    ("hostname", "not_a_valid_host_name", false),
+    (
+        "hostname",
+        "a-vvvvvvvvvvvvvvvveeeeeeeeeeeeeeeerrrrrrrrrrrrrrrryyyyyyyyyyyyyyyy-long-host-name-component",
+        false,
+    ),
+    ("hostname", "xn--4gbwdl.xn--wgbh1c", true),
+    ("ipv4", "192.168.0.1", true),
+    ("ipv4", "127.0.0.0.1", false),
+    ("ipv4", "256.256.256.256", false),
+    ("ipv4", "127.0", false),
+    ("ipv4", "0x7f000001", false),
+    ("ipv6", "::1", true),
+    ("ipv6", "12345::", false),
+    ("ipv6", "1:1:1:1:1:1:1:1:1:1:1:1:1:1:1:1", false),
+    ("ipv6", "::laptop", false),
+    ("iri", "http://ƒøø.ßår/?∂éœ=πîx#πîüx", true),
+    ("iri", "http://ƒøø.com/blah_(wîkïpédiå)_blah#ßité-1", true),
+    ("iri", "http://ƒøø.ßår/?q=Test%20URL-encoded%20stuff", true),
+    (
+        "iri",
+        "http://-.~_!$&'()*+,;=:%40:80%2f::::::@example.com",
+        true,
+    ),
+    (
+        "iri",
+        "http://[2001:0db8:85a3:0000:0000:8a2e:0370:7334]",
+        true,
+    ),
+    (
+        "iri",
+        "http://2001:0db8:85a3:0000:0000:8a2e:0370:7334",
+        false,
+    ),
+    ("iri", "/abc", false),
+    ("iri", "\\\\WINDOWS\\filëßåré", false),
+    ("iri", "âππ", false),
+    ("iri-reference", "http://ƒøø.ßår/?∂éœ=πîx#πîüx", true),
+    ("iri-reference", "//ƒøø.ßår/?∂éœ=πîx#πîüx", true),
+    ("iri-reference", "/âππ", true),
+    ("iri-reference", "\\\\WINDOWS\\filëßåré", false),
+    ("iri-reference", "âππ", true),
+    ("iri-reference", "#ƒrägmênt", true),
+    ("iri-reference", "#ƒräg\\mênt", false),
+    ("json-pointer", "/foo/bar~0/baz~1/%a", true),
+    ("json-pointer", "/foo/bar~", false),
+    ("json-pointer", "/foo//bar", true),
+    ("json-pointer", "/foo/bar/", true),
+    ("json-pointer", "", true),
+    ("json-pointer", "/foo", true),
+    ("json-pointer", "/foo/0", true),
+    ("json-pointer", "/", true),
+    ("json-pointer", "/a~1b", true),
+    ("json-pointer", "/c%d", true),
+    ("json-pointer", "/e^f", true),
+    ("json-pointer", "/g|h", true),
+    ("json-pointer", "/i\\j", true),
+    ("json-pointer", "/k\"l", true),
+    ("json-pointer", "/ ", true),
+    ("json-pointer", "/m~0n", true),
+    ("json-pointer", "/foo/-", true),
+    ("json-pointer", "/foo/-/bar", true),
+    ("json-pointer", "/~1~0~0~1~1", true),
+    ("json-pointer", "/~1.1", true),
+    ("json-pointer", "/~0.1", true),
+    ("json-pointer", "#", false),
+    ("json-pointer", "#/", false),
+    ("json-pointer", "#a", false),
+    ("json-pointer", "/~0~", false),
+    ("json-pointer", "/~0/~", false),
+    ("json-pointer", "/~2", false),
+    ("json-pointer", "/~-1", false),
+    ("json-pointer", "/~~", false),
+    ("json-pointer", "a", false),
+    ("json-pointer", "0", false),
+    ("json-pointer", "a/a", false),
+    ("relative-json-pointer", "1", true),
+    ("relative-json-pointer", "0/foo/bar", true),
+    ("relative-json-pointer", "2/0/baz/1/zip", true),
+    ("relative-json-pointer", "0#", true),
+    ("relative-json-pointer", "/foo/bar", false),
+    ("time", "08:30:06.283185Z", true),
+    ("time", "08:30:06 PST", false),
+    ("time", "01:01:01,1111", false),
+    ("uri", "http://foo.bar/?baz=qux#quux", true),
+    ("uri", "http://foo.com/blah_(wikipedia)_blah#cite-1", true),
+    ("uri", "http://foo.bar/?q=Test%20URL-encoded%20stuff", true),
+    ("uri", "http://xn--nw2a.xn--j6w193g/", true),
+    (
+        "uri",
+        "http://-.~_!$&'()*+,;=:%40:80%2f::::::@example.com",
+        true,
+    ),
+    ("uri", "http://223.255.255.254", true),
+    ("uri", "ftp://ftp.is.co.za/rfc/rfc1808.txt", true),
+    ("uri", "http://www.ietf.org/rfc/rfc2396.txt", true),
+    ("uri", "ldap://[2001:db8::7]/c=GB?objectClass?one", true),
+    ("uri", "mailto:John.Doe@example.com", true),
+    ("uri", "news:comp.infosystems.www.servers.unix", true),
+    ("uri", "tel:+1-816-555-1212", true),
+    (
+        "uri",
+        "urn:oasis:names:specification:docbook:dtd:xml:4.1.2",
+        true,
+    ),
+    ("uri", "//foo.bar/?baz=qux#quux", false),
+    ("uri", "/abc", false),
+    ("uri", "\\\\WINDOWS\\fileshare", false),
+    ("uri", "abc", false),
+    ("uri", "http:// shouldfail.com", false),
+    ("uri", ":// should fail", false),
+    ("uri-reference", "http://foo.bar/?baz=qux#quux", true),
+    ("uri-reference", "//foo.bar/?baz=qux#quux", true),
+    ("uri-reference", "/abc", true),
+    ("uri-reference", "\\\\WINDOWS\\fileshare", false),
+    ("uri-reference", "abc", true),
+    ("uri-reference", "#fragment", true),
+    ("uri-reference", "#frag\\ment", false),
+];
+
+/// Examples of RFC 3339, 5.8 and appendix A, RFC 4291, 2.2, RFC 4122, 3, RFC 3986, 1.1.2, and RFC 5321, 4.1.2 and 4.1.3.
+const OF_STANDARDS: [Case; 19] = [
+    ("date-time", "1985-04-12T23:20:50.52Z", true),
+    ("date-time", "1996-12-19T16:39:57-08:00", true),
+    ("date-time", "1990-12-31T23:59:60Z", true),
+    ("date-time", "1990-12-31T15:59:60-08:00", true),
+    ("ipv6", "ABCD:EF01:2345:6789:ABCD:EF01:2345:6789", true),
+    ("ipv6", "2001:DB8:0:0:8:800:200C:417A", true),
+    ("ipv6", "FF01::101", true),
+    ("ipv6", "::", true),
+    ("ipv6", "0:0:0:0:0:0:13.1.68.3", true),
+    ("ipv6", "::FFFF:129.144.52.38", true),
+    ("uuid", "f81d4fae-7dec-11d0-a765-00a0c91e6bf6", true),
+    ("duration", "P4DT12H30M5S", true),
+    ("duration", "P2W", true),
+    ("duration", "P1Y2W", false),
+    ("duration", "PT", false),
+    ("duration", "P1Y1D", false),
+    ("uri", "telnet://192.0.2.16:80/", true),
+    ("email", "\"joe bloggs\"@example.com", true),
+    ("email", "joe.bloggs@[IPv6:::1]", true),
+];
+
+/// Whether the case's text is told as the case wants.
+fn is_told(case: &Case) -> bool {
+    match Format::named(case.0) {
+        Some(format) => format.accepts(case.1) == case.2,
+        None => false,
+    }
+}
+
+#[test]
+fn texts_are_told_as_wanted(rt: HostRuntime) {
+    for case in &OF_THE_SUITE {
+        assert!(rt; is_told(case), "{} of the suite: {}", case.0, case.1);
+    }
+    for case in &OF_STANDARDS {
+        assert!(rt; is_told(case), "{} of a standard: {}", case.0, case.1);
+    }
+}
