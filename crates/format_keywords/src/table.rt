@@ -226,8 +226,8 @@ impl MakesByObject<Telling<FormatKeyword>> for FormatsIf {
         (made t.checked draft object name value) };
 }
 
-/// The table of `format`, `contentEncoding` and `contentMediaType`. It makes `format` where the compiler says that formats are checked, which
-/// is so up to draft 7, and later where a vocabulary or an option says so. No name is its own.
+/// The table of `format`, `contentEncoding` and `contentMediaType`. It makes `format` where the compiler says that formats are checked,
+/// which is so up to draft 7, and later where a vocabulary or an option says so. No name is its own.
 #[derive(Drop)]
 pub struct FormatTable {}
 
