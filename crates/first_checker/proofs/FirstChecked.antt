@@ -1,0 +1,34 @@
+-- What a checker's validator says first of an instance is what its nodes tell first of it.
+use Rattle.std.proofs.Common.{◌≡◌, Bool, true, false}
+use Rattle.std.specs.Prelude.{Option, length, option_map}
+use Rattle.serde_json.specs.Data.{Data}
+use Rattle.serde_json.specs.Written.{has_float}
+use Rattle.schema_definitions.specs.Cover.{Sense}
+use Rattle.schema_definitions.specs.Laws.{EachKeeps}
+use Rattle.schema_reports.specs.ReportViews.{error_of}
+use Rattle.schema_reports.specs.declared.reports.ValidationError.{ValidationError}
+use Rattle.schema_parts.specs.declared.keyword.Validate.{Ghosts as KeywordMembers}
+use Rattle.schema_parts.specs.declared.matcher.Matcher.{Ghosts as MatcherMembers}
+use Rattle.node_table.specs.NodeTable.{numbered}
+use Rattle.schema_validator.specs.Asked.{FirstFromSomeDepth}
+use Rattle.schema_validator.specs.Program.{Program}
+use Rattle.schema_validator.specs.Spoken.{FirstAnswered}
+use Rattle.schema_validator.proofs.Searches.{finishes_of}
+use Rattle.first_errors.specs.FirstErrors.{FirstAlone}
+use Rattle.first_errors.proofs.Told.{first_is_told}
+use Rattle.first_checker.specs.Checks.{Checks, first_by}
+
+-- where no match is met, what is answered is what the sentence says, texts being spoken of or not
+alone : (v : Sense) (most : _) (texts : Bool) (o : Option ValidationError) → FirstAnswered v most texts o → FirstAlone v most (option_map (error_of texts) o)
+alone v most true o says = λ none. says
+alone v most false o says = λ none. says.alone none
+
+module _ {C Run K M : Type 0} (keywords : KeywordMembers C Run K) (matchers : MatcherMembers M) (p : Program C M) where
+  pub first_checked : Checks keywords matchers p → ((texts : Bool) → EachKeeps (keywords.words texts)) → (instance : Data) (o : Option ValidationError)
+      → FirstFromSomeDepth keywords matchers p instance o → (texts : Bool) → (texts ≡ true → has_float instance ≡ false)
+      → option_map (error_of texts) o ≡ first_by keywords matchers p texts instance
+  first_checked checks each instance o from texts whole =
+      let (deep, says) = from texts (λ is. (whole is, checks.whole)) in
+      first_is_told (keywords.words texts) (each texts) (matchers.matching p.matcher) (finishes_of (matchers.matching p.matcher) checks.finishes)
+      (numbered keywords.shape p.nodes) (length p.nodes) checks.ranked instance p.root checks.inside p.runs checks.some (option_map (error_of texts) o)
+      (deep, λ n more. alone _ p.runs texts o (says n more))

@@ -1,0 +1,18 @@
+use Rattle.std.proofs.Common.{length, subst}
+use Rattle.schema_meaning.specs.Fractions.{AreWhole}
+use Rattle.schema_meaning.specs.Numbered.{Ranked}
+use Rattle.node_table.specs.NodeTable.{NodeEntry, numbered}
+use Rattle.node_table.proofs.RankedTable.{ranked_table}
+use Rattle.std.specs.Prelude.{List}
+use Rattle.first_checker.proofs.checker.Checker.of.Goals as goal
+
+pub invariant_of-result : goal.invariant_of-result
+invariant_of-result g c = record {
+  finishes = c.requires.finishes;
+  whole = subst (λ (ns : List (NodeEntry g.row.K.Denot)). AreWhole g.K.Validate.is_whole (numbered g.K.Validate.shape ns) (length ns))
+      c.nodes-nodes.ensures.nodes (c.show_no_fraction.ensures.exactly.0 c.if-not-show_no_fraction.false);
+  ranked = subst (λ (ns : List (NodeEntry g.row.K.Denot)). Ranked (numbered g.K.Validate.shape ns) (length ns))
+      c.nodes-nodes.ensures.nodes (ranked_table g.K.Validate.shape _ c.len-ranked.ensures.ordered.0 c.len-ranked.ensures.ordered.1);
+  inside = c.requires.inside;
+  some = c.requires.some;
+}
