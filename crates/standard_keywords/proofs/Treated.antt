@@ -3,7 +3,7 @@ use Rattle.std.proofs.Common.{◌≡◌, codes, refl}
 use Rattle.serde_json.specs.Data.{Members, array, item, member, no_items, no_members, object}
 use Rattle.schema_definitions.specs.Drafts.{draft_2019_09, draft_2020_12, draft_4, draft_7}
 use Rattle.standard_keywords.specs.Treatments.{treated}
-use Rattle.standard_keywords.specs.declared.treatment.Treatment.TheVariants.{Applied, Asserted, Basic, Gated, Refused, Silent}
+use Rattle.standard_keywords.specs.declared.treatment.Treatment.TheVariants.{Applied, Asserted, Basic, Formatted, Gated, Refused, Silent}
 
 -- `{"items": [{}]}` and `{"items": {}}`
 abbrev listed : Members
@@ -33,7 +33,7 @@ more_items_before = refl
 more_items_since : treated draft_2020_12 no_members (codes "additionalItems") ≡ Silent
 more_items_since = refl
 
-a_format : treated draft_7 no_members (codes "format") ≡ Silent
+a_format : treated draft_7 no_members (codes "format") ≡ Formatted
 a_format = refl
 
 dependencies_before : treated draft_2019_09 no_members (codes "dependencies") ≡ Applied

@@ -7,6 +7,8 @@ use Rattle.schema_definitions.specs.Instance.{Text}
 use Rattle.schema_definitions.specs.Making.{Script}
 use Rattle.schema_parts.specs.MakerViews.{MakesRightly}
 use Rattle.keyword_makers.specs.ByObject.{IsRightHere, by_object, makes_by_object}
+use Rattle.format_keywords.specs.FormatMaking.{format_script}
+use Rattle.format_keywords.specs.declared.keyword.FormatKeyword.{FormatKeyword}
 use Rattle.gated_keywords.specs.Making.{gated_script}
 use Rattle.gated_keywords.specs.declared.keyword.GatedKeyword.{GatedKeyword}
 use Rattle.joined_keywords.specs.BothScripts.{script_as}
@@ -28,7 +30,7 @@ use Rattle.standard_keywords.specs.Patterns.{pattern_refusal}
 use Rattle.standard_keywords.specs.Treatments.{refusal_text, treated}
 use Rattle.standard_keywords.specs.declared.patterns.UnreadablePatterns.{UnreadablePatterns}
 use Rattle.standard_keywords.specs.declared.treatment.Treatment.{Treatment}
-use Rattle.standard_keywords.specs.declared.treatment.Treatment.TheVariants.{Applied, Asserted, Basic, Gated, Refused, Silent}
+use Rattle.standard_keywords.specs.declared.treatment.Treatment.TheVariants.{Applied, Asserted, Basic, Formatted, Gated, Refused, Silent}
 
 module _ (absorbed : Assertion → List Text) (none : (m : Assertion) → [] ≡ absorbed m) where
   right_by : (t : Treatment) (draft : Draft) (object : Members) (name : Text) (d : Data) → get_member name object ≡ Some d
@@ -37,6 +39,7 @@ module _ (absorbed : Assertion → List Text) (none : (m : Assertion) → [] ≡
   right_by Applied draft object name d found = tt
   right_by Gated draft object name d found = tt
   right_by Basic draft object name d found = tt
+  right_by Formatted draft object name d found = tt
   right_by Silent draft object name d found = tt
   right_by Refused draft object name d found = tt
 
@@ -51,18 +54,25 @@ EachRightly absorbed is_whole script = (own : Bool) (name : Text) (object : Memb
 
 module _ (absorbed : Assertion → List Text) (none : (m : Assertion) → [] ≡ absorbed m)
     (applicator_absorbed : StandardApplicator → List Text) (applicator_whole : StandardApplicator → Bool) (applicators_right : EachRightly applicator_absorbed applicator_whole applicators.standard_script)
-    (gated_absorbed : GatedKeyword → List Text) (gated_whole : GatedKeyword → Bool) (gates_right : EachRightly gated_absorbed gated_whole gated_script) where
-  -- of the keywords of the last two tables, of the last three, and of all
-  abbrev last_absorbed : Both GatedKeyword BenchShape → List Text
-  last_absorbed = by_side gated_absorbed none_absorbed
+    (gated_absorbed : GatedKeyword → List Text) (gated_whole : GatedKeyword → Bool) (gates_right : EachRightly gated_absorbed gated_whole gated_script)
+    (format_absorbed : FormatKeyword → List Text) (format_whole : FormatKeyword → Bool) (formats_right : EachRightly format_absorbed format_whole format_script) where
+  -- of the keywords of the last two tables, of the last three, of the last four, and of all
+  abbrev end_absorbed : Both FormatKeyword BenchShape → List Text
+  end_absorbed = by_side format_absorbed none_absorbed
 
-  abbrev last_whole : Both GatedKeyword BenchShape → Bool
-  last_whole = by_side gated_whole is_whole
+  abbrev end_whole : Both FormatKeyword BenchShape → Bool
+  end_whole = by_side format_whole is_whole
 
-  abbrev later_absorbed : Both StandardApplicator (Both GatedKeyword BenchShape) → List Text
+  abbrev last_absorbed : Both GatedKeyword (Both FormatKeyword BenchShape) → List Text
+  last_absorbed = by_side gated_absorbed end_absorbed
+
+  abbrev last_whole : Both GatedKeyword (Both FormatKeyword BenchShape) → Bool
+  last_whole = by_side gated_whole end_whole
+
+  abbrev later_absorbed : Both StandardApplicator (Both GatedKeyword (Both FormatKeyword BenchShape)) → List Text
   later_absorbed = by_side applicator_absorbed last_absorbed
 
-  abbrev later_whole : Both StandardApplicator (Both GatedKeyword BenchShape) → Bool
+  abbrev later_whole : Both StandardApplicator (Both GatedKeyword (Both FormatKeyword BenchShape)) → Bool
   later_whole = by_side applicator_whole last_whole
 
   abbrev all_absorbed : Shape → List Text
@@ -80,14 +90,19 @@ module _ (absorbed : Assertion → List Text) (none : (m : Assertion) → [] ≡
   unless_rightly object name None o s h = h
   unless_rightly object name (Some text) o s h = refused_rightly object name text o
 
-  later_rightly : (object : Members) (s : Script (Both StandardApplicator (Both GatedKeyword BenchShape))) → MakesRightly later_absorbed later_whole object s
+  later_rightly : (object : Members) (s : Script (Both StandardApplicator (Both GatedKeyword (Both FormatKeyword BenchShape)))) → MakesRightly later_absorbed later_whole object s
       → MakesRightly all_absorbed all_whole object (script_as Second s)
   later_rightly object s h = both.makes_rightly Second later_absorbed all_absorbed later_whole all_whole (λ m. refl) (λ m. refl) object s h
 
-  last_rightly : (object : Members) (s : Script (Both GatedKeyword BenchShape)) → MakesRightly last_absorbed last_whole object s
+  last_rightly : (object : Members) (s : Script (Both GatedKeyword (Both FormatKeyword BenchShape))) → MakesRightly last_absorbed last_whole object s
       → MakesRightly all_absorbed all_whole object (script_as Second (script_as Second s))
   last_rightly object s h = later_rightly object (script_as Second s)
       (both.makes_rightly Second last_absorbed later_absorbed last_whole later_whole (λ m. refl) (λ m. refl) object s h)
+
+  end_rightly : (object : Members) (s : Script (Both FormatKeyword BenchShape)) → MakesRightly end_absorbed end_whole object s
+      → MakesRightly all_absorbed all_whole object (script_as Second (script_as Second (script_as Second s)))
+  end_rightly object s h = last_rightly object (script_as Second s)
+      (both.makes_rightly Second end_absorbed last_absorbed end_whole last_whole (λ m. refl) (λ m. refl) object s h)
 
   rightly_by : (t : Treatment) (name : Text) (object : Members) (draft : Draft) (vocabularies : Vocabularies) (formats : Bool)
       → MakesRightly all_absorbed all_whole object (script_by t name object draft vocabularies formats)
@@ -104,9 +119,13 @@ module _ (absorbed : Assertion → List Text) (none : (m : Assertion) → [] ≡
       (both.makes_rightly First gated_absorbed last_absorbed gated_whole last_whole (λ m. refl) (λ m. refl) object
       (gated_script false name object draft vocabularies formats) (gates_right false name object draft vocabularies formats))
   rightly_by Basic name object draft vocabularies formats =
-      last_rightly object (script_as Second (bench_script false name object draft vocabularies formats))
-      (both.makes_rightly Second none_absorbed last_absorbed is_whole last_whole (λ m. refl) (λ m. refl) object
+      end_rightly object (script_as Second (bench_script false name object draft vocabularies formats))
+      (both.makes_rightly Second none_absorbed end_absorbed is_whole end_whole (λ m. refl) (λ m. refl) object
       (bench_script false name object draft vocabularies formats) (bench.makes_rightly false name object draft vocabularies formats))
+  rightly_by Formatted name object draft vocabularies formats =
+      end_rightly object (script_as First (format_script false name object draft vocabularies formats))
+      (both.makes_rightly First format_absorbed end_absorbed format_whole end_whole (λ m. refl) (λ m. refl) object
+      (format_script false name object draft vocabularies formats) (formats_right false name object draft vocabularies formats))
   rightly_by Silent name object draft vocabularies formats = tt
   rightly_by Refused name object draft vocabularies formats = refused_rightly object name (refusal_text name) (get_member name object)
 

@@ -1,4 +1,4 @@
--- What the makers of the standard's table ask for and make: what those of one of its four tables do, or nothing, or a refusal by name, as each keyword is treated; before that a refusal for the sake of a
+-- What the makers of the standard's table ask for and make: what those of one of its five tables do, or nothing, or a refusal by name, as each keyword is treated; before that a refusal for the sake of a
 -- pattern that cannot be read.
 use Rattle.std.specs.Prelude.{Bool, None, Option, Some, false, true}
 use Rattle.serde_json.specs.Data.{Data, Members}
@@ -9,6 +9,8 @@ use Rattle.schema_definitions.specs.Making.{Script, nothing, refused, then_end}
 use Rattle.keyword_makers.specs.ByObject.{MadeHere, by_object}
 use Rattle.keyword_makers.specs.declared.by_object.ObjectKeyword.TheVariants as here
 use Rattle.keyword_makers.specs.Making.{refused_error}
+use Rattle.format_keywords.specs.FormatMaking.{format_script}
+use Rattle.format_keywords.specs.declared.keyword.FormatKeyword.{FormatKeyword}
 use Rattle.gated_keywords.specs.Making.{gated_script}
 use Rattle.gated_keywords.specs.declared.keyword.GatedKeyword.{GatedKeyword}
 use Rattle.joined_keywords.specs.BothScripts.{script_as}
@@ -24,7 +26,7 @@ use Rattle.standard_keywords.specs.Patterns.{pattern_refusal}
 use Rattle.standard_keywords.specs.Treatments.{refusal_text, treated}
 use Rattle.standard_keywords.specs.declared.patterns.UnreadablePatterns.{UnreadablePatterns}
 use Rattle.standard_keywords.specs.declared.treatment.Treatment.{Treatment}
-use Rattle.standard_keywords.specs.declared.treatment.Treatment.TheVariants.{Applied, Asserted, Basic, Gated, Refused, Silent}
+use Rattle.standard_keywords.specs.declared.treatment.Treatment.TheVariants.{Applied, Asserted, Basic, Formatted, Gated, Refused, Silent}
 
 -- a refusal with this text, which shows the keyword's value
 abbrev pub refused_at : {K : Type 0} → Text → Text → Option Data → Script K
@@ -33,13 +35,14 @@ refused_at name text (Some d) = then_end (refused true (refused_error name d tex
 
 -- what is known of a keyword apart from its representation
 abbrev pub Shape : Type 0
-Shape = Both Assertion (Both StandardApplicator (Both GatedKeyword BenchShape))
+Shape = Both Assertion (Both StandardApplicator (Both GatedKeyword (Both FormatKeyword BenchShape)))
 
 abbrev pub script_by : Treatment → Text → Members → Draft → Vocabularies → Bool → Script Shape
 script_by Asserted name object draft vocabularies formats = script_as First (by_object assertions.made false name object draft vocabularies formats)
 script_by Applied name object draft vocabularies formats = script_as Second (script_as First (applicators.standard_script false name object draft vocabularies formats))
 script_by Gated name object draft vocabularies formats = script_as Second (script_as Second (script_as First (gated_script false name object draft vocabularies formats)))
-script_by Basic name object draft vocabularies formats = script_as Second (script_as Second (script_as Second (bench_script false name object draft vocabularies formats)))
+script_by Basic name object draft vocabularies formats = script_as Second (script_as Second (script_as Second (script_as Second (bench_script false name object draft vocabularies formats))))
+script_by Formatted name object draft vocabularies formats = script_as Second (script_as Second (script_as Second (script_as First (format_script false name object draft vocabularies formats))))
 script_by Silent name object draft vocabularies formats = then_end nothing
 script_by Refused name object draft vocabularies formats = refused_at name (refusal_text name) (get_member name object)
 
@@ -66,6 +69,7 @@ leads_by Asserted = true
 leads_by Applied = false
 leads_by Gated = false
 leads_by Basic = false
+leads_by Formatted = false
 leads_by Silent = true
 leads_by Refused = true
 
@@ -78,6 +82,7 @@ leads_on_by Asserted = false
 leads_on_by Applied = true
 leads_on_by Gated = false
 leads_on_by Basic = false
+leads_on_by Formatted = false
 leads_on_by Silent = false
 leads_on_by Refused = false
 
@@ -90,11 +95,25 @@ gates_by Asserted = false
 gates_by Applied = false
 gates_by Gated = true
 gates_by Basic = false
+gates_by Formatted = false
 gates_by Silent = false
 gates_by Refused = false
 
 abbrev pub leads_to_gates : Draft → Members → Text → Bool
 leads_to_gates draft object name = gates_by (treated draft object name)
+
+-- and to `format` among the rest
+abbrev pub formats_by : Treatment → Bool
+formats_by Asserted = false
+formats_by Applied = false
+formats_by Gated = false
+formats_by Basic = false
+formats_by Formatted = true
+formats_by Silent = false
+formats_by Refused = false
+
+abbrev pub leads_to_formats : Draft → Members → Text → Bool
+leads_to_formats draft object name = formats_by (treated draft object name)
 
 -- what the assertions' side makes of it
 abbrev pub made_by : Treatment → Draft → Members → Text → Data → MadeHere Assertion
@@ -102,6 +121,7 @@ made_by Asserted draft object name d = assertions.made draft object name d
 made_by Applied draft object name d = here.Nothing
 made_by Gated draft object name d = here.Nothing
 made_by Basic draft object name d = here.Nothing
+made_by Formatted draft object name d = here.Nothing
 made_by Silent draft object name d = here.Nothing
 made_by Refused draft object name d = here.Refused (refusal_text name)
 

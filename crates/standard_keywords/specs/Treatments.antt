@@ -10,7 +10,7 @@ use Rattle.schema_definitions.specs.Instance.{Text}
 use Rattle.keyword_ways.specs.Texts.{is_among}
 use Rattle.bench_parts.specs.Makers.{has_prefix, is_older_list}
 use Rattle.standard_keywords.specs.declared.treatment.Treatment.{Treatment}
-use Rattle.standard_keywords.specs.declared.treatment.Treatment.TheVariants.{Applied, Asserted, Basic, Gated, Refused, Silent}
+use Rattle.standard_keywords.specs.declared.treatment.Treatment.TheVariants.{Applied, Asserted, Basic, Formatted, Gated, Refused, Silent}
 
 -- those that `standard_assertions` makes (Validation 2020-12, 6)
 abbrev pub of_numbers : List Text
@@ -62,12 +62,15 @@ is_applied draft object name =
 abbrev pub is_gated : Text → Bool
 is_gated name = is_among (codes "patternProperties" ∷ codes "additionalProperties" ∷ []) name
 
--- those that assert nothing here (Validation 2020-12, 7 and 8), and `additionalItems` where the standard has it no longer
-abbrev pub annotating : List Text
-annotating = codes "format" ∷ codes "contentEncoding" ∷ codes "contentMediaType" ∷ codes "contentSchema" ∷ []
+-- those that `format_keywords` makes: `format`, which asserts where formats are checked (Validation 2020-12, 7), and two that assert in drafts
+-- 6 and 7 (draft 7, 8.3 and 8.4) and nothing later
+abbrev pub is_formatted : Text → Bool
+is_formatted name = is_among (codes "format" ∷ codes "contentEncoding" ∷ codes "contentMediaType" ∷ []) name
+
+-- what asserts nothing: `contentSchema` (Validation 2020-12, 8.5), and `additionalItems` where the standard has it no longer
 
 abbrev pub is_silent : Draft → Text → Bool
-is_silent draft name = is_among annotating name || (has_prefix draft && bytes_eq name (codes "additionalItems"))
+is_silent draft name = bytes_eq name (codes "contentSchema") || (has_prefix draft && bytes_eq name (codes "additionalItems"))
 
 -- what becomes of the member of a name of an object
 abbrev pub treated : Draft → Members → Text → Treatment
@@ -75,7 +78,8 @@ treated draft object name =
     if is_asserted name then Asserted
     else (if is_applied draft object name then Applied
     else (if is_gated name then Gated
-    else (if is_basic name then Basic else (if is_silent draft name then Silent else Refused))))
+    else (if is_basic name then Basic
+    else (if is_formatted name then Formatted else (if is_silent draft name then Silent else Refused)))))
 
 -- what a refusal says
 abbrev pub refusal_text : Text → Text

@@ -43,6 +43,7 @@ impl MakesByObject<Telling<Assertion>> for AssertionsOrRefusals {
             Treatment::Applied => Ok(ObjectKeyword::Nothing),
             Treatment::Gated => Ok(ObjectKeyword::Nothing),
             Treatment::Basic => Ok(ObjectKeyword::Nothing),
+            Treatment::Formatted => Ok(ObjectKeyword::Nothing),
             Treatment::Silent => Ok(ObjectKeyword::Nothing),
             Treatment::Refused => {
                 let text = refusal_text(alloc, name)?;

@@ -14,6 +14,8 @@ use crate::patterns::{UnreadablePatterns, pattern_refusal};
 use crate::treatment::{Treatment, treatment_of};
 use bench_keywords::keyword::BenchKeyword;
 use bench_parts::table::BenchTable;
+use format_keywords::keyword::FormatKeyword;
+use format_keywords::table::FormatTable;
 use gated_keywords::keyword::GatedKeyword;
 use gated_keywords::table::GatedTable;
 use joined_keywords::both::Both;
@@ -36,14 +38,25 @@ use std::alloc::Global;
 pub type StandardKeyword = Both<Telling<Assertion>, Applied>;
 
 /// One of them that is no assertion by itself.
-pub type Applied = Both<StandardApplicator, Both<GatedKeyword, BenchKeyword>>;
+pub type Applied = Both<
+    StandardApplicator,
+    Both<GatedKeyword, Both<Telling<FormatKeyword>, BenchKeyword>>,
+>;
 
 type Maker = Both<
     PathsMaker<Telling<Assertion>>,
-    Both<PathsMaker<StandardApplicator>, Both<PathsMaker<GatedKeyword>, PathsMaker<BenchKeyword>>>,
+    Both<
+        PathsMaker<StandardApplicator>,
+        Both<
+            PathsMaker<GatedKeyword>,
+            Both<PathsMaker<Telling<FormatKeyword>>, PathsMaker<BenchKeyword>>,
+        >,
+    >,
 >;
 
-type Gates = RoutedTables<GatedTable, GateRoute, BenchTable>;
+type Formats = RoutedTables<FormatTable, FormatRoute, BenchTable>;
+
+type Gates = RoutedTables<GatedTable, GateRoute, Formats>;
 
 type Applicators = RoutedTables<StandardApplicatorTable, ApplicatorRoute, Gates>;
 
@@ -64,6 +77,7 @@ impl Route for StandardRoute {
             Treatment::Applied => false,
             Treatment::Gated => false,
             Treatment::Basic => false,
+            Treatment::Formatted => false,
             Treatment::Silent => true,
             Treatment::Refused => true,
         }
@@ -84,7 +98,7 @@ impl Route for ApplicatorRoute {
     }
 }
 
-/// Of the rest, what `gated_keywords` makes goes to its table, and else to the bench's.
+/// Of the rest, what `gated_keywords` makes goes to its table.
 #[derive(Drop)]
 pub struct GateRoute {}
 
@@ -95,6 +109,20 @@ impl Route for GateRoute {
 
     fn leads_first(&self, draft: Draft, object: &Map<String, Value>, name: &str) -> bool {
         matches!(treatment_of(draft, object, name), Treatment::Gated)
+    }
+}
+
+/// Of the rest, `format` goes to its table, and else to the bench's.
+#[derive(Drop)]
+pub struct FormatRoute {}
+
+impl Route for FormatRoute {
+    ghost use Rattle.standard_keywords.specs.StandardScripts.{leads_to_formats};
+
+    ghost leads = { λ _. leads_to_formats };
+
+    fn leads_first(&self, draft: Draft, object: &Map<String, Value>, name: &str) -> bool {
+        matches!(treatment_of(draft, object, name), Treatment::Formatted)
     }
 }
 
@@ -128,7 +156,7 @@ impl StandardTable {
     }
 }
 
-/// The four tables.
+/// The five tables.
 fn tables() -> Tables {
     RoutedTables {
         first: TableByObject {
@@ -141,7 +169,11 @@ fn tables() -> Tables {
             second: RoutedTables {
                 first: GatedTable {},
                 route: GateRoute {},
-                second: BenchTable {},
+                second: RoutedTables {
+                    first: FormatTable {},
+                    route: FormatRoute {},
+                    second: BenchTable {},
+                },
             },
         },
     }
@@ -171,6 +203,8 @@ impl KeywordTable<StandardKeyword> for StandardTable {
     ghost use Rattle.std.specs.Prelude.{false, refl};
     ghost use Rattle.joined_keywords.specs.BothScripts.{both_waiting};
     ghost use Rattle.bench_keywords.specs.Shapes.{shape_of};
+    ghost use Rattle.format_keywords.specs.FormatMaking.{makes_rightly as formats_rightly};
+    ghost use Rattle.format_keywords.specs.Shapes.{shape_of as format_of};
     ghost use Rattle.standard_keywords.specs.StandardScripts.{standard_script};
     ghost use Rattle.standard_keywords.specs.StandardLaws.{makes_rightly};
     ghost use Rattle.standard_applicators.specs.MakerLaws.{makes_rightly as applicators_rightly};
@@ -183,7 +217,7 @@ impl KeywordTable<StandardKeyword> for StandardTable {
     ghost script = { λ table. standard_script table.unreadable };
 
     ghost waiting = { both_waiting (waiting_of assertion_of) (both_waiting (waiting_of (λ k. k))
-        (both_waiting (waiting_of (λ k. k)) (waiting_of shape_of))) };
+        (both_waiting (waiting_of (λ k. k)) (both_waiting (waiting_of format_of) (waiting_of shape_of)))) };
 
     fn owns(&self, _name: &str) -> bool {
         false
@@ -220,5 +254,6 @@ impl KeywordTable<StandardKeyword> for StandardTable {
         tables().turn(alloc, maker, reply)
     }
 
-    ghost right = { λ table. makes_rightly _ (λ k. refl) _ _ applicators_rightly _ _ gates_rightly table.unreadable };
+    ghost right = { λ table. makes_rightly _ (λ k. refl) _ _ applicators_rightly _ _ gates_rightly
+        _ _ (formats_rightly _ _ (λ k. refl) (λ k. refl)) table.unreadable };
 }

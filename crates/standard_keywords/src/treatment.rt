@@ -4,7 +4,7 @@ ghost use Rattle.serde_json.specs.View.{members_view};
 ghost use Rattle.schema_keywords.specs.KeywordViews.{draft_of};
 ghost use Rattle.keyword_ways.specs.Texts.{is_among};
 ghost use Rattle.bench_parts.specs.Makers.{has_prefix};
-ghost use Rattle.standard_keywords.specs.Treatments.{annotating, is_applied, is_asserted, is_basic, is_gated, is_older_items};
+ghost use Rattle.standard_keywords.specs.Treatments.{is_applied, is_asserted, is_basic, is_formatted, is_gated, is_older_items};
 ghost use Rattle.standard_keywords.specs.Treatments.{of_branches, of_counts, of_each_draft, of_lists_and_objects};
 ghost use Rattle.standard_keywords.specs.Treatments.{of_numbers, of_places};
 ghost use Rattle.standard_keywords.specs.Treatments.{is_silent, of_texts_and_members, refusal_text, treated};
@@ -27,6 +27,8 @@ pub enum Treatment {
     Gated,
     /// The bench's table makes it.
     Basic,
+    /// `format_keywords` makes it, where it asserts.
+    Formatted,
     /// Nothing is made of it: it asserts nothing.
     Silent,
     /// The schema is refused.
@@ -144,21 +146,18 @@ fn is_gated(name: &str) -> bool
     name == "patternProperties" || name == "additionalProperties"
 }
 
-/// Whether a name is that of a keyword that asserts nothing.
-fn is_annotating(name: &str) -> bool
-    ensures annotating { result ≡ is_among annotating name.now }
+/// Whether `format_keywords` makes the keyword of a name.
+fn is_formatted(name: &str) -> bool
+    ensures formatted { result ≡ is_formatted name.now }
 {
-    name == "format"
-        || name == "contentEncoding"
-        || name == "contentMediaType"
-        || name == "contentSchema"
+    name == "format" || name == "contentEncoding" || name == "contentMediaType"
 }
 
 /// Whether nothing is made of a name.
 fn is_silent(draft: Draft, name: &str) -> bool
     ensures silent { result ≡ is_silent (draft_of draft) name.now }
 {
-    is_annotating(name) || (has_prefix(draft) && name == "additionalItems")
+    name == "contentSchema" || (has_prefix(draft) && name == "additionalItems")
 }
 
 /// What becomes of the member of a name of an object, in a draft that has the name.
@@ -173,6 +172,8 @@ pub fn treatment_of(draft: Draft, object: &Map<String, Value>, name: &str) -> Tr
         Treatment::Gated
     } else if is_basic(name) {
         Treatment::Basic
+    } else if is_formatted(name) {
+        Treatment::Formatted
     } else if is_silent(draft, name) {
         Treatment::Silent
     } else {
