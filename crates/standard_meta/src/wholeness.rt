@@ -1,0 +1,70 @@
+//! Whether a keyword of the standard shows a fraction of its schema.
+ghost use Rattle.std.specs.Prelude.{◌≡◌};
+ghost use Rattle.bench_keywords.specs.BenchShape.{is_whole};
+ghost use Rattle.bench_keywords.specs.Shapes.{shape_of};
+ghost use Rattle.standard_assertions.specs.Assertions.{shows_no_fraction};
+
+use bench_keywords::keyword::BenchKeyword;
+use joined_keywords::both::Both;
+use schema_parts::keyword::Validate;
+use shown_fractions::nodes::TellsFractions;
+use shown_fractions::values::has_fraction;
+use standard_assertions::assertion::Assertion;
+use standard_keywords::table::{Applied, StandardKeyword};
+
+/// Tells of a keyword of the standard whether it shows a fraction of its schema.
+#[derive(Drop)]
+pub struct StandardFractions {}
+
+/// Whether an assertion shows none.
+fn assertion_shows_none(assertion: &Assertion) -> bool
+    ensures whole { result ≡ shows_no_fraction assertion.now }
+{
+    match assertion {
+        Assertion::Type(_, _) => true,
+        Assertion::Types(_, _) => true,
+        Assertion::Const(constant) => !has_fraction(constant.as_value()),
+        Assertion::Enum(values) => !has_fraction(values.as_value()),
+        Assertion::Limit(_, limit) => !limit.as_number().is_f64(),
+        Assertion::MultipleOf(divisor) => !divisor.as_number().is_f64(),
+        Assertion::Size(_, _) => true,
+        Assertion::Count(_, _) => true,
+        Assertion::UniqueItems => true,
+        Assertion::DependentRequired(_) => true,
+    }
+}
+
+/// Whether a keyword of the bench shows none.
+fn basic_shows_none(keyword: &BenchKeyword) -> bool
+    ensures whole { result ≡ is_whole (shape_of keyword.now) }
+{
+    match keyword {
+        BenchKeyword::Not(schema) => !has_fraction(schema),
+        _ => true,
+    }
+}
+
+/// Whether a keyword that is no assertion shows none.
+fn applied_shows_none(keyword: &Applied) -> bool
+    ensures whole { result ≡ ⟦<Applied as Validate>⟧.is_whole (⟦<Applied as Validate>⟧.shape keyword.now) }
+{
+    match keyword {
+        Both::First(_) => true,
+        Both::Second(keyword) => match keyword {
+            Both::First(_) => true,
+            Both::Second(keyword) => match keyword {
+                Both::First(_) => true,
+                Both::Second(keyword) => basic_shows_none(keyword),
+            },
+        },
+    }
+}
+
+impl TellsFractions<StandardKeyword> for StandardFractions {
+    fn shows_none(&self, keyword: &StandardKeyword) -> bool {
+        match keyword {
+            Both::First(keyword) => assertion_shows_none(&keyword.keyword),
+            Both::Second(keyword) => applied_shows_none(keyword),
+        }
+    }
+}
