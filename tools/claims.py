@@ -38,9 +38,13 @@ SCOPE = (
     "schema_output::evaluation",
     "schema_keys::check::validate_schema",
     "schema_keys::error",
+    "bench_resolver::resolver::BenchResolver",
+    "first_errors",
+    "meta_schemas",
     "regex_matcher::matcher",
     "regex_matcher::patterns",
     "regex_matcher::reading",
+    "text_formats::formats",
 )
 
 
@@ -205,7 +209,7 @@ class Crate:
                     continue
                 head, place, clauses, asks = close + 1, close + 1, [], []
                 continue
-            if letter == ";":
+            if letter == ";" and said.count("[") <= said.count("]"):
                 if owner and owner[0] == "trait" and re.search(r"\bfn\s+\w+", said):
                     self.note(text, code, head, said, modules, public, owner, clauses, asks)
                     has_function = True
