@@ -44,6 +44,7 @@ SCOPE = (
     "regex_matcher::matcher",
     "regex_matcher::patterns",
     "regex_matcher::reading",
+    "standard_keywords::table",
     "text_formats::formats",
 )
 
