@@ -39,12 +39,14 @@ SCOPE = (
     "schema_keys::check::validate_schema",
     "schema_keys::error",
     "bench_resolver::resolver::BenchResolver",
+    "first_checker",
     "first_errors",
     "meta_schemas",
     "regex_matcher::matcher",
     "regex_matcher::patterns",
     "regex_matcher::reading",
     "standard_keywords::table",
+    "standard_validator",
     "text_formats::formats",
 )
 
