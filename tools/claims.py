@@ -46,7 +46,6 @@ SCOPE = (
     "regex_matcher::patterns",
     "regex_matcher::reading",
     "standard_keywords::table",
-    "standard_validator",
     "text_formats::formats",
 )
 
