@@ -6,8 +6,8 @@ of a newer state: it has a folder for each draft. Drafts 4, 6, 7, 2019-09 and 20
 
 Each test is a row that asks for the verdict by the table `standard`. A group of tests is left out where its schema needs what the parts of
 the rows do not have: another document, a relative reference or a relative identifier, or a pattern that the rows' matcher, which looks for
-it as a text, would read otherwise. So are optional groups on formats and contents, annotations here. And a group is left out whose schema
-the table refuses, since it says of a keyword that it is not supported.
+it as a text, would read otherwise. So are optional groups on formats and contents from 2019-09 on, where they are annotations. And a group
+is left out whose schema the table refuses, since it says of a keyword that it is not supported.
 
 It prints each test that fails, and for each draft and file how many tests ran, how many failed and how many groups were left out and why.
 --optional runs the files in `optional` too, whose failures are shown beside the others; --left-out names each group that is left out. It
@@ -84,7 +84,7 @@ def why_left_out(schema, draft, optional):
             return outside
         if any(PATTERN_SIGNS.search(pattern) for pattern in patterns_of(below)):
             return "regular expression"
-        if optional and not ANNOTATING.isdisjoint(below):
+        if optional and draft >= 2019 and not ANNOTATING.isdisjoint(below):
             return "annotation"
     return None
 
@@ -92,8 +92,9 @@ def why_left_out(schema, draft, optional):
 def files_of(folder, optional):
     """The files of a draft, each its name and its groups."""
     paths = [name for name in os.listdir(folder) if name.endswith(".json")]
-    if optional and os.path.isdir(os.path.join(folder, "optional")):
-        paths += [os.path.join("optional", name) for name in os.listdir(os.path.join(folder, "optional")) if name.endswith(".json")]
+    for inner in ("optional", os.path.join("optional", "format")) if optional else ():
+        if os.path.isdir(os.path.join(folder, inner)):
+            paths += [os.path.join(inner, name) for name in os.listdir(os.path.join(folder, inner)) if name.endswith(".json")]
     for path in sorted(paths):
         with open(os.path.join(folder, path), encoding="utf-8") as file:
             yield path[: -len(".json")], json.load(file)
