@@ -1,6 +1,6 @@
--- Worked rows of the standard's rule, by computation. Documents and what is wanted of them come from the official test suite (ref,
--- refRemote, id and anchor of drafts 4, 6 and 7), but for the last ones, which come from the standard. (RFC 3986, 5.2; draft-07 Core, 8.2;
--- Core 2019-09, 8.2; Core 2020-12, 8.2, 10.3 and appendix B)
+-- Worked rows of the standard's rule, by computation. Documents and what is wanted of them come from the official test suite's files on
+-- references and on remote references (drafts 4, 6 and 7); those on names and identifiers, and the last ones, come from the standard.
+-- (RFC 3986, 5.2; draft-07 Core, 8.2; Core 2019-09, 8.2; Core 2020-12, 8.2, 10.3 and appendix B)
 use Rattle.std.specs.Prelude.{Bool, Err, List, Ok, Result, Some, [], codes, false, true, ℕ, ◌≡◌, ◌∷◌}
 use Rattle.serde_json.specs.Data.{Data, array, boolean, item, member, no_items, no_members, object, string}
 use Rattle.schema_definitions.specs.Instance.{Place, Text, to_item, to_member}

@@ -105,8 +105,8 @@ impl<'a> Model for BenchResolver<'a> {
 }
 
 impl<'a> BenchResolver<'a> {
-    /// A resolver of this document in the draft 2020-12, by the narrow rule. The document is found under its root's identifier without a fragment, or
-    /// under `json-schema:///`. The vocabularies are required ones: they are in force in every draft, beside the draft's own.
+    /// A resolver of this document in the draft 2020-12, by the narrow rule. The document is found under its root's identifier without a
+    /// fragment, or under `json-schema:///`. The vocabularies are required ones: they are in force in every draft, beside the draft's own.
     ///
     /// # Errors
     ///

@@ -82,8 +82,8 @@ fn any_speaks(rule: Rule, members: &Map<String, Value>) -> bool
     false
 }
 
-/// Whether a schema has no member that names a subschema, an identifier or a name in any draft. A schema that has none may still be told to have
-/// some.
+/// Whether a schema has no member that names a subschema, an identifier or a name in any draft. A schema that has none may still be told
+/// to have some.
 pub fn is_plain(rule: Rule, schema: &Value) -> bool
     ensures plain { IsTrue result → IsPlain rule (view schema.now) }
 {

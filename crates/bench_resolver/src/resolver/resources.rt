@@ -28,8 +28,8 @@ use std::alloc::Global;
 use std::collections::HashMap;
 use std::marker::Model;
 
-/// A resource: the URI that it is found under, the base inside it, where it begins, the draft there, whether its root has `$recursiveAnchor` true, and
-/// its names.
+/// A resource: the URI that it is found under, the base inside it, where it begins, the draft there, whether its root has `$recursiveAnchor`
+/// true, and its names.
 #[derive(Drop)]
 pub struct Resource {
     pub uri: String,
