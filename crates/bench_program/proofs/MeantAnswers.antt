@@ -12,7 +12,7 @@ use Rattle.schema_validator.specs.Program.{OfEverySense, Program}
 use Rattle.bench_parts.specs.BenchMatching.{bench_matcher}
 use Rattle.bench_resolver.specs.BenchStates.{Point}
 use Rattle.bench_keywords.specs.BenchShape.{BenchShape, is_whole}
-use Rattle.schema_validator.specs.Evaluated.{UnitsAnswered}
+use Rattle.schema_calls.specs.Evaluated.{UnitsAnswered}
 use Rattle.schema_validator.proofs.PlainAnswers.{plainly_with_units}
 use Rattle.bench_program.specs.ProgramMeaning.{AnswersInEverySense, AnswersPlainly, BenchHasUnits, BenchMeans, OfPlainMeaning}
 use Rattle.bench_keywords.specs.Shapes.{shape_of}

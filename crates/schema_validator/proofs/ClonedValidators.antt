@@ -16,9 +16,9 @@ use Rattle.node_table.specs.NodeTable.{numbered}
 use Rattle.schema_parts.specs.declared.keyword.Validate.{Ghosts as KeywordMembers}
 use Rattle.schema_parts.specs.declared.matcher.Matcher.{Ghosts as MatcherMembers}
 use Rattle.schema_validator.specs.Cloned.{AnswerSame, SaySame}
-use Rattle.schema_validator.specs.Evaluated.{EvaluationAnswered}
+use Rattle.schema_calls.specs.Evaluated.{EvaluationAnswered}
 use Rattle.schema_validator.specs.Program.{Program}
-use Rattle.schema_validator.specs.Spoken.{ErrorsAnswered, FirstAnswered}
+use Rattle.schema_calls.specs.Spoken.{ErrorsAnswered, FirstAnswered}
 
 both : {A : Type 0} (P : A → Type 0) (x y : A) → x ≡ y → P x ↔ P y
 both P x y e = (subst P e, subst P (sym e))

@@ -3,10 +3,7 @@ pub mod DocumentMap
 pub mod MapAnswers
 pub mod FirstCauses
 pub mod OtherParts
-pub mod Remembers
-pub mod Searches
 pub mod Solved
-pub mod ErrorSearches
 mod SharedErrors
 pub mod Built
 pub mod Compilations
@@ -18,5 +15,4 @@ mod ClonedValidators
 mod MapEntries
 mod EntryFailures
 mod CompiledAlone
-pub mod Verdicts
 pub mod Greatest

@@ -25,7 +25,7 @@ use Rattle.schema_parts.specs.declared.matcher.Matcher.{Ghosts as MatcherMembers
 use Rattle.schema_validator.specs.Asked.{RunListsErrors, RunMeets}
 use Rattle.schema_validator.specs.Program.{Program, Speaks}
 use Rattle.schema_validator.specs.SharedErrors.{AreShared}
-use Rattle.schema_validator.proofs.ErrorSearches.{AreRuns, borrowed, errors_searched, evaluated_searched, first_searched}
+use Rattle.schema_calls.proofs.ErrorSearches.{AreRuns, borrowed, errors_searched, evaluated_searched, first_searched}
 
 module _ {C Run K M : Type 0} (keywords : KeywordMembers C Run K) (matchers : MatcherMembers M) (p : Program C M) (instance : Data) (some_run : 1 ≤ p.runs) (each : (texts : Bool) → EachKeeps (keywords.words texts)) where
   -- a search by a closure that stays as it is, each of whose steps is a run for all errors

@@ -14,9 +14,9 @@ use Rattle.schema_parts.specs.declared.keyword.Reply.{Reply}
 use Rattle.schema_parts.specs.declared.keyword.Validate.{Ghosts as KeywordMembers}
 use Rattle.schema_parts.specs.declared.matcher.Matcher.{Ghosts as MatcherMembers}
 use Rattle.schema_validator.specs.Answers.{MeetsMatches, SaysErrors, SaysFirst, SaysReply, SaysUnit, SaysVerdict}
-use Rattle.schema_validator.specs.Evaluated.{EvaluationAnswered, UnitsAnswered}
+use Rattle.schema_calls.specs.Evaluated.{EvaluationAnswered, UnitsAnswered}
 use Rattle.schema_validator.specs.Program.{FromSomeDepth, HasUnits, OfEveryEvaluation, OfEverySense, Program}
-use Rattle.schema_validator.specs.Spoken.{EachIsGiven, ErrorsAnswered, FirstAnswered, FirstIsGiven}
+use Rattle.schema_calls.specs.Spoken.{EachIsGiven, ErrorsAnswered, FirstAnswered, FirstIsGiven}
 
 -- C is a keyword of the code, K what is known of it, M a matcher of the code
 module _ {C Run K M : Type 0} (keywords : KeywordMembers C Run K) (matchers : MatcherMembers M) (p : Program C M) (instance : Data) where

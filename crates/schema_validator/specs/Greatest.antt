@@ -19,7 +19,7 @@ use Rattle.schema_parts.specs.declared.keyword.Validate.{Ghosts as KeywordMember
 use Rattle.schema_parts.specs.declared.matcher.Matcher.{Ghosts as MatcherMembers}
 use Rattle.node_table.specs.NodeTable.{numbered}
 use Rattle.schema_validator.specs.Handed.{Handed, Options, parts_of}
-use Rattle.schema_validator.specs.Evaluated.{verdict_in}
+use Rattle.schema_calls.specs.Evaluated.{verdict_in}
 use Rattle.schema_validator.specs.Program.{FromSomeDepth, Program}
 
 -- ---- a validator

@@ -2,9 +2,7 @@ pub mod Program
 pub mod Compiled
 pub mod Handed
 pub mod Answers
-pub mod Spoken
 pub mod Solved
-pub mod Evaluated
 pub mod Promised
 pub mod Pointing
 pub mod Roots

@@ -10,9 +10,9 @@ use Rattle.schema_parts.specs.MatcherViews.{FinishesEach}
 use Rattle.schema_verdicts.specs.declared.eligible.SolvedVerdict.{SolvedVerdict}
 use Rattle.schema_validator.specs.Answers.{SaysVerdict}
 use Rattle.schema_validator.specs.Program.{Program}
-use Rattle.schema_validator.proofs.ErrorSearches.{errors_at_once, first_at_once}
+use Rattle.schema_calls.proofs.ErrorSearches.{errors_at_once, first_at_once}
 use Rattle.schema_validator.proofs.Solved.{of_some}
-use Rattle.schema_validator.proofs.Searches.{finishes_of}
+use Rattle.schema_calls.proofs.Searches.{finishes_of}
 use Rattle.schema_validator.proofs.validator.Validator.accepts_at_once.Goals as goal
 
 pub returns-in-Some-clause-first : goal.returns-in-Some-clause-first

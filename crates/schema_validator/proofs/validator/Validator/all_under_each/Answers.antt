@@ -12,8 +12,8 @@ use Rattle.schema_reports.specs.declared.reports.ValidationError.{ValidationErro
 use Rattle.schema_parts.proofs.Replies.{if_ok_mono}
 use Rattle.schema_validator.specs.Answers.{MeetsMatches, SaysErrors}
 use Rattle.schema_validator.specs.Asked.{ErrorsFromSomeDepth}
-use Rattle.schema_validator.proofs.ErrorSearches.{errors_first}
-use Rattle.schema_validator.proofs.Searches.{none_of}
+use Rattle.schema_calls.proofs.ErrorSearches.{errors_first}
+use Rattle.schema_calls.proofs.Searches.{none_of}
 use Rattle.schema_validator.proofs.validator.Validator.all_under_each.Goals as goal
 
 pub returns-then-accepts-clause-depth : goal.returns-then-accepts-clause-depth

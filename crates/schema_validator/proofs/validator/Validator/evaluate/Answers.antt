@@ -7,7 +7,7 @@ use Rattle.schema_reports.specs.declared.evaluation.EvaluationNode.{EvaluationNo
 use Rattle.schema_meaning.proofs.SensesMeant.{of_every_sense}
 use Rattle.schema_meaning.proofs.TurnsGiveRuns.{keeps_of_turns}
 use Rattle.node_table.specs.NodeTable.{numbered}
-use Rattle.schema_validator.specs.Evaluated.{EvaluationAnswered}
+use Rattle.schema_calls.specs.Evaluated.{EvaluationAnswered}
 use Rattle.schema_validator.specs.Program.{HasUnits}
 use Rattle.schema_validator.proofs.Greatest.{evaluates_accepted}
 use Rattle.schema_validator.proofs.PlainAnswers.{units_in_every_sense}

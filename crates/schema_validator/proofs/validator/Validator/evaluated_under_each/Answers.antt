@@ -7,8 +7,8 @@ use Rattle.schema_meaning.proofs.TurnsGiveRuns.{keeps_of_turns}
 use Rattle.node_table.specs.NodeTable.{numbered}
 use Rattle.schema_contexts.proofs.Matches.{nothing_twice}
 use Rattle.schema_parts.proofs.Replies.{if_ok_mono}
-use Rattle.schema_validator.proofs.ErrorSearches.{evaluated_first, units_first, units_searched}
-use Rattle.schema_validator.proofs.Searches.{none_of}
+use Rattle.schema_calls.proofs.ErrorSearches.{evaluated_first, units_first, units_searched}
+use Rattle.schema_calls.proofs.Searches.{none_of}
 use Rattle.schema_validator.proofs.validator.Validator.evaluated_under_each.Goals as goal
 
 pub returns-then-not-met_unassumed-clause-depth : goal.returns-then-not-met_unassumed-clause-depth

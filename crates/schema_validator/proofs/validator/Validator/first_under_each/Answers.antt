@@ -11,8 +11,8 @@ use Rattle.schema_meaning.proofs.TurnsGiveRuns.{keeps_of_turns}
 use Rattle.node_table.specs.NodeTable.{numbered}
 use Rattle.schema_contexts.proofs.Matches.{nothing_twice}
 use Rattle.schema_validator.specs.Asked.{FirstFromSomeDepth}
-use Rattle.schema_validator.proofs.ErrorSearches.{first_first, first_has}
-use Rattle.schema_validator.proofs.Searches.{none_of}
+use Rattle.schema_calls.proofs.ErrorSearches.{first_first, first_has}
+use Rattle.schema_calls.proofs.Searches.{none_of}
 use Rattle.schema_validator.proofs.validator.Validator.first_under_each.Goals as goal
 
 pub returns-then-not-met_unassumed-clause-depth : goal.returns-then-not-met_unassumed-clause-depth

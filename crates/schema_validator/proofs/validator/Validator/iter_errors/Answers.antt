@@ -11,7 +11,7 @@ use Rattle.schema_reports.specs.declared.reports.ValidationError.{ValidationErro
 use Rattle.schema_meaning.proofs.SensesMeant.{of_every_sense}
 use Rattle.schema_meaning.proofs.TurnsGiveRuns.{keeps_of_turns}
 use Rattle.node_table.specs.NodeTable.{numbered}
-use Rattle.schema_validator.specs.Spoken.{EachIsGiven, ErrorsAnswered}
+use Rattle.schema_calls.specs.Spoken.{EachIsGiven, ErrorsAnswered}
 use Rattle.schema_validator.proofs.Greatest.{errors_accepted}
 use Rattle.schema_validator.proofs.Pointing.{each_is_given}
 use Rattle.schema_validator.proofs.validator.Validator.iter_errors.Goals as goal

@@ -14,8 +14,8 @@ use Rattle.schema_solver.specs.Solving.{BeginsFew, SaysAsNodes}
 use Rattle.schema_verdicts.specs.Finding.{IsFoundAt}
 use Rattle.schema_verdicts.specs.declared.eligible.SolvedVerdict.{SolvedVerdict}
 use Rattle.schema_validator.specs.Program.{Program}
-use Rattle.schema_validator.proofs.ErrorSearches.{verdict_at_once}
-use Rattle.schema_validator.proofs.Searches.{finishes_of}
+use Rattle.schema_calls.proofs.ErrorSearches.{verdict_at_once}
+use Rattle.schema_calls.proofs.Searches.{finishes_of}
 use Rattle.schema_validator.proofs.Solved.{if_ok_some_both, solved_decides}
 use Rattle.schema_validator.proofs.validator.Validator.solved.Goals as goal
 

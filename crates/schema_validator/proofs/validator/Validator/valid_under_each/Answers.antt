@@ -15,7 +15,7 @@ use Rattle.schema_validator.specs.Answers.{MeetsMatches, SaysVerdict}
 use Rattle.schema_validator.specs.Asked.{DecidesFromSomeDepth}
 use Rattle.schema_validator.specs.Program.{Program, Speaks}
 use Rattle.schema_validator.proofs.Solved.{of_some}
-use Rattle.schema_validator.proofs.Searches.{follows, if_ok_each, none_of, sense, verdict_first, verdict_runs}
+use Rattle.schema_calls.proofs.Searches.{follows, if_ok_each, none_of, sense, verdict_first, verdict_runs}
 use Rattle.schema_validator.proofs.validator.Validator.valid_under_each.Goals as goal
 
 pub returns-in-Some : goal.returns-in-Some

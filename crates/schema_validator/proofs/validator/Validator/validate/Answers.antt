@@ -11,7 +11,7 @@ use Rattle.schema_reports.specs.declared.reports.ValidationError.{ValidationErro
 use Rattle.schema_meaning.proofs.SensesMeant.{of_every_sense}
 use Rattle.schema_meaning.proofs.TurnsGiveRuns.{keeps_of_turns}
 use Rattle.node_table.specs.NodeTable.{numbered}
-use Rattle.schema_validator.specs.Spoken.{FirstAnswered, FirstIsGiven}
+use Rattle.schema_calls.specs.Spoken.{FirstAnswered, FirstIsGiven}
 use Rattle.schema_validator.proofs.Greatest.{first_accepted}
 use Rattle.schema_validator.proofs.Pointing.{first_is_given}
 use Rattle.schema_validator.proofs.validator.Validator.validate.Goals as goal

@@ -26,7 +26,7 @@ use Rattle.schema_reports.specs.UnitViews.{unit_of}
 use Rattle.schema_reports.specs.declared.evaluation.EvaluationNode.{EvaluationNode}
 use Rattle.schema_meaning.proofs.GuardedSense.{guarded_speaks}
 use Rattle.schema_output.specs.ErrorUnits.{errors_unit}
-use Rattle.schema_validator.specs.Evaluated.{EvaluationAnswered}
+use Rattle.schema_calls.specs.Evaluated.{EvaluationAnswered}
 use Rattle.schema_reports.specs.ReportViews.{BorrowsItsPlace, error_of}
 use Rattle.schema_reports.specs.declared.reports.ValidationError.{ValidationError}
 use Rattle.schema_meaning.proofs.CoverCounts.{pairs_differ}
@@ -36,9 +36,9 @@ use Rattle.schema_meaning.proofs.ShownPlaces.{shown_stands}
 use Rattle.schema_meaning.proofs.Sentences.{errors_say, evaluate_later, first_says, listed_alone, validate_later, verdict_says}
 use Rattle.schema_meaning.proofs.SitesInside.{MetInside, sites_inside}
 use Rattle.schema_contexts.specs.Matches.{MeetsEach}
-use Rattle.schema_validator.specs.Spoken.{ErrorsAnswered, FirstAnswered, IsGiven}
-use Rattle.schema_validator.proofs.Remembers.{remembers_of}
-use Rattle.schema_validator.proofs.Searches.{follows, from_start, outcome, run_with, search_runs, sense}
+use Rattle.schema_calls.specs.Spoken.{ErrorsAnswered, FirstAnswered, IsGiven}
+use Rattle.schema_calls.proofs.Remembers.{remembers_of}
+use Rattle.schema_calls.proofs.Searches.{follows, from_start, outcome, run_with, search_runs, sense}
 
 -- ---- errors and no errors
 

@@ -10,7 +10,7 @@ use Rattle.schema_reports.specs.UnitViews.{unit_of}
 use Rattle.schema_reports.specs.declared.evaluation.EvaluationNode.{EvaluationNode}
 use Rattle.schema_reports.specs.declared.reports.ValidationError.{ValidationError}
 use Rattle.schema_output.specs.ErrorUnits.{errors_unit}
-use Rattle.schema_validator.specs.Spoken.{IsGiven}
+use Rattle.schema_calls.specs.Spoken.{IsGiven}
 
 -- the verdict of an evaluation, which is its outermost unit's
 abbrev pub verdict_in : Bool → EvaluationNode → Bool

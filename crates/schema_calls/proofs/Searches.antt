@@ -20,7 +20,7 @@ use Rattle.schema_meaning.proofs.NodeRuns.{runs_say_outcomes}
 use Rattle.schema_meaning.proofs.Sentences.{verdict_says}
 use Rattle.schema_contexts.specs.Matches.{MeetsEach}
 use Rattle.schema_parts.specs.MatcherViews.{FinishesEach}
-use Rattle.schema_validator.proofs.Remembers.{remembers_of}
+use Rattle.schema_calls.proofs.Remembers.{remembers_of}
 
 module _ {K R : Type 0} (keywords : Keywords K R) (each : EachKeeps keywords) (matcher : Matcher) (nodes : Nodes K) (instance : Data) (root n : ℕ) where
   abbrev pub sense : Sense

@@ -10,7 +10,7 @@ use Rattle.schema_definitions.specs.Reports.{Error}
 use Rattle.schema_search.specs.SharedResults.{is_empty}
 use Rattle.schema_reports.specs.declared.reports.ValidationError.{ValidationError}
 use Rattle.schema_meaning.proofs.Sentences.{listed_none}
-use Rattle.schema_validator.specs.Spoken.{ErrorsAnswered, FirstAnswered}
+use Rattle.schema_calls.specs.Spoken.{ErrorsAnswered, FirstAnswered}
 
 none_mapped : (f : ValidationError → Error) (o : Option ValidationError) → is_none o ≡ true → option_map f o ≡ None
 none_mapped f None e = refl

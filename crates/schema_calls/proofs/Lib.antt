@@ -1,0 +1,4 @@
+pub mod Remembers
+pub mod Searches
+pub mod ErrorSearches
+pub mod Verdicts

@@ -1,0 +1,2 @@
+pub mod Spoken
+pub mod Evaluated
