@@ -1,6 +1,8 @@
 //! Builds of validators, and what these answer: the only functions here that build by `Validator::new` or by options, and ask.
+use bench_keywords::keyword::BenchKeyword;
 use bench_parts::matcher::BenchMatcher;
 use bench_parts::meta::BenchMeta;
+use bench_parts::table::BenchTable;
 use bench_resolver::resolver::BenchResolver;
 use case_rows::tables::{column, list_at, number_at, push_all};
 use schema_engine::options::ValidationOptions;
@@ -174,4 +176,33 @@ pub(crate) fn tell_by<K: Validate, T: KeywordTable<K>>(
     );
     drop(parts);
     told
+}
+
+/// The list of an evaluation.
+fn list_of<K: Validate, M: Matcher>(
+    alloc: Global,
+    validator: &Validator<K, M>,
+    instance: &Value,
+) -> Result<Value, OutOfMemory> {
+    let evaluation = validator.evaluate(alloc, instance)?;
+    let list = evaluation.list(alloc);
+    drop(evaluation);
+    list
+}
+
+/// The list of the instance in column 2, by the bench's table and a row's schema and parts, or null where the schema is refused.
+pub(crate) fn listed(alloc: Global, row: &Value) -> Result<Value, OutOfMemory> {
+    let parts = parts_of(alloc, row)?;
+    let built = built::<BenchKeyword, BenchTable, BenchResolver, BenchMatcher>(
+        alloc,
+        &BenchTable {},
+        &parts.resolver,
+        &parts.matcher,
+        row,
+    );
+    drop(parts);
+    match built {
+        Ok(validator) => list_of(alloc, &validator, column(row, 2)),
+        Err(_) => Ok(Value::Null),
+    }
 }

@@ -1,8 +1,6 @@
 //! A thousand references one inside the other. The rows have two hundred: Rattle's own compiler, which builds the program that reads
 //! them too, has no room for more on a usual stack.
-use bench_parts::table::BenchTable;
-use case_rows::tables::{column, text_at};
-use engine_cases::answer;
+use crate::asking::listed;
 use schema_reports::location::OutOfMemory;
 use serde_json::Value;
 use std::alloc::Global;
@@ -18,20 +16,30 @@ fn push_chain(alloc: Global, count: u16, text: &mut String) -> Result<(), OutOfM
     text.push_str(end.as_str())
 }
 
-/// A case: the list of the number 1 by a chain of so many references.
-fn case_of(alloc: Global, references: u16) -> Result<Value, serde_json::Error> {
-    let head = r##"{"call":"list_count","instance":1,"schema":{"$ref":"#/$defs/c0","$defs":{"##;
-    let mut text = String::from_str(alloc, head)?;
+/// A row that asks a chain of so many references of the number 1.
+fn row_of(alloc: Global, references: u16) -> Result<Value, serde_json::Error> {
+    let mut text = String::from_str(alloc, r##"["",{"$ref":"#/$defs/c0","$defs":{"##)?;
     push_chain(alloc, references, &mut text)?;
-    text.push_str("}}}")?;
+    text.push_str("}},1]")?;
     Value::from_str(alloc, text.as_str())
 }
 
-/// Whether an answer is so many units, one of them with errors, and the last of them at this path.
-fn tells(answer: &Value, units: u64, path: &str) -> bool {
-    column(answer, 0).as_u64() == Some(units)
-        && column(answer, 1).as_u64() == Some(1)
-        && text_at(answer, 2) == path
+/// The units of a list.
+fn units_of(list: &Value) -> &[Value] {
+    match list.get("details").and_then(Value::as_array) {
+        Some(units) => units.as_slice(),
+        None => &[],
+    }
+}
+
+/// Whether so many units are listed, one of them with errors, and the last of them at this path.
+fn tells(units: &[Value], count: usize, path: &str) -> bool {
+    let refused = units.iter().filter(|unit| unit.get("errors").is_some());
+    let last = match units.last() {
+        Some(unit) => unit.get("evaluationPath").and_then(Value::as_str),
+        None => None,
+    };
+    units.len() == count && refused.count() == 1 && last == Some(path)
 }
 
 #[test]
@@ -39,8 +47,8 @@ fn a_thousand_references_are_listed(rt: HostRuntime) -> Result<(), serde_json::E
     let alloc = rt.alloc();
     let mut path = "/$ref".repeat(alloc, 1000)?;
     path.push_str("/type")?;
-    let case = case_of(alloc, 999)?;
-    let given = answer(alloc, &case, &BenchTable {})?;
-    assert!(rt; tells(&given, 1002, path.as_str()));
+    let row = row_of(alloc, 999)?;
+    let list = listed(alloc, &row)?;
+    assert!(rt; tells(units_of(&list), 1002, path.as_str()));
     Ok(())
 }
