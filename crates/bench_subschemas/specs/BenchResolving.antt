@@ -1,11 +1,15 @@
--- What the resolver says of a document: places, drafts, identifiers, subschemas and vocabularies. (Core 2020-12,
--- 8.1 and 8.2)
+-- What the resolver says of a document: places, drafts, identifiers, names, subschemas, vocabularies and known keywords. (Core 2020-12,
+-- sections 8.1 and 8.2)
 use Rattle.std.specs.List.{after_first, before_first, list_any}
-use Rattle.std.specs.Prelude.{Bool, Err, List, None, Ok, Option, Result, Some, [], bytes_eq, codes, false, flat_map, if◌then◌else◌, is_some, option_and_then, true, ℕ, ◌&&◌, ◌++◌, ◌+◌, ◌==◌, ◌||◌, ◌∷◌}
+use Rattle.std.specs.Prelude.{Bool, Err, List, None, Ok, Option, Result, Some, [], bytes_eq, codes, false, flat_map, if◌then◌else◌}
+use Rattle.std.specs.Prelude.{is_some, option_and_then, true, ℕ, ◌&&◌, ◌++◌, ◌+◌, ◌==◌, ◌||◌, ◌∷◌}
 use Rattle.serde_json.specs.Data.{Data, Items, Members, array, boolean, item, member, no_items, no_members, null, number, object, string}
 use Rattle.serde_json.specs.Find.{as_str, get}
 use Rattle.schema_definitions.specs.Instance.{Place, Subject, Text, a_name, a_value, to_item, to_member}
-use Rattle.schema_definitions.specs.Drafts.{Draft, SchemaPlace, Vocabularies, applicator_vocabulary, content_vocabulary, core_vocabulary, draft_2019_09, draft_2020_12, draft_4, draft_6, draft_7, draft_unknown, format_annotation_vocabulary, metadata_vocabulary, ref_stands_alone, unevaluated_vocabulary, validation_vocabulary}
+use Rattle.schema_definitions.specs.Drafts.{Draft, SchemaPlace, Vocabularies, applicator_vocabulary, content_vocabulary, core_vocabulary}
+use Rattle.schema_definitions.specs.Drafts.{draft_2019_09, draft_2020_12, draft_4, draft_6, draft_7, draft_unknown}
+use Rattle.schema_definitions.specs.Drafts.{format_annotation_vocabulary, metadata_vocabulary, ref_stands_alone, unevaluated_vocabulary}
+use Rattle.schema_definitions.specs.Drafts.{validation_vocabulary}
 use Rattle.bench_subschemas.specs.declared.rules.Rule.{Rule}
 use Rattle.bench_subschemas.specs.declared.rules.Rule.TheVariants.{Narrow, Standard}
 use Rattle.bench_subschemas.specs.StandardNames as standard
@@ -89,15 +93,16 @@ abbrev pub plain_fragment : Text → Option Text
 plain_fragment [] = None
 plain_fragment (x ∷ xs) = if x == 47 then None else Some (x ∷ xs)
 
--- the name that the fragment of an identifier gives; there is none beside a reference (draft-07 Core, 8.2.3 and 8.3)
+-- the name that the fragment of an identifier gives; there is none beside a reference (draft-07 Core, sections 8.2.3 and 8.3)
 abbrev pub name_in_identifier : Draft → Data → Option Text
-name_in_identifier d v = if is_some (get (codes "$ref") v) then None else option_and_then (λ t. plain_fragment (fragment_of t)) (text_member (identifier_name d) v)
+name_in_identifier d v = if is_some (get (codes "$ref") v) then None else option_and_then (λ t. plain_fragment (fragment_of t))
+    (text_member (identifier_name d) v)
 
--- in drafts 4 to 7 it stands in the identifier, later under `$anchor` (Core 2019-09, 8.2.3)
+-- in drafts 4 to 7 it stands in the identifier, later under `$anchor` (Core 2019-09, section 8.2.3)
 abbrev pub standard_name : Draft → Data → Option Text
 standard_name d v = if ref_stands_alone d then name_in_identifier d v else text_member (codes "$anchor") v
 
--- a dynamic name, from 2020-12 on; an unknown draft counts as 2020-12 (Core 2020-12, 8.2.2)
+-- a dynamic name, from 2020-12 on; an unknown draft counts as 2020-12 (Core 2020-12, section 8.2.2)
 abbrev pub standard_dynamic_name : Draft → Data → Option Text
 standard_dynamic_name draft_2020_12 v = text_member (codes "$dynamicAnchor") v
 standard_dynamic_name draft_unknown v = text_member (codes "$dynamicAnchor") v
@@ -161,7 +166,9 @@ names_of_values Standard d = standard.names_of_values d
 
 -- the paths of the subschemas inside a schema of a draft
 abbrev pub subschemas : Rule → Draft → Data → List Place
-subschemas rule draft d = flat_map (λ k. below_object k (get k d)) (names_of_objects rule draft) ++ flat_map (λ k. below_list k (get k d)) (names_of_lists rule draft) ++ flat_map (λ k. below_value k (get k d)) (names_of_values rule draft)
+subschemas rule draft d = flat_map (λ k. below_object k (get k d)) (names_of_objects rule draft)
+    ++ flat_map (λ k. below_list k (get k d)) (names_of_lists rule draft)
+    ++ flat_map (λ k. below_value k (get k d)) (names_of_values rule draft)
 
 abbrev pub subschemas_of : Rule → Draft → Option Data → List Place
 subschemas_of rule draft None = []
@@ -174,22 +181,29 @@ abbrev pub draft_vocabularies : Draft → Vocabularies
 draft_vocabularies draft_4 = []
 draft_vocabularies draft_6 = []
 draft_vocabularies draft_7 = []
-draft_vocabularies draft_2019_09 = core_vocabulary ∷ applicator_vocabulary ∷ validation_vocabulary ∷ metadata_vocabulary ∷ content_vocabulary ∷ []
-draft_vocabularies draft_2020_12 = unevaluated_vocabulary ∷ format_annotation_vocabulary ∷ core_vocabulary ∷ applicator_vocabulary ∷ validation_vocabulary ∷ metadata_vocabulary ∷ content_vocabulary ∷ []
-draft_vocabularies draft_unknown = unevaluated_vocabulary ∷ format_annotation_vocabulary ∷ core_vocabulary ∷ applicator_vocabulary ∷ validation_vocabulary ∷ metadata_vocabulary ∷ content_vocabulary ∷ []
+draft_vocabularies draft_2019_09 = core_vocabulary ∷ applicator_vocabulary ∷ validation_vocabulary ∷ metadata_vocabulary
+    ∷ content_vocabulary ∷ []
+draft_vocabularies draft_2020_12 = unevaluated_vocabulary ∷ format_annotation_vocabulary ∷ core_vocabulary ∷ applicator_vocabulary
+    ∷ validation_vocabulary ∷ metadata_vocabulary ∷ content_vocabulary ∷ []
+draft_vocabularies draft_unknown = unevaluated_vocabulary ∷ format_annotation_vocabulary ∷ core_vocabulary ∷ applicator_vocabulary
+    ∷ validation_vocabulary ∷ metadata_vocabulary ∷ content_vocabulary ∷ []
 
 -- the built-in keywords, and the words of schemas that make none
 abbrev pub known_keywords : List Text
 known_keywords =
-    codes "type" ∷ codes "const" ∷ codes "enum" ∷ codes "minimum" ∷ codes "maximum" ∷ codes "exclusiveMinimum" ∷ codes "exclusiveMaximum" ∷ codes "multipleOf"
-    ∷ codes "minLength" ∷ codes "maxLength" ∷ codes "minItems" ∷ codes "maxItems" ∷ codes "minProperties" ∷ codes "maxProperties" ∷ codes "required" ∷ codes "dependentRequired"
+    codes "type" ∷ codes "const" ∷ codes "enum" ∷ codes "minimum" ∷ codes "maximum" ∷ codes "exclusiveMinimum" ∷ codes "exclusiveMaximum"
+    ∷ codes "multipleOf"
+    ∷ codes "minLength" ∷ codes "maxLength" ∷ codes "minItems" ∷ codes "maxItems" ∷ codes "minProperties" ∷ codes "maxProperties"
+    ∷ codes "required" ∷ codes "dependentRequired"
     ∷ codes "pattern" ∷ codes "format" ∷ codes "contentEncoding" ∷ codes "contentMediaType" ∷ codes "contentSchema" ∷ codes "uniqueItems"
-    ∷ codes "properties" ∷ codes "patternProperties" ∷ codes "additionalProperties" ∷ codes "propertyNames" ∷ codes "items" ∷ codes "prefixItems" ∷ codes "additionalItems" ∷ codes "contains"
+    ∷ codes "properties" ∷ codes "patternProperties" ∷ codes "additionalProperties" ∷ codes "propertyNames" ∷ codes "items"
+    ∷ codes "prefixItems" ∷ codes "additionalItems" ∷ codes "contains"
     ∷ codes "dependencies" ∷ codes "dependentSchemas" ∷ codes "allOf" ∷ codes "anyOf" ∷ codes "oneOf" ∷ codes "not" ∷ codes "if"
     ∷ codes "unevaluatedProperties" ∷ codes "unevaluatedItems" ∷ codes "$ref" ∷ codes "$recursiveRef" ∷ codes "$dynamicRef"
-    ∷ codes "$schema" ∷ codes "$id" ∷ codes "id" ∷ codes "$anchor" ∷ codes "$dynamicAnchor" ∷ codes "$recursiveAnchor" ∷ codes "$defs" ∷ codes "definitions" ∷ codes "$comment" ∷ codes "$vocabulary" ∷ codes "then" ∷ codes "else" ∷ []
+    ∷ codes "$schema" ∷ codes "$id" ∷ codes "id" ∷ codes "$anchor" ∷ codes "$dynamicAnchor" ∷ codes "$recursiveAnchor" ∷ codes "$defs"
+    ∷ codes "definitions" ∷ codes "$comment" ∷ codes "$vocabulary" ∷ codes "then" ∷ codes "else" ∷ []
 
 -- whether a draft knows a name: by the narrow rule all drafts know the same
 abbrev pub is_known : Rule → Draft → Text → Bool
 is_known Narrow d name = list_any (bytes_eq name) known_keywords
-is_known Standard d name = list_any (bytes_eq name) (standard.known_names d)
+is_known Standard d name = standard.is_known_in d name

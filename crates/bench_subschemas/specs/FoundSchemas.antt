@@ -27,7 +27,8 @@ schema_if f = found_if (elim f.schema [ None ↦ false | Some d ↦ is_schema d 
 
 -- all the names that subschemas may lie under, in any draft
 abbrev pub schema_names : Rule → List Text
-schema_names Narrow = codes "$defs" ∷ codes "definitions" ∷ codes "properties" ∷ codes "allOf" ∷ codes "anyOf" ∷ codes "oneOf" ∷ codes "prefixItems"
+schema_names Narrow = codes "$defs" ∷ codes "definitions" ∷ codes "properties" ∷ codes "allOf" ∷ codes "anyOf" ∷ codes "oneOf"
+    ∷ codes "prefixItems"
     ∷ codes "not" ∷ codes "if" ∷ codes "then" ∷ codes "else" ∷ codes "items" ∷ codes "propertyNames" ∷ []
 schema_names Standard = standard.schema_names
 

@@ -1,12 +1,16 @@
 -- Subschemas that the code has found, as the definitions have them.
-use Rattle.std.specs.Prelude.{Some, [], ◌∷◌}
+use Rattle.std.specs.Prelude.{List, Option, Some, [], ◌∷◌}
+use Rattle.serde_json.specs.Data.{Data}
 use Rattle.serde_json.specs.View.{view}
-use Rattle.schema_definitions.specs.Instance.{Place, to_item, to_member}
+use Rattle.schema_definitions.specs.Instance.{Place, Text, to_item, to_member}
 use Rattle.schema_definitions.specs.Drafts.{SchemaPlace, at_path}
 use Rattle.schema_parts.specs.ResolverViews.{Placed}
 use Rattle.bench_subschemas.specs.declared.subschemas.FoundSchema.{FoundSchema}
 use Rattle.bench_subschemas.specs.declared.subschemas.Inside.{Inside}
 use Rattle.bench_subschemas.specs.declared.subschemas.Inside.TheVariants.{Item, Member, Nothing}
+use Rattle.bench_subschemas.specs.declared.subschemas.Lying.{Lying}
+use Rattle.bench_subschemas.specs.declared.subschemas.Lying.TheVariants.{AsValue, InList, InObject}
+use Rattle.bench_subschemas.specs.BenchResolving.{below_list, below_object, below_value}
 use Rattle.bench_subschemas.specs.FoundSchemas.{Found}
 
 abbrev pub steps_inside : Inside → Place
@@ -23,3 +27,9 @@ found_of f = record { path = path_of f; schema = Some (view f.schema.now) }
 -- a subschema that was found in the schema at a place, with its own place
 abbrev pub placed_at : SchemaPlace → Found → Placed
 placed_at p f = record { place = at_path p f.path; value = f.schema }
+
+-- the subschemas that lie so under a keyword
+abbrev pub below : Lying → Text → Option Data → List Place
+below InObject k o = below_object k o
+below InList k o = below_list k o
+below AsValue k o = below_value k o

@@ -7,14 +7,14 @@ ghost use Rattle.bench_subschemas.specs.BenchResolving.{detected, draft_of_uri, 
 use schema_keywords::keywords::Draft;
 use serde_json::Value;
 
-/// The string under a name.
+/// The string under a name, where a value has one.
 pub fn text_member<'v>(value: &'v Value, name: &str) -> Option<&'v str>
     ensures text { option_map (λ t. t.now) result ≡ text_member name.now (view value.now) }
 {
     value.get(name)?.as_str()
 }
 
-/// The draft that a URI names, with or without a last `#`.
+/// The draft that a URI names, with or without a last `#`: an unknown one where it is no draft's.
 fn draft_of_uri(uri: &str) -> Draft
     ensures draft { draft_of result ≡ draft_of_uri uri.now }
 {
@@ -34,7 +34,7 @@ fn draft_of_uri(uri: &str) -> Draft
     }
 }
 
-/// The draft of a value inside a schema of this draft.
+/// The draft of a value inside a schema of this draft: the one that its `$schema` names, or else this one.
 pub fn detected(draft: Draft, value: &Value) -> Draft
     ensures draft { draft_of result ≡ detected (draft_of draft) (view value.now) }
 {

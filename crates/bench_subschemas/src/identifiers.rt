@@ -20,7 +20,7 @@ fn identifier_name(draft: Draft) -> &'static str
     }
 }
 
-/// A text that is no fragment alone.
+/// A text, unless it is a fragment alone.
 fn unless_fragment<'v>(text: Option<&'v str>) -> Option<&'v str>
     ensures kept { option_map (λ t. t.now) result ≡ unless_fragment (option_map (λ t. t.now) text.entry) }
 {
@@ -37,7 +37,8 @@ fn unless_fragment<'v>(text: Option<&'v str>) -> Option<&'v str>
     }
 }
 
-/// The identifier of a schema.
+/// The identifier of a schema: its `$id`, or `id` in draft 4. A fragment alone is none, and in drafts 4 to 7 a schema with a `$ref`
+/// has none.
 pub fn identifier<'v>(draft: Draft, value: &'v Value) -> Option<&'v str>
     ensures identifier { option_map (λ t. t.now) result ≡ identifier (draft_of draft) (view value.now) }
 {
@@ -47,7 +48,7 @@ pub fn identifier<'v>(draft: Draft, value: &'v Value) -> Option<&'v str>
     unless_fragment(text_member(value, identifier_name(draft)))
 }
 
-/// The text before a fragment.
+/// What stands before the first `#`; all of it where there is none.
 pub fn without_fragment(uri: &str) -> &str
     ensures before { result.now ≡ without_fragment uri.now }
 {
@@ -57,7 +58,7 @@ pub fn without_fragment(uri: &str) -> &str
     }
 }
 
-/// What follows the first `#`.
+/// What follows the first `#`; nothing where there is none.
 pub fn fragment_of(uri: &str) -> &str
     ensures fragment { result.now ≡ fragment_of uri.now }
 {
@@ -79,7 +80,7 @@ fn plain_fragment(fragment: &str) -> Option<&str>
     }
 }
 
-/// The name that the fragment of an identifier gives.
+/// The name that the fragment of an identifier gives; a schema with a `$ref` has none.
 fn name_in_identifier<'v>(draft: Draft, value: &'v Value) -> Option<&'v str>
     ensures name { option_map (λ t. t.now) result ≡ name_in_identifier (draft_of draft) (view value.now) }
 {
@@ -92,7 +93,7 @@ fn name_in_identifier<'v>(draft: Draft, value: &'v Value) -> Option<&'v str>
     }
 }
 
-/// The name of a schema. By the standard's rule the fragment of its identifier in drafts 4 to 7, and its `$anchor` later.
+/// The name of a schema: its `$anchor`, and by the standard's rule in drafts 4 to 7 the fragment of its identifier.
 pub fn plain_name<'v>(rule: Rule, draft: Draft, value: &'v Value) -> Option<&'v str>
     ensures name { option_map (λ t. t.now) result ≡ plain_name rule (draft_of draft) (view value.now) }
 {

@@ -18,7 +18,8 @@ fn names_schemas(rule: Rule, name: &str) -> bool
     }
 }
 
-/// The same by the standard's rule. The commonest name, under which none lies, is tried first.
+/// Whether subschemas may lie under this name in any draft, by the standard's rule. The commonest name, under which none lies, is
+/// tried first.
 fn names_schemas_of_the_standard(name: &str) -> bool
     ensures names { result ≡ names_schemas Standard name.now }
 {
@@ -34,7 +35,7 @@ fn names_schemas_of_the_standard(name: &str) -> bool
     }
 }
 
-/// The same by the narrow rule.
+/// Whether subschemas may lie under this name, by the narrow rule.
 fn names_schemas_narrowly(name: &str) -> bool
     ensures names { result ≡ names_schemas Narrow name.now }
 {

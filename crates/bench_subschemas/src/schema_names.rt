@@ -55,7 +55,7 @@ pub fn names_of_values(rule: Rule, draft: Draft) -> &'static [&'static str]
     }
 }
 
-/// The same by the standard's rule.
+/// The names under which a subschema lies as the value itself, by the standard's rule.
 fn standard_values(draft: Draft) -> &'static [&'static str]
     ensures names { map (λ k. k.now) result.now ≡ standard.names_of_values (draft_of draft) }
 {

@@ -9,7 +9,7 @@ ghost use Rattle.schema_parts.specs.ResolverViews.{place_of, placed_of};
 ghost use Rattle.bench_subschemas.specs.BenchResolving.{below_list, below_object, below_value, is_schema};
 ghost use Rattle.bench_subschemas.specs.BenchResolving.{subschemas};
 ghost use Rattle.bench_subschemas.specs.FoundSchemas.{found_at, schema_if};
-ghost use Rattle.bench_subschemas.specs.FoundViews.{found_of, path_of, placed_at};
+ghost use Rattle.bench_subschemas.specs.FoundViews.{below, found_of, path_of, placed_at};
 
 use crate::plain::any_names_schemas;
 use crate::rules::Rule;
@@ -22,7 +22,7 @@ use serde_json::{Map, Value};
 use std::alloc::Global;
 use std::rc::RcStr;
 
-/// Whether a value is an object or a boolean.
+/// Whether a value may be a schema: an object or a boolean.
 pub fn is_schema(value: &Value) -> bool
     ensures schema { result ≡ is_schema (view value.now) }
 {
@@ -156,50 +156,45 @@ fn find_value<'v>(
     add_schema(one, found)
 }
 
-/// Adds the schemas among the members of the objects under some names.
-fn find_in_objects<'v>(
-    members: &'v Map<String, Value>,
-    keywords: &[&'v str],
-    found: &mut Vec<FoundSchema<'v>>,
-) -> Result<(), OutOfMemory>
-    ensures found { IfOk result (λ _. let schema = object (members_view members.now.entries) in
-        map found_of found.new.items ≡ map found_of found.old.items
-        ++ map (found_at schema) (flat_map (λ k. below_object k (get k schema)) (map (λ k. k.now) keywords.now))) }
-{
-    for keyword in keywords {
-        find_in_object(members, *keyword, found)?;
-    }
-    Ok(())
+/// How subschemas lie under a keyword: among the members of an object, among the items of a list, or as the value itself.
+#[derive(Clone, Copy)]
+pub enum Lying {
+    InObject,
+    InList,
+    AsValue,
 }
 
-/// Adds the schemas among the items of the lists under some names.
-fn find_in_lists<'v>(
+/// Adds the schemas that lie so under a name.
+fn find_under<'v>(
+    lying: Lying,
     members: &'v Map<String, Value>,
-    keywords: &[&'v str],
+    keyword: &'v str,
     found: &mut Vec<FoundSchema<'v>>,
 ) -> Result<(), OutOfMemory>
     ensures found { IfOk result (λ _. let schema = object (members_view members.now.entries) in
         map found_of found.new.items ≡ map found_of found.old.items
-        ++ map (found_at schema) (flat_map (λ k. below_list k (get k schema)) (map (λ k. k.now) keywords.now))) }
+        ++ map (found_at schema) (below lying keyword.now (get keyword.now schema))) }
 {
-    for keyword in keywords {
-        find_in_list(members, *keyword, found)?;
+    match lying {
+        Lying::InObject => find_in_object(members, keyword, found),
+        Lying::InList => find_in_list(members, keyword, found),
+        Lying::AsValue => find_value(members, keyword, found),
     }
-    Ok(())
 }
 
-/// Adds the schemas under some names.
-fn find_values<'v>(
+/// Adds the schemas that lie so under some names.
+fn find_under_each<'v>(
+    lying: Lying,
     members: &'v Map<String, Value>,
     keywords: &[&'v str],
     found: &mut Vec<FoundSchema<'v>>,
 ) -> Result<(), OutOfMemory>
     ensures found { IfOk result (λ _. let schema = object (members_view members.now.entries) in
         map found_of found.new.items ≡ map found_of found.old.items
-        ++ map (found_at schema) (flat_map (λ k. below_value k (get k schema)) (map (λ k. k.now) keywords.now))) }
+        ++ map (found_at schema) (flat_map (λ k. below lying k (get k schema)) (map (λ k. k.now) keywords.now))) }
 {
     for keyword in keywords {
-        find_value(members, *keyword, found)?;
+        find_under(lying, members, *keyword, found)?;
     }
     Ok(())
 }
@@ -216,9 +211,12 @@ fn found_in<'v>(
         map found_of found.items ≡ map (found_at schema) (subschemas rule (draft_of draft) schema)) }
 {
     let mut found = Vec::new(alloc);
-    find_in_objects(members, names_of_objects(rule, draft), &mut found)?;
-    find_in_lists(members, names_of_lists(rule, draft), &mut found)?;
-    find_values(members, names_of_values(rule, draft), &mut found)?;
+    let objects = names_of_objects(rule, draft);
+    find_under_each(Lying::InObject, members, objects, &mut found)?;
+    let lists = names_of_lists(rule, draft);
+    find_under_each(Lying::InList, members, lists, &mut found)?;
+    let values = names_of_values(rule, draft);
+    find_under_each(Lying::AsValue, members, values, &mut found)?;
     Ok(found)
 }
 

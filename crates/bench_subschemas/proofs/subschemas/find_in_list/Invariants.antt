@@ -6,4 +6,5 @@ use Rattle.bench_subschemas.proofs.Finding.{OverItems}
 use Rattle.bench_subschemas.proofs.subschemas.find_in_list.Given as goal
 
 abbrev pub invariant-loop-index : goal.invariant-loop-index
-invariant-loop-index l = OverItems (object (members_view l.members.entries)) l.keyword (map found_of l.initial.found.items) (map found_of l.found.items) l.item-items l.index
+invariant-loop-index l = OverItems (object (members_view l.members.entries)) l.keyword (map found_of l.initial.found.items)
+    (map found_of l.found.items) l.item-items l.index

@@ -6,4 +6,5 @@ use Rattle.bench_subschemas.proofs.Finding.{OverMembers}
 use Rattle.bench_subschemas.proofs.subschemas.find_in_object.Given as goal
 
 abbrev pub invariant-loop-name : goal.invariant-loop-name
-invariant-loop-name l = OverMembers (object (members_view l.members.entries)) l.keyword (map found_of l.initial.found.items) (map found_of l.found.items) l.name-iterator
+invariant-loop-name l = OverMembers (object (members_view l.members.entries)) l.keyword (map found_of l.initial.found.items)
+    (map found_of l.found.items) l.name-iterator

@@ -11,5 +11,6 @@ returns c =
     let schema = object (members_view c.args.members.now.entries) in
     let at = read_is c.member.result c.in-Some.value _ c.member.ensures.member c.in-Some.is in
     record {
-      found = IfOk-equal c.add_schema.result _ _ _ c.add_schema.ensures.added (value_found schema c.args.keyword.now (map found_of c.args.found.now.items) (view c.in-Some.value.now) at);
+      found = IfOk-equal c.add_schema.result _ _ _ c.add_schema.ensures.added
+          (value_found schema c.args.keyword.now (map found_of c.args.found.now.items) (view c.in-Some.value.now) at);
     }

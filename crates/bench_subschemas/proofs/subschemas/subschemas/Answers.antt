@@ -15,8 +15,11 @@ returns c =
     let schema = view c.args.schema.now in
     let below = subschemas c.args.rule (draft_of c.args.draft) schema in
     let at = at_path (place_of c.args.place.now) in
-    let paths : map path_of c.as_slice.result.now ≡ below = ap (map path_of) c.as_slice.ensures.value ∙ paths_found schema c.in_ok-found.found.items below c.in_ok-found.ensures.found in
+    let paths : map path_of c.as_slice.result.now ≡ below = ap (map path_of) c.as_slice.ensures.value
+    ∙ paths_found schema c.in_ok-found.found.items below c.in_ok-found.ensures.found in
     record {
-      places = IfOk-weaker c.places_found.result (λ (places : Vec SchemaPlace Global). map place_of places.items ≡ map at (map path_of c.as_slice.result.now))
-          (λ (places : Vec SchemaPlace Global). map place_of places.items ≡ map at below) (λ places is. is ∙ ap (map at) paths) c.places_found.ensures.places;
+      places = IfOk-weaker c.places_found.result (λ (places : Vec SchemaPlace Global). map place_of places.items
+          ≡ map at (map path_of c.as_slice.result.now))
+          (λ (places : Vec SchemaPlace Global). map place_of places.items ≡ map at below) (λ places is. is ∙ ap (map at) paths)
+          c.places_found.ensures.places;
     }

@@ -14,7 +14,10 @@ pub returns-else-any_names_schemas : goal.returns-else-any_names_schemas
 returns-else-any_names_schemas c =
     let members = members_view c.in-Object.members.entries in
     record {
-      found = ap (map found_of) c.new.ensures.items ∙ ap (map (found_at (object members))) (sym (none_named c.args.rule (draft_of c.args.draft) members (sym c.any_names_schemas.ensures.any ∙ c.if-any_names_schemas.false)))
+      found = ap (map found_of) c.new.ensures.items
+          ∙ ap (map (found_at (object members)))
+          (sym (none_named c.args.rule (draft_of c.args.draft) members (sym c.any_names_schemas.ensures.any
+          ∙ c.if-any_names_schemas.false)))
           ∙ ap (λ (d : Data). map (found_at d) (subschemas c.args.rule (draft_of c.args.draft) d)) (sym (view-Object c.in-Object.members))
           ∙ ap (λ (v : Value). map (found_at (view v)) (subschemas c.args.rule (draft_of c.args.draft) (view v))) (sym c.in-Object.is);
     }
