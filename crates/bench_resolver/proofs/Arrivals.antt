@@ -1,5 +1,5 @@
 -- Where a path leads, step by step.
-use Rattle.std.proofs.Common.{◌≡◌, ℕ, true, false, List, [], ◌∷◌, ◌++◌, Some, None, Result, Ok, Err, refl}
+use Rattle.std.proofs.Common.{◌≡◌, ℕ, true, false, [], ◌∷◌, ◌++◌, Some, None, Result, Ok, Err, refl}
 use Rattle.serde_json.specs.Data.{Data}
 use Rattle.schema_definitions.specs.Instance.{Place, Step, Text, a_value, after_step}
 use Rattle.schema_definitions.specs.Drafts.{Draft}
@@ -9,7 +9,8 @@ use Rattle.bench_resolver.specs.BenchResources.{Table}
 use Rattle.bench_resolver.specs.BenchStates.{Point, entered_below}
 use Rattle.bench_resolver.specs.BenchLookups.{arrived, is_subschema, nothing_there}
 
-module _ (table : Table) (reference : Text) (document : ℕ) (draft : Draft) (schema : Data) (since : Place) (reached : Data) (gone : Place) (s : Point) (step : Step) (path : Place) where
+module _ (table : Table) (reference : Text) (document : ℕ) (draft : Draft) (schema : Data) (since : Place) (reached : Data) (gone : Place)
+    (s : Point) (step : Step) (path : Place) where
   abbrev arrives : Place → Result (Found Point) Text
   arrives p = arrived table reference document draft schema since reached gone s p
 

@@ -10,15 +10,19 @@ get_map f (x ∷ xs) zero = refl
 get_map f (x ∷ xs) (suc n) = get_map f xs n
 
 -- the first, and those after it
-pub other_document : {A B C : Type 0} (f : A → B) (g : B → C) (first : C) (xs : List A) (n m : ℕ) → n ≡ suc m → slice_get (first ∷ map g (map f xs)) n ≡ option_map g (option_map f (slice_get xs m))
-other_document f g first xs n m e = ap (slice_get (first ∷ map g (map f xs))) e ∙ get_map g (map f xs) m ∙ ap (option_map g) (get_map f xs m)
+pub other_document : {A B C : Type 0} (f : A → B) (g : B → C) (first : C) (xs : List A) (n m : ℕ) → n ≡ suc m
+    → slice_get (first ∷ map g (map f xs)) n ≡ option_map g (option_map f (slice_get xs m))
+other_document f g first xs n m e = ap (slice_get (first ∷ map g (map f xs))) e ∙ get_map g (map f xs) m
+    ∙ ap (option_map g) (get_map f xs m)
 
 -- what a list gives at a number
-pub read_at : {A : Type 0} (xs : List A) (n : ℕ) (o : Option (Bor A)) → IsGetResult xs n n o → option_map (λ (x : Bor A). x.now) o ≡ slice_get xs n
+pub read_at : {A : Type 0} (xs : List A) (n : ℕ) (o : Option (Bor A)) → IsGetResult xs n n o → option_map (λ (x : Bor A). x.now) o
+    ≡ slice_get xs n
 read_at xs n None h = sym (slice_get_past xs n h.3)
 read_at xs n (Some x) h = sym (slice_get_read xs (length xs) n x.now refl h.3.0 h.1)
 
 -- what a call reads from the others
-pub read_other : {A B C : Type 0} (f : A → B) (g : B → C) (first : C) (xs : List A) (n m : ℕ) (o : Option (Bor A)) → n ≡ suc m → IsGetResult xs m m o
+pub read_other : {A B C : Type 0} (f : A → B) (g : B → C) (first : C) (xs : List A) (n m : ℕ) (o : Option (Bor A)) → n ≡ suc m
+    → IsGetResult xs m m o
     → slice_get (first ∷ map g (map f xs)) n ≡ option_map g (option_map f (option_map (λ (x : Bor A). x.now) o))
 read_other f g first xs n m o e h = other_document f g first xs n m e ∙ ap (λ p. option_map g (option_map f p)) (sym (read_at xs m o h))

@@ -34,9 +34,11 @@ unless false h = refl
 pub digits : IsNumeralModel (λ ds. all_ascii_digits ds ≡ true) (digits_value 10)
 digits = numerals_by_value _ tells_all_ascii_digits
 
-fits : {E : Type 0} (t : Text) (r : Result ℕ E) → is_index t ≡ true → OkIff r ((0 < length t) × (digits_value 10 t < 2 ^ 64)) (digits_value 10 t) → result_ok r ≡ index_named t
+fits : {E : Type 0} (t : Text) (r : Result ℕ E) → is_index t ≡ true
+    → OkIff r ((0 < length t) × (digits_value 10 t < 2 ^ 64)) (digits_value 10 t) → result_ok r ≡ index_named t
 fits t (Ok x) h o = let small : nat_lt (digits_value 10 t) (2 ^ 64) ≡ true = lt-ltb _ _ o.0.1 in rw (h, small) (ap (λ n. Some n) o.1)
-fits t (Err e) h o = let large : nat_lt (digits_value 10 t) (2 ^ 64) ≡ false = unless _ (λ s. o (index_some t h, ltb-true _ _ s)) in rw (h, large)
+fits t (Err e) h o = let large : nat_lt (digits_value 10 t) (2 ^ 64) ≡ false = unless _ (λ s. o (index_some t h, ltb-true _ _ s)) in
+    rw (h, large)
 
 pub index_parsed : {E : Type 0} (t : Text) (r : Result ℕ E) → ParsesUnsigned 64 10 t r → is_index t ≡ true → result_ok r ≡ index_named t
 index_parsed t r p h = fits t r h (parse_digits digits 64 t r p (index_digits t h))

@@ -1,5 +1,6 @@
 -- The value at a place that lies at a path below an object whose members are at hand, and at one step.
-use Rattle.std.proofs.Common.{◌≡◌, ◌<◌, ◌∙◌, ◌∷◌, [], List, None, Option, Some, ap, drop, get_or, length, map, option_and_then, option_map, refl, sym, arith}
+use Rattle.std.proofs.Common.{◌≡◌, ◌<◌, ◌∙◌, ◌∷◌, [], List, None, Option, Some, ap, drop, get_or, length, map, option_and_then, option_map}
+use Rattle.std.proofs.Common.{refl, sym, arith}
 use Rattle.std.specs.Prelude.{slice_get}
 use Rattle.serde_json.specs.Data.{Data}
 use Rattle.schema_definitions.specs.Drafts.{SchemaPlace, at_path}
@@ -27,15 +28,21 @@ map_then f g (Some a) = refl
 below_of : (o : Option Document) (outer : SchemaPlace) (q : Place) (whole : Data) → value_of o outer ≡ Some whole
     → value_of o (at_path outer q) ≡ data_of (subject_from q (a_value whole))
 below_of None outer q whole h = absurd (let no_data : ⊥ = cc in no_data)
-below_of (Some d) outer q whole h = ap data_of (from_append outer.path q (a_value d.value) ∙ ap (λ (o : Option Subject). option_and_then (subject_from q) o) (data-is (subject_at d.value outer.path) whole h))
+below_of (Some d) outer q whole h =
+    ap data_of (from_append outer.path q (a_value d.value)
+    ∙ ap (λ (o : Option Subject). option_and_then (subject_from q) o) (data-is (subject_at d.value outer.path) whole h))
 
 -- from the object's place on the walk is the object's own
-pub inside_value : (documents : List Document) (outer place : SchemaPlace) (q : Place) (whole : Data) → place ≡ at_path outer q → value_in documents outer ≡ Some whole
+pub inside_value : (documents : List Document) (outer place : SchemaPlace) (q : Place) (whole : Data) → place ≡ at_path outer q
+    → value_in documents outer ≡ Some whole
     → value_in documents place ≡ data_of (subject_from q (a_value whole))
-inside_value documents outer place q whole is at = ap (value_in documents) is ∙ below_of (slice_get documents outer.document) outer q whole at
+inside_value documents outer place q whole is at = ap (value_in documents) is
+    ∙ below_of (slice_get documents outer.document) outer q whole at
 
 -- the first step, and those after it
 pub first_then : (xs : List SchemaStep) (s : SchemaStep) (x : Subject) → 0 < length xs → s ≡ get_or xs 0 s
-    → subject_from (map schema_step_of xs) x ≡ option_and_then (subject_from (map schema_step_of (drop 1 xs))) (after_step (schema_step_of s) x)
+    → subject_from (map schema_step_of xs) x
+    ≡ option_and_then (subject_from (map schema_step_of (drop 1 xs))) (after_step (schema_step_of s) x)
 first_then [] s x l h = absurd (omega arith)
-first_then (y ∷ xs) s x l h = ap (λ (z : SchemaStep). option_and_then (subject_from (map schema_step_of xs)) (after_step (schema_step_of z) x)) (sym h)
+first_then (y ∷ xs) s x l h =
+    ap (λ (z : SchemaStep). option_and_then (subject_from (map schema_step_of xs)) (after_step (schema_step_of z) x)) (sym h)

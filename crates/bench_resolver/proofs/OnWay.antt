@@ -1,5 +1,7 @@
 -- One or two steps, and the subschemas of a schema that they lead to.
-use Rattle.std.proofs.Common.{◌≡◌, ◌∙◌, ℕ, zero, suc, ◌+◌, ◌<◌, ◌≤◌, ◌==◌, ◌&&◌, Bool, true, false, List, [], ◌∷◌, ◌++◌, Option, Some, None, Ordering, Less, Equal, Greater, String, Global, drop, get_or, length, take, map, refl, sym, ap, subst, string_bytes, string_cmp, nat_cmp, is_eq, bytes_eq, arith}
+use Rattle.std.proofs.Common.{◌≡◌, ◌∙◌, ℕ, zero, suc, ◌+◌, ◌<◌, ◌≤◌, ◌==◌, ◌&&◌, Bool, true, false, List, [], ◌∷◌, ◌++◌, Option, Some}
+use Rattle.std.proofs.Common.{None, Ordering, Less, Equal, Greater, String, Global, drop, get_or, length, take, map, refl, sym, ap, subst}
+use Rattle.std.proofs.Common.{string_bytes, string_cmp, nat_cmp, is_eq, bytes_eq, arith}
 use Rattle.std.specs.Prelude.{◌||◌, flat_map}
 use Rattle.std.specs.List.{AllByRecursion, list_any}
 use Rattle.std.specs.List.Sorted.{IsStrictlySortedBy}
@@ -11,7 +13,7 @@ use Rattle.std.proofs.lemmas.List.{drop_all, drop_more, length-map}
 use Rattle.std.proofs.lemmas.List.Folds.{list_any-append}
 use Rattle.std.proofs.lemmas.Map.Text.{is_eq-slice_cmp}
 use Rattle.serde_json.specs.Data.{Data, Items, Members, array, boolean, item, member, no_items, no_members, null, number, object, string}
-use Rattle.serde_json.specs.Find.{as_object, at, get, get_item, get_member}
+use Rattle.serde_json.specs.Find.{at, get, get_item, get_member}
 use Rattle.serde_json.specs.View.{members_view, view}
 use Rattle.serde_json.proofs.Views.{Entry}
 use Rattle.schema_definitions.specs.Drafts.{Draft}
@@ -19,7 +21,8 @@ use Rattle.schema_definitions.specs.Instance.{Place, Step, Text, same_place, sam
 use Rattle.schema_reports.proofs.Found.{same-from-equal}
 use Rattle.schema_reports.proofs.Places.{differ_in_length}
 use Rattle.bench_subschemas.specs.declared.rules.Rule.{Rule}
-use Rattle.bench_subschemas.specs.BenchResolving.{below_list, below_object, below_value, is_schema, items_below, members_below, names_of_lists, names_of_objects, names_of_values, place_if}
+use Rattle.bench_subschemas.specs.BenchResolving.{below_list, below_object, below_value, is_schema, items_below, members_below}
+use Rattle.bench_subschemas.specs.BenchResolving.{names_of_lists, names_of_objects, names_of_values, place_if}
 use Rattle.bench_resolver.specs.BenchLookups.{is_subschema}
 use Rattle.bench_resolver.specs.OnWay.{item_among, leads_to_item, leads_to_member, member_among, pairs_below, schema_found, singles_below}
 
@@ -44,16 +47,19 @@ module _ {X A B : Type 0} (key : X → A) (f : A → List B) (p : B → Bool) (x
   left n = list_any p (flat_map f (map key (drop n xs)))
 
   any_next : i < length xs → x ≡ get_or xs i x → left i ≡ (list_any p (f (key x)) || left (i + 1))
-  any_next l at = ap (λ (ys : List X). list_any p (flat_map f (map key ys))) (drop_more xs i x l) ∙ ap (λ (y : X). list_any p (f (key y) ++ flat_map f (map key (drop (i + 1) xs)))) (sym at)
+  any_next l at = ap (λ (ys : List X). list_any p (flat_map f (map key ys))) (drop_more xs i x l)
+      ∙ ap (λ (y : X). list_any p (f (key y) ++ flat_map f (map key (drop (i + 1) xs)))) (sym at)
       ∙ list_any-append p (f (key x)) (flat_map f (map key (drop (i + 1) xs)))
 
   pub any_found : (whole : Bool) → i < length xs → x ≡ get_or xs i x → whole ≡ left i → list_any p (f (key x)) ≡ true → true ≡ whole
   any_found whole l at so_far here = sym (so_far ∙ any_next l at ∙ ap (λ b. b || left (i + 1)) here)
 
-  pub any_past : (whole : Bool) → i < length xs → x ≡ get_or xs i x → whole ≡ left i → list_any p (f (key x)) ≡ false → whole ≡ left (i + 1)
+  pub any_past : (whole : Bool) → i < length xs → x ≡ get_or xs i x → whole ≡ left i → list_any p (f (key x)) ≡ false → whole
+      ≡ left (i + 1)
   any_past whole l at so_far here = so_far ∙ any_next l at ∙ ap (λ b. b || left (i + 1)) here
 
-pub any_done : {X A B : Type 0} (key : X → A) (f : A → List B) (p : B → Bool) (xs : List X) (i : ℕ) (whole : Bool) → length xs ≤ i → whole ≡ list_any p (flat_map f (map key (drop i xs))) → false ≡ whole
+pub any_done : {X A B : Type 0} (key : X → A) (f : A → List B) (p : B → Bool) (xs : List X) (i : ℕ) (whole : Bool) → length xs ≤ i → whole
+    ≡ list_any p (flat_map f (map key (drop i xs))) → false ≡ whole
 any_done key f p xs i whole l so_far = sym (so_far ∙ ap (λ ys. list_any p (flat_map f (map key ys))) (drop_all i xs l))
 
 -- ---- members, items and values
@@ -63,15 +69,21 @@ module _ (k : Text) (s t : Step) where
   any_member no_members = sym (and_false (same_step s (to_member k)))
   any_member (member l d ms) = go (is_schema d) (any_member ms)
     where
-      go : (c : Bool) → list_any (same_place (s ∷ t ∷ [])) (members_below k ms) ≡ (same_step s (to_member k) && member_among t ms) → list_any (same_place (s ∷ t ∷ [])) (place_if c (to_member k ∷ to_member l ∷ []) (members_below k ms)) ≡ (same_step s (to_member k) && ((c && same_step t (to_member l)) || member_among t ms))
+      go : (c : Bool) → list_any (same_place (s ∷ t ∷ [])) (members_below k ms) ≡ (same_step s (to_member k) && member_among t ms)
+          → list_any (same_place (s ∷ t ∷ [])) (place_if c (to_member k ∷ to_member l ∷ []) (members_below k ms))
+          ≡ (same_step s (to_member k) && ((c && same_step t (to_member l)) || member_among t ms))
       go true h = combined (same_step s (to_member k)) (same_step t (to_member l)) _ _ h
       go false h = h
 
-  any_item : (i : ℕ) (ds : Items) → list_any (same_place (s ∷ t ∷ [])) (items_below k i ds) ≡ (same_step s (to_member k) && item_among t i ds)
+  any_item : (i : ℕ) (ds : Items) → list_any (same_place (s ∷ t ∷ [])) (items_below k i ds)
+      ≡ (same_step s (to_member k) && item_among t i ds)
   any_item i no_items = sym (and_false (same_step s (to_member k)))
   any_item i (item d ds) = go (is_schema d) (any_item (i + 1) ds)
     where
-      go : (c : Bool) → list_any (same_place (s ∷ t ∷ [])) (items_below k (i + 1) ds) ≡ (same_step s (to_member k) && item_among t (i + 1) ds) → list_any (same_place (s ∷ t ∷ [])) (place_if c (to_member k ∷ to_item i ∷ []) (items_below k (i + 1) ds)) ≡ (same_step s (to_member k) && ((c && same_step t (to_item i)) || item_among t (i + 1) ds))
+      go : (c : Bool) → list_any (same_place (s ∷ t ∷ [])) (items_below k (i + 1) ds)
+          ≡ (same_step s (to_member k) && item_among t (i + 1) ds)
+          → list_any (same_place (s ∷ t ∷ [])) (place_if c (to_member k ∷ to_item i ∷ []) (items_below k (i + 1) ds))
+          ≡ (same_step s (to_member k) && ((c && same_step t (to_item i)) || item_among t (i + 1) ds))
       go true h = combined (same_step s (to_member k)) (same_step t (to_item i)) _ _ h
       go false h = h
 
@@ -80,7 +92,8 @@ abbrev pub holds_of : (Data → Bool) → Option Data → Bool
 holds_of f None = false
 holds_of f (Some d) = f d
 
-pub in_an_object : (k : Text) (s t : Step) (o : Option Data) → list_any (same_place (s ∷ t ∷ [])) (below_object k o) ≡ (same_step s (to_member k) && holds_of (leads_to_member t) o)
+pub in_an_object : (k : Text) (s t : Step) (o : Option Data) → list_any (same_place (s ∷ t ∷ [])) (below_object k o)
+    ≡ (same_step s (to_member k) && holds_of (leads_to_member t) o)
 in_an_object k s t None = sym (and_false _)
 in_an_object k s t (Some (object ms)) = any_member k s t ms
 in_an_object k s t (Some null) = sym (and_false _)
@@ -89,7 +102,8 @@ in_an_object k s t (Some (number n)) = sym (and_false _)
 in_an_object k s t (Some (string x)) = sym (and_false _)
 in_an_object k s t (Some (array ds)) = sym (and_false _)
 
-pub in_a_list : (k : Text) (s t : Step) (o : Option Data) → list_any (same_place (s ∷ t ∷ [])) (below_list k o) ≡ (same_step s (to_member k) && holds_of (leads_to_item t) o)
+pub in_a_list : (k : Text) (s t : Step) (o : Option Data) → list_any (same_place (s ∷ t ∷ [])) (below_list k o)
+    ≡ (same_step s (to_member k) && holds_of (leads_to_item t) o)
 in_a_list k s t None = sym (and_false _)
 in_a_list k s t (Some (array ds)) = any_item k s t 0 ds
 in_a_list k s t (Some null) = sym (and_false _)
@@ -100,29 +114,34 @@ in_a_list k s t (Some (object ms)) = sym (and_false _)
 
 -- ---- the member of a name, in an object whose names ascend
 
-no_more : (name : Text) (es : List Entry) → AllByRecursion (λ y. slice_cmp nat_cmp name (string_bytes y) ≡ Less) (keys_of es) → member_among (to_member name) (members_view es) ≡ false
+no_more : (name : Text) (es : List Entry) → AllByRecursion (λ y. slice_cmp nat_cmp name (string_bytes y) ≡ Less) (keys_of es)
+    → member_among (to_member name) (members_view es) ≡ false
 no_more name [] h = refl
 no_more name (e ∷ es) h =
     let differs : bytes_eq name (string_bytes e.0) ≡ false = sym (is_eq-slice_cmp name (string_bytes e.0)) ∙ ap is_eq h.0 in
     rw (differs, no_more name es h.1) (or_false _ ∙ and_false (is_schema (view e.1)))
 
-by_order : (o : Ordering) (c r : Bool) (d : Data) (g : Option Data) → r ≡ schema_found g → (o ≡ Equal → r ≡ false) → c ≡ is_schema d → ((c && is_eq o) || r) ≡ schema_found (match_ordering o g (Some d) g)
+by_order : (o : Ordering) (c r : Bool) (d : Data) (g : Option Data) → r ≡ schema_found g → (o ≡ Equal → r ≡ false) → c ≡ is_schema d
+    → ((c && is_eq o) || r) ≡ schema_found (match_ordering o g (Some d) g)
 by_order Less c r d g e f h = ap (λ b. b || r) (and_false c) ∙ e
 by_order Equal true r d g e f h = h
 by_order Equal false r d g e f h = f refl ∙ h
 by_order Greater c r d g e f h = ap (λ b. b || r) (and_false c) ∙ e
 
-pub the_member : (name : Text) (es : List Entry) → IsStrictlySortedBy string_cmp (keys_of es) → member_among (to_member name) (members_view es) ≡ schema_found (get_member name (members_view es))
+pub the_member : (name : Text) (es : List Entry) → IsStrictlySortedBy string_cmp (keys_of es)
+    → member_among (to_member name) (members_view es) ≡ schema_found (get_member name (members_view es))
 unfolding IsStrictlySortedBy
 the_member name [] h = refl
 the_member name (e ∷ es) h =
     let o = slice_cmp nat_cmp name (string_bytes e.0) in
     let later : o ≡ Equal → member_among (to_member name) (members_view es) ≡ false =
     λ q. no_more name es (subst_all (keys_of es) (sym (same-from-equal name (string_bytes e.0) q)) h.0) in
-    ap (λ b. (is_schema (view e.1) && b) || member_among (to_member name) (members_view es)) (sym (is_eq-slice_cmp name (string_bytes e.0)))
+    ap (λ b. (is_schema (view e.1) && b) || member_among (to_member name) (members_view es))
+    (sym (is_eq-slice_cmp name (string_bytes e.0)))
     ∙ by_order o (is_schema (view e.1)) _ (view e.1) _ (the_member name es h.1) later refl
   where
-    subst_all : (ks : List (String Global)) → string_bytes e.0 ≡ name → AllByRecursion (λ y. string_cmp e.0 y ≡ Less) ks → AllByRecursion (λ y. slice_cmp nat_cmp name (string_bytes y) ≡ Less) ks
+    subst_all : (ks : List (String Global)) → string_bytes e.0 ≡ name → AllByRecursion (λ y. string_cmp e.0 y ≡ Less) ks
+        → AllByRecursion (λ y. slice_cmp nat_cmp name (string_bytes y) ≡ Less) ks
     subst_all ks q w = subst (λ x. AllByRecursion (λ y. slice_cmp nat_cmp x (string_bytes y) ≡ Less) ks) q w
 
 pub no_member : (n : ℕ) (ms : Members) → member_among (to_item n) ms ≡ false
@@ -172,16 +191,10 @@ the_item n ds = let e : 0 + n ≡ n = omega arith in ap (λ m. item_among (to_it
 
 -- ---- what a step leads to in a value
 
-pub object_is : (d : Data) (ms : Members) → as_object d ≡ Some ms → d ≡ object ms
-object_is (object ms) ns e = ap object (ap (λ o. elim o [ Some x ↦ x | None ↦ ms ]) e)
-object_is null ns e = cc
-object_is (boolean b) ns e = cc
-object_is (number n) ns e = cc
-object_is (string x) ns e = cc
-object_is (array ds) ns e = cc
-
-pub leads_to_the_member : (name : Text) (d : Data) (es : List Entry) → d ≡ object (members_view es) → IsStrictlySortedBy string_cmp (keys_of es) → schema_found (get name d) ≡ leads_to_member (to_member name) d
-leads_to_the_member name d es is h = ap (λ x. schema_found (get name x)) is ∙ sym (the_member name es h) ∙ ap (leads_to_member (to_member name)) (sym is)
+pub leads_to_the_member : (name : Text) (d : Data) (es : List Entry) → d ≡ object (members_view es)
+    → IsStrictlySortedBy string_cmp (keys_of es) → schema_found (get name d) ≡ leads_to_member (to_member name) d
+leads_to_the_member name d es is h = ap (λ x. schema_found (get name x)) is ∙ sym (the_member name es h)
+    ∙ ap (leads_to_member (to_member name)) (sym is)
 
 pub leads_to_no_member : (n : ℕ) (d : Data) → false ≡ leads_to_member (to_item n) d
 leads_to_no_member n (object ms) = sym (no_member n ms)
@@ -257,7 +270,9 @@ long_value k (Some d) = go (is_schema d)
 
 module _ (rule : Rule) (draft : Draft) where
   pub long_pairs : (d : Data) → Long 2 (pairs_below rule draft d)
-  long_pairs d = long-append 2 _ _ (long-flat 2 (λ k. below_object k (get k d)) (λ k. long_object k (get k d)) (names_of_objects rule draft)) (long-flat 2 (λ k. below_list k (get k d)) (λ k. long_list k (get k d)) (names_of_lists rule draft))
+  long_pairs d = long-append 2 _ _
+      (long-flat 2 (λ k. below_object k (get k d)) (λ k. long_object k (get k d)) (names_of_objects rule draft))
+      (long-flat 2 (λ k. below_list k (get k d)) (λ k. long_list k (get k d)) (names_of_lists rule draft))
 
   pub long_singles : (d : Data) → Long 1 (singles_below rule draft d)
   long_singles d = long-flat 1 (λ k. below_value k (get k d)) (λ k. long_value k (get k d)) (names_of_values rule draft)
@@ -272,14 +287,18 @@ none_of_length path n (p ∷ ps) l h = rw (differ_in_length path p (λ e. h (e �
 module _ (rule : Rule) (draft : Draft) where
   pub is_single : (s : Step) (d : Data) → is_subschema rule draft (s ∷ []) d ≡ list_any (same_place (s ∷ [])) (singles_below rule draft d)
   is_single s d = list_any-append (same_place (s ∷ [])) (pairs_below rule draft d) (singles_below rule draft d)
-      ∙ ap (λ b. b || list_any (same_place (s ∷ [])) (singles_below rule draft d)) (none_of_length (s ∷ []) 2 (pairs_below rule draft d) (long_pairs rule draft d) (λ e. absurd (omega arith)))
+      ∙ ap (λ b. b || list_any (same_place (s ∷ [])) (singles_below rule draft d))
+      (none_of_length (s ∷ []) 2 (pairs_below rule draft d) (long_pairs rule draft d) (λ e. absurd (omega arith)))
 
-  pub is_pair : (s t : Step) (d : Data) → is_subschema rule draft (s ∷ t ∷ []) d ≡ list_any (same_place (s ∷ t ∷ [])) (pairs_below rule draft d)
+  pub is_pair : (s t : Step) (d : Data) → is_subschema rule draft (s ∷ t ∷ []) d
+      ≡ list_any (same_place (s ∷ t ∷ [])) (pairs_below rule draft d)
   is_pair s t d = list_any-append (same_place (s ∷ t ∷ [])) (pairs_below rule draft d) (singles_below rule draft d)
-      ∙ ap (λ b. list_any (same_place (s ∷ t ∷ [])) (pairs_below rule draft d) || b) (none_of_length (s ∷ t ∷ []) 1 (singles_below rule draft d) (long_singles rule draft d) (λ e. absurd (omega arith)))
+      ∙ ap (λ b. list_any (same_place (s ∷ t ∷ [])) (pairs_below rule draft d) || b)
+      (none_of_length (s ∷ t ∷ []) 1 (singles_below rule draft d) (long_singles rule draft d) (λ e. absurd (omega arith)))
       ∙ or_false _
 
-  pub is_neither : {A : Type 0} (f : A → Step) (xs : List A) (d : Data) → (length xs ≡ 1 → ⊥) → (length xs ≡ 2 → ⊥) → is_subschema rule draft (map f xs) d ≡ false
+  pub is_neither : {A : Type 0} (f : A → Step) (xs : List A) (d : Data) → (length xs ≡ 1 → ⊥) → (length xs ≡ 2 → ⊥)
+      → is_subschema rule draft (map f xs) d ≡ false
   is_neither f xs d g h =
       let path = map f xs in
       list_any-append (same_place path) (pairs_below rule draft d) (singles_below rule draft d)

@@ -1,5 +1,6 @@
 -- Texts that are no pointers, and texts without their fragments.
-use Rattle.std.proofs.Common.{◌≡◌, ◌≢◌, ◌<◌, ◌+◌, ◌==◌, ℕ, suc, Bool, true, false, cond, not, [], ◌∷◌, None, length, take, refl, sym, ap, ◌∙◌, arith, ne_eqb}
+use Rattle.std.proofs.Common.{◌≡◌, ◌≢◌, ◌<◌, ◌+◌, ◌==◌, ℕ, suc, Bool, true, false, cond, not, [], ◌∷◌, None, length, take, refl, sym, ap}
+use Rattle.std.proofs.Common.{◌∙◌, arith, ne_eqb}
 use Rattle.std.specs.Prelude.{if◌then◌else◌}
 use Rattle.std.specs.List.{position_or_len}
 use Rattle.serde_json.specs.Data.{Data}
@@ -23,7 +24,11 @@ begins : (t : Text) → without_fragment t ≡ begin t
 begins [] = refl
 begins (x ∷ xs) =
     let go : (b : Bool) → take (cond (not b) (1 + before xs) 0) (x ∷ xs) ≡ cond b [] (x ∷ begin xs)
-    = elim [ true ↦ refl | false ↦ ap (λ n. take n (x ∷ xs)) (let e : 1 + before xs ≡ suc (before xs) = omega arith in e) ∙ ap (λ ys. x ∷ ys) (begins xs) ] in
+    = elim [
+      | true ↦ refl
+      | false ↦ ap (λ n. take n (x ∷ xs)) (let e : 1 + before xs ≡ suc (before xs) = omega arith in e)
+          ∙ ap (λ ys. x ∷ ys) (begins xs)
+    ] in
     go (x == 35)
 
 begin_again : (t : Text) → begin (begin t) ≡ begin t

@@ -1,5 +1,6 @@
 -- The pointer of a path is cut into segments, each of which names its step.
-use Rattle.std.proofs.Common.{◌≡◌, ◌≢◌, ◌<◌, ◌==◌, ℕ, zero, suc, Bool, true, false, List, [], ◌∷◌, ◌++◌, Option, Some, None, inl, inr, length, get_or, option_and_then, option_map, refl, sym, ap, ◌∙◌, arith, ne_eqb, append-nil, decimal}
+use Rattle.std.proofs.Common.{◌≡◌, ◌≢◌, ◌<◌, ◌==◌, ℕ, zero, suc, Bool, true, false, List, [], ◌∷◌, ◌++◌, Option, Some, None, inl, inr}
+use Rattle.std.proofs.Common.{length, get_or, option_and_then, option_map, refl, sym, ap, ◌∙◌, arith, ne_eqb, append-nil, decimal}
 use Rattle.std.specs.Prelude.{◌&&◌, ◌^◌, if◌then◌else◌, nat_lt}
 use Rattle.std.specs.Char.{is_ascii_digit}
 use Rattle.std.specs.List.{All, slice_split}
@@ -13,7 +14,8 @@ use Rattle.std.proofs.lemmas.List.Splits.{slice_split_at, slice_split_none}
 use Rattle.std.proofs.lemmas.Str.Parse.{tells_all_ascii_digits}
 use Rattle.serde_json.specs.Data.{Data, array, object}
 use Rattle.serde_json.specs.Find.{unescape}
-use Rattle.schema_definitions.specs.Instance.{Place, Step, Subject, Text, a_name, a_value, after_step, member_of, subject_at, subject_from, to_item, to_member, to_name}
+use Rattle.schema_definitions.specs.Instance.{Place, Step, Subject, Text, a_name, a_value, after_step, member_of, subject_at, subject_from}
+use Rattle.schema_definitions.specs.Instance.{to_item, to_member, to_name}
 use Rattle.schema_definitions.specs.Pointer.{escaped, pointer_to, step_text}
 use Rattle.bench_subschemas.specs.BenchResolving.{data_of}
 use Rattle.bench_resolver.specs.BenchPointers.{index_named, is_index, path_named, path_of_pointer, step_named}
@@ -108,7 +110,8 @@ leading (suc m) small e = absurd (omega (arith, first_decimal (suc m) (omega ari
 
 index_again : (n : ℕ) → n < 2 ^ 64 → index_named (decimal n) ≡ Some n
 index_again n small =
-    let is : is_index (decimal n) ≡ true = index_from (decimal n) (decimal_nonempty n small) (digits_decimal digits n small) (leading n small) in
+    let is : is_index (decimal n) ≡ true = index_from (decimal n) (decimal_nonempty n small) (digits_decimal digits n small)
+    (leading n small) in
     let value : digits_value 10 (decimal n) ≡ n = digits_value-decimal digits n small in
     let fits : nat_lt n (2 ^ 64) ≡ true = lt-ltb n (2 ^ 64) small in
     rw (is, value, fits)
@@ -155,7 +158,8 @@ segments (s ∷ p) = segment s ∷ segments p
 
 cut : (s : Step) (p : Place) → Plain s → Plains p → slice_split slash (segment s ++ pointer_to p) ≡ segment s ∷ segments p
 cut s [] h hs = ap (slice_split slash) (append-nil (segment s)) ∙ slice_split_none slash (segment s) h.0
-cut s (next ∷ p) h hs = ap (λ t. slice_split slash (segment s ++ (t ++ pointer_to p))) hs.0.1 ∙ slice_split_at slash (segment s) 47 (segment next ++ pointer_to p) h.0 refl
+cut s (next ∷ p) h hs = ap (λ t. slice_split slash (segment s ++ (t ++ pointer_to p))) hs.0.1
+    ∙ slice_split_at slash (segment s) 47 (segment next ++ pointer_to p) h.0 refl
     ∙ ap (λ l. segment s ∷ l) (cut next p hs.0 hs.1)
 
 names_end : (p : Place) (k : Text) (v : Data) → data_of (subject_from p (a_name k)) ≡ Some v → ⊥
@@ -165,7 +169,8 @@ names_end (s ∷ p) k v e = cc
 abbrev Named : Place → Data → Type 0
 Named p d = Plains p × (path_named (segments p) d ≡ Some p)
 
-walk_on : (s : Step) (p : Place) (d v : Data) (o : Option Subject) → FitsWord s → after_step s (a_value d) ≡ o → data_of (option_and_then (subject_from p) o) ≡ Some v
+walk_on : (s : Step) (p : Place) (d v : Data) (o : Option Subject) → FitsWord s → after_step s (a_value d) ≡ o
+    → data_of (option_and_then (subject_from p) o) ≡ Some v
     → ((below : Data) → data_of (subject_from p (a_value below)) ≡ Some v → Named p below) → Named (s ∷ p) d
 walk_on s p d v None f is e later = absurd (let no : ⊥ = cc in no)
 walk_on s p d v (Some (a_name k)) f is e later = absurd (names_end p k v e)
@@ -179,7 +184,8 @@ walk : (p : Place) (d v : Data) → HasIndexes p → data_of (subject_from p (a_
 walk [] d v h e = (tt, refl)
 walk (s ∷ p) d v h e = walk_on s p d v (after_step s (a_value d)) h.0 refl e (λ below. walk p below v h.1)
 
-pub lead : (document : Data) (path : Place) (value : Data) → HasIndexes path → data_of (subject_at document path) ≡ Some value → path_of_pointer (pointer_to path) document ≡ Some path
+pub lead : (document : Data) (path : Place) (value : Data) → HasIndexes path → data_of (subject_at document path) ≡ Some value
+    → path_of_pointer (pointer_to path) document ≡ Some path
 lead document [] value h e = refl
 lead document (s ∷ p) value h e =
     let w = walk (s ∷ p) document value h e in

@@ -1,5 +1,6 @@
 -- Lists of resources, as more are added.
-use Rattle.std.proofs.Common.{◌≡◌, ◌<◌, ◌≤◌, ℕ, zero, suc, ◌+◌, Bool, true, false, cond, List, [], ◌∷◌, ◌++◌, get_or, length, map, take, refl, ap, sym, ◌∙◌, arith, append_assoc, append-nil, subst}
+use Rattle.std.proofs.Common.{◌≡◌, ◌<◌, ◌≤◌, ℕ, zero, suc, ◌+◌, Bool, true, false, cond, List, [], ◌∷◌, ◌++◌, get_or, length, map, take}
+use Rattle.std.proofs.Common.{refl, ap, sym, ◌∙◌, arith, append_assoc, append-nil, subst}
 use Rattle.std.specs.Prelude.{IsSome, Some, flat_map, is_some, slice_get}
 use Rattle.std.proofs.lemmas.List.{flat_map_more, get_or-map, length-map, length-take-le, map-append, map_more, take-map, take_all}
 use Rattle.std.proofs.lemmas.Slice.Eq.{bytes_eq-Decides}
@@ -10,13 +11,15 @@ use Rattle.bench_subschemas.specs.BenchResolving.{without_fragment}
 use Rattle.bench_resolver.specs.BenchKeys.{number_in}
 use Rattle.bench_resolver.specs.BenchAnswers.{entrance, entrance_at}
 use Rattle.bench_resolver.specs.BenchDocuments.{Document}
-use Rattle.bench_resolver.specs.BenchResources.{Resource, document_resource, document_resources, embedded, embedded_resources, number_of, resource_key, resources_of, with_resource, with_resources}
+use Rattle.bench_resolver.specs.BenchResources.{Resource, document_resource, document_resources, embedded, embedded_resources, number_of}
+use Rattle.bench_resolver.specs.BenchResources.{resource_key, resources_of, with_resource, with_resources}
 use Rattle.bench_resolver.specs.BenchGathered.{Adds, list_of}
 use Rattle.bench_resolver.specs.declared.resolver.resources.Gathered.{Gathered}
 use Rattle.bench_resolver.proofs.Numbers.{number-append}
 use Rattle.bench_resolver.proofs.PointerTexts.{no_fragment_left}
 
-pub with_resources-append : (xs ys listed : List Resource) → with_resources (with_resources listed xs) ys ≡ with_resources listed (xs ++ ys)
+pub with_resources-append : (xs ys listed : List Resource) → with_resources (with_resources listed xs) ys
+    ≡ with_resources listed (xs ++ ys)
 with_resources-append [] ys listed = refl
 with_resources-append (x ∷ xs) ys listed = with_resources-append xs ys (with_resource listed x)
 
@@ -30,15 +33,21 @@ adds_both xs ys a b c first second = λ found.
 
 -- ---- resources of documents, one more
 
-pub documents-append : (rule : Rule) (draft : Draft) (n : ℕ) (ds : List Document) (d : Document) → document_resources rule draft n (ds ++ d ∷ []) ≡ document_resources rule draft n ds ++ document_resource rule draft (n + length ds) d ∷ []
+pub documents-append : (rule : Rule) (draft : Draft) (n : ℕ) (ds : List Document) (d : Document)
+    → document_resources rule draft n (ds ++ d ∷ []) ≡ document_resources rule draft n ds ++ document_resource rule draft (n + length ds) d
+    ∷ []
 documents-append rule draft n [] d = let e : n ≡ n + 0 = omega arith in ap (λ m. document_resource rule draft m d ∷ []) e
 documents-append rule draft n (x ∷ ds) d = let e : n + 1 + length ds ≡ n + suc (length ds) = omega arith in
-    ap (λ l. document_resource rule draft n x ∷ l) (documents-append rule draft (n + 1) ds d ∙ ap (λ m. document_resources rule draft (n + 1) ds ++ document_resource rule draft m d ∷ []) e)
+    ap (λ l. document_resource rule draft n x ∷ l) (documents-append rule draft (n + 1) ds d
+    ∙ ap (λ m. document_resources rule draft (n + 1) ds ++ document_resource rule draft m d ∷ []) e)
 
-pub embedded-append : (rule : Rule) (draft : Draft) (n : ℕ) (ds : List Document) (d : Document) → embedded_resources rule draft n (ds ++ d ∷ []) ≡ embedded_resources rule draft n ds ++ embedded rule draft (n + length ds) d
-embedded-append rule draft n [] d = let e : n ≡ n + 0 = omega arith in append-nil (embedded rule draft n d) ∙ ap (λ m. embedded rule draft m d) e
+pub embedded-append : (rule : Rule) (draft : Draft) (n : ℕ) (ds : List Document) (d : Document)
+    → embedded_resources rule draft n (ds ++ d ∷ []) ≡ embedded_resources rule draft n ds ++ embedded rule draft (n + length ds) d
+embedded-append rule draft n [] d = let e : n ≡ n + 0 = omega arith in append-nil (embedded rule draft n d)
+    ∙ ap (λ m. embedded rule draft m d) e
 embedded-append rule draft n (x ∷ ds) d = let e : n + 1 + length ds ≡ n + suc (length ds) = omega arith in
-    ap (λ l. embedded rule draft n x ++ l) (embedded-append rule draft (n + 1) ds d ∙ ap (λ m. embedded_resources rule draft (n + 1) ds ++ embedded rule draft m d) e)
+    ap (λ l. embedded rule draft n x ++ l) (embedded-append rule draft (n + 1) ds d
+    ∙ ap (λ m. embedded_resources rule draft (n + 1) ds ++ embedded rule draft m d) e)
     ∙ sym (append_assoc (embedded rule draft n x) (embedded_resources rule draft (n + 1) ds) (embedded rule draft (n + suc (length ds)) d))
 
 -- ---- a resource that is found stays where it is
@@ -52,16 +61,19 @@ get-append [] n x y e = absurd (let no : ⊥ = cc in no)
 get-append (z ∷ xs) zero x y e = e
 get-append (z ∷ xs) (suc n) x y e = get-append xs n x y e
 
-stays_one : (uri : Text) (n : ℕ) (r : Resource) (listed : List Resource) (x : Resource) → Stays uri n r listed → Stays uri n r (with_resource listed x)
+stays_one : (uri : Text) (n : ℕ) (r : Resource) (listed : List Resource) (x : Resource) → Stays uri n r listed
+    → Stays uri n r (with_resource listed x)
 stays_one uri n r listed x h = go (is_some (number_of x.uri listed)) where
   more : number_of uri (listed ++ x ∷ []) ≡ Some n
-  more = ap (number_in uri) (map-append resource_key listed (x ∷ [])) ∙ number-append (map resource_key listed) (resource_key x) uri ∙ rw h.number refl
+  more = ap (number_in uri) (map-append resource_key listed (x ∷ [])) ∙ number-append (map resource_key listed) (resource_key x) uri
+      ∙ rw h.number refl
 
   go : (b : Bool) → Stays uri n r (cond b listed (listed ++ x ∷ []))
   go true = h
   go false = record { number = more; there = get-append listed n r x h.there }
 
-pub stays : (xs : List Resource) (uri : Text) (n : ℕ) (r : Resource) (listed : List Resource) → Stays uri n r listed → Stays uri n r (with_resources listed xs)
+pub stays : (xs : List Resource) (uri : Text) (n : ℕ) (r : Resource) (listed : List Resource) → Stays uri n r listed
+    → Stays uri n r (with_resources listed xs)
 stays [] uri n r listed h = h
 stays (x ∷ xs) uri n r listed h = stays xs uri n r (with_resource listed x) (stays_one uri n r listed x h)
 
@@ -72,11 +84,17 @@ is_entered : (listed : List Resource) (n : ℕ) (r : Resource) → slice_get lis
 is_entered listed n r e = rw (e, entrance_at) refl
 
 -- the first document is found under its URI
-pub root_found : (rule : Rule) (draft : Draft) (d : Document) (ds : List Document) → IsSome (entrance (resources_of rule draft (d ∷ ds)) (without_fragment d.uri))
-root_found rule draft d ds = subst (λ u. IsSome (entrance_at (resources_of rule draft (d ∷ ds)) (number_of u (resources_of rule draft (d ∷ ds))))) (sym (no_fragment_left d.uri))
-    (subst (λ o. IsSome (entrance_at (resources_of rule draft (d ∷ ds)) o)) (sym h.number) (is_entered (resources_of rule draft (d ∷ ds)) 0 (document_resource rule draft 0 d) h.there)) where
+pub root_found : (rule : Rule) (draft : Draft) (d : Document) (ds : List Document)
+    → IsSome (entrance (resources_of rule draft (d ∷ ds)) (without_fragment d.uri))
+root_found rule draft d ds =
+    subst (λ u. IsSome (entrance_at (resources_of rule draft (d ∷ ds)) (number_of u (resources_of rule draft (d ∷ ds)))))
+    (sym (no_fragment_left d.uri))
+    (subst (λ o. IsSome (entrance_at (resources_of rule draft (d ∷ ds)) o)) (sym h.number)
+    (is_entered (resources_of rule draft (d ∷ ds)) 0 (document_resource rule draft 0 d) h.there)) where
       h : Stays (without_fragment d.uri) 0 (document_resource rule draft 0 d) (resources_of rule draft (d ∷ ds))
-      h = stays (embedded_resources rule draft 0 (d ∷ ds)) _ 0 (document_resource rule draft 0 d) _ (stays (document_resources rule draft 1 ds) _ 0 (document_resource rule draft 0 d) _ (first_stays (document_resource rule draft 0 d)))
+      h = stays (embedded_resources rule draft 0 (d ∷ ds)) _ 0 (document_resource rule draft 0 d) _
+          (stays (document_resources rule draft 1 ds) _ 0 (document_resource rule draft 0 d) _
+          (first_stays (document_resource rule draft 0 d)))
 
 -- ---- turns of the code
 
@@ -91,7 +109,8 @@ pub other_taken : {A B C : Type 0} (f : A → B) (g : B → C) (xs : List A) (i 
     → take (i + 1) (map g (map f xs)) ≡ take i (map g (map f xs)) ++ g (f x) ∷ []
 other_taken f g xs i x less at =
     let small : i < length (map f xs) = omega (arith, length-map xs f) in
-    take-map g (i + 1) (map f xs) ∙ map_more g (map f xs) i (f x) small ∙ ap (λ ys. ys ++ g (get_or (map f xs) i (f x)) ∷ []) (sym (take-map g i (map f xs)))
+    take-map g (i + 1) (map f xs) ∙ map_more g (map f xs) i (f x) small
+    ∙ ap (λ ys. ys ++ g (get_or (map f xs) i (f x)) ∷ []) (sym (take-map g i (map f xs)))
     ∙ ap (λ y. take i (map g (map f xs)) ++ g y ∷ []) (get_or-map f xs i x (f x) less ∙ ap f (sym at))
 
 taken_length : {A B C : Type 0} (f : A → B) (g : B → C) (xs : List A) (i : ℕ) → i < length xs → length (take i (map g (map f xs))) ≡ i
@@ -100,7 +119,8 @@ taken_length f g xs i less = length-take-le i (map g (map f xs)) (omega (arith, 
 all_taken : {A B C : Type 0} (f : A → B) (g : B → C) (xs : List A) (i : ℕ) → length xs ≤ i → take i (map g (map f xs)) ≡ map g (map f xs)
 all_taken f g xs i l = take_all i (map g (map f xs)) (omega (arith, length-map xs f, length-map (map f xs) g))
 
-module _ {A B : Type 0} (rule : Rule) (draft : Draft) (first : Document) (f : A → B) (g : B → Document) (xs : List A) (i : ℕ) (old new : Gathered) where
+module _ {A B : Type 0} (rule : Rule) (draft : Draft) (first : Document) (f : A → B) (g : B → Document) (xs : List A) (i : ℕ)
+    (old new : Gathered) where
   -- the first so many after the root's
   abbrev some_of : ℕ → List Document
   some_of n = first ∷ take n (map g (map f xs))
@@ -112,20 +132,28 @@ module _ {A B : Type 0} (rule : Rule) (draft : Draft) (first : Document) (f : A 
     number : i + 1 ≡ 0 + length (some_of i)
     number = omega (arith, taken_length f g xs i less)
 
-    pub next_document : Adds (document_resources rule draft 0 (some_of i)) old new → Adds (document_resource rule draft (i + 1) (g (f x)) ∷ []) new later → Adds (document_resources rule draft 0 (some_of (i + 1))) old later
+    pub next_document : Adds (document_resources rule draft 0 (some_of i)) old new
+        → Adds (document_resource rule draft (i + 1) (g (f x)) ∷ []) new later
+        → Adds (document_resources rule draft 0 (some_of (i + 1))) old later
     next_document so_far added = subst (λ rs. Adds rs old later)
-        (ap (λ m. document_resources rule draft 0 (some_of i) ++ document_resource rule draft m (g (f x)) ∷ []) number ∙ sym (documents-append rule draft 0 (some_of i) (g (f x))) ∙ ap (document_resources rule draft 0) (sym taken))
-        (adds_both (document_resources rule draft 0 (some_of i)) (document_resource rule draft (i + 1) (g (f x)) ∷ []) old new later so_far added)
+        (ap (λ m. document_resources rule draft 0 (some_of i) ++ document_resource rule draft m (g (f x)) ∷ []) number
+        ∙ sym (documents-append rule draft 0 (some_of i) (g (f x))) ∙ ap (document_resources rule draft 0) (sym taken))
+        (adds_both (document_resources rule draft 0 (some_of i)) (document_resource rule draft (i + 1) (g (f x)) ∷ []) old new later so_far
+        added)
 
-    pub next_embedded : Adds (embedded_resources rule draft 0 (some_of i)) old new → Adds (embedded rule draft (i + 1) (g (f x))) new later → Adds (embedded_resources rule draft 0 (some_of (i + 1))) old later
+    pub next_embedded : Adds (embedded_resources rule draft 0 (some_of i)) old new → Adds (embedded rule draft (i + 1) (g (f x))) new later
+        → Adds (embedded_resources rule draft 0 (some_of (i + 1))) old later
     next_embedded so_far added = subst (λ rs. Adds rs old later)
-        (ap (λ m. embedded_resources rule draft 0 (some_of i) ++ embedded rule draft m (g (f x))) number ∙ sym (embedded-append rule draft 0 (some_of i) (g (f x))) ∙ ap (embedded_resources rule draft 0) (sym taken))
+        (ap (λ m. embedded_resources rule draft 0 (some_of i) ++ embedded rule draft m (g (f x))) number
+        ∙ sym (embedded-append rule draft 0 (some_of i) (g (f x))) ∙ ap (embedded_resources rule draft 0) (sym taken))
         (adds_both (embedded_resources rule draft 0 (some_of i)) (embedded rule draft (i + 1) (g (f x))) old new later so_far added)
 
-  pub all_documents : length xs ≤ i → Adds (document_resources rule draft 0 (some_of i)) old new → Adds (document_resources rule draft 0 (first ∷ map g (map f xs))) old new
+  pub all_documents : length xs ≤ i → Adds (document_resources rule draft 0 (some_of i)) old new
+      → Adds (document_resources rule draft 0 (first ∷ map g (map f xs))) old new
   all_documents l = subst (λ ds. Adds (document_resources rule draft 0 (first ∷ ds)) old new) (all_taken f g xs i l)
 
-  pub all_embedded : length xs ≤ i → Adds (embedded_resources rule draft 0 (some_of i)) old new → Adds (embedded_resources rule draft 0 (first ∷ map g (map f xs))) old new
+  pub all_embedded : length xs ≤ i → Adds (embedded_resources rule draft 0 (some_of i)) old new
+      → Adds (embedded_resources rule draft 0 (first ∷ map g (map f xs))) old new
   all_embedded l = subst (λ ds. Adds (embedded_resources rule draft 0 (first ∷ ds)) old new) (all_taken f g xs i l)
 
 -- those of the root's document alone

@@ -103,6 +103,9 @@ row_has_if = refl
 row_content : row.LateHasContentSchema
 row_content = refl
 
+row_known : row.KeywordsAreKnown
+row_known = refl
+
 pub rows_hold : row.StandardRowsHold
 rows_hold = record {
   entrance = row_entrance;
@@ -136,4 +139,5 @@ rows_hold = record {
   no_if = row_no_if;
   has_if = row_has_if;
   content = row_content;
+  known = row_known;
 }

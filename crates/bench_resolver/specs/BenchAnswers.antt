@@ -1,4 +1,4 @@
--- What the resolver of some documents answers. (Core 2020-12, 8.2 and 9.1)
+-- What the resolver of some documents answers. (Core 2020-12, sections 8.2 and 9.1)
 use Rattle.std.specs.Prelude.{List, None, Option, Some, [], map, slice_get, ℕ, ◌≡◌, ◌∷◌, string_bytes}
 use Rattle.schema_definitions.specs.Instance.{Text}
 use Rattle.schema_definitions.specs.Drafts.{Draft, Vocabularies, at_path}

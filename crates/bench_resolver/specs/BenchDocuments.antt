@@ -1,11 +1,12 @@
 -- What the resolver holds: documents, each under a URI, the rule by which they are read, their default draft, and the vocabularies of
--- each draft. The first document is the root's. (Core 2020-12, 8.2.1 and 9.1.1)
+-- each draft. The first document is the root's. (Core 2020-12, sections 8.2.1 and 9.1.1)
 use Rattle.std.specs.Prelude.{List, None, Option, Some, map, slice_get, ◌≡◌, ◌++◌, ◌∷◌}
 use Rattle.serde_json.specs.Data.{Data}
 use Rattle.serde_json.specs.View.{view}
 use Rattle.serde_json.specs.declared.value.Value.{Value}
 use Rattle.schema_definitions.specs.Instance.{Text, subject_at}
-use Rattle.schema_definitions.specs.Drafts.{Draft, SchemaPlace, Vocabularies, Vocabulary, draft_2019_09, draft_2020_12, draft_4, draft_6, draft_7, draft_unknown, has_vocabulary}
+use Rattle.schema_definitions.specs.Drafts.{Draft, SchemaPlace, Vocabularies, Vocabulary, draft_2019_09, draft_2020_12, draft_4, draft_6}
+use Rattle.schema_definitions.specs.Drafts.{draft_7, draft_unknown, has_vocabulary}
 use Rattle.schema_definitions.specs.VocabularySets.{custom_of}
 use Rattle.bench_resolver.specs.declared.resolver.vocabularies.DraftVocabularies.{DraftVocabularies}
 use Rattle.bench_subschemas.specs.declared.rules.Rule.{Rule}
@@ -22,7 +23,8 @@ vocabularies_in draft_unknown sets = sets.late
 
 -- each draft has its own vocabularies and the required ones, and no others
 abbrev pub HasDrafts : Vocabularies → DraftVocabularies → Type 0
-HasDrafts required sets = (d : Draft) (v : Vocabulary) → has_vocabulary (vocabularies_in d sets) v ≡ has_vocabulary (draft_vocabularies d ++ required) v
+HasDrafts required sets = (d : Draft) (v : Vocabulary) → has_vocabulary (vocabularies_in d sets) v
+    ≡ has_vocabulary (draft_vocabularies d ++ required) v
 
 -- and those that are not the standard's in the order of the required ones
 abbrev pub HasCustom : Vocabularies → DraftVocabularies → Type 0

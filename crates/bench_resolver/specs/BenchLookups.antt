@@ -1,7 +1,8 @@
--- Where references lead: to a resource under a URI, and in it by a pointer or a name. (Core 2020-12, 8.2.1 to 8.2.3; Core 2019-09,
--- 8.2.4.2; section 3.5 of RFC 3986; section 6 of RFC 6901)
+-- Where references lead: to a resource under a URI, and in it by a pointer or a name. (Core 2020-12, sections 8.2.1 to 8.2.3; Core
+-- 2019-09, section 8.2.4.2; RFC 3986, section 3.5; RFC 6901, section 6)
 use Rattle.std.specs.List.{list_any}
-use Rattle.std.specs.Prelude.{Bool, Err, List, None, Ok, Option, Result, Some, [], codes, false, if◌then◌else◌, option_and_then, option_map, slice_get, true, ℕ, ◌&&◌, ◌++◌, ◌==◌, ◌∷◌}
+use Rattle.std.specs.Prelude.{Bool, Err, List, None, Ok, Option, Result, Some, [], codes, false, if◌then◌else◌, option_and_then}
+use Rattle.std.specs.Prelude.{option_map, slice_get, true, ℕ, ◌&&◌, ◌++◌, ◌==◌, ◌∷◌}
 use Rattle.std.specs.Str.Lossy.{utf8_lossy}
 use Rattle.percent_encoding.specs.Percent.{percent_decode}
 use Rattle.serde_json.specs.Data.{Data}
@@ -52,7 +53,8 @@ module _ (table : Table) where
   -- reached so far, and `gone` from the document's root. The draft is taken on each subschema on the way and on the target, and each
   -- that has an identifier is entered.
   abbrev pub arrived : Text → ℕ → Draft → Data → Place → Data → Place → Point → Place → Result (Found Point) Text
-  arrived reference document draft schema since reached gone s [] = Ok (record { place = record { document = document; path = gone }; state = s; draft = detected draft reached })
+  arrived reference document draft schema since reached gone s [] =
+      Ok (record { place = record { document = document; path = gone }; state = s; draft = detected draft reached })
   arrived reference document draft schema since reached gone s (step ∷ path) = elim (data_of (after_step step (a_value reached))) [
     | None ↦ Err (nothing_there reference)
     | Some below ↦ elim (is_subschema table.rule draft (since ++ step ∷ []) schema) [
@@ -74,7 +76,8 @@ module _ (table : Table) where
   -- a pointer is percent-decoded, and read from the resource's root on
   abbrev pub target_by_pointer : Text → Resource → Point → Text → Option Data → Result (Found Point) Text
   target_by_pointer reference r s pointer None = Err (nothing_there reference)
-  target_by_pointer reference r s pointer (Some schema) = target_by_path reference r s schema (path_of_pointer (utf8_lossy (percent_decode pointer)) schema)
+  target_by_pointer reference r s pointer (Some schema) =
+      target_by_path reference r s schema (path_of_pointer (utf8_lossy (percent_decode pointer)) schema)
 
   -- ---- names
 
@@ -96,14 +99,16 @@ module _ (table : Table) where
 
   abbrev pub target_by_name : Text → ℕ → Resource → Point → Bool → Text → Option Name → Result (Found Point) Text
   target_by_name reference n r s dynamic name None = Err (no_name reference)
-  target_by_name reference n r s dynamic name (Some x) = Ok (if dynamic && x.dynamic then outermost s name (target_named n r s x) else target_named n r s x)
+  target_by_name reference n r s dynamic name (Some x) =
+      Ok (if dynamic && x.dynamic then outermost s name (target_named n r s x) else target_named n r s x)
 
   -- ---- references
 
   -- no fragment, a pointer, or a name
   abbrev pub target_by_fragment : List Document → Text → ℕ → Resource → Point → Bool → Text → Result (Found Point) Text
-  target_by_fragment documents reference n r s dynamic [] = Ok (record { place = place_of_resource r; state = enter n r.base s; draft = r.draft })
-  target_by_fragment documents reference n r s dynamic (x ∷ xs) = if x == 47 then target_by_pointer reference r (enter n r.base s) (x ∷ xs) (value_in documents (place_of_resource r))
+  target_by_fragment documents reference n r s dynamic [] = Ok (target_root n r s)
+  target_by_fragment documents reference n r s dynamic (x ∷ xs) = if x == 47 then target_by_pointer reference r (enter n r.base s) (x ∷ xs)
+      (value_in documents (place_of_resource r))
       else target_by_name reference n r s dynamic (x ∷ xs) (option_and_then (slice_get r.names) (name_number (x ∷ xs) r.names))
 
   abbrev pub target_in : List Document → Text → Text → Point → Bool → Text → ℕ → Option Resource → Result (Found Point) Text
@@ -112,11 +117,13 @@ module _ (table : Table) where
 
   abbrev pub target_under : List Document → Text → Text → Point → Bool → Text → Option ℕ → Result (Found Point) Text
   target_under documents reference uri s dynamic fragment None = Err (not_at_hand table.rule reference uri)
-  target_under documents reference uri s dynamic fragment (Some n) = target_in documents reference uri s dynamic fragment n (slice_get table.resources n)
+  target_under documents reference uri s dynamic fragment (Some n) =
+      target_in documents reference uri s dynamic fragment n (slice_get table.resources n)
 
   abbrev pub target_of_uri : List Document → Text → Point → Bool → Result Text Text → Result (Found Point) Text
   target_of_uri documents reference s dynamic (Err text) = Err text
-  target_of_uri documents reference s dynamic (Ok uri) = target_under documents reference uri s dynamic (fragment_of uri) (number_of (without_fragment uri) table.resources)
+  target_of_uri documents reference s dynamic (Ok uri) = target_under documents reference uri s dynamic (fragment_of uri)
+      (number_of (without_fragment uri) table.resources)
 
   -- where a reference leads
   abbrev pub looked_up : List Document → Point → Text → Bool → Result (Found Point) Text
@@ -133,12 +140,13 @@ module _ (table : Table) where
   first_recursive s (n ∷ ns) = elim (recursive_in s n) [ None ↦ first_recursive s ns | Some f ↦ Some f ]
 
   abbrev pub recursive_from : ℕ → Resource → Point → Found Point
-  recursive_from n r s = if r.recursive then elim (first_recursive s s.entered) [ None ↦ target_root n r s | Some f ↦ f ] else target_root n r s
+  recursive_from n r s = if r.recursive then elim (first_recursive s s.entered) [ None ↦ target_root n r s | Some f ↦ f ]
+      else target_root n r s
 
   abbrev pub recursive_under : Point → Option ℕ → Result (Found Point) Text
   recursive_under s None = Err (no_base s.base)
   recursive_under s (Some n) = elim (slice_get table.resources n) [ None ↦ Err (no_base s.base) | Some r ↦ Ok (recursive_from n r s) ]
 
-  -- where a `$recursiveRef` leads: to the root of the resource, or to the first root entered that is recursive as it is
+  -- where a `$recursiveRef` leads: to the root of the resource, or, where that is recursive, to the first root entered that is
   abbrev pub looked_up_recursive : Point → Result (Found Point) Text
   looked_up_recursive s = recursive_under s (number_of s.base table.resources)

@@ -1,6 +1,7 @@
--- Pointers into a value: the path that one names. (sections 3, 4 and 6 of RFC 6901)
+-- Pointers into a value: the path that one names. (RFC 6901, sections 3, 4 and 6)
 use Rattle.std.specs.List.{slice_split}
-use Rattle.std.specs.Prelude.{Bool, List, None, Option, Some, [], false, if◌then◌else◌, nat_lt, not, option_and_then, option_map, ◌&&◌, ◌==◌, ◌^◌, ◌∷◌, ℕ}
+use Rattle.std.specs.Prelude.{Bool, List, None, Option, Some, [], false, if◌then◌else◌, nat_lt, not, option_and_then, option_map, ◌&&◌}
+use Rattle.std.specs.Prelude.{◌==◌, ◌^◌, ◌∷◌, ℕ}
 use Rattle.std.specs.Char.{is_ascii_digit}
 use Rattle.std.specs.Str.{all_ascii_digits}
 use Rattle.std.specs.Str.Parse.{digits_value}
@@ -32,7 +33,9 @@ step_named t (object ms) = Some (to_member (unescape t))
 -- the path that segments name from a value, where each step leads to something
 abbrev pub path_named : List Text → Data → Option Place
 path_named [] d = Some []
-path_named (t ∷ ts) d = option_and_then (λ step. option_and_then (λ below. option_map (λ path. step ∷ path) (path_named ts below)) (data_of (after_step step (a_value d)))) (step_named t d)
+path_named (t ∷ ts) d =
+    option_and_then (λ step. option_and_then (λ below. option_map (λ path. step ∷ path) (path_named ts below))
+    (data_of (after_step step (a_value d)))) (step_named t d)
 
 -- the path that a pointer names in a document
 abbrev pub path_of_pointer : Text → Data → Option Place

@@ -1,4 +1,4 @@
--- A pointer leads back to the place that it shows, in every document that has something there. (sections 3 to 5 of RFC 6901)
+-- A pointer leads back to the place that it shows, in every document that has something there. (RFC 6901, sections 3 to 5)
 use Rattle.std.specs.Prelude.{◌≡◌, ◌<◌, ◌^◌, [], ◌∷◌, Some}
 use Rattle.serde_json.specs.Data.{Data}
 use Rattle.schema_definitions.specs.Instance.{Place, Step, subject_at, to_item, to_member, to_name}
@@ -17,4 +17,5 @@ HasIndexes [] = Unit {0}
 HasIndexes (step ∷ path) = FitsWord step × HasIndexes path
 
 abbrev pub PointersLead : Type 0
-PointersLead = (document : Data) (path : Place) (value : Data) → HasIndexes path → data_of (subject_at document path) ≡ Some value → path_of_pointer (pointer_to path) document ≡ Some path
+PointersLead = (document : Data) (path : Place) (value : Data) → HasIndexes path → data_of (subject_at document path) ≡ Some value
+    → path_of_pointer (pointer_to path) document ≡ Some path

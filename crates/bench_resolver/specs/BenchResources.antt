@@ -1,7 +1,8 @@
 -- The resources of documents, and the names in them. A resource is a document, or a subschema with an identifier of its own, which
 -- its subschemas are read under up to those with another. A name is an `$anchor` or a `$dynamicAnchor`, and by the standard's rule in
--- drafts 4 to 7 the fragment of an identifier. (Core 2020-12, 4.3.5, 8.2.1 and 8.2.2; draft-07 Core, 8.2)
-use Rattle.std.specs.Prelude.{Bool, List, None, Option, Some, [], codes, false, flat_map, if◌then◌else◌, is_some, map, not, option_and_then, suc, true, unwrap_or, zero, ℕ, ◌++◌, ◌+◌, ◌||◌, ◌∷◌}
+-- drafts 4 to 7 the fragment of an identifier. (Core 2020-12, sections 4.3.5, 8.2.1 and 8.2.2; draft-07 Core, section 8.2)
+use Rattle.std.specs.Prelude.{Bool, List, None, Option, Some, [], codes, false, flat_map, if◌then◌else◌, is_some, map, not}
+use Rattle.std.specs.Prelude.{option_and_then, suc, true, unwrap_or, zero, ℕ, ◌++◌, ◌+◌, ◌||◌, ◌∷◌}
 use Rattle.serde_json.specs.Data.{Data, depth}
 use Rattle.serde_json.specs.Find.{as_bool, get}
 use Rattle.schema_definitions.specs.Instance.{Place, Text, subject_at}
@@ -32,15 +33,19 @@ module _ (rule : Rule) where
   -- inside the schema.
   abbrev pub visited_if : (Place → Text → Draft → Data → List Visited) → Place → Text → Draft → Data → Bool → List Visited
   visited_if deeper path base draft schema false = []
-  visited_if deeper path base draft schema true = record { path = path; base = base; draft = draft; schema = schema } ∷ deeper path (base_inside rule base draft schema) draft schema
+  visited_if deeper path base draft schema true = record { path = path; base = base; draft = draft; schema = schema }
+      ∷ deeper path (base_inside rule base draft schema) draft schema
 
   abbrev pub visited_at : (Place → Text → Draft → Data → List Visited) → Bool → Place → Text → Draft → Option Data → List Visited
   visited_at deeper everywhere path base draft None = []
-  visited_at deeper everywhere path base draft (Some below) = visited_if deeper path base (detected draft below) below (goes_into everywhere (detected draft below) below)
+  visited_at deeper everywhere path base draft (Some below) =
+      visited_if deeper path base (detected draft below) below (goes_into everywhere (detected draft below) below)
 
   abbrev pub visited_below : Bool → ℕ → Place → Text → Draft → Data → List Visited
   visited_below everywhere zero path base draft schema = []
-  visited_below everywhere (suc n) path base draft schema = flat_map (λ p. visited_at (visited_below everywhere n) everywhere (path ++ p) base draft (data_of (subject_at schema p))) (subschemas rule draft schema)
+  visited_below everywhere (suc n) path base draft schema =
+      flat_map (λ p. visited_at (visited_below everywhere n) everywhere (path ++ p) base draft (data_of (subject_at schema p)))
+      (subschemas rule draft schema)
 
   -- all of them
   abbrev pub walked : Bool → Place → Text → Draft → Data → List Visited
@@ -48,7 +53,7 @@ module _ (rule : Rule) where
 
 -- ---- names
 
--- a name of a schema: where it stands, and whether it is a `$dynamicAnchor`
+-- a name of a schema: where it stands, the draft there, and whether it is a `$dynamicAnchor`
 pub record Name : Type 0 where
   pub name : Text
   pub path : Place
@@ -83,7 +88,8 @@ dynamic_number t names = number_in t (map dynamic_key names)
 
 -- ---- resources
 
--- a resource: the URI that it is found under, the base inside it, where it begins, the draft there, whether its root has `$recursiveAnchor` true, and its names
+-- a resource: the URI that it is found under, the base inside it, where it begins, the draft there, whether its root has
+-- `$recursiveAnchor` true, and its names
 pub record Resource : Type 0 where
   pub uri : Text
   pub base : Text
@@ -102,7 +108,16 @@ is_recursive schema = unwrap_or (option_and_then as_bool (get (codes "$recursive
 
 -- the resource that begins with a schema
 abbrev pub resource_of : Rule → Text → Text → ℕ → Visited → Resource
-resource_of rule uri base document v = record { uri = uri; base = base; document = document; path = v.path; draft = v.draft; recursive = is_recursive v.schema; names = names_in rule v }
+resource_of rule uri base document v =
+    record {
+      uri = uri;
+      base = base;
+      document = document;
+      path = v.path;
+      draft = v.draft;
+      recursive = is_recursive v.schema;
+      names = names_in rule v;
+    }
 
 -- a document's root, read in a draft
 abbrev pub root_visited : Draft → Document → Visited
@@ -133,7 +148,8 @@ identified_root Narrow number root = []
 identified_root Standard number root = identified Standard number root
 
 abbrev pub embedded : Rule → Draft → ℕ → Document → List Resource
-embedded rule draft number d = identified_root rule number (root_visited draft d) ++ flat_map (identified rule number) (walked rule true [] (base_in rule draft d) (detected draft d.value) d.value)
+embedded rule draft number d = identified_root rule number (root_visited draft d)
+    ++ flat_map (identified rule number) (walked rule true [] (base_in rule draft d) (detected draft d.value) d.value)
 
 -- the documents, and then what is embedded in each; documents are numbered from here on
 abbrev pub document_resources : Rule → Draft → ℕ → List Document → List Resource
@@ -163,7 +179,8 @@ with_resources listed (x ∷ xs) = with_resources (with_resource listed x) xs
 
 -- the resources of documents, by their numbers
 abbrev pub resources_of : Rule → Draft → List Document → List Resource
-resources_of rule draft documents = with_resources (with_resources [] (document_resources rule draft 0 documents)) (embedded_resources rule draft 0 documents)
+resources_of rule draft documents = with_resources (with_resources [] (document_resources rule draft 0 documents))
+    (embedded_resources rule draft 0 documents)
 
 -- the resources, with the rule by which they were found
 pub record Table : Type 0 where

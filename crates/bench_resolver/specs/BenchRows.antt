@@ -1,4 +1,5 @@
--- Worked rows of the narrow rule: where references lead in small documents, by computation. (Core 2020-12, 8.2; section 6 of RFC 6901)
+-- Worked rows of the narrow rule: where references lead in small documents, by computation. (Core 2020-12, section 8.2;
+-- RFC 6901, section 6)
 use Rattle.std.specs.Prelude.{Bool, Err, List, Ok, Result, [], codes, false, true, ℕ, ◌≡◌, ◌++◌, ◌∷◌}
 use Rattle.serde_json.specs.Data.{Data, array, boolean, item, member, no_items, no_members, object, string}
 use Rattle.schema_definitions.specs.Instance.{Place, Text, to_member}
@@ -49,7 +50,8 @@ abbrev pub leads_alone : Data → Text → Result (Found Point) Text
 leads_alone d reference = leads (alone d) (in_these uri_of_root (0 ∷ [])) reference false
 
 abbrev pub found_in : Draft → ℕ → Place → Text → List ℕ → Result (Found Point) Text
-found_in draft document path uri ns = Ok (record { place = record { document = document; path = path }; state = in_these uri ns; draft = draft })
+found_in draft document path uri ns =
+    Ok (record { place = record { document = document; path = path }; state = in_these uri ns; draft = draft })
 
 abbrev pub found_at : Place → Result (Found Point) Text
 found_at path = found_in draft_2020_12 0 path uri_of_root (0 ∷ [])
@@ -79,18 +81,21 @@ FirstNameLeads = leads_alone twice_named (codes "#s") ≡ found_at (below_defs (
 
 -- {"$defs": {"e": {"$id": "http://x/e", "$defs": {"t": {"$anchor": "s"}}}}}
 abbrev pub embedding : Data
-embedding = defs (one (codes "e") (two (codes "$defs") (one (codes "t") (one (codes "$anchor") (string (codes "s")))) (codes "$id") (string (codes "http://x/e"))))
+embedding = defs (one (codes "e") (two (codes "$defs") (one (codes "t") (one (codes "$anchor") (string (codes "s")))) (codes "$id")
+    (string (codes "http://x/e"))))
 
 abbrev pub embedded_path : Place
 embedded_path = below_defs (codes "e") ++ below_defs (codes "t")
 
 -- a pointer that passes through a schema with an identifier enters its resource
 abbrev pub PointerEnters : Type 0
-PointerEnters = leads_alone embedding (codes "#/$defs/e/$defs/t") ≡ found_in draft_2020_12 0 embedded_path (codes "http://x/e") (0 ∷ 1 ∷ [])
+PointerEnters = leads_alone embedding (codes "#/$defs/e/$defs/t")
+    ≡ found_in draft_2020_12 0 embedded_path (codes "http://x/e") (0 ∷ 1 ∷ [])
 
 -- which begins at that schema
 abbrev pub EnteredBegins : Type 0
-EnteredBegins = root_of (table_in (alone embedding)) (in_these (codes "http://x/e") (0 ∷ 1 ∷ [])) ≡ record { document = 0; path = below_defs (codes "e") }
+EnteredBegins = root_of (table_in (alone embedding)) (in_these (codes "http://x/e") (0 ∷ 1 ∷ []))
+    ≡ record { document = 0; path = below_defs (codes "e") }
 
 -- and is found under its URI, with pointers and names of its own
 abbrev pub UriLeads : Type 0
@@ -113,7 +118,8 @@ RelativeIsRefused = leads_alone relative (codes "#/$defs/e") ≡ Err (no_identif
 
 -- {"$defs": {"e": {"$id": "http://x/e"}, "f": {"$id": "http://x/e"}}}
 abbrev pub twice_identified : Data
-twice_identified = defs (two (codes "e") (one (codes "$id") (string (codes "http://x/e"))) (codes "f") (one (codes "$id") (string (codes "http://x/e"))))
+twice_identified = defs
+    (two (codes "e") (one (codes "$id") (string (codes "http://x/e"))) (codes "f") (one (codes "$id") (string (codes "http://x/e"))))
 
 -- and neither is one whose URI is another's
 abbrev pub SecondIsRefused : Type 0
@@ -121,20 +127,25 @@ SecondIsRefused = leads_alone twice_identified (codes "#/$defs/f") ≡ Err (no_i
 
 -- {"$defs": {"a": {"$schema": "http://json-schema.org/draft-07/schema#", "$defs": {"b": {"$anchor": "s"}}}}}
 abbrev pub older : Data
-older = defs (one (codes "a") (two (codes "$defs") (one (codes "b") (one (codes "$anchor") (string (codes "s")))) (codes "$schema") (string (codes "http://json-schema.org/draft-07/schema#"))))
+older = defs (one (codes "a") (two (codes "$defs") (one (codes "b") (one (codes "$anchor") (string (codes "s")))) (codes "$schema")
+    (string (codes "http://json-schema.org/draft-07/schema#"))))
 
 -- a target's draft is that of the schemas on the way
 abbrev pub DraftOnTheWay : Type 0
-DraftOnTheWay = leads_alone older (codes "#/$defs/a/$defs/b") ≡ found_in draft_7 0 (below_defs (codes "a") ++ below_defs (codes "b")) uri_of_root (0 ∷ [])
+DraftOnTheWay = leads_alone older (codes "#/$defs/a/$defs/b")
+    ≡ found_in draft_7 0 (below_defs (codes "a") ++ below_defs (codes "b")) uri_of_root (0 ∷ [])
 
 abbrev pub DraftOfAName : Type 0
 DraftOfAName = leads_alone older (codes "#s") ≡ found_in draft_7 0 (below_defs (codes "a") ++ below_defs (codes "b")) uri_of_root (0 ∷ [])
 
 -- ---- dynamic references
 
--- {"$id": "http://x/root", "$defs": {"list": {"$id": "http://x/list", "$defs": {"d": {"$dynamicAnchor": "n"}}}, "s": {"$dynamicAnchor": "n"}}}
+-- {"$id": "http://x/root",
+-- "$defs": {"list": {"$id": "http://x/list", "$defs": {"d": {"$dynamicAnchor": "n"}}}, "s": {"$dynamicAnchor": "n"}}}
 abbrev pub lists : Data
-lists = two (codes "$defs") (two (codes "list") (two (codes "$defs") (one (codes "d") (one (codes "$dynamicAnchor") (string (codes "n")))) (codes "$id") (string (codes "http://x/list")))
+lists = two (codes "$defs")
+    (two (codes "list") (two (codes "$defs") (one (codes "d") (one (codes "$dynamicAnchor") (string (codes "n")))) (codes "$id")
+    (string (codes "http://x/list")))
     (codes "s") (one (codes "$dynamicAnchor") (string (codes "n")))) (codes "$id") (string (codes "http://x/root"))
 
 abbrev pub in_list : Point
@@ -142,7 +153,8 @@ in_list = in_these (codes "http://x/list") (0 ∷ 1 ∷ [])
 
 -- a dynamic reference leads into the first resource entered that has the name
 abbrev pub DynamicLeadsOut : Type 0
-DynamicLeadsOut = leads (under (codes "http://x/root") lists) in_list (codes "#n") true ≡ found_in draft_2020_12 0 (below_defs (codes "s")) (codes "http://x/root") (0 ∷ 1 ∷ [])
+DynamicLeadsOut = leads (under (codes "http://x/root") lists) in_list (codes "#n") true
+    ≡ found_in draft_2020_12 0 (below_defs (codes "s")) (codes "http://x/root") (0 ∷ 1 ∷ [])
 
 -- a plain reference stays inside
 abbrev pub PlainStaysInside : Type 0
@@ -159,8 +171,11 @@ DynamicStaysAlone = leads (under (codes "http://x/root") lists) (in_these (codes
 -- {"$defs": {"n": {"$id": "http://x/n", "$recursiveAnchor": true}}, "$id": "http://x/r", "$recursiveAnchor": true,
 -- "$schema": "https://json-schema.org/draft/2019-09/schema"}
 abbrev pub recursing : Bool → Data
-recursing outer = object (member (codes "$defs") (one (codes "n") (two (codes "$id") (string (codes "http://x/n")) (codes "$recursiveAnchor") (boolean true)))
-    (member (codes "$id") (string (codes "http://x/r")) (member (codes "$recursiveAnchor") (boolean outer) (member (codes "$schema") (string (codes "https://json-schema.org/draft/2019-09/schema")) no_members))))
+recursing outer = object
+    (member (codes "$defs") (one (codes "n") (two (codes "$id") (string (codes "http://x/n")) (codes "$recursiveAnchor") (boolean true)))
+    (member (codes "$id") (string (codes "http://x/r"))
+    (member (codes "$recursiveAnchor") (boolean outer)
+    (member (codes "$schema") (string (codes "https://json-schema.org/draft/2019-09/schema")) no_members))))
 
 abbrev pub recurs : Bool → Result (Found Point) Text
 recurs outer = looked_up_recursive (table_in (under (codes "http://x/r") (recursing outer))) (in_these (codes "http://x/n") (0 ∷ 1 ∷ []))
@@ -176,13 +191,15 @@ RecursiveStaysInside = recurs false ≡ found_in draft_2019_09 0 (below_defs (co
 
 -- the second document stands under a URI that has a fragment, which is left aside
 abbrev pub both : List Document
-both = record { uri = codes "http://x/a"; value = one (codes "$ref") (string (codes "b#/$defs/c")) } ∷ record { uri = codes "http://x/b#z"; value = named } ∷ []
+both = record { uri = codes "http://x/a"; value = one (codes "$ref") (string (codes "b#/$defs/c")) }
+    ∷ record { uri = codes "http://x/b#z"; value = named } ∷ []
 
 abbrev pub from_first : Text → Result (Found Point) Text
 from_first reference = leads both (in_these (codes "http://x/a") (0 ∷ [])) reference false
 
 abbrev pub OtherDocumentIsFound : Type 0
-OtherDocumentIsFound = from_first (codes "http://x/b#s") ≡ found_in draft_2020_12 1 (below_defs (codes "a")) (codes "http://x/b") (0 ∷ 1 ∷ [])
+OtherDocumentIsFound = from_first (codes "http://x/b#s")
+    ≡ found_in draft_2020_12 1 (below_defs (codes "a")) (codes "http://x/b") (0 ∷ 1 ∷ [])
 
 abbrev pub OtherRootIsFound : Type 0
 OtherRootIsFound = from_first (codes "http://x/b") ≡ found_in draft_2020_12 1 [] (codes "http://x/b") (0 ∷ 1 ∷ [])
@@ -213,7 +230,8 @@ LateColonIsRefused = resolve_uri Narrow (codes "http://x/b") (codes "a/b:c") ≡
 
 -- {"$defs": {"01": {"$anchor": ""}, "a~2b": true, "l": [true]}}
 abbrev pub odd : Data
-odd = defs (object (member (codes "01") (one (codes "$anchor") (string [])) (member (codes "a~2b") (boolean true) (member (codes "l") (array (item (boolean true) no_items)) no_members))))
+odd = defs (object (member (codes "01") (one (codes "$anchor") (string []))
+    (member (codes "a~2b") (boolean true) (member (codes "l") (array (item (boolean true) no_items)) no_members))))
 
 -- a `~` before neither 0 nor 1 stands for itself
 abbrev pub OddEscapeStands : Type 0

@@ -1,4 +1,5 @@
--- How much of a pointer lies outside the resource of its target. (Core 2020-12, 8.2; RFC 6901)
+-- How much of a pointer lies outside the resource of its target. (Core 2020-12, section 8.2; RFC 6901,
+-- section 3)
 use Rattle.std.specs.Prelude.{Bool, false, true, None, Ok, Option, Some, [], if◌then◌else◌, is_some, length, slice_get, ℕ, ◌++◌, ◌≡◌, ◌∷◌}
 use Rattle.std.specs.Str.Lossy.{utf8_lossy}
 use Rattle.percent_encoding.specs.Percent.{percent_decode}
@@ -27,7 +28,8 @@ innermost_along rule draft schema since reached gone last (step ∷ path) = elim
   | None ↦ last
   | Some below ↦ elim (is_subschema rule draft (since ++ step ∷ []) schema) [
     | false ↦ innermost_along rule draft schema (since ++ step ∷ []) below (gone ++ step ∷ []) last path
-    | true ↦ innermost_along rule (detected draft below) below [] below (gone ++ step ∷ []) (if is_some (identifier (detected draft below) below) then gone ++ step ∷ [] else last) path
+    | true ↦ innermost_along rule (detected draft below) below
+        [] below (gone ++ step ∷ []) (if is_some (identifier (detected draft below) below) then gone ++ step ∷ [] else last) path
   ]
 ]
 
@@ -37,7 +39,8 @@ innermost rule draft schema None = []
 innermost rule draft schema (Some path) = innermost_along rule draft schema [] schema [] [] path
 
 abbrev pub innermost_in : BenchDocument → Text → Resource → Place
-innermost_in r pointer x = elim (value_in (documents_of r) (place_of_resource x)) [ None ↦ [] | Some schema ↦ innermost r.rule x.draft schema (path_of_pointer pointer schema) ]
+innermost_in r pointer x = elim (value_in (documents_of r) (place_of_resource x))
+    [ None ↦ [] | Some schema ↦ innermost r.rule x.draft schema (path_of_pointer pointer schema) ]
 
 -- of a pointer into the resource that a URI names
 abbrev pub innermost_under : BenchDocument → Text → Text → Place
@@ -46,7 +49,8 @@ innermost_under r uri pointer = elim (resource_under (table_of r) (without_fragm
 -- The base inside a resource that is found leads back to where the resource begins: by the narrow rule always, by the standard's where
 -- no two documents claim one URI.
 abbrev pub BasesStand : Table → Type 0
-BasesStand table = (uri : Text) (n : ℕ) (x : Resource) (s : Point) → number_of uri table.resources ≡ Some n → slice_get table.resources n ≡ Some x
+BasesStand table = (uri : Text) (n : ℕ) (x : Resource) (s : Point)
+    → number_of uri table.resources ≡ Some n → slice_get table.resources n ≡ Some x
     → root_of table (enter n x.base s) ≡ place_of_resource x
 
 abbrev pub NarrowBasesStand : Type 0

@@ -1,6 +1,8 @@
--- Where a run of the resolver is: in the resource under a base, after the resources that it entered. (Core 2020-12, 7.1 and 8.2.1)
+-- Where a run of the resolver is: in the resource under a base, after the resources that it entered. (Core 2020-12, sections 7.1 and
+-- 8.2.1)
 use Rattle.std.specs.List.{list_any}
-use Rattle.std.specs.Prelude.{Bool, Err, List, None, Ok, Option, Result, Some, [], bytes_eq, codes, if◌then◌else◌, nat_eq, option_and_then, slice_get, ℕ, ◌&&◌, ◌++◌, ◌∷◌}
+use Rattle.std.specs.Prelude.{Bool, Err, List, None, Ok, Option, Result, Some, [], bytes_eq, codes, if◌then◌else◌, nat_eq, option_and_then}
+use Rattle.std.specs.Prelude.{slice_get, ℕ, ◌&&◌, ◌++◌, ◌∷◌}
 use Rattle.serde_json.specs.Data.{Data}
 use Rattle.schema_definitions.specs.Instance.{Place, Text}
 use Rattle.schema_definitions.specs.Drafts.{Draft, SchemaPlace, same_schema_place}
@@ -37,7 +39,8 @@ module _ (table : Table) where
 
   -- the number of a resource that begins at a place
   abbrev pub number_if_at : SchemaPlace → ℕ → Option ℕ
-  number_if_at p n = elim (slice_get table.resources n) [ None ↦ None | Some x ↦ if same_schema_place (place_of_resource x) p then Some n else None ]
+  number_if_at p n = elim (slice_get table.resources n)
+      [ None ↦ None | Some x ↦ if same_schema_place (place_of_resource x) p then Some n else None ]
 
   abbrev pub number_at : SchemaPlace → Text → Option ℕ
   number_at p uri = option_and_then (number_if_at p) (number_of uri table.resources)
@@ -54,11 +57,13 @@ module _ (table : Table) where
 
   -- the state inside a schema below a document's root
   abbrev pub entered_below : Point → Draft → SchemaPlace → Data → Result Point Text
-  entered_below s draft p schema = elim (identifier draft schema) [ None ↦ Ok s | Some id ↦ entered_by p id s (own_uri table.rule s.base id) ]
+  entered_below s draft p schema = elim (identifier draft schema)
+      [ None ↦ Ok s | Some id ↦ entered_by p id s (own_uri table.rule s.base id) ]
 
   -- at a document's root
   abbrev pub entered_root : List Document → Point → Draft → SchemaPlace → Data → Result Point Text
-  entered_root documents s draft p schema = elim (identifier draft schema) [ None ↦ Ok s | Some id ↦ entered_by p id s (uri_of_document table.rule draft schema (slice_get documents p.document)) ]
+  entered_root documents s draft p schema = elim (identifier draft schema)
+      [ None ↦ Ok s | Some id ↦ entered_by p id s (uri_of_document table.rule draft schema (slice_get documents p.document)) ]
 
   abbrev pub entered_at : List Document → Point → Draft → SchemaPlace → Place → Data → Result Point Text
   entered_at documents s draft p [] schema = entered_root documents s draft p schema

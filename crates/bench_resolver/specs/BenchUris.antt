@@ -1,7 +1,8 @@
 -- References and URIs: what a reference stands for from a base, and the URI of an identifier. By the standard's rule both are resolved
 -- against the base. By the narrow one no reference is merged with the path of a base: one that is neither empty, nor a fragment, nor a
--- URI with its scheme is refused. (sections 3, 4.1, 4.3, 4.4 and 5.2 of RFC 3986; Core 2020-12, 8.2; draft-07 Core, 8.2)
-use Rattle.std.specs.Prelude.{Bool, Err, None, Ok, Option, Result, Some, [], codes, false, if◌then◌else◌, option_and_then, true, unwrap_or, ◌++◌, ◌==◌, ◌||◌, ◌∷◌}
+-- URI with its scheme is refused. (RFC 3986, sections 3, 4.1, 4.3, 4.4 and 5.2; Core 2020-12, section 8.2; draft-07 Core, section 8.2)
+use Rattle.std.specs.Prelude.{Bool, Err, None, Ok, Option, Result, Some, [], codes, false, if◌then◌else◌, option_and_then, true, unwrap_or}
+use Rattle.std.specs.Prelude.{◌++◌, ◌==◌, ◌||◌, ◌∷◌}
 use Rattle.serde_json.specs.Data.{Data}
 use Rattle.schema_definitions.specs.Instance.{Text}
 use Rattle.schema_definitions.specs.Drafts.{Draft}
@@ -23,7 +24,8 @@ not_resolved reference = codes "this resolver does not resolve the reference " +
 -- by it, and a URI with its scheme for itself. Any other is refused.
 abbrev pub resolve_narrowly : Text → Text → Result Text Text
 resolve_narrowly base [] = Ok (without_fragment base)
-resolve_narrowly base (x ∷ xs) = if x == 35 then Ok (without_fragment base ++ x ∷ xs) else (if is_absolute (x ∷ xs) then Ok (x ∷ xs) else Err (not_resolved (x ∷ xs)))
+resolve_narrowly base (x ∷ xs) = if x == 35 then Ok (without_fragment base ++ x ∷ xs)
+    else (if is_absolute (x ∷ xs) then Ok (x ∷ xs) else Err (not_resolved (x ∷ xs)))
 
 -- what a reference stands for
 abbrev pub resolve_uri : Rule → Text → Text → Result Text Text

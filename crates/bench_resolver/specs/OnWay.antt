@@ -1,16 +1,18 @@
 -- A subschema lies one or two steps below its schema: so these steps say whether a path leads to one, and no list of all
--- subschemas is needed. (Core 2020-12, 8.2 and 9.2; RFC 6901)
+-- subschemas is needed. (Core 2020-12, sections 8.2 and 9.2; RFC 6901, section 4)
 use Rattle.std.specs.Prelude.{Bool, List, None, Option, Some, false, flat_map, ℕ, ◌&&◌, ◌++◌, ◌+◌, ◌||◌}
 use Rattle.serde_json.specs.Data.{Data, Items, Members, array, item, member, no_items, no_members, object}
 use Rattle.serde_json.specs.Find.{get}
 use Rattle.schema_definitions.specs.Drafts.{Draft}
 use Rattle.schema_definitions.specs.Instance.{Place, Step, same_step, to_item, to_member}
 use Rattle.bench_subschemas.specs.declared.rules.Rule.{Rule}
-use Rattle.bench_subschemas.specs.BenchResolving.{below_list, below_object, below_value, is_schema, names_of_lists, names_of_objects, names_of_values}
+use Rattle.bench_subschemas.specs.BenchResolving.{below_list, below_object, below_value, is_schema, names_of_lists, names_of_objects}
+use Rattle.bench_subschemas.specs.BenchResolving.{names_of_values}
 
 -- the subschemas that lie two steps below a schema, and those that lie one step below
 abbrev pub pairs_below : Rule → Draft → Data → List Place
-pairs_below rule draft d = flat_map (λ k. below_object k (get k d)) (names_of_objects rule draft) ++ flat_map (λ k. below_list k (get k d)) (names_of_lists rule draft)
+pairs_below rule draft d = flat_map (λ k. below_object k (get k d)) (names_of_objects rule draft)
+    ++ flat_map (λ k. below_list k (get k d)) (names_of_lists rule draft)
 
 abbrev pub singles_below : Rule → Draft → Data → List Place
 singles_below rule draft d = flat_map (λ k. below_value k (get k d)) (names_of_values rule draft)

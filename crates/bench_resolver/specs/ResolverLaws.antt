@@ -1,5 +1,6 @@
 -- The resolver keeps its laws.
-use Rattle.std.proofs.Common.{ℕ, ◌≡◌, ◌&&◌, ◌∙◌, ◌++◌, ◌∷◌, [], List, Bool, true, false, Option, Some, None, option_and_then, refl, ap, subst}
+use Rattle.std.proofs.Common.{ℕ, ◌≡◌, ◌&&◌, ◌∙◌, ◌++◌, ◌∷◌, [], List, Bool, true, false, Option, Some, None, option_and_then, refl, ap}
+use Rattle.std.proofs.Common.{subst}
 use Rattle.std.specs.Str.{bytes_eq}
 use Rattle.std.proofs.lemmas.Slice.Eq.{bytes_eq-Decides}
 use Rattle.std.specs.Prelude.{◌↔◌, slice_get, string_bytes}
@@ -31,7 +32,8 @@ inside_from : (p q : Place) (x : Subject) (inner : Data) → data_of (subject_fr
     → (outer : Data) × (data_of (subject_from p x) ≡ Some outer) × (subject_from q (a_value outer) ≡ Some (a_value inner))
 inside_from [] q x inner h = inside_here q x inner h
 inside_from (s ∷ p) q x inner h = elim (after_step s x) as (λ o. data_of (option_and_then (subject_from (p ++ q)) o) ≡ Some inner
-    → (outer : Data) × (data_of (option_and_then (subject_from p) o) ≡ Some outer) × (subject_from q (a_value outer) ≡ Some (a_value inner))) [
+    → (outer : Data) × (data_of (option_and_then (subject_from p) o) ≡ Some outer)
+    × (subject_from q (a_value outer) ≡ Some (a_value inner))) [
       | None ↦ λ e. absurd (let no_data : ⊥ = cc in no_data)
       | Some y ↦ λ e. inside_from p q y inner e
     ] h
@@ -53,7 +55,8 @@ equal_points a b e =
     let h = both (bytes_eq a.base b.base) (bytes_eq a.entered b.entered) e in
     let bases : a.base ≡ b.base = (bytes_eq-Decides a.base b.base).0 h.0 in
     let lists : a.entered ≡ b.entered = (bytes_eq-Decides a.entered b.entered).0 h.1 in
-    ap (λ (t : List ℕ). let p : Point = record { base = t; entered = a.entered } in p) bases ∙ ap (λ (ns : List ℕ). let p : Point = record { base = b.base; entered = ns } in p) lists
+    ap (λ (t : List ℕ). let p : Point = record { base = t; entered = a.entered } in p) bases
+    ∙ ap (λ (ns : List ℕ). let p : Point = record { base = b.base; entered = ns } in p) lists
 
 same_again : (a : Point) → same_point a a ≡ true
 same_again a = rw ((bytes_eq-Decides a.base a.base).1 refl, (bytes_eq-Decides a.entered a.entered).1 refl) refl
@@ -62,6 +65,8 @@ pub same_points : (a b : Point) → (same_point a b ≡ true) ↔ (a ≡ b)
 same_points a b = (equal_points a b, λ e. subst (λ x. same_point a x ≡ true) e (same_again a))
 
 -- a clone of a state is the same state
-pub cloned_points : (s t : BenchState) → string_bytes t.base ≡ string_bytes s.base → AllZip (λ x y. y ≡ x) s.entered.items t.entered.items → point_of t ≡ point_of s
+pub cloned_points : (s t : BenchState) → string_bytes t.base ≡ string_bytes s.base → AllZip (λ x y. y ≡ x) s.entered.items t.entered.items
+    → point_of t ≡ point_of s
 cloned_points s t bases lists = ap (λ (u : List ℕ). let p : Point = record { base = u; entered = t.entered.items } in p) bases
-    ∙ ap (λ (ns : List ℕ). let p : Point = record { base = string_bytes s.base; entered = ns } in p) (each_same s.entered.items t.entered.items lists)
+    ∙ ap (λ (ns : List ℕ). let p : Point = record { base = string_bytes s.base; entered = ns } in p)
+    (each_same s.entered.items t.entered.items lists)

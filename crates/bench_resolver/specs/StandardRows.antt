@@ -1,18 +1,21 @@
 -- Worked rows of the standard's rule, by computation. Documents and what is wanted of them come from the official test suite's files on
 -- references and on remote references (drafts 4, 6 and 7); those on names and identifiers, and the last ones, come from the standard.
--- (RFC 3986, 5.2; draft-07 Core, 8.2; Core 2019-09, 8.2; Core 2020-12, 8.2, 10.3 and appendix B)
-use Rattle.std.specs.Prelude.{Bool, Err, List, Ok, Result, Some, [], codes, false, true, ℕ, ◌≡◌, ◌∷◌}
-use Rattle.serde_json.specs.Data.{Data, array, boolean, item, member, no_items, no_members, object, string}
+-- (RFC 3986, section 5.2; draft-07 Core, section 8.2; Core 2019-09, section 8.2; Core 2020-12, sections 8.2 and 10.3 and appendix B)
+use Rattle.std.specs.List.{list_all}
+use Rattle.std.specs.Prelude.{Bool, Err, List, Ok, Result, Some, [], codes, false, is_some, map, not, true, ℕ, ◌++◌, ◌||◌, ◌≡◌, ◌∷◌}
+use Rattle.serde_json.specs.Data.{array, boolean, item, member, no_items, no_members, object, string}
 use Rattle.schema_definitions.specs.Instance.{Place, Text, to_item, to_member}
 use Rattle.schema_definitions.specs.Drafts.{Draft, SchemaPlace, draft_2019_09, draft_2020_12, draft_4, draft_6, draft_7}
 use Rattle.schema_definitions.specs.Resolving.{Found}
+use Rattle.schema_keywords.specs.KeywordTable.{keyword_table, support_in}
 use Rattle.bench_subschemas.specs.declared.rules.Rule.TheVariants.{Standard}
-use Rattle.bench_subschemas.specs.BenchResolving.{subschemas}
+use Rattle.bench_subschemas.specs.BenchResolving.{is_known, subschemas}
 use Rattle.bench_resolver.specs.BenchAnswers.{entrance}
 use Rattle.bench_resolver.specs.BenchDocuments.{Document, value_in}
 use Rattle.bench_resolver.specs.BenchResources.{Table, table_for}
 use Rattle.bench_resolver.specs.BenchStates.{Point, entered}
 use Rattle.bench_resolver.specs.BenchLookups.{looked_up, no_name}
+use Rattle.bench_resolver.specs.BenchRows.{alone, one, two, under}
 
 abbrev pub in_these : Text → List ℕ → Point
 in_these uri ns = record { base = uri; entered = ns }
@@ -29,14 +32,17 @@ abbrev pub inside : Draft → List Document → Point → SchemaPlace → Result
 inside draft documents s p = entered (table_in draft documents) documents s draft p (value_in documents p)
 
 abbrev pub found_in : Draft → ℕ → Place → Text → List ℕ → Result (Found Point) Text
-found_in draft document path uri ns = Ok (record { place = record { document = document; path = path }; state = in_these uri ns; draft = draft })
+found_in draft document path uri ns =
+    Ok (record { place = record { document = document; path = path }; state = in_these uri ns; draft = draft })
 
 -- ---- identifiers and references are resolved against the base
 
 -- {"$id": "http://localhost:1234/", "items": {"$id": "folder/", "items": {"$ref": "folderInteger.json"}}}, and {"type": "integer"} under
 -- http://localhost:1234/folder/folderInteger.json
 abbrev pub folders : List Document
-folders = record { uri = codes "json-schema:///"; value = (object (member (codes "$id") (string (codes "http://localhost:1234/")) (member (codes "items") (object (member (codes "$id") (string (codes "folder/")) (member (codes "items") (object (member (codes "$ref") (string (codes "folderInteger.json")) no_members)) no_members))) no_members))) } ∷ record { uri = codes "http://localhost:1234/folder/folderInteger.json"; value = (object (member (codes "type") (string (codes "integer")) no_members)) } ∷ []
+folders = alone (two (codes "$id") (string (codes "http://localhost:1234/")) (codes "items")
+    (two (codes "$id") (string (codes "folder/")) (codes "items") (one (codes "$ref") (string (codes "folderInteger.json")))))
+    ++ under (codes "http://localhost:1234/folder/folderInteger.json") (one (codes "type") (string (codes "integer")))
 
 -- a document is entered under the URI that it is handed in under, and its root's identifier is the base inside
 abbrev pub EntranceHasTheIdentifier : Type 0
@@ -45,7 +51,8 @@ EntranceHasTheIdentifier = entrance (table_in draft_7 folders).resources (codes 
 
 -- a nested identifier is resolved against the base around it
 abbrev pub NestedIdentifier : Type 0
-NestedIdentifier = inside draft_7 folders (in_these (codes "http://localhost:1234/") (0 ∷ [])) (record { document = 0; path = (to_member (codes "items") ∷ []) })
+NestedIdentifier = inside draft_7 folders (in_these (codes "http://localhost:1234/") (0 ∷ []))
+    (record { document = 0; path = (to_member (codes "items") ∷ []) })
     ≡ Ok (in_these (codes "http://localhost:1234/folder/") (0 ∷ 3 ∷ []))
 
 -- and a reference against the base of the resource around it
@@ -65,7 +72,8 @@ RootIsFoundAsHandedIn = leads draft_7 folders (in_these (codes "http://localhost
 
 -- with or without an empty fragment
 abbrev pub EmptyFragment : Type 0
-EmptyFragment = leads draft_7 folders (in_these (codes "http://localhost:1234/") (0 ∷ [])) (codes "http://localhost:1234/folder/folderInteger.json#") false
+EmptyFragment = leads draft_7 folders (in_these (codes "http://localhost:1234/") (0 ∷ []))
+    (codes "http://localhost:1234/folder/folderInteger.json#") false
     ≡ found_in draft_7 1 ([]) (codes "http://localhost:1234/folder/folderInteger.json") (0 ∷ 1 ∷ [])
 
 -- what is not at hand is refused with its URI
@@ -76,17 +84,23 @@ AbsentIsRefused = leads draft_7 folders (in_these (codes "http://localhost:1234/
 -- {"$id": "http://localhost:1234/scope_change_defs2.json", "definitions": {"baz": {"$id": "folder/", "definitions": {"bar": {"items":
 -- {"$ref": "folderInteger.json"}}}}}}
 abbrev pub scopes : List Document
-scopes = record { uri = codes "json-schema:///"; value = (object (member (codes "$id") (string (codes "http://localhost:1234/scope_change_defs2.json")) (member (codes "definitions") (object (member (codes "baz") (object (member (codes "$id") (string (codes "folder/")) (member (codes "definitions") (object (member (codes "bar") (object (member (codes "items") (object (member (codes "$ref") (string (codes "folderInteger.json")) no_members)) no_members)) no_members)) no_members))) no_members)) no_members))) } ∷ []
+scopes = alone (two (codes "$id") (string (codes "http://localhost:1234/scope_change_defs2.json")) (codes "definitions")
+    (one (codes "baz") (two (codes "$id") (string (codes "folder/")) (codes "definitions")
+    (one (codes "bar") (one (codes "items") (one (codes "$ref") (string (codes "folderInteger.json"))))))))
 
 -- a pointer that passes through a schema with an identifier changes the base
 abbrev pub PointerChangesTheBase : Type 0
-PointerChangesTheBase = leads draft_7 scopes (in_these (codes "http://localhost:1234/scope_change_defs2.json") (0 ∷ [])) (codes "#/definitions/baz/definitions/bar") false
-    ≡ found_in draft_7 0 (to_member (codes "definitions") ∷ to_member (codes "baz") ∷ to_member (codes "definitions") ∷ to_member (codes "bar") ∷ []) (codes "http://localhost:1234/folder/") (0 ∷ 1 ∷ 2 ∷ [])
+PointerChangesTheBase = leads draft_7 scopes (in_these (codes "http://localhost:1234/scope_change_defs2.json") (0 ∷ []))
+    (codes "#/definitions/baz/definitions/bar") false
+    ≡ found_in draft_7 0 (to_member (codes "definitions") ∷ to_member (codes "baz") ∷ to_member (codes "definitions")
+    ∷ to_member (codes "bar") ∷ []) (codes "http://localhost:1234/folder/") (0 ∷ 1 ∷ 2 ∷ [])
 
 -- {"$id": "http://localhost:1234/tree", "definitions": {"node": {"$id": "http://localhost:1234/node", "properties": {"subtree": {"$ref":
 -- "tree"}}}}}
 abbrev pub tree : List Document
-tree = record { uri = codes "json-schema:///"; value = (object (member (codes "$id") (string (codes "http://localhost:1234/tree")) (member (codes "definitions") (object (member (codes "node") (object (member (codes "$id") (string (codes "http://localhost:1234/node")) (member (codes "properties") (object (member (codes "subtree") (object (member (codes "$ref") (string (codes "tree")) no_members)) no_members)) no_members))) no_members)) no_members))) } ∷ []
+tree = alone (two (codes "$id") (string (codes "http://localhost:1234/tree")) (codes "definitions")
+    (one (codes "node") (two (codes "$id") (string (codes "http://localhost:1234/node")) (codes "properties")
+    (one (codes "subtree") (one (codes "$ref") (string (codes "tree")))))))
 
 -- schemas that refer to one another
 abbrev pub TreeOfNodes : Type 0
@@ -96,44 +110,60 @@ TreeOfNodes = leads draft_7 tree (in_these (codes "http://localhost:1234/node") 
 -- both ways
 abbrev pub NodeOfATree : Type 0
 NodeOfATree = leads draft_7 tree (in_these (codes "http://localhost:1234/tree") (0 ∷ [])) (codes "node") false
-    ≡ found_in draft_7 0 (to_member (codes "definitions") ∷ to_member (codes "node") ∷ []) (codes "http://localhost:1234/node") (0 ∷ 2 ∷ [])
+    ≡ found_in draft_7 0 (to_member (codes "definitions") ∷ to_member (codes "node") ∷ []) (codes "http://localhost:1234/node")
+    (0 ∷ 2 ∷ [])
 
 -- {"id": "http://localhost:1234/", "items": {"id": "folder/", "items": {"$ref": "folderInteger.json"}}}
 abbrev pub early : List Document
-early = record { uri = codes "json-schema:///"; value = (object (member (codes "id") (string (codes "http://localhost:1234/")) (member (codes "items") (object (member (codes "id") (string (codes "folder/")) (member (codes "items") (object (member (codes "$ref") (string (codes "folderInteger.json")) no_members)) no_members))) no_members))) } ∷ []
+early = alone (two (codes "id") (string (codes "http://localhost:1234/")) (codes "items")
+    (two (codes "id") (string (codes "folder/")) (codes "items") (one (codes "$ref") (string (codes "folderInteger.json")))))
 
 -- in draft 4 the identifier is `id`
 abbrev pub DraftFourHasId : Type 0
-DraftFourHasId = inside draft_4 early (in_these (codes "http://localhost:1234/") (0 ∷ [])) (record { document = 0; path = (to_member (codes "items") ∷ []) })
+DraftFourHasId = inside draft_4 early (in_these (codes "http://localhost:1234/") (0 ∷ []))
+    (record { document = 0; path = (to_member (codes "items") ∷ []) })
     ≡ Ok (in_these (codes "http://localhost:1234/folder/") (0 ∷ 2 ∷ []))
 
 -- and in draft 6 it is none
 abbrev pub DraftSixHasNone : Type 0
-DraftSixHasNone = inside draft_6 early (in_these (codes "json-schema:///") (0 ∷ [])) (record { document = 0; path = (to_member (codes "items") ∷ []) })
+DraftSixHasNone = inside draft_6 early (in_these (codes "json-schema:///") (0 ∷ []))
+    (record { document = 0; path = (to_member (codes "items") ∷ []) })
     ≡ Ok (in_these (codes "json-schema:///") (0 ∷ []))
 
 -- {"$id": "http://localhost:1234/sibling_id/base/", "allOf": [{"$id": "http://localhost:1234/sibling_id/", "$ref": "foo.json"}],
 -- "definitions": {"base_foo": {"$id": "foo.json", "type": "number"}, "foo": {"$id": "http://localhost:1234/sibling_id/foo.json", "type":
 -- "string"}}}
 abbrev pub sibling : List Document
-sibling = record { uri = codes "json-schema:///"; value = (object (member (codes "$id") (string (codes "http://localhost:1234/sibling_id/base/")) (member (codes "allOf") (array (item (object (member (codes "$id") (string (codes "http://localhost:1234/sibling_id/")) (member (codes "$ref") (string (codes "foo.json")) no_members))) no_items)) (member (codes "definitions") (object (member (codes "base_foo") (object (member (codes "$id") (string (codes "foo.json")) (member (codes "type") (string (codes "number")) no_members))) (member (codes "foo") (object (member (codes "$id") (string (codes "http://localhost:1234/sibling_id/foo.json")) (member (codes "type") (string (codes "string")) no_members))) no_members))) no_members)))) } ∷ []
+sibling = alone (object (member (codes "$id") (string (codes "http://localhost:1234/sibling_id/base/"))
+    (member (codes "allOf") (array (item (two (codes "$id") (string (codes "http://localhost:1234/sibling_id/"))
+    (codes "$ref") (string (codes "foo.json"))) no_items))
+    (member (codes "definitions") (two
+    (codes "base_foo") (two (codes "$id") (string (codes "foo.json")) (codes "type") (string (codes "number")))
+    (codes "foo") (two (codes "$id") (string (codes "http://localhost:1234/sibling_id/foo.json"))
+    (codes "type") (string (codes "string"))))
+    no_members))))
 
 -- an identifier beside a reference is none in drafts 4 to 7
 abbrev pub SiblingOfAReference : Type 0
-SiblingOfAReference = inside draft_7 sibling (in_these (codes "http://localhost:1234/sibling_id/base/") (0 ∷ [])) (record { document = 0; path = (to_member (codes "allOf") ∷ to_item 0 ∷ []) })
+SiblingOfAReference = inside draft_7 sibling (in_these (codes "http://localhost:1234/sibling_id/base/") (0 ∷ []))
+    (record { document = 0; path = (to_member (codes "allOf") ∷ to_item 0 ∷ []) })
     ≡ Ok (in_these (codes "http://localhost:1234/sibling_id/base/") (0 ∷ []))
 
 -- so the reference is resolved against the base around it
 abbrev pub SiblingKeepsTheBase : Type 0
 SiblingKeepsTheBase = leads draft_7 sibling (in_these (codes "http://localhost:1234/sibling_id/base/") (0 ∷ [])) (codes "foo.json") false
-    ≡ found_in draft_7 0 (to_member (codes "definitions") ∷ to_member (codes "base_foo") ∷ []) (codes "http://localhost:1234/sibling_id/base/foo.json") (0 ∷ 2 ∷ [])
+    ≡ found_in draft_7 0 (to_member (codes "definitions") ∷ to_member (codes "base_foo") ∷ [])
+    (codes "http://localhost:1234/sibling_id/base/foo.json") (0 ∷ 2 ∷ [])
 
 -- ---- names
 
 -- {"$id": "http://localhost:1234/root", "definitions": {"A": {"$id": "nested.json", "definitions": {"B": {"$id": "#foo", "type":
 -- "integer"}}}, "C": {"$id": "#bar", "definitions": {"D": true}}}}
 abbrev pub independent : List Document
-independent = record { uri = codes "json-schema:///"; value = (object (member (codes "$id") (string (codes "http://localhost:1234/root")) (member (codes "definitions") (object (member (codes "A") (object (member (codes "$id") (string (codes "nested.json")) (member (codes "definitions") (object (member (codes "B") (object (member (codes "$id") (string (codes "#foo")) (member (codes "type") (string (codes "integer")) no_members))) no_members)) no_members))) (member (codes "C") (object (member (codes "$id") (string (codes "#bar")) (member (codes "definitions") (object (member (codes "D") (boolean true) no_members)) no_members))) no_members))) no_members))) } ∷ []
+independent = alone (two (codes "$id") (string (codes "http://localhost:1234/root")) (codes "definitions")
+    (two (codes "A") (two (codes "$id") (string (codes "nested.json")) (codes "definitions")
+    (one (codes "B") (two (codes "$id") (string (codes "#foo")) (codes "type") (string (codes "integer"))))) (codes "C")
+    (two (codes "$id") (string (codes "#bar")) (codes "definitions") (one (codes "D") (boolean true)))))
 
 -- in drafts 6 and 7 an identifier that is only a fragment names its schema
 abbrev pub LocationIndependent : Type 0
@@ -142,13 +172,17 @@ LocationIndependent = leads draft_7 independent (in_these (codes "http://localho
 
 -- in the resource around it
 abbrev pub LocationIndependentNested : Type 0
-LocationIndependentNested = leads draft_7 independent (in_these (codes "http://localhost:1234/root") (0 ∷ [])) (codes "nested.json#foo") false
-    ≡ found_in draft_7 0 (to_member (codes "definitions") ∷ to_member (codes "A") ∷ to_member (codes "definitions") ∷ to_member (codes "B") ∷ []) (codes "http://localhost:1234/nested.json") (0 ∷ 2 ∷ [])
+LocationIndependentNested = leads draft_7 independent (in_these (codes "http://localhost:1234/root") (0 ∷ []))
+    (codes "nested.json#foo") false
+    ≡ found_in draft_7 0 (to_member (codes "definitions") ∷ to_member (codes "A") ∷ to_member (codes "definitions") ∷ to_member (codes "B")
+    ∷ []) (codes "http://localhost:1234/nested.json") (0 ∷ 2 ∷ [])
 
 -- and opens none
 abbrev pub FragmentOpensNoResource : Type 0
-FragmentOpensNoResource = leads draft_7 independent (in_these (codes "http://localhost:1234/root") (0 ∷ 1 ∷ [])) (codes "#/definitions/C/definitions/D") false
-    ≡ found_in draft_7 0 (to_member (codes "definitions") ∷ to_member (codes "C") ∷ to_member (codes "definitions") ∷ to_member (codes "D") ∷ []) (codes "http://localhost:1234/root") (0 ∷ 1 ∷ [])
+FragmentOpensNoResource = leads draft_7 independent (in_these (codes "http://localhost:1234/root") (0 ∷ 1 ∷ []))
+    (codes "#/definitions/C/definitions/D") false
+    ≡ found_in draft_7 0 (to_member (codes "definitions") ∷ to_member (codes "C") ∷ to_member (codes "definitions") ∷ to_member (codes "D")
+    ∷ []) (codes "http://localhost:1234/root") (0 ∷ 1 ∷ [])
 
 -- later it is no name
 abbrev pub LateFragmentIsNoName : Type 0
@@ -157,7 +191,7 @@ LateFragmentIsNoName = leads draft_2019_09 independent (in_these (codes "http://
 
 -- {"definitions": {"A": {"$id": "http://localhost:1234/bar#foo"}}}
 abbrev pub both_at_once : List Document
-both_at_once = record { uri = codes "json-schema:///"; value = (object (member (codes "definitions") (object (member (codes "A") (object (member (codes "$id") (string (codes "http://localhost:1234/bar#foo")) no_members)) no_members)) no_members)) } ∷ []
+both_at_once = alone (one (codes "definitions") (one (codes "A") (one (codes "$id") (string (codes "http://localhost:1234/bar#foo")))))
 
 -- an identifier with a fragment gives a URI and a name
 abbrev pub FragmentAndUri : Type 0
@@ -166,7 +200,8 @@ FragmentAndUri = leads draft_7 both_at_once (in_these (codes "json-schema:///") 
 
 -- {"properties": {"a": {"$anchor": "s", "$dynamicAnchor": "d"}}}
 abbrev pub anchored : List Document
-anchored = record { uri = codes "json-schema:///"; value = (object (member (codes "properties") (object (member (codes "a") (object (member (codes "$anchor") (string (codes "s")) (member (codes "$dynamicAnchor") (string (codes "d")) no_members))) no_members)) no_members)) } ∷ []
+anchored = alone (one (codes "properties")
+    (one (codes "a") (two (codes "$anchor") (string (codes "s")) (codes "$dynamicAnchor") (string (codes "d")))))
 
 -- an `$anchor` is a name from 2019-09 on
 abbrev pub AnchorIsAName : Type 0
@@ -192,7 +227,9 @@ EarlyDynamicAnchorIsNone = leads draft_2019_09 anchored (in_these (codes "json-s
 
 -- {"definitions": {"e": {"enum": [{"$id": "http://localhost:1234/e"}]}}, "x": {"$id": "http://localhost:1234/x"}}
 abbrev pub enumerated : List Document
-enumerated = record { uri = codes "json-schema:///"; value = (object (member (codes "definitions") (object (member (codes "e") (object (member (codes "enum") (array (item (object (member (codes "$id") (string (codes "http://localhost:1234/e")) no_members)) no_items)) no_members)) no_members)) (member (codes "x") (object (member (codes "$id") (string (codes "http://localhost:1234/x")) no_members)) no_members))) } ∷ []
+enumerated = alone (two (codes "definitions")
+    (one (codes "e") (one (codes "enum") (array (item (one (codes "$id") (string (codes "http://localhost:1234/e"))) no_items))))
+    (codes "x") (one (codes "$id") (string (codes "http://localhost:1234/x"))))
 
 -- nothing below `enum` is a schema
 abbrev pub EnumHasNoSchemas : Type 0
@@ -209,30 +246,52 @@ abbrev pub PointersLeadAnywhere : Type 0
 PointersLeadAnywhere = leads draft_7 enumerated (in_these (codes "json-schema:///") (0 ∷ [])) (codes "#/x") false
     ≡ found_in draft_7 0 (to_member (codes "x") ∷ []) (codes "json-schema:///") (0 ∷ [])
 
--- `items` may be a list in drafts 4 to 2019-09; of `dependencies` the schemas count. {"dependencies": {"a": ["b"], "c": true}, "items": [true]}
+-- `items` may be a list in drafts 4 to 2019-09; of `dependencies` the schemas count:
+-- {"dependencies": {"a": ["b"], "c": true}, "items": [true]}
 abbrev pub ListsOfItems : Type 0
-ListsOfItems = subschemas Standard draft_7 (object (member (codes "dependencies") (object (member (codes "a") (array (item (string (codes "b")) no_items)) (member (codes "c") (boolean true) no_members))) (member (codes "items") (array (item (boolean true) no_items)) no_members)))
+ListsOfItems = subschemas Standard draft_7
+    (object (member (codes "dependencies")
+    (object (member (codes "a") (array (item (string (codes "b")) no_items)) (member (codes "c") (boolean true) no_members)))
+    (member (codes "items") (array (item (boolean true) no_items)) no_members)))
     ≡ (to_member (codes "dependencies") ∷ to_member (codes "c") ∷ []) ∷ (to_member (codes "items") ∷ to_item 0 ∷ []) ∷ []
 
 -- and is one schema in 2020-12
 abbrev pub ItemsIsOneSchema : Type 0
-ItemsIsOneSchema = subschemas Standard draft_2020_12 (object (member (codes "dependencies") (object (member (codes "a") (array (item (string (codes "b")) no_items)) (member (codes "c") (boolean true) no_members))) (member (codes "items") (array (item (boolean true) no_items)) no_members)))
+ItemsIsOneSchema = subschemas Standard draft_2020_12
+    (object (member (codes "dependencies")
+    (object (member (codes "a") (array (item (string (codes "b")) no_items)) (member (codes "c") (boolean true) no_members)))
+    (member (codes "items") (array (item (boolean true) no_items)) no_members)))
     ≡ (to_member (codes "dependencies") ∷ to_member (codes "c") ∷ []) ∷ []
 
 -- a keyword counts in the drafts that have it. {"contentSchema": true, "if": true}
 abbrev pub DraftSixHasNoIf : Type 0
-DraftSixHasNoIf = subschemas Standard draft_6 (object (member (codes "contentSchema") (boolean true) (member (codes "if") (boolean true) no_members)))
+DraftSixHasNoIf = subschemas Standard draft_6
+    (object (member (codes "contentSchema") (boolean true) (member (codes "if") (boolean true) no_members)))
     ≡ []
 
 -- `if` from draft 7 on
 abbrev pub DraftSevenHasIf : Type 0
-DraftSevenHasIf = subschemas Standard draft_7 (object (member (codes "contentSchema") (boolean true) (member (codes "if") (boolean true) no_members)))
+DraftSevenHasIf = subschemas Standard draft_7
+    (object (member (codes "contentSchema") (boolean true) (member (codes "if") (boolean true) no_members)))
     ≡ (to_member (codes "if") ∷ []) ∷ []
 
 -- `contentSchema` from 2019-09 on
 abbrev pub LateHasContentSchema : Type 0
-LateHasContentSchema = subschemas Standard draft_2019_09 (object (member (codes "contentSchema") (boolean true) (member (codes "if") (boolean true) no_members)))
+LateHasContentSchema =
+    subschemas Standard draft_2019_09
+    (object (member (codes "contentSchema") (boolean true) (member (codes "if") (boolean true) no_members)))
     ≡ (to_member (codes "if") ∷ []) ∷ (to_member (codes "contentSchema") ∷ []) ∷ []
+
+-- ---- known names
+
+-- whether a draft knows all keywords that it has
+abbrev pub knows_its_own : Draft → Bool
+knows_its_own draft = list_all (λ r. not (is_some (support_in draft r)) || is_known Standard draft r.name) keyword_table
+
+-- each does
+abbrev pub KeywordsAreKnown : Type 0
+KeywordsAreKnown = map knows_its_own (draft_4 ∷ draft_6 ∷ draft_7 ∷ draft_2019_09 ∷ draft_2020_12 ∷ [])
+    ≡ true ∷ true ∷ true ∷ true ∷ true ∷ []
 
 -- all rows
 pub record StandardRowsHold : Type 0 where
@@ -267,3 +326,4 @@ pub record StandardRowsHold : Type 0 where
   pub no_if : DraftSixHasNoIf
   pub has_if : DraftSevenHasIf
   pub content : LateHasContentSchema
+  pub known : KeywordsAreKnown

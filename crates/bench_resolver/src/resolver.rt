@@ -129,8 +129,8 @@ impl<'a> BenchResolver<'a> {
         BenchResolver::with_draft(alloc, Draft::Draft202012, document, vocabularies)
     }
 
-    /// The same in another default draft: the one that the document and the way to a target are read by, where no `$schema` says
-    /// otherwise. A build takes the root's draft from its own option, or else 2020-12.
+    /// A resolver of this document by the narrow rule, as `new` makes it, in a default draft: the one that the document and the way to
+    /// a target are read by, where no `$schema` says otherwise. A build takes the root's draft from its own option, or else 2020-12.
     ///
     /// # Errors
     ///
@@ -189,7 +189,8 @@ impl<'a> BenchResolver<'a> {
 
     /// A resolver of this document by the standard's rule, in a default draft: the one that the document and the way to a target are
     /// read by, where no `$schema` says otherwise. The document is handed in under `json-schema:///`, and found under its root's
-    /// identifier too. The vocabularies are required ones: they are in force in every draft, beside the draft's own.
+    /// identifier too: build with `json-schema:///` as the base. The vocabularies are required ones: they are in force in every draft,
+    /// beside the draft's own.
     ///
     /// # Errors
     ///
@@ -218,7 +219,7 @@ impl<'a> BenchResolver<'a> {
     }
 
     /// A resolver of several documents by the standard's rule. Each is handed in under a URI, and found under it and under its root's
-    /// identifier. The first is the root's. Of several with one URI the first is found.
+    /// identifier. The first is the root's: build with its URI as the base. Of several with one URI the first is found.
     ///
     /// # Errors
     ///

@@ -33,6 +33,13 @@ use schema_reports::location::OutOfMemory;
 use serde_json::Value;
 use std::alloc::Global;
 
+/// A reference that is followed, and whether it is a dynamic one.
+#[derive(Clone, Copy)]
+struct Followed<'r> {
+    reference: &'r str,
+    dynamic: bool,
+}
+
 /// The refusal of a reference that points to nothing.
 fn nothing_there(alloc: Global, reference: &str) -> LookupError
     ensures refused { RefusesWith (nothing_there reference.now) result }
@@ -188,21 +195,22 @@ fn first_dynamic(
 fn target_by_name(
     alloc: Global,
     resources: &Resources,
-    reference: &str,
+    followed: Followed<'_>,
     number: usize,
     resource: &Resource,
     state: &BenchState,
-    dynamic: bool,
     text: &str,
 ) -> Result<Target<BenchState>, LookupError>
     ensures leads { let r = resource_of resource.now in let name = option_and_then (slice_get r.names) (name_number text.now r.names) in
-        let leads = target_by_name resources.now reference.now number r (point_of state.now) dynamic text.now name in
+        let leads = target_by_name resources.now followed.entry.reference.now number r (point_of state.now)
+        followed.entry.dynamic text.now name in
         MatchResult result (λ t. leads ≡ Ok (found_of point_of t)) (Refuses leads) }
 {
     let Some(name) = resource.names.find(text) else {
-        return Err(refusal(alloc, "nothing has the name of the reference ", reference));
+        let refused = "nothing has the name of the reference ";
+        return Err(refusal(alloc, refused, followed.reference));
     };
-    if dynamic && name.is_dynamic {
+    if followed.dynamic && name.is_dynamic {
         if let Some(target) = first_dynamic(alloc, resources, state, text)? {
             return Ok(target);
         }
@@ -231,27 +239,28 @@ fn target_by_fragment(
     alloc: Global,
     documents: &Documents<'_>,
     resources: &Resources,
-    reference: &str,
+    followed: Followed<'_>,
     number: usize,
     resource: &Resource,
     state: &BenchState,
-    dynamic: bool,
     fragment: &str,
 ) -> Result<Target<BenchState>, LookupError>
-    ensures leads { let leads = target_by_fragment resources.now (held documents.now) reference.now number (resource_of resource.now)
-        (point_of state.now) dynamic fragment.now in MatchResult result (λ t. leads ≡ Ok (found_of point_of t)) (Refuses leads) }
+    ensures leads { let leads = target_by_fragment resources.now (held documents.now) followed.entry.reference.now number
+        (resource_of resource.now) (point_of state.now) followed.entry.dynamic fragment.now in
+        MatchResult result (λ t. leads ≡ Ok (found_of point_of t)) (Refuses leads) }
 {
     if fragment.is_empty() {
         return Ok(target_root(alloc, number, resource, state)?);
     }
     if fragment.as_bytes()[0] == b'/' {
+        let reference = followed.reference;
         let inside = enter(alloc, state, number, resource.base.as_str())?;
         return target_by_pointer(
             alloc, documents, resources, reference, resource, inside, fragment,
         );
     }
     target_by_name(
-        alloc, resources, reference, number, resource, state, dynamic, fragment,
+        alloc, resources, followed, number, resource, state, fragment,
     )
 }
 
@@ -260,8 +269,8 @@ fn target_by_fragment(
 /// # Errors
 ///
 /// A refusal, which names the reference, of one that cannot be resolved, that leads to no resource (the standard's rule names the
-/// URI), or in it to nothing; one of a
-/// subschema on the way whose identifier no resource at its place has; and `OutOfMemory` if memory cannot be allocated.
+/// URI), or in it to nothing; one of a subschema on the way whose identifier no resource at its place has; and `OutOfMemory` if
+/// memory cannot be allocated.
 pub fn looked_up(
     alloc: Global,
     documents: &Documents<'_>,
@@ -281,9 +290,10 @@ pub fn looked_up(
     let Some(resource) = resources.get(number) else {
         return Err(not_at_hand(alloc, rule, reference, uri.as_str()));
     };
+    let followed = Followed { reference, dynamic };
     let fragment = fragment_of(uri.as_str());
     target_by_fragment(
-        alloc, documents, resources, reference, number, resource, state, dynamic, fragment,
+        alloc, documents, resources, followed, number, resource, state, fragment,
     )
 }
 

@@ -28,8 +28,8 @@ use std::alloc::Global;
 use std::collections::HashMap;
 use std::marker::Model;
 
-/// A resource: the URI that it is found under, the base inside it, where it begins, the draft there, whether its root has `$recursiveAnchor`
-/// true, and its names.
+/// A resource: the URI that it is found under, the base inside it, where it begins, the draft there, whether its root has
+/// `$recursiveAnchor` true, and its names.
 #[derive(Drop)]
 pub struct Resource {
     pub uri: String,
@@ -142,7 +142,8 @@ fn resource_of(
     document: usize,
     root: &Visited<'_>,
 ) -> Result<Resource, OutOfMemory>
-    ensures resource { IfOk result (λ r. resource_of r ≡ spec.resource_of rule (string_bytes uri) (string_bytes base) document (visited_of root.now)) }
+    ensures resource { IfOk result (λ r. resource_of r
+        ≡ spec.resource_of rule (string_bytes uri) (string_bytes base) document (visited_of root.now)) }
 {
     Ok(Resource {
         uri,

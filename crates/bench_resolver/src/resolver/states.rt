@@ -5,7 +5,8 @@ ghost use Rattle.serde_json.specs.View.{view};
 ghost use Rattle.schema_keywords.specs.KeywordViews.{draft_of};
 ghost use Rattle.schema_parts.specs.ResolverViews.{Refuses, place_of};
 ghost use Rattle.bench_resolver.specs.BenchAnswers.{RefusesWith};
-ghost use Rattle.bench_resolver.specs.BenchStates.{enter, entered, entered_below, entered_by, entered_root, no_identified, uri_of_document};
+ghost use Rattle.bench_resolver.specs.BenchStates.{enter, entered, entered_below, entered_by, entered_root, no_identified};
+ghost use Rattle.bench_resolver.specs.BenchStates.{uri_of_document};
 ghost use Rattle.bench_resolver.specs.BenchViews.{held, point_of};
 
 use crate::resolver::BenchState;
@@ -57,7 +58,7 @@ pub fn enter(
     })
 }
 
-/// The refusal of an identifier.
+/// The refusal of an identifier that no resource at its place has.
 fn no_identified(alloc: Global, id: &str) -> LookupError
     ensures refused { RefusesWith (no_identified id.now) result }
 {
@@ -111,7 +112,7 @@ pub fn entered_below(
     }
 }
 
-/// The URI of the document of a number, whose root is this schema.
+/// The base inside the document of a number, whose root is this schema; none where there is no such document.
 fn uri_of_document(
     alloc: Global,
     rule: Rule,

@@ -1,4 +1,4 @@
-//! References and URIs (sections 3, 4 and 5.2 of RFC 3986).
+//! References and URIs (RFC 3986, sections 3, 4 and 5.2).
 ghost use Rattle.std.specs.Prelude.{◌≡◌, ◌++◌, IfOk, MatchResult, Ok, option_and_then, option_map, string_bytes, unwrap_or};
 ghost use Rattle.serde_json.specs.View.{view};
 ghost use Rattle.schema_keywords.specs.KeywordViews.{draft_of};
@@ -135,7 +135,7 @@ fn resolve_narrowly(alloc: Global, base: &str, reference: &str) -> Result<String
     Err(refusal(alloc, text, reference))
 }
 
-/// What a reference stands for from a base: by the standard's rule as RFC 3986 has it in 5.2.
+/// What a reference stands for from a base: by the standard's rule as RFC 3986 has it in section 5.2.
 ///
 /// # Errors
 ///
@@ -151,7 +151,7 @@ pub fn resolve_uri(
         (Refuses (resolve_uri rule base.now reference.now)) }
 {
     match rule {
-        Rule::Narrow => Ok(resolve_narrowly(alloc, base, reference)?),
+        Rule::Narrow => resolve_narrowly(alloc, base, reference),
         Rule::Standard => Ok(resolve(alloc, base, reference)?),
     }
 }

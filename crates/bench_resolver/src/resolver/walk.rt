@@ -48,6 +48,13 @@ fn speaks(rule: Rule, everywhere: bool, draft: Draft, schema: &Value) -> bool
     }
 }
 
+/// What a walk looks for, and by which rule: identifiers, if it goes into all schemas, and else names.
+#[derive(Clone, Copy)]
+struct Aim {
+    rule: Rule,
+    everywhere: bool,
+}
+
 /// The path from a document's root over a schema's path and then from subschema to subschema.
 fn path_over(
     alloc: Global,
@@ -66,8 +73,7 @@ fn path_over(
 /// Adds a schema that the walk has come to, where it has what the walk looks for.
 fn keep<'a>(
     alloc: Global,
-    rule: Rule,
-    everywhere: bool,
+    aim: Aim,
     path: &SchemaPath,
     way: &[FoundSchema<'a>],
     base: &str,
@@ -76,10 +82,10 @@ fn keep<'a>(
     visited: &mut Vec<Visited<'a>>,
 ) -> Result<(), OutOfMemory>
     ensures kept { IfOk result (λ _. map visited_of visited.new.items ≡ map visited_of visited.old.items
-        ++ kept_if (speaks rule everywhere (draft_of draft) (view schema.now))
+        ++ kept_if (speaks aim.rule aim.everywhere (draft_of draft) (view schema.now))
         (record { path = path.now ++ flat_map path_of way.now; base = base.now; draft = draft_of draft; schema = view schema.now })) }
 {
-    if speaks(rule, everywhere, draft, schema) {
+    if speaks(aim.rule, aim.everywhere, draft, schema) {
         visited.push(Visited {
             path: path_over(alloc, path, way)?,
             base: String::from_str(alloc, base)?,
@@ -94,8 +100,7 @@ fn keep<'a>(
 /// the one inside it.
 fn visit_below<'a>(
     alloc: Global,
-    rule: Rule,
-    everywhere: bool,
+    aim: Aim,
     path: &SchemaPath,
     way: &mut Vec<FoundSchema<'a>>,
     base: &str,
@@ -105,35 +110,32 @@ fn visit_below<'a>(
 ) -> Result<(), OutOfMemory>
     ensures way { IfOk result (λ _. way.new.items ≡ way.old.items) }
     ensures visited { IfOk result (λ _. (n : ℕ) → depth (view schema.now) < n → map visited_of visited.new.items
-        ≡ map visited_of visited.old.items ++ filter (speaking rule everywhere)
-        (visited_below rule everywhere n (path.now ++ flat_map path_of way.old.items) base.now (draft_of draft) (view schema.now))) }
+        ≡ map visited_of visited.old.items ++ filter (speaking aim.rule aim.everywhere)
+        (visited_below aim.rule aim.everywhere n (path.now ++ flat_map path_of way.old.items) base.now (draft_of draft)
+        (view schema.now))) }
 {
-    for found in &subschemas_found(alloc, rule, draft, schema)? {
+    for found in &subschemas_found(alloc, aim.rule, draft, schema)? {
         let below = found.schema;
-        if is_plain(rule, below) {
+        if is_plain(aim.rule, below) {
             continue;
         }
         let draft = detected(draft, below);
-        if !goes_into(everywhere, draft, below) {
+        if !goes_into(aim.everywhere, draft, below) {
             continue;
         }
         way.push(*found)?;
         let on_way = way.as_slice();
-        keep(
-            alloc, rule, everywhere, path, on_way, base, draft, below, visited,
-        )?;
-        let own = uri_of(alloc, rule, base, draft, below)?;
+        keep(alloc, aim, path, on_way, base, draft, below, visited)?;
+        let own = uri_of(alloc, aim.rule, base, draft, below)?;
         let inside = or_base(&own, base);
-        visit_below(
-            alloc, rule, everywhere, path, way, inside, draft, below, visited,
-        )?;
+        visit_below(alloc, aim, path, way, inside, draft, below, visited)?;
         way.pop();
     }
     Ok(())
 }
 
-/// The schemas below a schema that have an identifier, in the order of the walk, if it goes into all, and else those that have a
-/// name. The base is the one inside the schema.
+/// What a walk finds below a schema, in its order: the schemas that have an identifier, if it goes everywhere, and else those that
+/// have a name, where it goes into no schema with an identifier. The base is the one inside the schema.
 ///
 /// # Errors
 ///
@@ -152,10 +154,10 @@ pub fn walked<'a>(
 {
     let mut visited = Vec::new(alloc);
     let mut way = Vec::new(alloc);
+    let aim = Aim { rule, everywhere };
     visit_below(
         alloc,
-        rule,
-        everywhere,
+        aim,
         path,
         &mut way,
         base,

@@ -23,7 +23,10 @@ returns c =
     let inside = λ (b : BenchDocument) (v : Option Data). entered (table_of b) (documents_of b) s draft p v in
     record {
       inside = λ read.
-          let same : entered c.self.inside.resources (held c.self.inside.documents) s draft p o ≡ (bench_resolving r).in_subresource s draft p
-          = ap (λ (t : Table). entered t (held c.self.inside.documents) s draft p o) c.self.invariant ∙ ap (λ (b : BenchDocument). inside b o) c.self.view_is ∙ ap (inside r) read in
-          subst (λ (q : Result Point Text). MatchResult c.entered.result (λ t. q ≡ Ok (point_of t)) (Refuses q)) same c.entered.ensures.entered;
+          let same : entered c.self.inside.resources (held c.self.inside.documents) s draft p o
+          ≡ (bench_resolving r).in_subresource s draft p
+          = ap (λ (t : Table). entered t (held c.self.inside.documents) s draft p o) c.self.invariant
+          ∙ ap (λ (b : BenchDocument). inside b o) c.self.view_is ∙ ap (inside r) read in
+          subst (λ (q : Result Point Text). MatchResult c.entered.result (λ t. q ≡ Ok (point_of t)) (Refuses q)) same
+          c.entered.ensures.entered;
     }

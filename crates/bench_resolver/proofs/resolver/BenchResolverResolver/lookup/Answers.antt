@@ -19,4 +19,7 @@ returns c =
     let leads = λ (b : BenchDocument). (bench_resolving b).lookup s reference dynamic in
     let same : looked_up c.self.inside.resources (held c.self.inside.documents) s reference dynamic ≡ leads c.args.self.now
     = ap (λ (t : Table). looked_up t (held c.self.inside.documents) s reference dynamic) c.self.invariant ∙ ap leads c.self.view_is in
-    record { leads = subst (λ (r : Result (Found Point) Text). MatchResult c.looked_up.result (λ t. r ≡ Ok (found_of point_of t)) (Refuses r)) same c.looked_up.ensures.leads }
+    record {
+      leads = subst (λ (r : Result (Found Point) Text). MatchResult c.looked_up.result (λ t. r ≡ Ok (found_of point_of t))
+          (Refuses r)) same c.looked_up.ensures.leads;
+    }

@@ -23,7 +23,9 @@ returns-in-Some c = record {
       let v : Data = view c.in-Some.schema.now in
       let there : value_in (documents_of r) p ≡ Some v = sym read ∙ ap (option_map (λ (b : Bor Value). view b.now)) c.in-Some.is in
       let draft = draft_of c.args.draft in
-      let same = ap (λ (rule : Rule). map (placed_at p) (map (found_at v) (subschemas rule draft v))) (ap (λ (b : BenchDocument). b.rule) c.self.view_is) ∙ found_there r p draft v there
+      let same = ap (λ (rule : Rule). map (placed_at p) (map (found_at v) (subschemas rule draft v)))
+      (ap (λ (b : BenchDocument). b.rule) c.self.view_is) ∙ found_there r p draft v there
       ∙ ap (λ (o : Option Data). map (placed_in (bench_resolving r)) (map (at_path p) (subschemas_of r.rule draft o))) (sym there) in
-      subst (λ (qs : List Placed). IfOk c.subschemas_placed.result (λ ps. map placed_of ps.items ≡ qs)) same c.subschemas_placed.ensures.placed;
+      subst (λ (qs : List Placed). IfOk c.subschemas_placed.result (λ ps. map placed_of ps.items ≡ qs)) same
+      c.subschemas_placed.ensures.placed;
 }

@@ -12,7 +12,9 @@ loop-visited-init c =
     let v = visited_of c.args.root.now in
     let rule = c.args.rule in
     let below = walked rule false v.path [] v.draft v.schema in
-    let own : map name_of c.push_names.new.names.items ≡ names_at rule v = c.in_ok-push_names.ensures.pushed ∙ ap (λ (ns : List code.Name). map name_of ns ++ names_at rule v) c.new-names.ensures.items in
+    let own : map name_of c.push_names.new.names.items ≡ names_at rule v = c.in_ok-push_names.ensures.pushed
+    ∙ ap (λ (ns : List code.Name). map name_of ns ++ names_at rule v) c.new-names.ensures.items in
     let kept = ap (map visited_of) c.deref-visited-items.ensures.value ∙ c.in_ok-walked.ensures.walked in
     ap (λ (ns : List Name). ns ++ flat_map (names_at rule) below) (sym own)
-    ∙ ap (λ (ns : List Name). map name_of c.push_names.new.names.items ++ ns) (names_kept rule below (map visited_of c.deref-visited-items.result.now) kept)
+    ∙ ap (λ (ns : List Name). map name_of c.push_names.new.names.items ++ ns)
+    (names_kept rule below (map visited_of c.deref-visited-items.result.now) kept)

@@ -6,4 +6,5 @@ use Rattle.bench_resolver.specs.BenchViews.{visited_of}
 use Rattle.bench_resolver.proofs.resolver.names.names_in.Given as goal
 
 abbrev pub invariant-loop-visited : goal.invariant-loop-visited
-invariant-loop-visited l = names_in l.rule (visited_of l.root) ≡ map name_of l.names.items ++ flat_map (names_at l.rule) (map visited_of (drop l.visited-index l.visited-items))
+invariant-loop-visited l = names_in l.rule (visited_of l.root) ≡ map name_of l.names.items
+    ++ flat_map (names_at l.rule) (map visited_of (drop l.visited-index l.visited-items))

@@ -19,7 +19,8 @@ returns-in_ok-insert c =
     let same : key ≡ text = c.in_ok-from_str.ensures.ok in
     let after = get_by_text c.insert.new.self in
     record {
-      added = λ keys numbered count. subst (λ (k : Option Text). IsNumbered (keys ++ k ∷ []) after) is (numbered_more keys old after text numbered new (λ t.
+      added = λ keys numbered count. subst (λ (k : Option Text). IsNumbered (keys ++ k ∷ []) after) is
+          (numbered_more keys old after text numbered new (λ t.
           hash_map_updates_text key c.args.numbers.now c.insert.new.self _ c.in_ok-insert.ensures.updates t
           ∙ ap (λ (k : Text). cond (bytes_eq k t) (Some c.args.number) (old t)) same
           ∙ ap (λ n. cond (bytes_eq text t) (Some n) (old t)) (sym count)));
@@ -32,10 +33,16 @@ returns-else-is_none c =
     let e1 = c.get.ensures.value in let e2 = c.is_none.ensures in let e3 = c.if-is_none.ensures in let e4 = c.if-is_none.false in
     let has : is_some (old text) ≡ true = grind (arith, common_steps) in
     let is = sym (ap (option_map (λ (t : Bor Text). t.now)) c.in-Some.is) in
-    record { added = λ keys numbered count. subst (λ (k : Option Text). IsNumbered (keys ++ k ∷ []) old) is (numbered_again keys old text numbered has) }
+    record {
+      added = λ keys numbered count. subst (λ (k : Option Text). IsNumbered (keys ++ k ∷ []) old) is
+          (numbered_again keys old text numbered has);
+    }
 
 pub returns-in_default : goal.returns-in_default
 returns-in_default c =
     let old = get_by_text c.args.numbers.now in
     let is = sym (ap (option_map (λ (t : Bor Text). t.now)) c.in_default.is) in
-    record { added = λ keys numbered count. subst (λ (k : Option Text). IsNumbered (keys ++ k ∷ []) old) is (numbered_none keys old numbered) }
+    record {
+      added = λ keys numbered count. subst (λ (k : Option Text). IsNumbered (keys ++ k ∷ []) old) is
+          (numbered_none keys old numbered);
+    }

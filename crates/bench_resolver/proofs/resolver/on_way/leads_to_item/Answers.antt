@@ -7,7 +7,10 @@ use Rattle.bench_resolver.proofs.OnWay.{leads_to_no_item, leads_to_the_item}
 use Rattle.bench_resolver.proofs.resolver.on_way.leads_to_item.Goals as goal
 
 pub returns-in-Member : goal.returns-in-Member
-returns-in-Member c = record { leads = leads_to_no_item (rc_str_bytes c.in-Member.field-0) (view c.args.value.now) ∙ ap (λ s. leads_to_item (schema_step_of s) (view c.args.value.now)) (sym c.in-Member.is) }
+returns-in-Member c = record {
+  leads = leads_to_no_item (rc_str_bytes c.in-Member.field-0) (view c.args.value.now)
+      ∙ ap (λ s. leads_to_item (schema_step_of s) (view c.args.value.now)) (sym c.in-Member.is);
+}
 
 pub returns-in-Item : goal.returns-in-Item
 returns-in-Item c =

@@ -7,5 +7,6 @@ use Rattle.bench_resolver.proofs.resolver.pointers.path_of_pointer.Goals as goal
 
 pub returns-in-None : goal.returns-in-None
 returns-in-None c =
-    let other = rw c.in-None.is at (strip_prefix_char 47 c.args.pointer.now c.strip_prefix.result c.strip_prefix.ensures.cases (lit< tt)) in
+    let other = rw c.in-None.is at
+    (strip_prefix_char 47 c.args.pointer.now c.strip_prefix.result c.strip_prefix.ensures.cases (lit< tt)) in
     record { path = sym (no_path c.args.pointer.now (view c.args.document.now) (grind (arith, nat_tests)) other) }

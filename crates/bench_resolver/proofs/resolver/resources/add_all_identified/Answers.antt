@@ -15,12 +15,15 @@ loop-visited-preserved c =
     let v = c.visited-item.result in
     let f = identified c.args.rule c.args.document in
     let within : i < length items = c.loop-visited-test.true in
-    subst (λ (rs : List Resource). Adds rs c.args.gathered.now c.add_identified.new.gathered) (one_more f visited_of items i v within c.visited-item.is)
-    (adds_both (flat_map f (map visited_of (take i items))) (f (visited_of v)) c.args.gathered.now c.loop-visited.gathered c.add_identified.new.gathered c.loop-visited.invariant c.in_ok-add_identified.ensures.added)
+    subst (λ (rs : List Resource). Adds rs c.args.gathered.now c.add_identified.new.gathered)
+    (one_more f visited_of items i v within c.visited-item.is)
+    (adds_both (flat_map f (map visited_of (take i items))) (f (visited_of v)) c.args.gathered.now c.loop-visited.gathered
+    c.add_identified.new.gathered c.loop-visited.invariant c.in_ok-add_identified.ensures.added)
 
 pub returns : goal.returns
 returns c =
     let items = c.args.all.now in
     let f = identified c.args.rule c.args.document in
-    let all = ap (λ (vs : List code.Visited). flat_map f (map visited_of vs)) (take_all c.loop-visited.visited-index items c.loop-visited-test.false) in
+    let all = ap (λ (vs : List code.Visited). flat_map f (map visited_of vs))
+    (take_all c.loop-visited.visited-index items c.loop-visited-test.false) in
     record { added = subst (λ (rs : List Resource). Adds rs c.args.gathered.now c.loop-visited.gathered) all c.loop-visited.invariant }

@@ -6,4 +6,5 @@ use Rattle.bench_resolver.specs.BenchViews.{visited_of}
 use Rattle.bench_resolver.proofs.resolver.resources.add_all_identified.Given as goal
 
 abbrev pub invariant-loop-visited : goal.invariant-loop-visited
-invariant-loop-visited l = Adds (flat_map (identified l.rule l.document) (map visited_of (take l.visited-index l.all))) l.initial.gathered l.gathered
+invariant-loop-visited l = Adds (flat_map (identified l.rule l.document) (map visited_of (take l.visited-index l.all))) l.initial.gathered
+    l.gathered

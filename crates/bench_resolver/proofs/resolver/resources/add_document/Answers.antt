@@ -28,4 +28,7 @@ returns c =
     ∙ ap (λ (t : Text). resource_of rule t base n (visited_of root)) own
     ∙ ap (λ (t : Text). resource_of rule (without_fragment d.uri) t n (visited_of root)) inside
     ∙ ap (λ (v : Visited). resource_of rule (without_fragment d.uri) (base_in rule draft d) n v) is in
-    record { added = subst (λ (r : Resource). Adds (r ∷ []) c.args.gathered.now c.add_resource.new.gathered) same c.in_ok-add_resource.ensures.added }
+    record {
+      added = subst (λ (r : Resource). Adds (r ∷ []) c.args.gathered.now c.add_resource.new.gathered) same
+          c.in_ok-add_resource.ensures.added;
+    }

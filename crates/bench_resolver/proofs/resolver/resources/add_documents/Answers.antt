@@ -23,8 +23,11 @@ loop-i-preserved c =
     let within : i < length items = omega (arith, ap (length {A = code.Document.Document}) same) in
     let at : other ≡ get_or items i other = c.other-item.is ∙ ap (λ (xs : List code.Document.Document). get_or xs i other) same in
     let uri = c.as_str-uri-in-loop-i.ensures.value in
-    let added = subst (λ (t : Text). Adds (document_resource rule draft (i + 1) (record { uri = t; value = (document_of (given_of other)).value }) ∷ []) c.loop-i.gathered c.add_document-in-loop-i.new.gathered) uri c.in_ok-add_document-2.ensures.added in
-    next_document rule draft first given_of document_of items i c.args.gathered.now c.loop-i.gathered c.add_document-in-loop-i.new.gathered other within at c.loop-i.invariant added
+    let added = subst (λ (t : Text). Adds
+    (document_resource rule draft (i + 1) (record { uri = t; value = (document_of (given_of other)).value })
+    ∷ []) c.loop-i.gathered c.add_document-in-loop-i.new.gathered) uri c.in_ok-add_document-2.ensures.added in
+    next_document rule draft first given_of document_of items i c.args.gathered.now c.loop-i.gathered c.add_document-in-loop-i.new.gathered
+    other within at c.loop-i.invariant added
 
 pub returns : goal.returns
 returns c =
@@ -32,4 +35,7 @@ returns c =
     let items = documents.others.items in
     let first : Document = record { uri = string_bytes documents.uri; value = view documents.root.now } in
     let done : length items ≤ c.loop-i.i = omega (arith, ap (length {A = code.Document.Document}) c.deref-other-items.ensures.value) in
-    record { added = all_documents c.args.rule (draft_of c.args.draft) first given_of document_of items c.loop-i.i c.args.gathered.now c.loop-i.gathered done c.loop-i.invariant }
+    record {
+      added = all_documents c.args.rule (draft_of c.args.draft) first given_of document_of items c.loop-i.i c.args.gathered.now
+          c.loop-i.gathered done c.loop-i.invariant;
+    }

@@ -13,5 +13,9 @@ decreases-visit_below l = depth (view l.schema.now)
 
 abbrev pub invariant-loop-found : goal.invariant-loop-found
 invariant-loop-found l = (l.way.items ≡ l.initial.way.items) × ((n : ℕ) → depth (view l.schema) ≤ n
-    → map visited_of l.visited.items ++ flat_map (from l.rule l.everywhere n (l.path ++ flat_map path_of l.initial.way.items) l.base (draft_of l.draft)) (map found_of (drop l.found-index l.found-items))
-    ≡ map visited_of l.initial.visited.items ++ flat_map (from l.rule l.everywhere n (l.path ++ flat_map path_of l.initial.way.items) l.base (draft_of l.draft)) (map found_of l.found-items))
+    → map visited_of l.visited.items
+    ++ flat_map (from l.aim.rule l.aim.everywhere n (l.path ++ flat_map path_of l.initial.way.items) l.base (draft_of l.draft))
+    (map found_of (drop l.found-index l.found-items))
+    ≡ map visited_of l.initial.visited.items
+    ++ flat_map (from l.aim.rule l.aim.everywhere n (l.path ++ flat_map path_of l.initial.way.items) l.base (draft_of l.draft))
+    (map found_of l.found-items))

@@ -1,4 +1,4 @@
-use Rattle.std.proofs.Common.{◌≡◌, ◌∙◌, ◌++◌, List, ap, append-nil, arith, map, suc}
+use Rattle.std.proofs.Common.{◌∙◌, ◌++◌, List, ap, append-nil, arith, map, suc}
 use Rattle.std.specs.Prelude.{flat_map}
 use Rattle.std.specs.List.{filter}
 use Rattle.serde_json.specs.Data.{depth}
@@ -7,7 +7,7 @@ use Rattle.schema_definitions.specs.Instance.{Place}
 use Rattle.schema_keywords.specs.KeywordViews.{draft_of}
 use Rattle.bench_subschemas.specs.FoundViews.{path_of}
 use Rattle.bench_subschemas.specs.declared.subschemas.FoundSchema.{FoundSchema}
-use Rattle.bench_resolver.specs.BenchResources.{visited_below, walked}
+use Rattle.bench_resolver.specs.BenchResources.{visited_below}
 use Rattle.bench_resolver.specs.BenchSpeaking.{speaking}
 use Rattle.bench_resolver.specs.BenchViews.{visited_of}
 use Rattle.bench_resolver.specs.declared.resolver.walk.Visited as code
@@ -18,9 +18,11 @@ returns c =
     let schema = view c.args.schema.now in
     let draft = draft_of c.args.draft in
     let path = c.args.path.now in
-    let kept = λ (p : Place). filter (speaking c.args.rule c.args.everywhere) (visited_below c.args.rule c.args.everywhere (suc (depth schema)) p c.args.base.now draft schema) in
+    let kept = λ (p : Place). filter (speaking c.args.rule c.args.everywhere)
+    (visited_below c.args.rule c.args.everywhere (suc (depth schema)) p c.args.base.now draft schema) in
     record {
       walked = c.in_ok-visit_below.ensures.visited (suc (depth schema)) (omega arith)
-          ∙ ap (λ (vs : List code.Visited). map visited_of vs ++ kept (path ++ flat_map path_of c.new-way.result.items)) c.new-visited.ensures.items
+          ∙ ap (λ (vs : List code.Visited). map visited_of vs ++ kept (path ++ flat_map path_of c.new-way.result.items))
+          c.new-visited.ensures.items
           ∙ ap (λ (ws : List FoundSchema). kept (path ++ flat_map path_of ws)) c.new-way.ensures.items ∙ ap kept (append-nil path);
     }

@@ -16,7 +16,8 @@ returns-in-Some c =
     let later : n ≡ suc (n - 1) = omega arith in
     let there = ap (λ (xs : List Document). slice_get (first ∷ map document_of (map given_of xs)) n) (sym c.deref.ensures.value)
     ∙ read_other given_of document_of first c.deref.result.now n (n - 1) c.get.result later c.get.ensures.lookup
-    ∙ ap (λ (o : Option (Bor Document)). option_map document_of (option_map given_of (option_map (λ (x : Bor Document). x.now) o))) c.in-Some.is in
+    ∙ ap (λ (o : Option (Bor Document)). option_map document_of (option_map given_of (option_map (λ (x : Bor Document). x.now) o)))
+    c.in-Some.is in
     record { uri = ap (λ t. Some t) c.as_str-in-Some.ensures.value ∙ sym (ap (option_map (λ (d : spec.Document). d.uri)) there) }
 
 pub returns-in-None : goal.returns-in-None
@@ -27,5 +28,6 @@ returns-in-None c =
     let later : n ≡ suc (n - 1) = omega arith in
     let there = ap (λ (xs : List Document). slice_get (first ∷ map document_of (map given_of xs)) n) (sym c.deref.ensures.value)
     ∙ read_other given_of document_of first c.deref.result.now n (n - 1) c.get.result later c.get.ensures.lookup
-    ∙ ap (λ (o : Option (Bor Document)). option_map document_of (option_map given_of (option_map (λ (x : Bor Document). x.now) o))) c.in-None.is in
+    ∙ ap (λ (o : Option (Bor Document)). option_map document_of (option_map given_of (option_map (λ (x : Bor Document). x.now) o)))
+    c.in-None.is in
     record { uri = sym (ap (option_map (λ (d : spec.Document). d.uri)) there) }
