@@ -6,7 +6,7 @@ use text_formats::formats::Format;
 type Case = (&'static str, &'static str, bool);
 
 /// The suite's.
-const OF_THE_SUITE: [Case; 111] = [
+const OF_THE_SUITE: [Case; 117] = [
     ("date", "1963-06-19", true),
     ("date", "06/19/1963", false),
     ("date", "2013-350", false),
@@ -31,6 +31,8 @@ const OF_THE_SUITE: [Case; 111] = [
         false,
     ),
     ("hostname", "xn--4gbwdl.xn--wgbh1c", true),
+    ("idn-email", "실례@실례.테스트", true),
+    ("idn-email", "2962", false),
     ("ipv4", "192.168.0.1", true),
     ("ipv4", "127.0.0.0.1", false),
     ("ipv4", "256.256.256.256", false),
@@ -142,9 +144,22 @@ const OF_THE_SUITE: [Case; 111] = [
     ("uri-reference", "abc", true),
     ("uri-reference", "#fragment", true),
     ("uri-reference", "#frag\\ment", false),
+    (
+        "uri-template",
+        "http://example.com/dictionary/{term:1}/{term}",
+        true,
+    ),
+    (
+        "uri-template",
+        "http://example.com/dictionary/{term:1}/{term",
+        false,
+    ),
+    ("uri-template", "http://example.com/dictionary", true),
+    ("uri-template", "dictionary/{term:1}/{term}", true),
 ];
 
-/// Examples of RFC 3339, 5.8 and appendix A, RFC 4291, 2.2, RFC 4122, 3, RFC 3986, 1.1.2, and RFC 5321, 4.1.2 and 4.1.3.
+/// Examples of RFC 3339, section 5.8 and appendix A, RFC 4291, section 2.2, RFC 4122, section 3, RFC 3986, section 1.1.2, and RFC 5321,
+/// sections 4.1.2 and 4.1.3.
 const OF_STANDARDS: [Case; 19] = [
     ("date-time", "1985-04-12T23:20:50.52Z", true),
     ("date-time", "1996-12-19T16:39:57-08:00", true),
@@ -167,6 +182,69 @@ const OF_STANDARDS: [Case; 19] = [
     ("email", "joe.bloggs@[IPv6:::1]", true),
 ];
 
+/// Examples of RFC 6570, sections 1.1, 1.2 and 3.2, and texts on either side of its grammar in section 2; and of that of RFC 6531, section 3.3.
+const OF_TEMPLATES_AND_ADDRESSES: [Case; 55] = [
+    ("uri-template", "http://example.com/~{username}/", true),
+    ("uri-template", "http://example.com/search{?q,lang}", true),
+    (
+        "uri-template",
+        "http://www.example.com/foo{?query,number}",
+        true,
+    ),
+    ("uri-template", "O{empty}X", true),
+    ("uri-template", "up{+path}{var}/here", true),
+    ("uri-template", "X{#hello}", true),
+    ("uri-template", "map?{x,y}", true),
+    ("uri-template", "{#path,x}/here", true),
+    ("uri-template", "X{.x,y}", true),
+    ("uri-template", "{/var:1,var}", true),
+    ("uri-template", "{/list*,path:4}", true),
+    ("uri-template", "{;x,y,empty}", true),
+    ("uri-template", "?fixed=yes{&x}", true),
+    ("uri-template", "{var:30}", true),
+    ("uri-template", "X{.empty_keys*}", true),
+    ("uri-template", "www{.dom*}", true),
+    ("uri-template", "", true),
+    ("uri-template", "%7B{%7e._0.a}~!", true),
+    ("uri-template", "{var:9999}", true),
+    ("uri-template", "{=var}", true),
+    ("uri-template", "{,var}", true),
+    ("uri-template", "{!var}", true),
+    ("uri-template", "{@var}", true),
+    ("uri-template", "{|a,b*}", true),
+    ("uri-template", "é{var}\u{E000}", true),
+    ("uri-template", "{}", false),
+    ("uri-template", "{var", false),
+    ("uri-template", "var}", false),
+    ("uri-template", "{{var}}", false),
+    ("uri-template", "{?}", false),
+    ("uri-template", "{$var}", false),
+    ("uri-template", "{a,}", false),
+    ("uri-template", "{a,,b}", false),
+    ("uri-template", "{a..b}", false),
+    ("uri-template", "{.a.}", false),
+    ("uri-template", "{a b}", false),
+    ("uri-template", "{é}", false),
+    ("uri-template", "{%4}", false),
+    ("uri-template", "{var:0}", false),
+    ("uri-template", "{var:10000}", false),
+    ("uri-template", "{var:}", false),
+    ("uri-template", "{var*:3}", false),
+    ("uri-template", "{var:3*}", false),
+    ("uri-template", "{var**}", false),
+    ("uri-template", "it's", false),
+    ("uri-template", "a|b", false),
+    ("uri-template", "%4g", false),
+    ("uri-template", "\u{85}", false),
+    ("idn-email", "\"a b\"@bücher.example", true),
+    ("idn-email", "é.è@example.com", true),
+    ("idn-email", "@bücher.example", false),
+    ("idn-email", "é@-b.example", false),
+    ("idn-email", "é è@example.com", false),
+    ("email", "é@example.com", false),
+    ("email", "e@bücher.example", false),
+];
+
 /// Whether the case's text is told as the case wants.
 fn is_told(case: &Case) -> bool {
     match Format::named(case.0) {
@@ -182,5 +260,8 @@ fn texts_are_told_as_wanted(rt: HostRuntime) {
     }
     for case in &OF_STANDARDS {
         assert!(rt; is_told(case), "{} of a standard: {}", case.0, case.1);
+    }
+    for case in &OF_TEMPLATES_AND_ADDRESSES {
+        assert!(rt; is_told(case), "{} by its grammar: {}", case.0, case.1);
     }
 }

@@ -1,6 +1,6 @@
 -- The parts of a text, from where it is cut.
-use Rattle.std.proofs.Common.{◌≡◌, ◌∙◌, ◌+◌, ◌==◌, ◌&&◌, ◌<◌, ◌≤◌, Bool, List, [], ◌∷◌, None, Option, Some, ap, arith, false, inl, inr, length, refl, sym, true, ℕ, option_map}
-use Rattle.std.specs.List.{after_first, before_first, list_all, onto_first, position_or_len, slice_split}
+use Rattle.std.proofs.Common.{◌≡◌, ◌∙◌, ◌+◌, ◌==◌, ◌&&◌, ◌<◌, ◌≤◌, Bool, List, [], ◌∷◌, None, Option, Some, ap, arith, false, inl, inr, length, refl, true, ℕ, option_map}
+use Rattle.std.specs.List.{after_first, before_first, list_all, position_or_len}
 use Rattle.std.proofs.lemmas.Bool.{cases_Bool, cases_lt, le-ltb, lt-ltb}
 use Rattle.std.proofs.lemmas.List.Splits.{length-slice_split, slice_split_first}
 use Rattle.text_formats.specs.Addresses.{groups, is_group, last_groups}

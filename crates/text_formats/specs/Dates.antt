@@ -1,4 +1,4 @@
--- Dates and times of day, as `full-date`, `full-time` and `date-time` have them. (RFC 3339, 5.6, 5.7 and appendix C)
+-- Dates and times of day, as `full-date`, `full-time` and `date-time` have them. (RFC 3339, sections 5.6 and 5.7 and appendix C)
 use Rattle.std.specs.Prelude.{Bool, None, Option, Some, [], codes, drop, false, if◌then◌else◌, nat_le, not, take, ◌%◌, ◌&&◌, ◌*◌, ◌+◌, ◌-◌, ◌==◌, ◌||◌, ◌∷◌, ℕ}
 use Rattle.text_formats.specs.Characters.{Text, fits, four, two}
 use Rattle.text_formats.specs.Cutting.{after_digits, is_empty}
@@ -7,7 +7,7 @@ use Rattle.text_formats.specs.Cutting.{after_digits, is_empty}
 abbrev pub is_leap_year : ℕ → Bool
 is_leap_year y = (y % 4 == 0) && (not (y % 100 == 0) || (y % 400 == 0))
 
--- how many days a month of a year has (RFC 3339, 5.7)
+-- how many days a month of a year has (RFC 3339, section 5.7)
 abbrev pub days_in : ℕ → ℕ → ℕ
 days_in y m =
     if m == 2 then (if is_leap_year y then 29 else 28)
@@ -47,7 +47,7 @@ abbrev pub offset_after : Option Text → Option ℕ
 offset_after None = None
 offset_after (Some t) = offset t
 
--- a second is 0 to 59, and 60 in the last minute of a day of UTC, where leap seconds are (RFC 3339, 5.7 and appendix D)
+-- a second is 0 to 59, and 60 in the last minute of a day of UTC, where leap seconds are (RFC 3339, section 5.7 and appendix D)
 abbrev pub is_second : ℕ → ℕ → Option ℕ → Bool
 is_second second minutes None = false
 is_second second minutes (Some minutes_ahead) =

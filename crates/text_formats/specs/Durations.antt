@@ -1,5 +1,5 @@
 -- Durations. (RFC 3339, appendix A)
-use Rattle.std.specs.Prelude.{Bool, None, Option, Some, [], false, if◌then◌else◌, option_and_then, ◌&&◌, ◌==◌, ◌||◌, ◌∷◌, ℕ}
+use Rattle.std.specs.Prelude.{Bool, None, Option, Some, [], false, option_and_then, ◌&&◌, ◌==◌, ◌||◌, ◌∷◌, ℕ}
 use Rattle.text_formats.specs.Characters.{Text}
 use Rattle.text_formats.specs.Cutting.{after, after_digits, is_empty}
 

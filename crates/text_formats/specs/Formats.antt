@@ -1,17 +1,18 @@
--- The formats that are checked by their grammar, each with its name and its texts. (Validation 2020-12, 7.3)
+-- The formats that are checked by their grammar, each with its name and its texts. (JSON Schema Validation, draft 2020-12, section 7.3)
 use Rattle.std.specs.Prelude.{Bool, None, Option, Some, bytes_eq, codes, if◌then◌else◌}
 use Rattle.text_formats.specs.Addresses.{is_ipv4, is_ipv6}
 use Rattle.text_formats.specs.Characters.{Text}
 use Rattle.text_formats.specs.Dates.{is_date, is_date_time, is_time}
 use Rattle.text_formats.specs.Durations.{is_duration}
-use Rattle.text_formats.specs.Emails.{is_email}
+use Rattle.text_formats.specs.Emails.{is_email, is_idn_email}
 use Rattle.text_formats.specs.Hostnames.{is_hostname}
 use Rattle.text_formats.specs.Iris.{is_iri, is_iri_reference}
 use Rattle.text_formats.specs.Pointers.{is_pointer, is_relative_pointer}
+use Rattle.text_formats.specs.Templates.{is_template}
 use Rattle.text_formats.specs.Uris.{is_uri, is_uri_reference}
 use Rattle.text_formats.specs.Uuids.{is_uuid}
 use Rattle.text_formats.specs.declared.formats.Format.{Format}
-use Rattle.text_formats.specs.declared.formats.Format.TheVariants.{Date, DateTime, Duration, Email, Hostname, Ipv4, Ipv6, Iri, IriReference, JsonPointer, RelativeJsonPointer, Time, Uri, UriReference, Uuid}
+use Rattle.text_formats.specs.declared.formats.Format.TheVariants.{Date, DateTime, Duration, Email, Hostname, IdnEmail, Ipv4, Ipv6, Iri, IriReference, JsonPointer, RelativeJsonPointer, Time, Uri, UriReference, UriTemplate, Uuid}
 
 abbrev pub accepts : Format → Text → Bool
 accepts Date t = is_date t
@@ -19,6 +20,7 @@ accepts DateTime t = is_date_time t
 accepts Duration t = is_duration t
 accepts Email t = is_email t
 accepts Hostname t = is_hostname t
+accepts IdnEmail t = is_idn_email t
 accepts Ipv4 t = is_ipv4 t
 accepts Ipv6 t = is_ipv6 t
 accepts Iri t = is_iri t
@@ -28,6 +30,7 @@ accepts RelativeJsonPointer t = is_relative_pointer t
 accepts Time t = is_time t
 accepts Uri t = is_uri t
 accepts UriReference t = is_uri_reference t
+accepts UriTemplate t = is_template t
 accepts Uuid t = is_uuid t
 
 abbrev pub name_of : Format → Text
@@ -36,6 +39,7 @@ name_of DateTime = codes "date-time"
 name_of Duration = codes "duration"
 name_of Email = codes "email"
 name_of Hostname = codes "hostname"
+name_of IdnEmail = codes "idn-email"
 name_of Ipv4 = codes "ipv4"
 name_of Ipv6 = codes "ipv6"
 name_of Iri = codes "iri"
@@ -45,6 +49,7 @@ name_of RelativeJsonPointer = codes "relative-json-pointer"
 name_of Time = codes "time"
 name_of Uri = codes "uri"
 name_of UriReference = codes "uri-reference"
+name_of UriTemplate = codes "uri-template"
 name_of Uuid = codes "uuid"
 
 -- the format of a name, if there is one
@@ -59,6 +64,7 @@ abbrev pub reference_named : Text → Option Format
 reference_named name =
     if bytes_eq name (codes "uri") then Some Uri
     else if bytes_eq name (codes "uri-reference") then Some UriReference
+    else if bytes_eq name (codes "uri-template") then Some UriTemplate
     else if bytes_eq name (codes "iri") then Some Iri
     else if bytes_eq name (codes "iri-reference") then Some IriReference
     else pointer_named name
@@ -66,6 +72,7 @@ reference_named name =
 abbrev pub host_named : Text → Option Format
 host_named name =
     if bytes_eq name (codes "email") then Some Email
+    else if bytes_eq name (codes "idn-email") then Some IdnEmail
     else if bytes_eq name (codes "hostname") then Some Hostname
     else if bytes_eq name (codes "ipv4") then Some Ipv4
     else if bytes_eq name (codes "ipv6") then Some Ipv6

@@ -1,4 +1,4 @@
--- Internationalized resource identifiers and references to them: as URIs, with characters outside ASCII. (RFC 3987, 2.2)
+-- Internationalized resource identifiers and references to them: as URIs, with characters outside ASCII. (RFC 3987, section 2.2)
 use Rattle.std.specs.Prelude.{Bool, None, Option, Some, is_some, nat_le, true, ◌%◌, ◌&&◌, ◌||◌, ℕ}
 use Rattle.std.specs.List.{list_all}
 use Rattle.std.specs.Str.{chars}

@@ -9,5 +9,6 @@ pub mod Hostnames
 pub mod Iris
 pub mod Parts
 pub mod Pointers
+pub mod Templates
 pub mod Uris
 pub mod Uuids

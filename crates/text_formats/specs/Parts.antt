@@ -4,10 +4,12 @@ use Rattle.text_formats.specs.Addresses.{is_octet}
 use Rattle.text_formats.specs.Characters.{Text}
 use Rattle.text_formats.specs.Emails.{is_atom}
 use Rattle.text_formats.specs.Hostnames.{is_label}
+use Rattle.text_formats.specs.Templates.{is_variable}
 use Rattle.text_formats.specs.declared.parts.Part.{Part}
-use Rattle.text_formats.specs.declared.parts.Part.TheVariants.{Atom, Label, Octet}
+use Rattle.text_formats.specs.declared.parts.Part.TheVariants.{Atom, Label, Octet, Variable}
 
 abbrev pub is_part : Part → Text → Bool
-is_part Atom t = is_atom t
-is_part Label t = is_label t
+is_part (Atom wide) t = is_atom wide t
+is_part (Label wide) t = is_label wide t
 is_part Octet t = is_octet t
+is_part Variable t = is_variable t

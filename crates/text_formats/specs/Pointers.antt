@@ -1,5 +1,6 @@
--- Pointers into JSON values. (RFC 6901, 3; the draft "Relative JSON Pointers" of draft 7, section 3)
-use Rattle.std.specs.Prelude.{Bool, None, Option, Some, [], false, if◌then◌else◌, true, ◌&&◌, ◌==◌, ◌||◌, ◌∷◌}
+-- Pointers into JSON values. (RFC 6901, section 3; for relative ones the Internet-Draft on relative JSON pointers, section 3, in the state
+-- that draft 7 cites)
+use Rattle.std.specs.Prelude.{Bool, [], false, if◌then◌else◌, true, ◌&&◌, ◌==◌, ◌||◌, ◌∷◌}
 use Rattle.text_formats.specs.Characters.{Text, is_digit}
 use Rattle.text_formats.specs.Cutting.{is_empty, past_digits}
 

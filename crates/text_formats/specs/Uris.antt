@@ -1,14 +1,14 @@
 -- Uniform resource identifiers and references to them: URI, URI-reference. Their components are those of `uri_references`; each is made
--- of characters of a class of its own and of octets after `%`. (RFC 3986, 2.1 to 2.3, 3 and 4.1) Where `wide` is true, characters outside
--- ASCII may stand too (RFC 3987, 2.2).
+-- of characters of a class of its own and of octets after `%`. (RFC 3986, sections 2.1 to 2.3, 3 and 4.1) Where `wide` is true, characters
+-- outside ASCII may stand too. (RFC 3987, section 2.2)
 use Rattle.std.specs.Prelude.{Bool, None, Option, Some, [], codes, false, if◌then◌else◌, is_some, nat_le, not, true, ◌&&◌, ◌==◌, ◌||◌, ◌∷◌, ℕ}
 use Rattle.std.specs.List.{list_all, list_any}
 use Rattle.uri_references.specs.Components.{Components, components}
 use Rattle.text_formats.specs.Addresses.{is_ipv6}
-use Rattle.text_formats.specs.Characters.{Text, is_digit, is_hex_digit, is_letter}
+use Rattle.text_formats.specs.Characters.{Text, is_between, is_digit, is_hex_digit, is_letter}
 use Rattle.text_formats.specs.Cutting.{cut, is_empty}
 use Rattle.text_formats.specs.declared.uris.Class.{Class}
-use Rattle.text_formats.specs.declared.uris.Class.TheVariants.{Fragment, Name, Path, User}
+use Rattle.text_formats.specs.declared.uris.Class.TheVariants.{Fragment, Literal, Name, Path, User, Variable}
 
 -- unreserved = ALPHA / DIGIT / "-" / "." / "_" / "~"
 abbrev pub is_unreserved : ℕ → Bool
@@ -17,22 +17,40 @@ is_unreserved c = is_letter c || is_digit c || list_any (λ m. m == c) (codes "-
 abbrev pub is_sub_delim : ℕ → Bool
 is_sub_delim c = list_any (λ m. m == c) (codes "!$&'()*+,;=")
 
--- the marks that a class has beside these: pchar has ":" and "@", a path "/", a query and a fragment "/" and "?"
-abbrev pub has_mark : Class → ℕ → Bool
-has_mark Name c = false
-has_mark User c = c == 58
-has_mark Path c = list_any (λ m. m == c) (codes ":@/")
-has_mark Fragment c = list_any (λ m. m == c) (codes ":@/?")
+-- what each component may have
+abbrev pub is_common : ℕ → Bool
+is_common c = is_unreserved c || is_sub_delim c
+
+-- a character of a template that stands for itself, in ASCII (RFC 6570, section 2.1)
+abbrev pub is_literal : ℕ → Bool
+is_literal c =
+    (c == 0x21) || is_between 0x23 0x24 c || (c == 0x26) || is_between 0x28 0x3B c || (c == 0x3D) || is_between 0x3F 0x5B c
+    || (c == 0x5D) || (c == 0x5F) || is_between 0x61 0x7A c || (c == 0x7E)
+
+-- a character of a variable's name, octets after `%` aside; and the dot between two (RFC 6570, section 2.3)
+abbrev pub is_of_variable : ℕ → Bool
+is_of_variable c = is_letter c || is_digit c || (c == 95) || (c == 46)
+
+-- a class in ASCII: of what components have beside the common, pchar has ":" and "@", a path "/", a query and a fragment "/" and "?"
+abbrev pub is_ascii_of : Class → ℕ → Bool
+is_ascii_of Name c = is_common c
+is_ascii_of User c = is_common c || (c == 58)
+is_ascii_of Path c = is_common c || list_any (λ m. m == c) (codes ":@/")
+is_ascii_of Fragment c = is_common c || list_any (λ m. m == c) (codes ":@/?")
+is_ascii_of Literal c = is_literal c
+is_ascii_of Variable c = is_of_variable c
 
 abbrev pub is_of : Bool → Class → ℕ → Bool
-is_of wide k c = is_unreserved c || is_sub_delim c || has_mark k c || (wide && nat_le 128 c)
+is_of wide k c = is_ascii_of k c || (wide && nat_le 128 c)
 
 -- *( a character of the class / pct-encoded ), where pct-encoded = "%" HEXDIG HEXDIG
 abbrev pub is_made : Bool → Class → Text → Bool
 is_made wide k [] = true
 is_made wide k (c ∷ []) = is_of wide k c
 is_made wide k (c ∷ d ∷ []) = is_of wide k c && is_of wide k d
-is_made wide k (c ∷ d ∷ e ∷ cs) = if c == 37 then is_hex_digit d && is_hex_digit e && is_made wide k cs else is_of wide k c && is_made wide k (d ∷ e ∷ cs)
+is_made wide k (c ∷ d ∷ e ∷ cs) =
+    if c == 37 then is_hex_digit d && is_hex_digit e && is_made wide k cs
+    else is_of wide k c && is_made wide k (d ∷ e ∷ cs)
 
 -- scheme = ALPHA *( ALPHA / DIGIT / "+" / "-" / "." )
 abbrev pub is_scheme_character : ℕ → Bool
@@ -99,7 +117,7 @@ abbrev pub begins_with_colon : Text → Bool
 begins_with_colon [] = false
 begins_with_colon (c ∷ cs) = c == 58
 
--- a path that comes first has no colon in its first segment (4.2, path-noscheme); one further on would end a scheme
+-- a path that comes first has no colon in its first segment (RFC 3986, section 4.2); one further on would end a scheme
 abbrev pub path_fits : Bool → Components → Bool
 path_fits wide c = is_made wide Path c.path && (is_some c.scheme || is_some c.authority || not (begins_with_colon c.path))
 

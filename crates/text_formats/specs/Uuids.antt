@@ -1,4 +1,4 @@
--- Universally unique identifiers: 32 hex digits in five groups. (RFC 4122, 3)
+-- Universally unique identifiers: 32 hex digits in five groups. (RFC 4122, section 3)
 use Rattle.std.specs.Prelude.{Bool, codes}
 use Rattle.text_formats.specs.Characters.{Text, fits}
 

@@ -1,4 +1,4 @@
-//! Addresses of the Internet Protocol. (RFC 3986, 3.2.2; RFC 4291, 2.2)
+//! Addresses of the Internet Protocol. (RFC 3986, section 3.2.2; RFC 4291, section 2.2)
 ghost use Rattle.std.specs.Prelude.{◌≡◌, ◌≤◌, ◌+◌, IfSome, length, ◌<◌, ◌^◌};
 ghost use Rattle.text_formats.specs.Addresses as spec;
 ghost use Rattle.text_formats.specs.Cutting.{parts};

@@ -1,4 +1,4 @@
-//! Dates and times of day. (RFC 3339, 5.6)
+//! Dates and times of day. (RFC 3339, section 5.6)
 ghost use Rattle.std.specs.Prelude.{◌≡◌, ◌≤◌, ◌<◌, IfSome, option_map};
 ghost use Rattle.text_formats.specs.Dates as spec;
 

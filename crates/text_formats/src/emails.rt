@@ -1,4 +1,5 @@
-//! Addresses of electronic mail. (RFC 5321, 4.1.2)
+//! Addresses of electronic mail. (RFC 5321, section 4.1.2; RFC 6531, section 3.3) Where `wide` is true, they are internationalized ones,
+//! with characters outside ASCII.
 ghost use Rattle.std.specs.Prelude.{◌≡◌, option_map};
 ghost use Rattle.std.specs.List.{list_all};
 ghost use Rattle.text_formats.specs.Cutting as Cutting;
@@ -9,65 +10,68 @@ use crate::characters::{is_digit, is_letter};
 use crate::cutting::{after, cut, split};
 use crate::parts::Part;
 
-fn is_atom_character(byte: u8) -> bool
-    ensures atom { result ≡ spec.is_atom_character byte }
+fn is_atom_character(wide: bool, byte: u8) -> bool
+    ensures atom { result ≡ spec.is_atom_character wide byte }
 {
-    is_letter(byte) || is_digit(byte) || b"!#$%&'*+-/=?^_`{|}~".contains(&byte)
+    is_letter(byte)
+        || is_digit(byte)
+        || b"!#$%&'*+-/=?^_`{|}~".contains(&byte)
+        || wide && 128 <= byte
 }
 
-fn are_atom_characters(text: &[u8]) -> bool
-    ensures atom { result ≡ list_all spec.is_atom_character text.now }
+fn are_atom_characters(wide: bool, text: &[u8]) -> bool
+    ensures atom { result ≡ list_all (spec.is_atom_character wide) text.now }
 {
-    text.iter().all(|byte| is_atom_character(*byte))
+    text.iter().all(|byte| is_atom_character(wide, *byte))
 }
 
 // Whether a text is an atom: one character at least, and no space, quotation mark or other mark that has a sense of its own.
-pub(crate) fn is_atom(text: &[u8]) -> bool
-    ensures atom { result ≡ spec.is_atom text.now }
+pub(crate) fn is_atom(wide: bool, text: &[u8]) -> bool
+    ensures atom { result ≡ spec.is_atom wide text.now }
 {
-    !text.is_empty() && are_atom_characters(text)
+    !text.is_empty() && are_atom_characters(wide, text)
 }
 
-fn is_quoted_character(byte: u8) -> bool
-    ensures quoted { result ≡ spec.is_quoted_character byte }
+fn is_quoted_character(wide: bool, byte: u8) -> bool
+    ensures quoted { result ≡ spec.is_quoted_character wide byte }
 {
-    matches!(byte, 32..=33 | 35..=91 | 93..=126)
+    matches!(byte, 32..=33 | 35..=91 | 93..=126) || wide && 128 <= byte
 }
 
 // What follows the quotation mark that closes a text.
-fn after_quoted(text: &[u8]) -> Option<&[u8]>
-    ensures after { option_map (λ t. t.now) result ≡ spec.after_quoted text.now }
+fn after_quoted(wide: bool, text: &[u8]) -> Option<&[u8]>
+    ensures after { option_map (λ t. t.now) result ≡ spec.after_quoted wide text.now }
 {
     let mut rest = text;
     loop {
         match rest {
             [b'"', left @ ..] => return Some(left),
             [b'\\', 32..=126, left @ ..] => rest = left,
-            [first, left @ ..] if is_quoted_character(*first) => rest = left,
+            [first, left @ ..] if is_quoted_character(wide, *first) => rest = left,
             _ => return None,
         }
     }
 }
 
-fn after_dot_string(text: &[u8]) -> Option<&[u8]>
-    ensures after { option_map (λ t. t.now) result ≡ spec.after_dot_string (Cutting.cut 64 text.now) }
+fn after_dot_string(wide: bool, text: &[u8]) -> Option<&[u8]>
+    ensures after { option_map (λ t. t.now) result ≡ spec.after_dot_string wide (Cutting.cut 64 text.now) }
 {
     match cut(text, b'@') {
-        Some((front, back)) if Part::Atom.is_each(front, b'.') => Some(back),
+        Some((front, back)) if Part::Atom(wide).is_each(front, b'.') => Some(back),
         _ => None,
     }
 }
 
 // What follows a local part and `@`.
-fn after_local_part(text: &[u8]) -> Option<&[u8]>
-    ensures after { option_map (λ t. t.now) result ≡ spec.after_local_part text.now }
+fn after_local_part(wide: bool, text: &[u8]) -> Option<&[u8]>
+    ensures after { option_map (λ t. t.now) result ≡ spec.after_local_part wide text.now }
 {
     match text {
-        [b'"', rest @ ..] => match after_quoted(rest) {
+        [b'"', rest @ ..] => match after_quoted(wide, rest) {
             Some(left) => after(left, b'@'),
             None => None,
         },
-        _ => after_dot_string(text),
+        _ => after_dot_string(wide, text),
     }
 }
 
@@ -87,13 +91,24 @@ fn is_literal_before_bracket(text: &[u8]) -> bool
     }
 }
 
-fn is_domain(text: &[u8]) -> bool
-    ensures domain { result ≡ spec.is_domain text.now }
+fn is_domain(wide: bool, text: &[u8]) -> bool
+    ensures domain { result ≡ spec.is_domain wide text.now }
 {
     match text {
         [] => false,
         [b'[', literal @ ..] => is_literal_before_bracket(literal),
-        _ => Part::Label.is_each(text, b'.'),
+        _ => Part::Label(wide).is_each(text, b'.'),
+    }
+}
+
+fn is_mailbox(wide: bool, text: &[u8]) -> bool
+    ensures mailbox { result ≡ spec.is_mailbox wide text.now }
+{
+    match after_local_part(wide, text) {
+        Some(domain) => text.len().saturating_sub(domain.len()) <= 65
+            && domain.len() <= 255
+            && is_domain(wide, domain),
+        None => false,
     }
 }
 
@@ -101,11 +116,12 @@ fn is_domain(text: &[u8]) -> bool
 pub fn is_email(text: &str) -> bool
     ensures email { result ≡ spec.is_email text.now }
 {
-    let bytes = text.as_bytes();
-    match after_local_part(bytes) {
-        Some(domain) => bytes.len().saturating_sub(domain.len()) <= 65
-            && domain.len() <= 255
-            && is_domain(domain),
-        None => false,
-    }
+    is_mailbox(false, text.as_bytes())
+}
+
+/// Whether a text is an internationalized address of electronic mail, as `실례@실례.테스트`.
+pub fn is_idn_email(text: &str) -> bool
+    ensures email { result ≡ spec.is_idn_email text.now }
+{
+    is_mailbox(true, text.as_bytes())
 }

@@ -5,10 +5,11 @@ ghost use Rattle.text_formats.specs.Formats as spec;
 use crate::addresses::{is_ipv4, is_ipv6};
 use crate::dates::{is_date, is_date_time, is_time};
 use crate::durations::is_duration;
-use crate::emails::is_email;
+use crate::emails::{is_email, is_idn_email};
 use crate::hostnames::is_hostname;
 use crate::iris::{is_iri, is_iri_reference};
 use crate::pointers::{is_json_pointer, is_relative_json_pointer};
+use crate::templates::is_uri_template;
 use crate::uris::{is_uri, is_uri_reference};
 use crate::uuids::is_uuid;
 
@@ -20,6 +21,7 @@ pub enum Format {
     Duration,
     Email,
     Hostname,
+    IdnEmail,
     Ipv4,
     Ipv6,
     Iri,
@@ -29,6 +31,7 @@ pub enum Format {
     Time,
     Uri,
     UriReference,
+    UriTemplate,
     Uuid,
 }
 
@@ -60,6 +63,7 @@ impl Format {
             Format::Duration => "duration",
             Format::Email => "email",
             Format::Hostname => "hostname",
+            Format::IdnEmail => "idn-email",
             Format::Ipv4 => "ipv4",
             Format::Ipv6 => "ipv6",
             Format::Iri => "iri",
@@ -69,6 +73,7 @@ impl Format {
             Format::Time => "time",
             Format::Uri => "uri",
             Format::UriReference => "uri-reference",
+            Format::UriTemplate => "uri-template",
             Format::Uuid => "uuid",
         }
     }
@@ -83,6 +88,7 @@ impl Format {
             Format::Duration => is_duration(text),
             Format::Email => is_email(text),
             Format::Hostname => is_hostname(text),
+            Format::IdnEmail => is_idn_email(text),
             Format::Ipv4 => is_ipv4(text),
             Format::Ipv6 => is_ipv6(text),
             Format::Iri => is_iri(text),
@@ -92,6 +98,7 @@ impl Format {
             Format::Time => is_time(text),
             Format::Uri => is_uri(text),
             Format::UriReference => is_uri_reference(text),
+            Format::UriTemplate => is_uri_template(text),
             Format::Uuid => is_uuid(text),
         }
     }
@@ -102,6 +109,8 @@ fn host_named(name: &str) -> Option<Format>
 {
     if name == "email" {
         Some(Format::Email)
+    } else if name == "idn-email" {
+        Some(Format::IdnEmail)
     } else if name == "hostname" {
         Some(Format::Hostname)
     } else if name == "ipv4" {
@@ -120,6 +129,8 @@ fn reference_named(name: &str) -> Option<Format>
         Some(Format::Uri)
     } else if name == "uri-reference" {
         Some(Format::UriReference)
+    } else if name == "uri-template" {
+        Some(Format::UriTemplate)
     } else if name == "iri" {
         Some(Format::Iri)
     } else if name == "iri-reference" {

@@ -1,30 +1,42 @@
-//! Names of hosts. (RFC 1123, 2.1)
-ghost use Rattle.std.specs.Prelude.{◌≡◌};
-ghost use Rattle.std.specs.List.{list_all};
+//! Names of hosts. (RFC 1123, section 2.1)
+ghost use Rattle.std.specs.Prelude.{◌≡◌, nat_le};
+ghost use Rattle.std.specs.List.{list_all, list_any};
 ghost use Rattle.text_formats.specs.Hostnames as spec;
 
 use crate::characters::{is_digit, is_letter};
 use crate::parts::Part;
 
-fn is_label_character(byte: u8) -> bool
-    ensures label { result ≡ spec.is_label_character byte }
+fn is_label_character(wide: bool, byte: u8) -> bool
+    ensures label { result ≡ spec.is_label_character wide byte }
 {
-    is_letter(byte) || is_digit(byte) || byte == b'-'
+    is_letter(byte) || is_digit(byte) || byte == b'-' || wide && 128 <= byte
 }
 
-fn are_label_characters(text: &[u8]) -> bool
-    ensures label { result ≡ list_all spec.is_label_character text.now }
+fn are_label_characters(wide: bool, text: &[u8]) -> bool
+    ensures label { result ≡ list_all (spec.is_label_character wide) text.now }
 {
-    text.iter().all(|byte| is_label_character(*byte))
+    text.iter().all(|byte| is_label_character(wide, *byte))
 }
 
-// Whether a text is a label: letters, digits and hyphens, with no hyphen at its ends.
-pub(crate) fn is_label(text: &[u8]) -> bool
-    ensures label { result ≡ spec.is_label text.now }
+fn has_wide(text: &[u8]) -> bool
+    ensures wide { result ≡ list_any (λ c. nat_le 128 c) text.now }
+{
+    text.iter().any(|byte| 128 <= *byte)
+}
+
+fn is_short_label(text: &[u8]) -> bool
+    ensures short { result ≡ spec.is_short_label text.now }
+{
+    text.len() <= 63 || has_wide(text)
+}
+
+// Whether a text is a label: letters, digits and hyphens, with no hyphen at its ends; where `wide` is true, characters outside ASCII too.
+pub(crate) fn is_label(wide: bool, text: &[u8]) -> bool
+    ensures label { result ≡ spec.is_label wide text.now }
 {
     1 <= text.len()
-        && text.len() <= 63
-        && are_label_characters(text)
+        && is_short_label(text)
+        && are_label_characters(wide, text)
         && text[0] != b'-'
         && text[text.len() - 1] != b'-'
 }
@@ -33,5 +45,5 @@ pub(crate) fn is_label(text: &[u8]) -> bool
 pub fn is_hostname(text: &str) -> bool
     ensures hostname { result ≡ spec.is_hostname text.now }
 {
-    text.len() <= 253 && Part::Label.is_each(text.as_bytes(), b'.')
+    text.len() <= 253 && Part::Label(false).is_each(text.as_bytes(), b'.')
 }

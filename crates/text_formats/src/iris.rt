@@ -44,7 +44,7 @@ fn are_universal_or_ascii(text: &str) -> bool
         .all(|character| is_universal_or_ascii(u32::from(character)))
 }
 
-fn are_of_query(text: &str) -> bool
+pub(crate) fn are_of_query(text: &str) -> bool
     ensures query { result ≡ list_all spec.is_of_query (chars text.now) }
 {
     text.chars()

@@ -13,5 +13,6 @@ pub mod hostnames;
 pub mod iris;
 pub mod parts;
 pub mod pointers;
+pub mod templates;
 pub mod uris;
 pub mod uuids;

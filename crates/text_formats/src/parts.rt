@@ -8,13 +8,16 @@ use crate::addresses::is_octet;
 use crate::cutting::cut;
 use crate::emails::is_atom;
 use crate::hostnames::is_label;
+use crate::templates::is_variable;
 
-// What each part may be: an atom of an address of mail, a label of a host's name, a number of an IPv4 address.
+// What each part may be: an atom of an address of mail, a label of a host's name, where true characters outside ASCII are allowed; a number
+// of an IPv4 address; a variable of a template.
 #[derive(Clone, Copy)]
 pub(crate) enum Part {
-    Atom,
-    Label,
+    Atom(bool),
+    Label(bool),
     Octet,
+    Variable,
 }
 
 impl Part {
@@ -22,9 +25,10 @@ impl Part {
         ensures part { result ≡ spec.is_part self text.now }
     {
         match self {
-            Part::Atom => is_atom(text),
-            Part::Label => is_label(text),
+            Part::Atom(wide) => is_atom(wide, text),
+            Part::Label(wide) => is_label(wide, text),
             Part::Octet => is_octet(text),
+            Part::Variable => is_variable(text),
         }
     }
 

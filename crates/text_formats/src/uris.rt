@@ -10,13 +10,16 @@ use crate::characters::{are_digits, are_hex_digits, is_digit, is_hex_digit, is_l
 use crate::cutting::cut;
 use uri_references::components::Components;
 
-// What characters a component may have: a name of a host, what stands before a host, a path, a query or a fragment.
+// What characters a component may have: a name of a host, what stands before a host, a path, a query or a fragment; or the literals
+// of a template, or the names of its variables.
 #[derive(Clone, Copy)]
-enum Class {
+pub(crate) enum Class {
     Name,
     User,
     Path,
     Fragment,
+    Literal,
+    Variable,
 }
 
 fn is_unreserved(byte: u8) -> bool
@@ -31,15 +34,37 @@ fn is_sub_delim(byte: u8) -> bool
     b"!$&'()*+,;=".contains(&byte)
 }
 
+fn is_common(byte: u8) -> bool
+    ensures common { result ≡ spec.is_common byte }
+{
+    is_unreserved(byte) || is_sub_delim(byte)
+}
+
+// Whether a byte stands for itself in a template.
+fn is_literal(byte: u8) -> bool
+    ensures literal { result ≡ spec.is_literal byte }
+{
+    matches!(byte, b'!' | b'#' | b'$' | b'&' | b'('..=b';' | b'=' | b'?'..=b'[' | b']' | b'_')
+        || matches!(byte, b'a'..=b'z' | b'~')
+}
+
+fn is_of_variable(byte: u8) -> bool
+    ensures variable { result ≡ spec.is_of_variable byte }
+{
+    is_letter(byte) || is_digit(byte) || byte == b'_' || byte == b'.'
+}
+
 impl Class {
-    fn has_mark(self, byte: u8) -> bool
-        ensures mark { result ≡ spec.has_mark self byte }
+    fn has_ascii(self, byte: u8) -> bool
+        ensures of { result ≡ spec.is_ascii_of self byte }
     {
         match self {
-            Class::Name => false,
-            Class::User => byte == b':',
-            Class::Path => matches!(byte, b':' | b'@' | b'/'),
-            Class::Fragment => matches!(byte, b':' | b'@' | b'/' | b'?'),
+            Class::Name => is_common(byte),
+            Class::User => is_common(byte) || byte == b':',
+            Class::Path => is_common(byte) || matches!(byte, b':' | b'@' | b'/'),
+            Class::Fragment => is_common(byte) || matches!(byte, b':' | b'@' | b'/' | b'?'),
+            Class::Literal => is_literal(byte),
+            Class::Variable => is_of_variable(byte),
         }
     }
 
@@ -47,11 +72,11 @@ impl Class {
     fn has(self, wide: bool, byte: u8) -> bool
         ensures of { result ≡ spec.is_of wide self byte }
     {
-        is_unreserved(byte) || is_sub_delim(byte) || self.has_mark(byte) || wide && 128 <= byte
+        self.has_ascii(byte) || wide && 128 <= byte
     }
 
     // Whether a text is of characters of the class and of octets after `%`.
-    fn makes(self, wide: bool, text: &[u8]) -> bool
+    pub(crate) fn makes(self, wide: bool, text: &[u8]) -> bool
         ensures made { result ≡ spec.is_made wide self text.now }
     {
         let mut rest = text;

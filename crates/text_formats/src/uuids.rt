@@ -1,4 +1,4 @@
-//! Universally unique identifiers. (RFC 4122, 3)
+//! Universally unique identifiers. (RFC 4122, section 3)
 ghost use Rattle.std.specs.Prelude.{◌≡◌};
 ghost use Rattle.text_formats.specs.Uuids as spec;
 
