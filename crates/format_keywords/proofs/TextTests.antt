@@ -1,5 +1,5 @@
 -- The test for UTF-8 says what the reader of texts says.
-use Rattle.std.proofs.Common.{Bool, List, false, true, ◌≡◌, ℕ}
+use Rattle.std.proofs.Common.{List, false, true, ◌≡◌, ℕ}
 use Rattle.std.specs.Str.{IsUtf8, is_utf8}
 use Rattle.std.proofs.lemmas.Bool.{false_from_ne_true}
 use Rattle.std.proofs.lemmas.Str.{IsUtf8-from_is_utf8, is_utf8-from_IsUtf8}

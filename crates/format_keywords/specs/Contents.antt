@@ -1,5 +1,5 @@
--- What `contentEncoding` and `contentMediaType` assert of a text in drafts 6 and 7: that it is base64, that it is JSON, or that it is JSON in
--- base64. (Draft 7, 8.3 and 8.4; RFC 4648, 4; RFC 8259)
+-- What `contentEncoding` and `contentMediaType` assert of a text in drafts 6 and 7: that it is base64, that it is JSON, or that it is JSON
+-- in base64. (JSON Schema Validation, draft 7, sections 8.3 and 8.4; RFC 4648, section 4; RFC 8259)
 use Rattle.std.specs.Prelude.{Bool, Err, List, Ok, Result, false, is_ok, is_some, ◌&&◌, ℕ}
 use Rattle.std.specs.Str.{is_utf8}
 use Rattle.base64.specs.Engines.{standard}
@@ -8,7 +8,7 @@ use Rattle.base64.specs.declared.decode.DecodeError.{DecodeError}
 use Rattle.serde_json.specs.Read.{read}
 use Rattle.schema_definitions.specs.Instance.{Text}
 
--- the alphabet of RFC 4648, 4, with its padding
+-- the alphabet of RFC 4648, section 4, with its padding
 abbrev pub is_base64 : Text → Bool
 is_base64 t = is_ok (decode_of standard t)
 

@@ -1,9 +1,8 @@
--- What `format` makes, draft by draft, and `contentEncoding` and `contentMediaType` in drafts 6 and 7. Of `format`: where formats are checked, a keyword for a name that the draft has; nothing for another name; a
--- refusal of a value that is no text. Where they are not checked it makes nothing, whatever its value. A media type looks at the encoding
--- beside it, and speaks for both. (Validation 2020-12, 7.2 and 7.3;
--- draft 7, 7.3, 8.3 and 8.4; draft 6, 8.3;
--- draft 4, 7.3)
-use Rattle.std.specs.Prelude.{Bool, List, None, Option, Some, [], bytes_eq, codes, false, if◌then◌else◌, is_none, nat_le, refl, true, ◌&&◌, ◌≡◌, ℕ}
+-- What `format` makes, draft by draft, and `contentEncoding` and `contentMediaType` in drafts 6 and 7. Of `format`: where formats are
+-- checked, a keyword for a name that the draft has; nothing for another name; a refusal of a value that is no text. Where they are not
+-- checked it makes nothing, whatever its value. A media type looks at the encoding beside it, and speaks for both. (JSON Schema Validation:
+-- draft 2020-12, sections 7.2 and 7.3; draft 7, sections 7.3, 8.3 and 8.4; draft 6, section 8.3; draft 4, section 7.3)
+use Rattle.std.specs.Prelude.{Bool, List, None, Option, Some, [], bytes_eq, codes, false, if◌then◌else◌, is_none, nat_le, true, ◌&&◌, ◌≡◌, ℕ}
 use Rattle.serde_json.specs.Data.{Data, Members}
 use Rattle.serde_json.specs.Find.{as_str, get_member}
 use Rattle.schema_definitions.specs.Drafts.{Draft, Vocabularies, draft_2019_09, draft_2020_12, draft_4, draft_6, draft_7, draft_unknown}
@@ -17,7 +16,7 @@ use Rattle.text_formats.specs.Formats.{named}
 use Rattle.text_formats.specs.declared.formats.Format.{Format}
 use Rattle.text_formats.specs.declared.formats.Format.TheVariants as format
 use Rattle.format_keywords.specs.declared.keyword.FormatKeyword.{FormatKeyword}
-use Rattle.format_keywords.specs.declared.keyword.FormatKeyword.TheVariants.{Base64, Json, JsonInBase64, Of, Regex}
+use Rattle.format_keywords.specs.declared.keyword.FormatKeyword.TheVariants.{Base64, IdnHostname, Json, JsonInBase64, Of, Regex}
 
 -- the drafts in their order; one that is not known is as the last
 abbrev pub order : Draft → ℕ
@@ -35,6 +34,7 @@ since format.DateTime = 4
 since format.Duration = 2019
 since format.Email = 4
 since format.Hostname = 4
+since format.IdnEmail = 7
 since format.Ipv4 = 4
 since format.Ipv6 = 4
 since format.Iri = 7
@@ -44,14 +44,22 @@ since format.RelativeJsonPointer = 7
 since format.Time = 4
 since format.Uri = 4
 since format.UriReference = 6
+since format.UriTemplate = 6
 since format.Uuid = 2019
 
 abbrev pub known : Draft → Option Format → Option FormatKeyword
 known draft None = None
 known draft (Some f) = if nat_le (since f) (order draft) then Some (Of f) else None
 
+-- a name of a host that is internationalized is checked from draft 7 on
+abbrev pub idn_hostname_in : Draft → Option FormatKeyword
+idn_hostname_in draft = if nat_le 7 (order draft) then Some IdnHostname else None
+
 abbrev pub keyword_named : Draft → Text → Option FormatKeyword
-keyword_named draft t = if bytes_eq t (codes "regex") then Some Regex else known draft (named t)
+keyword_named draft t =
+    if bytes_eq t (codes "regex") then Some Regex
+    else if bytes_eq t (codes "idn-hostname") then idn_hostname_in draft
+    else known draft (named t)
 
 abbrev pub keyword_if : Option FormatKeyword → MadeHere FormatKeyword
 keyword_if None = here.Nothing

@@ -1,5 +1,5 @@
 -- `format`, `contentEncoding` and `contentMediaType`: of which instances they hold, and what their error says. Each holds of each instance
--- that is no text. (Validation 2020-12, 7.1 to 7.3; draft 7, 8.3 and 8.4)
+-- that is no text. (JSON Schema Validation, draft 2020-12, sections 7.1 to 7.3; draft 7, sections 8.3 and 8.4)
 use Rattle.std.specs.Prelude.{Bool, List, None, Option, Some, codes, true, ◌++◌}
 use Rattle.serde_json.specs.Find.{as_str}
 use Rattle.schema_definitions.specs.Instance.{Subject, Text, a_name, a_value}
@@ -8,13 +8,15 @@ use Rattle.keyword_ways.specs.Ways.{unless}
 use Rattle.regex_matcher.specs.RegexMatching.{is_readable}
 use Rattle.text_formats.specs.Formats.{accepts, name_of}
 use Rattle.format_keywords.specs.declared.keyword.FormatKeyword.{FormatKeyword}
-use Rattle.format_keywords.specs.declared.keyword.FormatKeyword.TheVariants.{Base64, Json, JsonInBase64, Of, Regex}
+use Rattle.format_keywords.specs.declared.keyword.FormatKeyword.TheVariants.{Base64, IdnHostname, Json, JsonInBase64, Of, Regex}
 use Rattle.format_keywords.specs.Contents.{is_base64, is_json, is_json_in_base64}
+use Rattle.format_keywords.specs.IdnHostnames.{is_idn_hostname}
 
 -- whether a text is as the keyword wants
 abbrev pub takes : FormatKeyword → Text → Bool
 takes (Of format) t = accepts format t
 takes Regex t = is_readable t
+takes IdnHostname t = is_idn_hostname t
 takes Base64 t = is_base64 t
 takes Json t = is_json t
 takes JsonInBase64 t = is_json_in_base64 t
@@ -30,6 +32,7 @@ holds k (a_name name) = takes k name
 abbrev pub called : FormatKeyword → Text
 called (Of format) = codes "format"
 called Regex = codes "format"
+called IdnHostname = codes "format"
 called Base64 = codes "contentEncoding"
 called Json = codes "contentMediaType"
 called JsonInBase64 = codes "contentMediaType"
@@ -44,6 +47,7 @@ no_json = codes " is not compliant with \"application/json\" media type"
 abbrev pub complaint : FormatKeyword → Text
 complaint (Of format) = no_format (name_of format)
 complaint Regex = no_format (codes "regex")
+complaint IdnHostname = no_format (codes "idn-hostname")
 complaint Base64 = codes " is not compliant with \"base64\" content encoding"
 complaint Json = no_json
 complaint JsonInBase64 = no_json

@@ -1,4 +1,5 @@
 pub mod Contents
 pub mod FormatMaking
 pub mod FormatWords
+pub mod IdnHostnames
 pub mod Shapes

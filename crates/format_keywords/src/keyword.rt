@@ -5,6 +5,7 @@ ghost use Rattle.schema_reports.specs.InstanceViews.{subject_of};
 ghost use Rattle.format_keywords.specs.FormatWords.{complaint, error_text, holds, no_format, takes};
 
 use crate::contents::{is_base64, is_json, is_json_in_base64};
+use crate::idn_hostnames::is_idn_hostname;
 use keyword_ways::cloning::CloneTelling;
 use keyword_ways::leaves::TellingKeyword;
 use regex_matcher::reading::is_readable;
@@ -20,6 +21,8 @@ pub enum FormatKeyword {
     Of(Format),
     /// `format` with the name `regex`: a pattern that can be read.
     Regex,
+    /// `format` with the name `idn-hostname`: an internationalized name of a host.
+    IdnHostname,
     /// `contentEncoding` that is `base64`.
     Base64,
     /// `contentMediaType` that is `application/json`.
@@ -36,6 +39,7 @@ impl FormatKeyword {
         match self {
             FormatKeyword::Of(format) => push_no_format(text, format.name()),
             FormatKeyword::Regex => push_no_format(text, "regex"),
+            FormatKeyword::IdnHostname => push_no_format(text, "idn-hostname"),
             FormatKeyword::Base64 => {
                 text.push_str(" is not compliant with \"base64\" content encoding")
             }
@@ -55,6 +59,7 @@ impl FormatKeyword {
         match self {
             FormatKeyword::Of(format) => Ok(format.accepts(text)),
             FormatKeyword::Regex => is_readable(alloc, text),
+            FormatKeyword::IdnHostname => is_idn_hostname(alloc, text),
             FormatKeyword::Base64 => is_base64(alloc, text),
             FormatKeyword::Json => is_json(alloc, text),
             FormatKeyword::JsonInBase64 => is_json_in_base64(alloc, text),
@@ -108,6 +113,7 @@ impl TellingKeyword for FormatKeyword {
         match self {
             FormatKeyword::Of(_) => "format",
             FormatKeyword::Regex => "format",
+            FormatKeyword::IdnHostname => "format",
             FormatKeyword::Base64 => "contentEncoding",
             FormatKeyword::Json => "contentMediaType",
             FormatKeyword::JsonInBase64 => "contentMediaType",

@@ -5,7 +5,8 @@ ghost use Rattle.serde_json.specs.View.{members_view, view};
 ghost use Rattle.schema_keywords.specs.KeywordViews.{draft_of};
 ghost use Rattle.keyword_makers.specs.ByObject.{formed};
 ghost use Rattle.format_keywords.specs.FormatMaking.{asserts_contents, contents_made, encoding_made, format_made};
-ghost use Rattle.format_keywords.specs.FormatMaking.{json_beside, json_in, keyword_if, keyword_named, known, media_type_made, order, since};
+ghost use Rattle.format_keywords.specs.FormatMaking.{idn_hostname_in, json_beside, json_in, keyword_if, keyword_named, known};
+ghost use Rattle.format_keywords.specs.FormatMaking.{media_type_made, order, since};
 ghost use Rattle.format_keywords.specs.Shapes.{shape_of};
 
 use crate::keyword::FormatKeyword;
@@ -50,6 +51,7 @@ fn since(format: Format) -> u32
         Format::Duration => 2019,
         Format::Email => 4,
         Format::Hostname => 4,
+        Format::IdnEmail => 7,
         Format::Ipv4 => 4,
         Format::Ipv6 => 4,
         Format::Iri => 7,
@@ -59,6 +61,7 @@ fn since(format: Format) -> u32
         Format::Time => 4,
         Format::Uri => 4,
         Format::UriReference => 6,
+        Format::UriTemplate => 6,
         Format::Uuid => 2019,
     }
 }
@@ -72,12 +75,25 @@ fn known(draft: Draft, format: Option<Format>) -> Option<FormatKeyword>
     }
 }
 
+/// The keyword of `idn-hostname`, if the draft has it.
+fn idn_hostname_in(draft: Draft) -> Option<FormatKeyword>
+    ensures made { result ≡ idn_hostname_in (draft_of draft) }
+{
+    if 7 <= order(draft) {
+        Some(FormatKeyword::IdnHostname)
+    } else {
+        None
+    }
+}
+
 /// The keyword of a name, if the draft has it and it is checked.
 fn keyword_named(draft: Draft, name: &str) -> Option<FormatKeyword>
     ensures named { result ≡ keyword_named (draft_of draft) name.now }
 {
     if name == "regex" {
         Some(FormatKeyword::Regex)
+    } else if name == "idn-hostname" {
+        idn_hostname_in(draft)
     } else {
         known(draft, Format::named(name))
     }
