@@ -12,8 +12,8 @@ use Rattle.schema_parts.specs.declared.matcher.Matcher.{Ghosts as MatcherMembers
 use Rattle.node_table.specs.NodeTable.{numbered}
 use Rattle.schema_validator.specs.Asked.{FirstFromSomeDepth}
 use Rattle.schema_validator.specs.Program.{Program}
-use Rattle.schema_validator.specs.Spoken.{FirstAnswered}
-use Rattle.schema_validator.proofs.Searches.{finishes_of}
+use Rattle.schema_calls.specs.Spoken.{FirstAnswered}
+use Rattle.schema_calls.proofs.Searches.{finishes_of}
 use Rattle.first_errors.specs.FirstErrors.{FirstAlone}
 use Rattle.first_errors.proofs.Told.{first_is_told}
 use Rattle.first_checker.specs.Checks.{Checks, first_by}

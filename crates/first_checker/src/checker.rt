@@ -69,6 +69,25 @@ impl<K: Validate, M: Matcher> Checker<K, M> {
         Some(Checker { validator })
     }
 
+    /// Makes one of a validator that finishes its matches where a matcher does, if this matcher says that it finishes every match, if the
+    /// validator makes runs, and if its keywords show no fraction of the schema. Allocates nothing.
+    pub fn by_matcher<F: TellsFractions<K>>(
+        fractions: &F,
+        matcher: &M,
+        validator: Validator<K, M>,
+    ) -> Option<Checker<K, M>>
+        requires finishes { FinishesEach (M.matching matcher.now) → FinishesEach (M.matching validator.matcher) }
+        ensures is { IfSome result (λ c. c ≡ validator) }
+    {
+        if !matcher.finishes() || validator.run_limit() == 0 {
+            return None;
+        }
+        if validator.root().0 >= validator.nodes().len() {
+            return None;
+        }
+        Checker::of(fractions, validator)
+    }
+
     /// Returns the first error of an instance, or `None` if it is accepted.
     ///
     /// # Errors

@@ -1,1 +1,2 @@
-pub mod DraftChecks
+pub mod MetaDocuments
+pub mod DraftMeanings

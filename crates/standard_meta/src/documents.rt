@@ -1,6 +1,10 @@
 //! The meta-schemas as documents.
-ghost use Rattle.std.specs.Prelude.{◌≡◌, IfOk, map};
+ghost use Rattle.std.specs.Prelude.{◌≡◌, ◌++◌, IfOk, Some, map, slice_get};
+ghost use Rattle.serde_json.specs.Read.{read as read_text};
 ghost use Rattle.serde_json.specs.View.{view};
+ghost use Rattle.schema_keywords.specs.KeywordViews.{draft_of};
+ghost use Rattle.meta_schemas.specs.MetaUris.{uri_of, vocabulary_uris};
+ghost use Rattle.standard_meta.specs.MetaDocuments.{draft_uris, given_of, place_of, uris_of};
 
 use crate::error::MetaError;
 use meta_schemas::{MetaSchema, meta_schema, vocabulary_meta_schemas};
@@ -8,6 +12,7 @@ use regex_matcher::patterns::Patterns;
 use schema_engine::keywords::Draft;
 use serde_json::Value;
 use std::alloc::Global;
+use std::marker::Model;
 
 /// A meta-schema, read, and the URI that it is found under.
 #[derive(Drop)]
@@ -23,17 +28,37 @@ pub struct MetaDocuments {
     patterns: Patterns,
 }
 
+impl Model for MetaDocuments {
+    ghost use Rattle.std.specs.Prelude.{◌≡◌, map};
+    ghost use Rattle.std.specs.Coded.{codes};
+    ghost use Rattle.serde_json.specs.contracts.value.Value as value;
+    ghost use Rattle.standard_meta.specs.MetaDocuments.{MetaSchemas, given_of, meta_uris, uris_of};
+
+    ghost Value = { MetaSchemas };
+
+    ghost coded = { Prim.hlevel (codes, value.the_row.coded) };
+
+    ghost view = { λ m. record { documents = map given_of m.documents.items; patterns = m.patterns } };
+
+    ghost invariant = { λ m. uris_of (map given_of m.documents.items) ≡ meta_uris };
+}
+
 /// Reads a meta-schema.
-fn read(alloc: Global, schema: MetaSchema) -> Result<MetaDocument, MetaError> {
+fn read(alloc: Global, schema: MetaSchema) -> Result<MetaDocument, MetaError>
+    ensures uri { IfOk result (λ d. d.uri.now ≡ schema.uri.now) }
+    ensures value { IfOk result (λ d. read_text schema.text.now ≡ Some (view d.value)) }
+{
     Ok(MetaDocument {
         uri: schema.uri,
         value: Value::from_str(alloc, schema.text)?,
     })
 }
 
-/// Reads all meta-schemas: those of the drafts, the oldest first, and then those of the vocabularies.
-fn read_all(alloc: Global) -> Result<Vec<MetaDocument>, MetaError> {
-    let mut documents = Vec::new(alloc);
+/// Adds the meta-schemas of the drafts, the oldest first.
+fn add_drafts(alloc: Global, documents: &mut Vec<MetaDocument>) -> Result<(), MetaError>
+    ensures added { IfOk result (λ _. uris_of (map given_of documents.new.items)
+        ≡ uris_of (map given_of documents.old.items) ++ draft_uris) }
+{
     for draft in [
         Draft::Draft4,
         Draft::Draft6,
@@ -43,9 +68,27 @@ fn read_all(alloc: Global) -> Result<Vec<MetaDocument>, MetaError> {
     ] {
         documents.push(read(alloc, meta_schema(draft))?)?;
     }
+    Ok(())
+}
+
+/// Adds the meta-schemas of the vocabularies.
+fn add_vocabularies(alloc: Global, documents: &mut Vec<MetaDocument>) -> Result<(), MetaError>
+    ensures added { IfOk result (λ _. uris_of (map given_of documents.new.items)
+        ≡ uris_of (map given_of documents.old.items) ++ vocabulary_uris) }
+{
     for schema in vocabulary_meta_schemas() {
         documents.push(read(alloc, schema)?)?;
     }
+    Ok(())
+}
+
+/// Reads all meta-schemas: those of the drafts, the oldest first, and then those of the vocabularies.
+fn read_all(alloc: Global) -> Result<Vec<MetaDocument>, MetaError>
+    ensures uris { IfOk result (λ ds. uris_of (map given_of ds.items) ≡ draft_uris ++ vocabulary_uris) }
+{
+    let mut documents = Vec::new(alloc);
+    add_drafts(alloc, &mut documents)?;
+    add_vocabularies(alloc, &mut documents)?;
     Ok(documents)
 }
 
@@ -74,17 +117,24 @@ impl MetaDocuments {
     }
 
     /// Returns the documents: the meta-schemas of the drafts, the oldest first, and then those of the vocabularies.
-    pub fn documents(&self) -> &[MetaDocument] {
+    pub fn documents(&self) -> &[MetaDocument]
+        ensures documents { map given_of result.now ≡ self.now.documents }
+    {
         self.documents.as_slice()
     }
 
     /// Returns their patterns.
-    pub fn patterns(&self) -> &Patterns {
+    pub fn patterns(&self) -> &Patterns
+        ensures patterns { result.now ≡ self.now.patterns }
+    {
         &self.patterns
     }
 
     /// Returns the meta-schema of a draft; that of 2020-12 where the draft is not known.
-    pub fn of_draft(&self, draft: Draft) -> Option<&MetaDocument> {
+    pub fn of_draft(&self, draft: Draft) -> &MetaDocument
+        ensures document { slice_get self.now.documents (place_of (draft_of draft)) ≡ Some (given_of result.now) }
+        ensures uri { result.now.uri.now ≡ uri_of (draft_of draft) }
+    {
         let number = match draft {
             Draft::Draft4 => 0,
             Draft::Draft6 => 1,
@@ -92,6 +142,6 @@ impl MetaDocuments {
             Draft::Draft201909 => 3,
             Draft::Draft202012 | Draft::Unknown => 4,
         };
-        self.documents.get(number)
+        &self.documents[number]
     }
 }

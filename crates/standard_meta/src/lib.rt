@@ -2,7 +2,6 @@
 //! build is handed.
 #![tactic(auto)]
 
-pub mod checkers;
 pub mod documents;
 pub mod error;
 pub mod meta;

@@ -1,9 +1,12 @@
 //! The meta validators.
-ghost use Rattle.std.specs.Prelude.{IfOk};
+ghost use Rattle.std.specs.Prelude.{◌≡◌, IfOk};
+ghost use Rattle.serde_json.specs.View.{view};
+ghost use Rattle.first_checker.specs.DraftChecks.{EachChecks};
+ghost use Rattle.standard_meta.specs.DraftMeanings.{IsCompiledOf, MeansDraft};
 ghost use Rattle.schema_parts.specs.MatcherViews.{FinishesEach};
 ghost use Rattle.regex_matcher.specs.RegexMatching.{regex_matcher};
+ghost use Rattle.schema_keywords.specs.KeywordViews.{draft_of};
 
-use crate::checkers::DraftCheckers;
 use crate::documents::{MetaDocument, MetaDocuments};
 use crate::error::MetaError;
 use crate::wholeness::StandardFractions;
@@ -11,19 +14,19 @@ use bench_parts::meta::BenchMeta;
 use bench_resolver::resolver::BenchResolver;
 use bench_resolver::resolver::documents::Document;
 use first_checker::checker::Checker;
+use first_checker::drafts::{CheckerMaker, DraftCheckers};
 use regex_matcher::matcher::RegexMatcher;
 use regex_matcher::unreadable::Unreadable;
 use schema_engine::compiler::BuildError;
+use schema_engine::context::{KeywordTable, MetaValidators, Resolver, Validate};
 use schema_engine::keywords::{Draft, VocabularySet};
 use schema_engine::options::ValidationOptions;
 use schema_engine::validator::Validator;
-use schema_parts::matcher::Matcher;
 use schema_reports::location::OutOfMemory;
+use schema_reports::reports::ValidationError;
+use serde_json::Value;
 use standard_keywords::table::{StandardKeyword, StandardTable};
 use std::alloc::Global;
-
-/// The check of schemas by the meta-schema of their draft, each compiled once. A draft that is not known has that of 2020-12.
-pub type StandardMeta<'p> = DraftCheckers<StandardKeyword, RegexMatcher<'p>>;
 
 type StandardChecker<'p> = Checker<StandardKeyword, RegexMatcher<'p>>;
 
@@ -51,7 +54,10 @@ fn resolver_of<'p>(
     documents: &'p MetaDocuments,
     draft: Draft,
     root: &'p MetaDocument,
-) -> Result<BenchResolver<'p>, OutOfMemory> {
+) -> Result<BenchResolver<'p>, OutOfMemory>
+    ensures uri { IfOk result (λ r. r.uri ≡ root.now.uri.now) }
+    ensures document { IfOk result (λ r. r.document ≡ root.now.value) }
+{
     let first = Document {
         uri: String::from_str(alloc, root.uri)?,
         value: &root.value,
@@ -69,27 +75,12 @@ fn validator_of<'p>(
 ) -> Result<Validator<StandardKeyword, RegexMatcher<'p>>, BuildError>
     ensures finishes { IfOk result (λ v. FinishesEach (regex_matcher matcher.now.unreadable)
         → FinishesEach (regex_matcher v.matcher.unreadable)) }
+    ensures compiled { IfOk result (λ v. IsCompiledOf ⟦<BenchResolver<'p> as Resolver>⟧ ⟦<StandardTable as KeywordTable<StandardKeyword>>⟧
+        ⟦<StandardKeyword as Validate>⟧ resolver.now matcher.now (view root.now.value) v) }
 {
     let options = ValidationOptions::new(alloc).should_validate_schema(false);
     let table = StandardTable::new();
     options.build(alloc, &root.value, &table, resolver, matcher, &BenchMeta {})
-}
-
-/// The check by a validator, if its matcher finishes every match and its texts show no fraction of the schema.
-fn checker_by<'p>(
-    matcher: &RegexMatcher<'p>,
-    validator: Validator<StandardKeyword, RegexMatcher<'p>>,
-) -> Option<StandardChecker<'p>>
-    requires finishes { FinishesEach (regex_matcher matcher.now.unreadable)
-        → FinishesEach (regex_matcher validator.matcher.unreadable) }
-{
-    if !matcher.finishes() || validator.run_limit() == 0 {
-        return None;
-    }
-    if validator.root().0 >= validator.nodes().len() {
-        return None;
-    }
-    Checker::of(&StandardFractions {}, validator)
 }
 
 /// The check by the meta-schema of a draft.
@@ -97,16 +88,17 @@ fn checker_of<'p>(
     alloc: Global,
     documents: &'p MetaDocuments,
     draft: Draft,
-) -> Result<StandardChecker<'p>, MetaError> {
-    let Some(root) = documents.of_draft(draft) else {
-        return Err(MetaError::Unfit("none"));
-    };
+) -> Result<StandardChecker<'p>, MetaError>
+    ensures means { IfOk result (MeansDraft ⟦<BenchResolver<'p> as Resolver>⟧ ⟦<StandardTable as KeywordTable<StandardKeyword>>⟧
+        ⟦<StandardKeyword as Validate>⟧ documents.now.documents (draft_of draft)) }
+{
+    let root = documents.of_draft(draft);
     let patterns = documents.patterns();
     let matcher = RegexMatcher::with_unreadable(alloc, patterns, Unreadable::MatchesNothing)?;
     let resolver = resolver_of(alloc, documents, draft, root)?;
     let validator = validator_of(alloc, root, &resolver, &matcher);
     drop(resolver);
-    let checker = checker_by(&matcher, validator?);
+    let checker = Checker::by_matcher(&StandardFractions {}, &matcher, validator?);
     drop(matcher);
     match checker {
         Some(checker) => Ok(checker),
@@ -114,19 +106,58 @@ fn checker_of<'p>(
     }
 }
 
-impl<'p> DraftCheckers<StandardKeyword, RegexMatcher<'p>> {
+/// What makes the check by each meta-schema.
+#[derive(Drop)]
+struct MetaMaker<'p> {
+    documents: &'p MetaDocuments,
+}
+
+impl<'p> CheckerMaker<StandardKeyword, RegexMatcher<'p>> for MetaMaker<'p> {
+    type Error = MetaError;
+
+    ghost checks = { λ m. MeansDraft ⟦<BenchResolver<'p> as Resolver>⟧ ⟦<StandardTable as KeywordTable<StandardKeyword>>⟧
+        ⟦<StandardKeyword as Validate>⟧ m.documents.now.documents };
+
+    fn checker(&self, alloc: Global, draft: Draft) -> Result<StandardChecker<'p>, MetaError> {
+        checker_of(alloc, self.documents, draft)
+    }
+}
+
+/// The check of schemas by the meta-schema of their draft, each compiled once. A draft that is not known has that of 2020-12.
+#[derive(Drop)]
+pub struct StandardMeta<'p> {
+    /// A checker for each draft.
+    pub checkers: DraftCheckers<StandardKeyword, RegexMatcher<'p>>,
+}
+
+impl<'p> StandardMeta<'p> {
     /// Compiles the meta-schemas of all drafts.
     ///
     /// # Errors
     ///
     /// Fails out of memory. That a meta-schema is refused or unfit does not come up.
-    pub fn new(alloc: Global, documents: &'p MetaDocuments) -> Result<StandardMeta<'p>, MetaError> {
-        Ok(DraftCheckers {
-            draft4: checker_of(alloc, documents, Draft::Draft4)?,
-            draft6: checker_of(alloc, documents, Draft::Draft6)?,
-            draft7: checker_of(alloc, documents, Draft::Draft7)?,
-            draft2019_09: checker_of(alloc, documents, Draft::Draft201909)?,
-            draft2020_12: checker_of(alloc, documents, Draft::Draft202012)?,
-        })
+    pub fn new(alloc: Global, documents: &'p MetaDocuments) -> Result<StandardMeta<'p>, MetaError>
+        ensures each { IfOk result (λ m. EachChecks (MeansDraft
+            ⟦<BenchResolver<'p> as Resolver>⟧ ⟦<StandardTable as KeywordTable<StandardKeyword>>⟧ ⟦<StandardKeyword as Validate>⟧
+            documents.now.documents) m.checkers) }
+    {
+        let checkers = DraftCheckers::by(alloc, &MetaMaker { documents })?;
+        Ok(StandardMeta { checkers })
+    }
+}
+
+impl<'p> MetaValidators for StandardMeta<'p> {
+    ghost use Rattle.first_checker.specs.DraftChecks.{checked_by};
+    ghost use Rattle.standard_meta.specs.DraftMeanings.{regexes};
+
+    ghost checked = { λ m. checked_by ⟦<StandardKeyword as Validate>⟧ regexes m.checkers };
+
+    fn check<'v>(
+        &self,
+        alloc: Global,
+        draft: Draft,
+        schema: &'v Value,
+    ) -> Result<Option<ValidationError<'v>>, OutOfMemory> {
+        self.checkers.check(alloc, draft, schema)
     }
 }

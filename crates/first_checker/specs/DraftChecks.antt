@@ -15,6 +15,14 @@ pub record DraftPrograms (C M : Type 0) : Type 0 where
   pub of_2019_09 : Program C M
   pub of_2020_12 : Program C M
 
+-- each program is as a maker has it for its draft
+pub record EachChecks {C M : Type 0} (checks : Draft → Program C M → Type 0) (ps : DraftPrograms C M) : Type 0 where
+  pub of_draft_4 : checks draft_4 ps.of_draft_4
+  pub of_draft_6 : checks draft_6 ps.of_draft_6
+  pub of_draft_7 : checks draft_7 ps.of_draft_7
+  pub of_2019_09 : checks draft_2019_09 ps.of_2019_09
+  pub of_2020_12 : checks draft_2020_12 ps.of_2020_12
+
 abbrev pub program_of : {C M : Type 0} → DraftPrograms C M → Draft → Program C M
 program_of ps draft_4 = ps.of_draft_4
 program_of ps draft_6 = ps.of_draft_6

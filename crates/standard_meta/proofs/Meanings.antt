@@ -1,0 +1,60 @@
+-- What is built of a meta-schema, by the parts and the options that each of them is built with.
+use Rattle.std.proofs.Common.{Err, IfOk, List, Ok, Result, Some, ap, subst, sym, ℕ, ◌∙◌, ◌≡◌}
+use Rattle.std.specs.Prelude.{Contains, slice_get}
+use Rattle.std.proofs.lemmas.Option.{get_or_from_slice_get, slice_get_within}
+use Rattle.serde_json.specs.Data.{Data}
+use Rattle.serde_json.specs.View.{view}
+use Rattle.schema_definitions.specs.Drafts.{Draft}
+use Rattle.schema_definitions.specs.Keywords.{Answer}
+use Rattle.schema_parts.specs.declared.keyword.Validate.{Ghosts as KeywordMembers}
+use Rattle.schema_parts.specs.declared.resolver.Resolver.{Ghosts as ResolverMembers}
+use Rattle.schema_parts.specs.declared.table.KeywordTable.{Ghosts as TableMembers}
+use Rattle.regex_matcher.specs.RegexMatching.{Kept}
+use Rattle.schema_validator.specs.Called.{IsCompiledFrom, MeansPlainly}
+use Rattle.schema_validator.specs.Handed.{Handed, Options, handed}
+use Rattle.schema_validator.specs.Program.{Program}
+use Rattle.bench_resolver.specs.BenchDocuments.{BenchDocument, GivenDocument}
+use Rattle.standard_keywords.specs.declared.patterns.UnreadablePatterns.TheVariants as unreadable
+use Rattle.standard_keywords.specs.declared.table.StandardTable.{StandardTable}
+use Rattle.meta_schemas.specs.MetaUris.{uri_of}
+use Rattle.standard_meta.specs.DraftMeanings.{IsCompiledOf, MeansDraft, handed_by, regexes, unchecked}
+
+module _ {State S C Maker Run K : Type 0} (resolvers : ResolverMembers BenchDocument State S) (tables : TableMembers StandardTable C Maker Run K)
+    (keywords : KeywordMembers C Run K) (r : BenchDocument) (m : Kept) (table : StandardTable) (options : Options) (schema : Data)
+  where
+    -- what is handed in with a table
+    abbrev parts : StandardTable → Handed S K (Run × Answer) C Kept
+    parts t = handed resolvers tables keywords regexes r t m
+
+    -- the table refuses what cannot be read
+    same_parts : table.unreadable ≡ unreadable.Refused → parts table ≡ handed_by resolvers tables keywords r m
+    same_parts refuses = ap (λ u. parts (record { unreadable = u })) refuses
+
+    pub compiled_by : {E : Type 0} (x : Result (Program C Kept) E) → table.unreadable ≡ unreadable.Refused → options ≡ unchecked
+        → IfOk x (λ p. MeansPlainly (parts table) options schema p) → IfOk x (λ p. IsCompiledFrom (parts table) options schema options.nested p)
+        → IfOk x (λ p. IsCompiledOf resolvers tables keywords r m schema p)
+    compiled_by (Ok p) refuses off means program = record {
+      means = subst (λ o. MeansPlainly (handed_by resolvers tables keywords r m) o schema p) off
+          (subst (λ h. MeansPlainly h options schema p) (same_parts refuses) means);
+      program = subst (λ o. IsCompiledFrom (handed_by resolvers tables keywords r m) o schema o.nested p) off
+          (subst (λ h. IsCompiledFrom h options schema options.nested p) (same_parts refuses) program);
+    }
+    compiled_by (Err e) refuses off means program = tt
+
+-- the document at a place is among the documents
+among_documents : (documents : List GivenDocument) (k : ℕ) (d : GivenDocument) → slice_get documents k ≡ Some d → Contains documents d
+among_documents documents k d at = (k, slice_get_within documents k d at, get_or_from_slice_get documents k d d at)
+
+module _ {State S C Maker Run K : Type 0} (resolvers : ResolverMembers BenchDocument State S) (tables : TableMembers StandardTable C Maker Run K)
+    (keywords : KeywordMembers C Run K) (documents : List GivenDocument) (draft : Draft) (r : BenchDocument) (m : Kept) (root : GivenDocument) where
+  pub means_draft : (k : ℕ) (v p : Program C Kept) → slice_get documents k ≡ Some root → root.uri ≡ uri_of draft → r.uri ≡ root.uri → r.document ≡ root.value
+      → IsCompiledOf resolvers tables keywords r m (view root.value) v → p ≡ v → MeansDraft resolvers tables keywords documents draft p
+  means_draft k v p at uri same_uri same_document compiled same = record {
+    resolver = r;
+    matcher = m;
+    uri = same_uri ∙ uri;
+    among = subst (λ d. Contains documents d) (ap (λ u. record { uri = u; value = root.value }) (sym same_uri)
+        ∙ ap (λ x. record { uri = r.uri; value = x }) (sym same_document)) (among_documents documents k root at);
+    compiled = subst (λ x. IsCompiledOf resolvers tables keywords r m (view x) p) (sym same_document)
+        (subst (λ q. IsCompiledOf resolvers tables keywords r m (view root.value) q) (sym same) compiled);
+  }
