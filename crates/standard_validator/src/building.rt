@@ -1,0 +1,123 @@
+//! Builds of validators.
+ghost use Rattle.std.specs.Prelude.{◌≡◌, ◌⊎◌, [], IfErr, IfOk};
+ghost use Rattle.serde_json.specs.View.{view};
+ghost use Rattle.bench_resolver.specs.BenchDocuments.{HasCustom, HasDrafts};
+ghost use Rattle.bench_subschemas.specs.declared.rules.Rule.TheVariants.{Standard};
+ghost use Rattle.schema_keys.specs.declared.error.BuildError.TheVariants.{OutOfMemory};
+ghost use Rattle.standard_validator.specs.Built.{IsBuilt, IsBuiltOf, IsRefused, IsRefusedOf};
+ghost use Rattle.standard_validator.specs.Sources.{default_draft_of, options_by, uri_of};
+
+use crate::sources::Sources;
+use bench_resolver::resolver::StandardResolver;
+use bench_resolver::resolver::documents::Document;
+use regex_matcher::matcher::RegexMatcher;
+use regex_matcher::patterns::Patterns;
+use schema_engine::compiler::BuildError;
+use schema_engine::context::{KeywordTable, MetaValidators, Resolver, Validate};
+use schema_engine::keywords::{Draft, VocabularySet};
+use schema_engine::location::OutOfMemory;
+use schema_engine::options::ValidationOptions;
+use schema_engine::validator::Validator;
+use serde_json::Value;
+use standard_keywords::table::{StandardKeyword, StandardTable};
+use std::alloc::Global;
+
+/// A validator of the standard's keywords, which borrows the patterns that its schema has.
+pub type StandardValidator<'p> = Validator<StandardKeyword, RegexMatcher<'p>>;
+
+/// The URI that the schema is found under: the one that is set, or else `json-schema:///`.
+fn uri_of<'s>(sources: &'s Sources<'_>) -> &'s str
+    ensures uri { result.now ≡ uri_of sources.now }
+{
+    match &sources.uri {
+        Some(uri) => uri.as_str(),
+        None => "json-schema:///",
+    }
+}
+
+/// The options, with the default draft where the schema does not say its own, and with the URI that it is found under.
+fn options_for(
+    alloc: Global,
+    options: ValidationOptions,
+    sources: &Sources<'_>,
+) -> Result<ValidationOptions, OutOfMemory>
+    ensures options { IfOk result (λ o. o ≡ options_by sources.now options) }
+{
+    let mut options = options;
+    if let Some(draft) = sources.draft {
+        if sources.schema.get("$schema").is_none() {
+            options = options.with_draft(draft);
+        }
+    }
+    options.with_base_uri(alloc, uri_of(sources))
+}
+
+/// The resolver of the schema and the documents.
+fn resolver_of<'a>(alloc: Global, sources: Sources<'a>) -> Result<StandardResolver<'a>, OutOfMemory>
+    ensures rule { IfOk result (λ r. r.rule ≡ Standard) }
+    ensures uri { IfOk result (λ r. r.uri ≡ uri_of sources.entry) }
+    ensures document { IfOk result (λ r. r.document ≡ sources.entry.schema) }
+    ensures others { IfOk result (λ r. r.others ≡ sources.entry.documents) }
+    ensures draft { IfOk result (λ r. r.default_draft ≡ default_draft_of sources.entry) }
+    ensures drafts { IfOk result (λ r. HasDrafts [] r.vocabularies) }
+    ensures custom { IfOk result (λ r. HasCustom [] r.vocabularies) }
+{
+    let draft = sources.draft.unwrap_or(Draft::Draft202012);
+    let root = Document {
+        uri: String::from_str(alloc, uri_of(&sources))?,
+        value: sources.schema,
+    };
+    StandardResolver::of_documents(
+        alloc,
+        draft,
+        root,
+        sources.documents,
+        VocabularySet::new(alloc),
+    )
+}
+
+/// Builds a validator of a schema that a resolver has, by the standard's keywords and by the patterns.
+fn build_by<'p, V: MetaValidators>(
+    alloc: Global,
+    schema: &Value,
+    resolver: &StandardResolver<'_>,
+    patterns: &'p Patterns,
+    metas: &V,
+    options: &ValidationOptions,
+) -> Result<StandardValidator<'p>, BuildError>
+    ensures built { IfOk result (λ p. IsBuilt ⟦<StandardResolver<'p> as Resolver>⟧ ⟦<StandardTable as KeywordTable<StandardKeyword>>⟧
+        ⟦<StandardKeyword as Validate>⟧ resolver.now patterns.now (V.checked metas.now) options.now (view schema.now) p) }
+    ensures refused { IfErr result (λ e. (e ≡ OutOfMemory) ⊎ IsRefused ⟦<StandardResolver<'p> as Resolver>⟧
+        ⟦<StandardTable as KeywordTable<StandardKeyword>>⟧ ⟦<StandardKeyword as Validate>⟧ resolver.now patterns.now (V.checked metas.now)
+        options.now (view schema.now) e) }
+{
+    let matcher = RegexMatcher::new(alloc, patterns)?;
+    let table = StandardTable::new();
+    options.build(alloc, schema, &table, resolver, &matcher, metas)
+}
+
+/// Builds a validator of a schema by the standard's keywords. Patterns are those of the sources (`Sources::patterns`); the meta
+/// validators check the schema first, unless the options have it unchecked.
+///
+/// # Errors
+///
+/// Fails if the schema, or one that it reaches, is refused, if the meta validators refuse it, if more keys are reached than the
+/// limit, or out of memory.
+pub fn build<'p, V: MetaValidators>(
+    alloc: Global,
+    sources: Sources<'_>,
+    patterns: &'p Patterns,
+    metas: &V,
+    options: ValidationOptions,
+) -> Result<StandardValidator<'p>, BuildError>
+    ensures built { IfOk result (λ p. IsBuiltOf ⟦<StandardResolver<'p> as Resolver>⟧ ⟦<StandardTable as KeywordTable<StandardKeyword>>⟧
+        ⟦<StandardKeyword as Validate>⟧ (V.checked metas.now) options sources.entry patterns.now p) }
+    ensures refused { IfErr result (λ e. (e ≡ OutOfMemory) ⊎ IsRefusedOf ⟦<StandardResolver<'p> as Resolver>⟧
+        ⟦<StandardTable as KeywordTable<StandardKeyword>>⟧ ⟦<StandardKeyword as Validate>⟧ (V.checked metas.now)
+        options sources.entry patterns.now e) }
+{
+    let schema = sources.schema;
+    let options = options_for(alloc, options, &sources)?;
+    let resolver = resolver_of(alloc, sources)?;
+    build_by(alloc, schema, &resolver, patterns, metas, &options)
+}

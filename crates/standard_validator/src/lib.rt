@@ -1,0 +1,17 @@
+//! Validators of schemas that people write, in one call: the standard's keywords, regular expressions, the documents that references lead
+//! to by their URIs, and the check by the meta-schemas.
+#![tactic(auto)]
+
+pub mod building;
+pub mod sources;
+
+pub use crate::building::{StandardValidator, build};
+pub use crate::sources::Sources;
+pub use regex_matcher::error::PatternError;
+pub use regex_matcher::patterns::Patterns;
+pub use schema_engine::compiler::BuildError;
+pub use schema_engine::keywords::Draft;
+pub use schema_engine::options::ValidationOptions;
+pub use standard_meta::documents::MetaDocuments;
+pub use standard_meta::error::MetaError;
+pub use standard_meta::meta::StandardMeta;
