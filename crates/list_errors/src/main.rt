@@ -1,14 +1,10 @@
-//! Prints the errors of an instance, by a validator of a small schema: the engine and the bench's parts used as libraries.
+//! Prints the errors of an instance, by a validator of a small schema: the engine used as a library, with the standard's keywords.
 #![tactic(auto)]
 
-use bench_keywords::keyword::BenchKeyword;
-use bench_parts::matcher::BenchMatcher;
-use bench_parts::meta::BenchMeta;
-use bench_parts::table::BenchTable;
-use bench_resolver::resolver::BenchResolver;
-use schema_engine::keywords::VocabularySet;
-use schema_engine::validator::Validator;
 use serde_json::Value;
+use standard_validator::{
+    MetaDocuments, Sources, StandardMeta, StandardValidator, ValidationOptions, build,
+};
 use std::alloc::Global;
 
 const SCHEMA: &str = r##"{
@@ -28,30 +24,22 @@ fn main(rt: HostRuntime) -> anyhow::Result<()> {
     check(&rt, alloc, &schema, &instance)
 }
 
-/// Builds a validator of the schema, and prints the errors of the instance, or why the schema is refused.
+/// Builds a validator of the schema, and prints the errors of the instance.
 fn check(rt: &impl Print, alloc: Global, schema: &Value, instance: &Value) -> anyhow::Result<()> {
-    let table = BenchTable {};
-    let resolver = BenchResolver::new(alloc, schema, VocabularySet::new(alloc))?;
-    let matcher = BenchMatcher::new(Vec::new(alloc));
-    match Validator::<BenchKeyword, BenchMatcher>::new(
-        alloc,
-        schema,
-        &table,
-        &resolver,
-        &matcher,
-        &BenchMeta {},
-    ) {
-        Err(refused) => println!(rt; "{refused}")?,
-        Ok(validator) => print_errors(rt, alloc, &validator, instance)?,
-    }
-    Ok(())
+    let documents = MetaDocuments::new(alloc)?;
+    let metas = StandardMeta::new(alloc, &documents)?;
+    let sources = Sources::new(alloc, schema);
+    let patterns = sources.patterns(alloc)?;
+    let options = ValidationOptions::new(alloc);
+    let validator = build(alloc, sources, &patterns, &metas, options)?;
+    print_errors(rt, alloc, &validator, instance)
 }
 
 /// Prints the errors of the instance, a line each: the instance path and the text.
 fn print_errors(
     rt: &impl Print,
     alloc: Global,
-    validator: &Validator<BenchKeyword, BenchMatcher>,
+    validator: &StandardValidator<'_>,
     instance: &Value,
 ) -> anyhow::Result<()> {
     for error in validator.iter_errors(alloc, instance)? {

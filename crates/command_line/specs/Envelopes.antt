@@ -1,0 +1,23 @@
+-- The objects in JSON that are printed of instances and lines, one on a line.
+use Rattle.std.specs.Prelude.{None, Option, Some, [], codes, decimal, ◌++◌, ◌∷◌, ℕ}
+use Rattle.json.specs.Print.{quoted}
+use Rattle.schema_definitions.specs.Instance.{Text}
+use Rattle.command_line.specs.Choices.{name_of}
+use Rattle.command_line.specs.declared.options.Output.{Output}
+
+-- the member for a line, by its number
+abbrev pub line_text : Option ℕ → Text
+line_text None = []
+line_text (Some n) = codes ",\"line\":" ++ decimal n
+
+-- the members for a schema, an instance and its line
+abbrev pub subject_text : Text → Text → Option ℕ → Text
+subject_text schema instance line = codes ",\"schema\":" ++ quoted schema ++ codes ",\"instance\":" ++ quoted instance ++ line_text line
+
+-- the front of an object
+abbrev pub front_text : Output → Text → Text → Option ℕ → Text
+front_text output schema instance line = codes "{\"output\":" ++ quoted (name_of output) ++ subject_text schema instance line
+
+-- the object with an answer, which is JSON
+abbrev pub answered_text : Output → Text → Text → Option ℕ → Text → Text
+answered_text output schema instance line payload = front_text output schema instance line ++ codes ",\"payload\":" ++ payload ++ codes "}" ++ 10 ∷ []

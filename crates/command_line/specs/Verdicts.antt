@@ -1,0 +1,17 @@
+-- The words for verdicts, as they are printed.
+use Rattle.std.specs.Prelude.{Bool, codes, false, true, ◌++◌, ◌∷◌}
+use Rattle.schema_definitions.specs.Instance.{Text}
+use Rattle.command_line.specs.declared.reports.Paint.{Paint}
+use Rattle.command_line.specs.declared.reports.Paint.TheVariants.{Coloured, Plain}
+
+-- green where it accepts and red where it does not, by the sequences of ECMA-48 (8.3.117), if it is coloured
+abbrev pub verdict_text : Paint → Bool → Text
+verdict_text Plain true = codes "VALID"
+verdict_text Plain false = codes "INVALID"
+verdict_text Coloured true = 27 ∷ codes "[32mVALID" ++ 27 ∷ codes "[0m"
+verdict_text Coloured false = 27 ∷ codes "[31mINVALID" ++ 27 ∷ codes "[0m"
+
+-- the verdict in JSON, in the flag format (Core 2020-12, 12.4.1)
+abbrev pub flag_text : Bool → Text
+flag_text true = codes "{\"valid\":true}"
+flag_text false = codes "{\"valid\":false}"

@@ -1,0 +1,124 @@
+//! What is printed of instances and lines, for programs to read: an object in JSON on a line.
+ghost use Rattle.std.specs.Prelude.{◌≡◌, ◌++◌, IfOk, string_bytes};
+ghost use Rattle.json.specs.Print.{quoted};
+ghost use Rattle.command_line.specs.Envelopes.{answered_text, front_text, line_text, subject_text};
+ghost use Rattle.command_line.specs.Verdicts.{flag_text};
+
+use crate::options::Output;
+use crate::reports::line_fault;
+use schema_reports::location::OutOfMemory;
+use serde_json::Value;
+use std::alloc::Global;
+
+/// An instance: a file, or a line of a file, and the schema that is asked.
+#[derive(Clone, Copy)]
+pub struct Subject<'s> {
+    pub schema: &'s str,
+    pub instance: &'s str,
+    /// From 1.
+    pub line: Option<u64>,
+}
+
+/// A text as a string of JSON.
+fn quoted_text(alloc: Global, part: &str) -> Result<String, OutOfMemory>
+    ensures text { IfOk result (λ s. string_bytes s ≡ quoted part.now) }
+{
+    let value = Value::String(String::from_str(alloc, part)?);
+    value.to_string(alloc)
+}
+
+/// Adds a text as a string of JSON.
+fn push_quoted(text: &mut String, alloc: Global, part: &str) -> Result<(), OutOfMemory>
+    ensures quoted { IfOk result (λ _. string_bytes text.new ≡ string_bytes text.old ++ quoted part.now) }
+{
+    let shown = quoted_text(alloc, part)?;
+    text.push_str(shown.as_str())
+}
+
+/// Adds the member for a line, if there is one.
+fn push_line(text: &mut String, line: Option<u64>) -> Result<(), OutOfMemory>
+    ensures line { IfOk result (λ _. string_bytes text.new ≡ string_bytes text.old ++ line_text line) }
+{
+    match line {
+        Some(number) => write!(text, ",\"line\":{number}"),
+        None => Ok(()),
+    }
+}
+
+/// Adds the members for the schema, the instance and its line.
+fn push_subject(text: &mut String, alloc: Global, subject: Subject<'_>) -> Result<(), OutOfMemory>
+    ensures subject { IfOk result (λ _. string_bytes text.new ≡ string_bytes text.old
+        ++ subject_text subject.entry.schema.now subject.entry.instance.now subject.entry.line) }
+{
+    text.push_str(",\"schema\":")?;
+    push_quoted(text, alloc, subject.schema)?;
+    text.push_str(",\"instance\":")?;
+    push_quoted(text, alloc, subject.instance)?;
+    push_line(text, subject.line)
+}
+
+/// The front of an object: the output's name, the schema's, the instance's, and its line.
+fn envelope_front(
+    alloc: Global,
+    output: Output,
+    subject: Subject<'_>,
+) -> Result<String, OutOfMemory>
+    ensures front { IfOk result (λ s. string_bytes s
+        ≡ front_text output subject.entry.schema.now subject.entry.instance.now subject.entry.line) }
+{
+    let mut text = String::from_str(alloc, "{\"output\":")?;
+    push_quoted(&mut text, alloc, output.name())?;
+    push_subject(&mut text, alloc, subject)?;
+    Ok(text)
+}
+
+/// What is printed of an instance: an object with what the engine's output is, which is JSON.
+///
+/// # Errors
+///
+/// Fails only if memory cannot be allocated.
+pub fn answered(
+    alloc: Global,
+    output: Output,
+    subject: Subject<'_>,
+    payload: &str,
+) -> Result<String, OutOfMemory>
+    ensures text { IfOk result (λ s. string_bytes s
+        ≡ answered_text output subject.entry.schema.now subject.entry.instance.now subject.entry.line payload.now) }
+{
+    let mut text = envelope_front(alloc, output, subject)?;
+    text.push_str(",\"payload\":")?;
+    text.push_str(payload)?;
+    text.push_str("}\n")?;
+    Ok(text)
+}
+
+/// What the engine's output is in the flag format.
+pub fn flag(valid: bool) -> &'static str
+    ensures flag { result.now ≡ flag_text valid }
+{
+    if valid {
+        "{\"valid\":true}"
+    } else {
+        "{\"valid\":false}"
+    }
+}
+
+/// What is printed of a line that is not JSON: an object with what is wrong with it.
+///
+/// # Errors
+///
+/// Fails only if memory cannot be allocated.
+pub fn unread(
+    alloc: Global,
+    output: Output,
+    subject: Subject<'_>,
+    fault: &serde_json::Error,
+) -> Result<String, OutOfMemory> {
+    let told = line_fault(alloc, fault)?;
+    let mut text = envelope_front(alloc, output, subject)?;
+    text.push_str(",\"error\":")?;
+    push_quoted(&mut text, alloc, told.as_str())?;
+    text.push_str("}\n")?;
+    Ok(text)
+}

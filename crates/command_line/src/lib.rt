@@ -1,0 +1,14 @@
+//! What the command `jsonschema` is made of beside the engine: its words, how it reads files and tells of faults, what it prints of an
+//! instance and of a line, how it counts lines, and the status that it ends with.
+#![tactic(auto)]
+
+pub mod desk;
+pub mod envelopes;
+pub mod options;
+pub mod outcomes;
+pub mod pages;
+pub mod reading;
+pub mod reports;
+pub mod tally;
+pub mod telling;
+pub mod words;

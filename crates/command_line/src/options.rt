@@ -1,0 +1,111 @@
+//! What the words of a call ask for.
+ghost use Rattle.std.specs.Prelude.{◌≡◌};
+ghost use Rattle.command_line.specs.Choices.{name_of};
+
+use schema_keywords::keywords::Draft;
+
+/// The word for standard input.
+pub const STANDARD_INPUT: &str = "-";
+
+/// In which form it is printed what was answered.
+#[derive(Clone, Copy, Debug, PartialEq, Eq)]
+pub enum Output {
+    /// For people.
+    Text,
+    /// In JSON, the verdict.
+    Flag,
+    /// In JSON, the list of units.
+    List,
+}
+
+impl Output {
+    /// The word that asks for it.
+    pub fn name(self) -> &'static str
+        ensures name { result.now ≡ name_of self }
+    {
+        match self {
+            Output::Text => "text",
+            Output::Flag => "flag",
+            Output::List => "list",
+        }
+    }
+
+    /// The output of this name.
+    pub fn named(name: &str) -> Option<Output> {
+        match name {
+            "text" => Some(Output::Text),
+            "flag" => Some(Output::Flag),
+            "list" => Some(Output::List),
+            _ => None,
+        }
+    }
+}
+
+/// The draft of this name.
+pub fn draft_named(name: &str) -> Option<Draft> {
+    match name {
+        "4" => Some(Draft::Draft4),
+        "6" => Some(Draft::Draft6),
+        "7" => Some(Draft::Draft7),
+        "2019-09" => Some(Draft::Draft201909),
+        "2020-12" => Some(Draft::Draft202012),
+        _ => None,
+    }
+}
+
+/// A document that references find under a URI, and the file that holds it.
+#[derive(Clone, Copy)]
+pub struct Resource<'w> {
+    pub uri: &'w str,
+    pub file: &'w str,
+}
+
+impl<'w> Resource<'w> {
+    /// The resource of the words `URI=FILE`, whose URI ends before the first `=`. `None` where there is no `=`, or nothing on a side.
+    pub fn named(words: &'w str) -> Option<Resource<'w>> {
+        match words.split_once('=') {
+            Some((uri, file)) if !uri.is_empty() && !file.is_empty() => Some(Resource {
+                uri,
+                file,
+            }),
+            _ => None,
+        }
+    }
+}
+
+/// What the words of a call ask for.
+#[derive(Drop)]
+pub struct Options<'w> {
+    pub schema: &'w str,
+    /// Files of one instance each.
+    pub instances: Vec<&'w str>,
+    /// A file of an instance a line.
+    pub lines: Option<&'w str>,
+    pub resources: Vec<Resource<'w>>,
+    /// The draft of schemas that do not say theirs.
+    pub draft: Option<Draft>,
+    pub output: Output,
+    /// Whether the schema is checked by its meta-schema.
+    pub checked: bool,
+    pub run_limit: Option<u32>,
+    pub nested_limit: Option<usize>,
+    /// Whether it is told how far the lines are read.
+    pub progress: bool,
+}
+
+impl<'w> Options<'w> {
+    /// How many of the files are standard input.
+    pub fn inputs(&self) -> usize {
+        let mut count = usize::from(self.schema == STANDARD_INPUT);
+        for file in &self.instances {
+            count = count.saturating_add(usize::from(*file == STANDARD_INPUT));
+        }
+        if let Some(file) = self.lines {
+            count = count.saturating_add(usize::from(file == STANDARD_INPUT));
+        }
+        for resource in &self.resources {
+            count = count.saturating_add(usize::from(resource.file == STANDARD_INPUT));
+        }
+        count
+    }
+}

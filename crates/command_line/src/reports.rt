@@ -1,0 +1,195 @@
+//! What is printed of instances and lines, for people to read.
+ghost use Rattle.std.specs.Prelude.{◌≡◌, ◌++◌, IfOk, string_bytes};
+ghost use Rattle.command_line.specs.Verdicts.{verdict_text};
+
+use schema_reports::location::OutOfMemory;
+use schema_reports::reports::{ErrorIterator, ValidationError};
+use std::alloc::Global;
+
+/// Whether verdicts are coloured, as a terminal shows them.
+#[derive(Clone, Copy, Debug, PartialEq, Eq)]
+pub enum Paint {
+    Plain,
+    Coloured,
+}
+
+/// Adds a word, green or red where it is coloured.
+fn push_verdict(text: &mut String, paint: Paint, accepted: bool) -> Result<(), OutOfMemory>
+    ensures verdict { IfOk result (λ _. string_bytes text.new ≡ string_bytes text.old ++ verdict_text paint accepted) }
+{
+    text.push_str(match (paint, accepted) {
+        (Paint::Plain, true) => "VALID",
+        (Paint::Plain, false) => "INVALID",
+        (Paint::Coloured, true) => "\u{1b}[32mVALID\u{1b}[0m",
+        (Paint::Coloured, false) => "\u{1b}[31mINVALID\u{1b}[0m",
+    })
+}
+
+/// Adds a character, or, if it is one that rules a terminal or ends a line, its number: `\u{a}`.
+fn push_shown_char(text: &mut String, c: char) -> Result<(), OutOfMemory> {
+    if c.is_control() {
+        let number = u32::from(c);
+        write!(text, "\\u{{{number:x}}}")
+    } else {
+        text.push(c)
+    }
+}
+
+/// Adds a text of which nothing rules a terminal.
+fn push_shown(text: &mut String, part: &str) -> Result<(), OutOfMemory> {
+    for c in part.chars() {
+        push_shown_char(text, c)?;
+    }
+    Ok(())
+}
+
+/// Adds a pointer, or `(root)` where it is empty.
+fn push_pointer(text: &mut String, pointer: &str) -> Result<(), OutOfMemory> {
+    if pointer.is_empty() {
+        text.push_str("(root)")
+    } else {
+        push_shown(text, pointer)
+    }
+}
+
+/// Adds where an error is: `instance: /age; schema: /properties/age/type`.
+fn push_place(
+    text: &mut String,
+    alloc: Global,
+    error: &ValidationError,
+) -> Result<(), OutOfMemory> {
+    text.push_str("instance: ")?;
+    push_pointer(text, error.instance_path(alloc)?.as_str())?;
+    text.push_str("; schema: ")?;
+    push_pointer(text, error.schema_path.as_str())
+}
+
+/// Adds an error as its number, its text, and on a second line where it is.
+fn push_error(
+    text: &mut String,
+    alloc: Global,
+    number: u64,
+    error: &ValidationError,
+) -> Result<(), OutOfMemory> {
+    write!(text, "{number}. ")?;
+    push_shown(text, error.text.as_str())?;
+    text.push_str("\n   ")?;
+    push_place(text, alloc, error)?;
+    text.push_str("\n")
+}
+
+/// What is printed of a file with these errors: `FILE - VALID`, or `FILE - INVALID. Errors:` and each error.
+///
+/// # Errors
+///
+/// Fails only if memory cannot be allocated.
+pub fn file_report(
+    alloc: Global,
+    paint: Paint,
+    file: &str,
+    errors: ErrorIterator,
+) -> Result<String, OutOfMemory> {
+    let accepted = errors.size_hint().0 == 0;
+    let mut text = String::new(alloc);
+    push_shown(&mut text, file)?;
+    text.push_str(" - ")?;
+    push_verdict(&mut text, paint, accepted)?;
+    text.push_str(if accepted { "\n" } else { ". Errors:\n" })?;
+    let mut number = 0u64;
+    for error in errors {
+        number = number.saturating_add(1);
+        push_error(&mut text, alloc, number, &error)?;
+    }
+    Ok(text)
+}
+
+/// The front of what is printed of a line: `FILE:12 - `.
+fn line_front(alloc: Global, file: &str, number: u64) -> Result<String, OutOfMemory> {
+    let mut text = String::new(alloc);
+    push_shown(&mut text, file)?;
+    write!(text, ":{number} - ")?;
+    Ok(text)
+}
+
+/// What is printed of a line that is refused: `FILE:12 - INVALID. `, the error's text, and where it is.
+///
+/// # Errors
+///
+/// Fails only if memory cannot be allocated.
+pub fn line_report(
+    alloc: Global,
+    paint: Paint,
+    file: &str,
+    number: u64,
+    error: &ValidationError,
+) -> Result<String, OutOfMemory> {
+    let mut text = line_front(alloc, file, number)?;
+    push_verdict(&mut text, paint, false)?;
+    text.push_str(". ")?;
+    push_shown(&mut text, error.text.as_str())?;
+    text.push_str(" (")?;
+    push_place(&mut text, alloc, error)?;
+    text.push_str(")\n")?;
+    Ok(text)
+}
+
+/// Adds a fault's text without its place.
+fn push_fault(text: &mut String, told: &str) -> Result<(), OutOfMemory> {
+    match told.split_once(" at line ") {
+        Some((what, _place)) => text.push_str(what),
+        None => text.push_str(told),
+    }
+}
+
+/// What is wrong with a line that is not JSON, and the column, which counts bytes from 1: `invalid JSON at column 7`.
+///
+/// # Errors
+///
+/// Fails only if memory cannot be allocated.
+pub fn line_fault(alloc: Global, fault: &serde_json::Error) -> Result<String, OutOfMemory> {
+    let told = format!(in alloc; "{fault}")?;
+    let column = fault.column();
+    let mut text = String::new(alloc);
+    push_fault(&mut text, told.as_str())?;
+    write!(text, " at column {column}")?;
+    Ok(text)
+}
+
+/// What is printed of a line that is not JSON: `FILE:12 - NOT JSON. `, and what is wrong with it.
+///
+/// # Errors
+///
+/// Fails only if memory cannot be allocated.
+pub fn unread_report(
+    alloc: Global,
+    file: &str,
+    number: u64,
+    fault: &serde_json::Error,
+) -> Result<String, OutOfMemory> {
+    let mut text = line_front(alloc, file, number)?;
+    text.push_str("NOT JSON. ")?;
+    text.push_str(line_fault(alloc, fault)?.as_str())?;
+    text.push_str("\n")?;
+    Ok(text)
+}
+
+/// What is printed where there is no answer: `FILE`, why, and on a second line what to do next.
+///
+/// # Errors
+///
+/// Fails only if memory cannot be allocated.
+pub fn fault_report(
+    alloc: Global,
+    file: &str,
+    why: &str,
+    hint: &str,
+) -> Result<String, OutOfMemory> {
+    let mut text = String::new(alloc);
+    push_shown(&mut text, file)?;
+    text.push_str(" ")?;
+    push_shown(&mut text, why)?;
+    text.push_str("\nhint: ")?;
+    text.push_str(hint)?;
+    text.push_str("\n")?;
+    Ok(text)
+}

@@ -1,0 +1,233 @@
+//! The words of a call, and how they are read.
+
+use crate::options::{Options, Output, Resource, draft_named};
+use clap::error::ErrorKind;
+use clap::{Arg, ArgAction, ArgMatches, Command, Error};
+use schema_reports::location::OutOfMemory;
+use std::alloc::Global;
+
+static DRAFTS: [&str; 5] = ["4", "6", "7", "2019-09", "2020-12"];
+
+static OUTPUTS: [&str; 3] = ["text", "flag", "list"];
+
+const ABOUT: &str = "Checks JSON by a JSON Schema, of drafts 4, 6, 7, 2019-09 and 2020-12.";
+
+const AFTER: &str =
+    "FILE and SCHEMA may be '-', once, which is standard input. With neither -i nor --lines the schema alone is checked.
+
+The status is 0 where all is accepted, 1 where one instance is refused, and 2 where one has no answer: a file that cannot be
+read, text that is not JSON, a schema that is refused, words that are wrong, memory that cannot be had, or a write that failed.";
+
+/// An option that takes a value.
+fn option<'a>(alloc: Global, name: &'a str, value: &'a str, help: &'a str) -> Arg<'a> {
+    Arg::new(alloc, name)
+        .long(name)
+        .value_name(value)
+        .action(ArgAction::Set)
+        .help(help)
+}
+
+/// An option that takes none.
+fn flag<'a>(alloc: Global, name: &'a str, help: &'a str) -> Arg<'a> {
+    Arg::new(alloc, name)
+        .long(name)
+        .action(ArgAction::SetTrue)
+        .help(help)
+}
+
+fn schema_word<'a>(alloc: Global) -> Arg<'a> {
+    Arg::new(alloc, "schema")
+        .value_name("SCHEMA")
+        .required(true)
+        .help("The file of the schema")
+}
+
+fn instance_option<'a>(alloc: Global) -> Arg<'a> {
+    let help = "A file of an instance; may be given again";
+    option(alloc, "instance", "FILE", help)
+        .short('i')
+        .action(ArgAction::Append)
+}
+
+fn lines_option<'a>(alloc: Global) -> Arg<'a> {
+    let help = "A file of an instance a line; blank lines are passed over";
+    option(alloc, "lines", "FILE", help)
+}
+
+fn resource_option<'a>(alloc: Global) -> Arg<'a> {
+    let help = "A document that references find under this URI; may be given again";
+    option(alloc, "resource", "URI=FILE", help).action(ArgAction::Append)
+}
+
+fn draft_option<'a>(alloc: Global) -> Arg<'a> {
+    let help = "The draft of schemas that do not say theirs by $schema; else 2020-12";
+    option(alloc, "draft", "DRAFT", help).value_parser(DRAFTS.as_slice())
+}
+
+fn output_option<'a>(alloc: Global) -> Arg<'a> {
+    let help = "What is printed: text for people, or an object in JSON on a line for each instance";
+    option(alloc, "output", "OUTPUT", help)
+        .value_parser(OUTPUTS.as_slice())
+        .default_value("text")
+}
+
+fn unchecked_flag<'a>(alloc: Global) -> Arg<'a> {
+    let help = "Does not check the schema by its meta-schema";
+    flag(alloc, "no-check", help)
+}
+
+fn progress_flag<'a>(alloc: Global) -> Result<Arg<'a>, OutOfMemory> {
+    let help = "Tells on standard error each second how far the lines are read";
+    flag(alloc, "progress", help).requires_arg("lines")
+}
+
+fn run_limit_option<'a>(alloc: Global) -> Arg<'a> {
+    let help = "How many runs an instance takes at most where matches stay unfinished; else 64";
+    option(alloc, "run-limit", "N", help).value_parser(clap::value_parser!(u32).range(1..))
+}
+
+fn nested_limit_option<'a>(alloc: Global) -> Arg<'a> {
+    let help = "How many targets of references are compiled one inside another; else 8";
+    option(alloc, "nested-limit", "N", help).value_parser(clap::value_parser!(usize))
+}
+
+/// The command with the files that it reads. One argument is made after the other, so that few are there at each way out.
+fn files<'a>(alloc: Global, command: Command<'a>) -> Result<Command<'a>, OutOfMemory> {
+    let command = command.arg(schema_word(alloc))?;
+    let command = command.arg(instance_option(alloc))?;
+    let command = command.arg(lines_option(alloc))?;
+    command.arg(resource_option(alloc))
+}
+
+/// The command with what says how it answers.
+fn manners<'a>(alloc: Global, command: Command<'a>) -> Result<Command<'a>, OutOfMemory> {
+    let command = command.arg(draft_option(alloc))?;
+    let command = command.arg(output_option(alloc))?;
+    let command = command.arg(unchecked_flag(alloc))?;
+    let progress = progress_flag(alloc)?;
+    command.arg(progress)
+}
+
+/// The command with the limits of the engine.
+fn limits<'a>(alloc: Global, command: Command<'a>) -> Result<Command<'a>, OutOfMemory> {
+    let command = command.arg(run_limit_option(alloc))?;
+    command.arg(nested_limit_option(alloc))
+}
+
+/// The command, as `--help` shows it.
+fn command<'a>(alloc: Global) -> Result<Command<'a>, OutOfMemory> {
+    let command = Command::new(alloc, "jsonschema")
+        .version("0.1.0")
+        .about(ABOUT)
+        .after_help(AFTER);
+    limits(alloc, manners(alloc, files(alloc, command)?)?)
+}
+
+/// The values of an argument, in their order.
+fn values_of<'w>(
+    alloc: Global,
+    matches: &ArgMatches<'w>,
+    id: &str,
+) -> Result<Vec<&'w str>, OutOfMemory> {
+    match matches.get_strs(id) {
+        Some(values) => Vec::from_slice(alloc, values),
+        None => Ok(Vec::new(alloc)),
+    }
+}
+
+/// The resources of their words; the first words that name none are an inner `Err`.
+fn resources_of<'w>(
+    alloc: Global,
+    words: &[&'w str],
+) -> Result<Result<Vec<Resource<'w>>, &'w str>, OutOfMemory> {
+    let mut resources = Vec::new(alloc);
+    for word in words {
+        match Resource::named(*word) {
+            Some(resource) => resources.push(resource)?,
+            None => return Ok(Err(*word)),
+        }
+    }
+    Ok(Ok(resources))
+}
+
+/// What the matches ask for, with these resources.
+fn options_of<'w>(
+    alloc: Global,
+    matches: &ArgMatches<'w>,
+    resources: Vec<Resource<'w>>,
+) -> Result<Options<'w>, OutOfMemory> {
+    Ok(Options {
+        schema: matches.get_str("schema").unwrap_or("-"),
+        instances: values_of(alloc, matches, "instance")?,
+        lines: matches.get_str("lines"),
+        resources,
+        draft: matches.get_str("draft").and_then(draft_named),
+        output: matches
+            .get_str("output")
+            .and_then(Output::named)
+            .unwrap_or(Output::Text),
+        checked: !matches.get_flag("no-check"),
+        run_limit: matches.get_one::<u32>("run-limit"),
+        nested_limit: matches.get_one::<usize>("nested-limit"),
+        progress: matches.get_flag("progress"),
+    })
+}
+
+/// The resources that the matches name; the first words that name none are an inner `Err`.
+fn resources_in<'w>(
+    alloc: Global,
+    matches: &ArgMatches<'w>,
+) -> Result<Result<Vec<Resource<'w>>, &'w str>, OutOfMemory> {
+    let words = values_of(alloc, matches, "resource")?;
+    let resources = resources_of(alloc, words.as_slice());
+    drop(words);
+    resources
+}
+
+/// The error of words that name no resource, with the command's usage.
+fn no_resource<'w>(
+    alloc: Global,
+    command: &mut Command<'w>,
+    word: &str,
+) -> Result<Error, OutOfMemory> {
+    let message = format!(in alloc; "'{word}' is not URI=FILE, as '--resource' takes it")?;
+    let error = command.error(ErrorKind::ValueValidation, message.as_str());
+    drop(message);
+    error
+}
+
+/// The options, or an error with the command's usage where they read standard input more than once.
+fn reading_once<'w>(command: &mut Command<'w>, options: Options<'w>) -> Result<Options<'w>, Error> {
+    if options.inputs() <= 1 {
+        return Ok(options);
+    }
+    drop(options);
+    let told = "standard input, '-', can be read only once";
+    Err(command.error(ErrorKind::ArgumentConflict, told)?)
+}
+
+/// What the matches ask for, or an error with the command's usage.
+fn checked_options<'w>(
+    alloc: Global,
+    command: &mut Command<'w>,
+    matches: &ArgMatches<'w>,
+) -> Result<Options<'w>, Error> {
+    match resources_in(alloc, matches)? {
+        Ok(resources) => {
+            let options = options_of(alloc, matches, resources)?;
+            reading_once(command, options)
+        }
+        Err(word) => Err(no_resource(alloc, command, word)?),
+    }
+}
+
+/// What the words ask for, of which the first is the program's name.
+///
+/// # Errors
+///
+/// Fails if the words are wrong, if they ask for help or the version, or out of memory; the error prints what to say.
+pub fn options_in<'w>(alloc: Global, words: &'w [String]) -> Result<Options<'w>, Error> {
+    let mut command = command(alloc)?;
+    let matches = command.try_get_matches_from_mut(words)?;
+    checked_options(alloc, &mut command, &matches)
+}

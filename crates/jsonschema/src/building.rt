@@ -1,0 +1,238 @@
+//! Builds the validator of the schema.
+
+use crate::files::answer_files;
+use crate::lines::answer_lines;
+use command_line::desk::{Desk, Stop};
+use command_line::options::{Options, Resource};
+use command_line::outcomes::Outcome;
+use command_line::reading::value_of;
+use command_line::telling::tell;
+use serde_json::Value;
+use standard_validator::{
+    BuildError, MetaDocuments, MetaError, PatternError, Patterns, Sources, StandardMeta,
+    StandardValidator, ValidationOptions, build,
+};
+use std::alloc::Global;
+
+/// A document and its URI.
+#[derive(Drop)]
+struct Document<'w> {
+    uri: &'w str,
+    value: Value,
+}
+
+/// The documents of the resources.
+fn documents_of<'w>(
+    rt: &HostRuntime,
+    resources: &[Resource<'w>],
+) -> Result<Vec<Document<'w>>, Stop> {
+    let mut documents = Vec::new(rt.alloc());
+    for resource in resources {
+        let value = value_of(rt, resource.file)?;
+        documents.push(Document {
+            uri: resource.uri,
+            value,
+        })?;
+    }
+    Ok(documents)
+}
+
+/// What the engine is told of the options.
+fn engine_options(alloc: Global, options: &Options<'_>) -> ValidationOptions {
+    let mut chosen = ValidationOptions::new(alloc).should_validate_schema(options.checked);
+    if let Some(limit) = options.run_limit {
+        if limit >= 1 {
+            chosen = chosen.with_run_limit(limit);
+        }
+    }
+    if let Some(limit) = options.nested_limit {
+        chosen = chosen.with_nested_limit(limit);
+    }
+    chosen
+}
+
+/// What the validator is built from.
+fn sources_of<'a>(
+    alloc: Global,
+    options: &Options<'_>,
+    schema: &'a Value,
+    documents: &'a [Document<'_>],
+    metas: &'a MetaDocuments,
+) -> Result<Sources<'a>, Stop> {
+    let mut sources = Sources::new(alloc, schema);
+    if let Some(draft) = options.draft {
+        sources = sources.with_default_draft(draft);
+    }
+    for document in documents {
+        sources = sources.with_document(alloc, document.uri, &document.value)?;
+    }
+    Ok(sources.with_meta_schemas(alloc, metas)?)
+}
+
+/// What may be done about a refusal of the schema.
+fn hint_of(refused: &BuildError) -> &'static str {
+    match refused {
+        BuildError::NotASchema(_) => "a schema is an object, true or false",
+        BuildError::ReferenceNotText(_) => "write the reference as a string",
+        BuildError::Lookup(_) | BuildError::MissingRoot(_) => {
+            "the document that a reference leads to is handed over by --resource URI=FILE"
+        }
+        BuildError::KeywordRefused(_) => "write this keyword otherwise, or leave it out",
+        BuildError::UnsupportedVocabulary(_) => {
+            "have the meta-schema require the standard's vocabularies alone"
+        }
+        BuildError::MetaSchema(_) =>
+            "mend the keyword there; --no-check builds the schema unchecked",
+        BuildError::NodeLimit(_) => "split the schema, or leave out what no reference needs",
+        BuildError::OutOfMemory => "give the process more memory",
+    }
+}
+
+/// Tells why the schema is refused.
+fn refuse(rt: &HostRuntime, options: &Options<'_>, refused: &BuildError) -> Stop {
+    match refused {
+        BuildError::OutOfMemory => Stop::OutOfMemory,
+        _ => tell(rt, options.schema, "is refused", refused, hint_of(refused)),
+    }
+}
+
+/// Tells which pattern is too big.
+fn refuse_pattern(rt: &HostRuntime, options: &Options<'_>, fault: &PatternError) -> Stop {
+    match fault {
+        PatternError::OutOfMemory => Stop::OutOfMemory,
+        PatternError::TooBig(_) => tell(
+            rt,
+            options.schema,
+            "is refused",
+            fault,
+            "write the pattern with fewer or smaller repetitions",
+        ),
+    }
+}
+
+/// Tells why the meta-schemas are not to be had.
+fn refuse_metas(rt: &HostRuntime, fault: &MetaError) -> Stop {
+    match fault {
+        MetaError::OutOfMemory => Stop::OutOfMemory,
+        _ => tell(
+            rt,
+            "jsonschema",
+            "cannot check schemas",
+            fault,
+            "this is a fault of the command; tell those who maintain it",
+        ),
+    }
+}
+
+/// Answers by a validator.
+fn answer_all(
+    rt: &HostRuntime,
+    desk: &mut Desk,
+    options: &Options<'_>,
+    validator: &StandardValidator<'_>,
+) -> Result<Outcome, Stop> {
+    let files = answer_files(rt, desk, options, validator)?;
+    match options.lines {
+        Some(file) => Ok(files.and(answer_lines(rt, desk, options, validator, file)?)),
+        None => Ok(files),
+    }
+}
+
+/// Answers by the validator of the sources and their patterns.
+fn answer_built(
+    rt: &HostRuntime,
+    desk: &mut Desk,
+    options: &Options<'_>,
+    sources: Sources<'_>,
+    patterns: &Patterns,
+    metas: &StandardMeta<'_>,
+) -> Result<Outcome, Stop> {
+    let chosen = engine_options(rt.alloc(), options);
+    match build(rt.alloc(), sources, patterns, metas, chosen) {
+        Ok(validator) => {
+            let answered = answer_all(rt, desk, options, &validator);
+            drop(validator);
+            answered
+        }
+        Err(refused) => Err(refuse(rt, options, &refused)),
+    }
+}
+
+/// Answers by the validator of the sources.
+fn answer_by_sources(
+    rt: &HostRuntime,
+    desk: &mut Desk,
+    options: &Options<'_>,
+    sources: Sources<'_>,
+    metas: &StandardMeta<'_>,
+) -> Result<Outcome, Stop> {
+    match sources.patterns(rt.alloc()) {
+        Ok(patterns) => {
+            let answered = answer_built(rt, desk, options, sources, &patterns, metas);
+            drop(patterns);
+            answered
+        }
+        Err(fault) => Err(refuse_pattern(rt, options, &fault)),
+    }
+}
+
+/// Answers by the validator of a schema.
+fn answer_by_schema(
+    rt: &HostRuntime,
+    desk: &mut Desk,
+    options: &Options<'_>,
+    schema: &Value,
+    documents: &[Document<'_>],
+) -> Result<Outcome, Stop> {
+    match MetaDocuments::new(rt.alloc()) {
+        Ok(metas) => {
+            let answered = answer_by_metas(rt, desk, options, schema, documents, &metas);
+            drop(metas);
+            answered
+        }
+        Err(fault) => Err(refuse_metas(rt, &fault)),
+    }
+}
+
+/// Answers by the validator of a schema, with the meta-schemas at hand.
+fn answer_by_metas(
+    rt: &HostRuntime,
+    desk: &mut Desk,
+    options: &Options<'_>,
+    schema: &Value,
+    documents: &[Document<'_>],
+    metas: &MetaDocuments,
+) -> Result<Outcome, Stop> {
+    match StandardMeta::new(rt.alloc(), metas) {
+        Ok(checks) => {
+            let answered = match sources_of(rt.alloc(), options, schema, documents, metas) {
+                Ok(sources) => answer_by_sources(rt, desk, options, sources, &checks),
+                Err(stop) => Err(stop),
+            };
+            drop(checks);
+            answered
+        }
+        Err(fault) => Err(refuse_metas(rt, &fault)),
+    }
+}
+
+/// Answers as the options ask.
+pub(crate) fn answer(
+    rt: &HostRuntime,
+    desk: &mut Desk,
+    options: &Options<'_>,
+) -> Result<Outcome, Stop> {
+    let schema = value_of(rt, options.schema)?;
+    match documents_of(rt, options.resources.as_slice()) {
+        Ok(documents) => {
+            let answered = answer_by_schema(rt, desk, options, &schema, documents.as_slice());
+            drop(documents);
+            drop(schema);
+            answered
+        }
+        Err(stop) => {
+            drop(schema);
+            Err(stop)
+        }
+    }
+}

@@ -1,0 +1,384 @@
+#!/usr/bin/env python3
+"""Runs the command `jsonschema` over a table of calls, and compares each with the status and the texts that are wanted.
+
+Prints a line for each call that goes otherwise, then how many there were and how many went wrong; ends with 1 where one did. What is
+wanted is written from the command's manual (`--help`, docs/USING.md), the standard's meaning of the schemas and the texts of the crate
+`jsonschema`, not from what it printed.
+
+Usage: python3 tools/command_rows.py crates/jsonschema/out/jsonschema
+       python3 tools/command_rows.py crates/jsonschema/out/jsonschema --lines 1000 100000 1000000
+
+The second measures: so many lines of some 300 bytes, by a schema of ten keywords and by the schema `true`, which asks nothing, so that
+the time of its run is that of reading and parsing alone; and how much memory each took at most. It prints the least of three runs.
+"""
+
+import json
+import os
+import pty
+import re
+import resource
+import subprocess
+import sys
+import tempfile
+import time
+from pathlib import Path
+
+FILES = {
+    "number.json": '{"type": "number"}',
+    "person.json": '{"$id": "https://e.example/person", "properties": {"age": {"type": "integer"}}, "required": ["name"]}',
+    "true.json": "true",
+    "false.json": "false",
+    "itself.json": '{"$ref": "#"}',
+    "deep.json": "[" * 200,
+    "escape.json": '{"properties": {"\\u001b[31m": {"type": "strin"}}}',
+    "refers.json": '{"$ref": "https://e.example/other"}',
+    "other.json": '{"type": "string"}',
+    "wrong.json": '{"properties": {"a": {"type": "strin"}}}',
+    "seven.json": '{"$schema": "http://json-schema.org/draft-07/schema#", "type": "string"}',
+    "constant.json": '{"const": 1}',
+    "exclusive.json": '{"minimum": 3, "exclusiveMinimum": true}',
+    "back.json": '{"pattern": "(a)\\\\1"}',
+    "1.json": "1",
+    "3.json": "3",
+    "text.json": '"text"',
+    "cut.json": '{"a":\n  [1, 2',
+    "ann.json": '{"name": "Ann", "age": 3}',
+    "bob.json": '{"age": "3"}',
+    "bell.json": '{"name": "\\u0007", "age": "\\u001b[31m"}',
+    "key.json": '{"properties": {"a\\nb": {"type": "null"}}}',
+    "fed.json": '{"a\\nb": 1}',
+    "lines": '1\n\n2\n"x"\n{\n  3\r\n',
+    "good.lines": "1\n2\n3",
+    "none.lines": "",
+    "bytes.lines": b'1\n"\xff"\n2\n',
+}
+
+LINES_TEXT = (
+    'lines:4 - INVALID. "x" is not of type "number" (instance: (root); schema: /type)\n'
+    "lines:5 - NOT JSON. EOF while parsing at column 1\n"
+    "lines: 5 lines: 1 refused, 1 not JSON\n"
+)
+
+BOB = (
+    "bob.json - INVALID. Errors:\n"
+    '1. "name" is a required property\n'
+    "   instance: (root); schema: /required\n"
+    '2. "3" is not of type "integer"\n'
+    "   instance: /age; schema: /properties/age/type\n"
+)
+
+# a name, the words, standard input, the status, standard output, and texts that standard error has to hold
+ROWS = [
+    ("a schema alone", ["number.json"], "", 0, "the schema is accepted\n", []),
+    ("an instance that is accepted", ["number.json", "-i", "1.json"], "", 0, "1.json - VALID\n", []),
+    ("the long word", ["number.json", "--instance", "1.json"], "", 0, "1.json - VALID\n", []),
+    ("words in another order", ["-i", "1.json", "number.json"], "", 0, "1.json - VALID\n", []),
+    ("an instance that is refused", ["person.json", "-i", "bob.json"], "", 1, BOB, []),
+    ("two instances", ["person.json", "-i", "ann.json", "-i", "bob.json"], "", 1, "ann.json - VALID\n" + BOB, []),
+    ("the schema from standard input", ["-", "-i", "1.json"], '{"type":"string"}', 1,
+     '1.json - INVALID. Errors:\n1. 1 is not of type "string"\n   instance: (root); schema: /type\n', []),
+    ("the instance from standard input", ["number.json", "-i", "-"], "7", 0, "- - VALID\n", []),
+    ("standard input twice", ["-", "-i", "-"], "1", 2, "", ["can be read only once"]),
+    ("no words", [], "", 2, "", ["<SCHEMA>", "Usage: jsonschema"]),
+    ("a word that is none", ["number.json", "--instanc", "1.json"], "", 2, "", ["--instance"]),
+    ("a draft that is none", ["number.json", "--draft", "5"], "", 2, "", ["2019-09"]),
+    ("an output that is none", ["number.json", "--output", "basic"], "", 2, "", ["text, flag, list"]),
+    ("a limit that is none", ["number.json", "--run-limit", "0"], "", 2, "", ["--run-limit"]),
+    ("a resource that is none", ["number.json", "--resource", "other.json"], "", 2, "", ["URI=FILE"]),
+    ("progress of nothing", ["number.json", "--progress"], "", 2, "", ["--lines"]),
+    ("help", ["--help"], "", 0, None, []),
+    ("the version", ["--version"], "", 0, "jsonschema 0.1.0\n", []),
+    ("no such schema", ["none.json", "-i", "1.json"], "", 2, "", ["none.json cannot be read: "]),
+    ("no such instance, and the next is answered", ["number.json", "-i", "none.json", "-i", "1.json"], "", 2,
+     "1.json - VALID\n", ["none.json cannot be read: "]),
+    ("an instance that is not JSON, and the next is refused", ["number.json", "-i", "cut.json", "-i", "text.json"], "", 2,
+     'text.json - INVALID. Errors:\n1. "text" is not of type "number"\n   instance: (root); schema: /type\n',
+     ["cut.json is not JSON: ", "line 2 column"]),
+    ("a schema that is not JSON", ["cut.json"], "", 2, "", ["cut.json is not JSON: ", "line 2 column"]),
+    ("a schema that is refused", ["wrong.json"], "", 2, "", ["wrong.json is refused: ", "'/properties/a/type'", "--no-check"]),
+    ("a reference without its document", ["refers.json"], "", 2, "", ["https://e.example/other", "--resource URI=FILE"]),
+    ("a reference with its document", ["refers.json", "--resource", "https://e.example/other=other.json", "-i", "1.json"], "", 1,
+     '1.json - INVALID. Errors:\n1. 1 is not of type "string"\n   instance: (root); schema: /type\n', []),
+    ("a document that is not JSON", ["refers.json", "--resource", "https://e.example/other=cut.json"], "", 2, "",
+     ["cut.json is not JSON: ", "line 2 column"]),
+    ("a document from standard input", ["refers.json", "--resource", "https://e.example/other=-", "-i", "text.json"],
+     '{"type":"string"}', 0, "text.json - VALID\n", []),
+    ("a document that cannot be read", ["refers.json", "--resource", "https://e.example/other=none.json"], "", 2, "",
+     ["none.json cannot be read: "]),
+    ("a pattern that refers back", ["back.json", "-i", "text.json"], "", 2, "", ["back.json is refused: ", "'/pattern'"]),
+    ("a schema that is a number", ["1.json", "-i", "1.json"], "", 2, "", ["1.json is refused: ", "''"]),
+    ("a number as an unchecked schema", ["1.json", "--no-check"], "", 2, "", ["1.json is refused: ", "''"]),
+    ("a schema that refuses all", ["false.json", "-i", "1.json"], "", 1,
+     "1.json - INVALID. Errors:\n1. False schema does not allow 1\n   instance: (root); schema: (root)\n", []),
+    ("a schema that leads to itself", ["itself.json", "-i", "1.json"], "", 0, "1.json - VALID\n", []),
+    ("a schema alone, for a program", ["number.json", "--output", "flag"], "", 0, "", []),
+    ("an instance too deep to be read", ["true.json", "-i", "deep.json"], "", 2, "", ["deep.json is not JSON: ", "line 1 column"]),
+    ("a refusal that would rule a terminal", ["escape.json"], "", 2, "", ["'/properties/\\u{1b}[31m/type'"]),
+    ("two drafts", ["number.json", "--draft", "4", "--draft", "7"], "", 2, "", ["--draft"]),
+    ("a limit that is no number", ["number.json", "--nested-limit", "-1"], "", 2, "", []),
+    ("draft 4 has no const", ["constant.json", "--draft", "4", "-i", "3.json"], "", 0, "3.json - VALID\n", []),
+    ("draft 6 has const", ["constant.json", "--draft", "6", "-i", "1.json"], "", 0, "1.json - VALID\n", []),
+    ("draft 7 has const", ["constant.json", "--draft", "7", "-i", "3.json", "--output", "flag"], "", 1,
+     '{"output":"flag","schema":"constant.json","instance":"3.json","payload":{"valid":false}}\n', []),
+    ("a boolean exclusiveMinimum in draft 4", ["exclusive.json", "--draft", "4", "-i", "3.json", "--output", "flag"], "", 1,
+     '{"output":"flag","schema":"exclusive.json","instance":"3.json","payload":{"valid":false}}\n', []),
+    ("a boolean exclusiveMinimum in 2020-12", ["exclusive.json", "-i", "3.json"], "", 2, "", ["'/exclusiveMinimum'"]),
+    ("2019-09", ["number.json", "--draft", "2019-09", "-i", "3.json"], "", 0, "3.json - VALID\n", []),
+    ("2020-12", ["number.json", "--draft", "2020-12", "-i", "3.json"], "", 0, "3.json - VALID\n", []),
+    ("a schema that says its draft", ["seven.json", "--draft", "4", "-i", "text.json"], "", 0, "text.json - VALID\n", []),
+    ("unchecked", ["number.json", "--no-check", "-i", "3.json"], "", 0, "3.json - VALID\n", []),
+    ("limits", ["number.json", "--run-limit", "1", "--nested-limit", "2", "-i", "3.json"], "", 0, "3.json - VALID\n", []),
+    ("flag", ["number.json", "--output", "flag", "-i", "1.json"], "", 0,
+     '{"output":"flag","schema":"number.json","instance":"1.json","payload":{"valid":true}}\n', []),
+    ("list", ["number.json", "--output", "list", "-i", "text.json"], "", 1,
+     {"output": "list", "schema": "number.json", "instance": "text.json", "valid": False}, []),
+    ("text that rules a terminal", ["person.json", "-i", "bell.json"], "", 1,
+     'bell.json - INVALID. Errors:\n1. "\\u001b[31m" is not of type "integer"\n   instance: /age; schema: /properties/age/type\n', []),
+    ("a line feed in a name", ["key.json", "-i", "fed.json"], "", 1,
+     'fed.json - INVALID. Errors:\n1. 1 is not of type "null"\n   instance: /a\\u{a}b; schema: /properties/a\\u{a}b/type\n', []),
+    ("lines", ["number.json", "--lines", "lines"], "", 2, LINES_TEXT, ["lines a second"]),
+    ("lines that are accepted", ["number.json", "--lines", "good.lines"], "", 0, "good.lines: 3 lines: 0 refused, 0 not JSON\n", []),
+    ("no lines", ["number.json", "--lines", "none.lines"], "", 0, "none.lines: 0 lines: 0 refused, 0 not JSON\n", []),
+    ("a line that is not UTF-8", ["number.json", "--lines", "bytes.lines"], "", 2,
+     "bytes.lines:2 - NOT JSON. invalid JSON at column 2\nbytes.lines: 3 lines: 0 refused, 1 not JSON\n", []),
+    ("lines from standard input", ["number.json", "--lines", "-"], '1\n"x"\n', 1,
+     '-:2 - INVALID. "x" is not of type "number" (instance: (root); schema: /type)\n-: 2 lines: 1 refused, 0 not JSON\n', []),
+    ("lines of which the verdicts are wanted", ["number.json", "--lines", "lines", "--output", "flag"], "", 2,
+     "".join('{"output":"flag","schema":"number.json","instance":"lines","line":%d,%s}\n' % line for line in [
+         (1, '"payload":{"valid":true}'), (3, '"payload":{"valid":true}'), (4, '"payload":{"valid":false}'),
+         (5, '"error":"EOF while parsing at column 1"'), (6, '"payload":{"valid":true}')]),
+     ["lines: 5 lines: 1 refused, 1 not JSON"]),
+    ("lists of lines", ["number.json", "--lines", "-", "--output", "list"], '"x"', 1,
+     {"output": "list", "schema": "number.json", "instance": "-", "line": 1, "valid": False}, []),
+    ("progress that comes to an end within a second", ["number.json", "--lines", "good.lines", "--progress"], "", 0,
+     "good.lines: 3 lines: 0 refused, 0 not JSON\n", []),
+    ("a folder for a file of lines", ["number.json", "--lines", "."], "", 2, None, [". cannot be read: "]),
+    ("no such file of lines", ["number.json", "--lines", "none"], "", 2, "", ["none cannot be read: "]),
+    ("a file and lines", ["number.json", "-i", "1.json", "--lines", "good.lines"], "", 0,
+     "1.json - VALID\ngood.lines: 3 lines: 0 refused, 0 not JSON\n", []),
+    ("a folder for a file", ["number.json", "-i", "."], "", 2, "", [". cannot be read: "]),
+]
+
+
+def fill(folder):
+    """Writes the files that the calls name."""
+    for name, text in FILES.items():
+        (folder / name).write_bytes(text if isinstance(text, bytes) else text.encode())
+
+
+def run(program, words, given, folder):
+    """A call's status, standard output and standard error."""
+    done = subprocess.run([program, *words], input=given.encode(), capture_output=True, cwd=folder, timeout=60)
+    return done.returncode, done.stdout.decode(errors="replace"), done.stderr.decode(errors="replace")
+
+
+def printed_otherwise(out, wanted):
+    """Whether standard output is not what is wanted: a text, or of a list some members, or None for any text but none."""
+    if wanted is None:
+        return out == ""
+    if isinstance(wanted, str):
+        return out != wanted
+    try:
+        found = json.loads(out)
+        payload = found.pop("payload")
+        return {**found, "valid": payload["valid"]} != wanted or not payload["details"]
+    except (ValueError, LookupError, TypeError, AttributeError):
+        return True
+
+
+def wrong_in(program, folder, row):
+    """What goes otherwise in a call, in words, or None."""
+    _name, words, given, status, out, told = row
+    try:
+        found = run(program, words, given, folder)
+    except subprocess.TimeoutExpired:
+        return "no end within a minute"
+    if found[0] != status:
+        return f"status {found[0]}, wanted {status}"
+    if printed_otherwise(found[1], out):
+        return f"standard output {found[1]!r}, wanted {out!r}"
+    for text in told:
+        if text not in found[2]:
+            return f"standard error {found[2]!r} does not hold {text!r}"
+    if status == 2 and "--lines" not in words and not any(next_step in found[2] for next_step in NEXT_STEPS):
+        return f"standard error {found[2]!r} does not say what to do next"
+    if status != 2 and "--lines" not in words and found[2]:
+        return f"standard error {found[2]!r}, wanted none"
+    return None
+
+
+# one of which stands in each message: the command's own, and that of wrong words
+NEXT_STEPS = ("\nhint: ", "try '--help'")
+
+
+def failed_write(program, folder):
+    """What goes otherwise where standard output cannot be written, in words, or None: all lines are read, and it is told once."""
+    with open("/dev/full", "wb") as full:
+        return cut_off(program, folder, full)
+
+
+def closed_pipe(program, folder):
+    """The same where standard output is a pipe that nobody reads."""
+    reader, writer = os.pipe()
+    os.close(reader)
+    with os.fdopen(writer, "wb") as pipe:
+        return cut_off(program, folder, pipe)
+
+
+def cut_off(program, folder, out):
+    words = [program, "number.json", "--lines", "lines", "--output", "flag"]
+    done = subprocess.run(words, stdout=out, stderr=subprocess.PIPE, cwd=folder, timeout=60, check=False)
+    told = done.stderr.decode()
+    if done.returncode != 2 or told.count("standard output cannot be written") != 1 or "5 lines: 1 refused" not in told:
+        return f"status {done.returncode}, standard error {told!r}"
+    return None
+
+
+def on_a_terminal(program, folder):
+    """What goes otherwise on a terminal, where verdicts are green and red."""
+    ours, theirs = pty.openpty()
+    words = [program, "number.json", "-i", "1.json", "-i", "text.json"]
+    done = subprocess.run(words, stdout=theirs, cwd=folder, timeout=60, check=False)
+    os.close(theirs)
+    shown = os.read(ours, 4096).decode()
+    os.close(ours)
+    wanted = ("1.json - \x1b[32mVALID\x1b[0m\r\n", "text.json - \x1b[31mINVALID\x1b[0m. Errors:\r\n")
+    return None if done.returncode == 1 and all(text in shown for text in wanted) else f"shown {shown!r}"
+
+
+def slow_lines(program, folder):
+    """What goes otherwise where lines come slowly: each refused one is printed at once, and about each second it is told how far it is."""
+    words = [program, "number.json", "--lines", "-", "--progress"]
+    with subprocess.Popen(words, stdin=subprocess.PIPE, stdout=subprocess.PIPE, stderr=subprocess.PIPE, cwd=folder) as call:
+        call.stdin.write(b'"x"\n')
+        call.stdin.flush()
+        first = call.stdout.readline().decode()
+        for _turn in range(25):
+            time.sleep(0.1)
+            call.stdin.write(b"1\n")
+            call.stdin.flush()
+        call.stdin.close()
+        told = call.stderr.read().decode()
+        call.wait()
+    if not first.startswith("-:1 - INVALID. ") or told.count("lines a second") not in (2, 3, 4) or call.returncode != 1:
+        return f"first {first!r}, standard error {told!r}, status {call.returncode}"
+    return None
+
+
+def words_in_bytes(program, folder):
+    """What goes otherwise where a word is not UTF-8."""
+    done = subprocess.run([program, b"\xff.json"], capture_output=True, cwd=folder, timeout=60, check=False)
+    told = done.stderr.decode(errors="replace")
+    return None if done.returncode == 2 and NEXT_STEPS[0] in told else f"status {done.returncode}, standard error {told!r}"
+
+
+def little_memory(program, folder):
+    """What goes otherwise where memory is refused: a document of ten million numbers under 100 MB."""
+    (folder / "many.json").write_text("[" + "1," * 10_000_000 + "1]")
+
+    def take_away():
+        resource.setrlimit(resource.RLIMIT_AS, (100 << 20, 100 << 20))
+
+    words = [program, "true.json", "-i", "many.json", "-i", "1.json"]
+    done = subprocess.run(words, capture_output=True, cwd=folder, timeout=60, check=False, preexec_fn=take_away)
+    told = done.stderr.decode(errors="replace")
+    (folder / "many.json").unlink()
+    return None if done.returncode == 2 and "memory" in told else f"status {done.returncode}, standard error {told!r}"
+
+
+CALLS = {
+    "a write that fails": failed_write,
+    "a pipe that nobody reads": closed_pipe,
+    "a terminal": on_a_terminal,
+    "slow lines": slow_lines,
+    "words that are not UTF-8": words_in_bytes,
+    "little memory": little_memory,
+}
+
+
+def check(program, folder):
+    """Runs all calls, and returns how many went wrong."""
+    wrong = 0
+    for row in ROWS:
+        found = wrong_in(program, folder, row)
+        if found:
+            wrong += 1
+            print(f"{row[0]}: {found}")
+    for name, call in CALLS.items():
+        found = call(program, folder)
+        if found:
+            wrong += 1
+            print(f"{name}: {found}")
+    print(f"{len(ROWS) + len(CALLS)} calls, {wrong} wrong")
+    return wrong
+
+
+TEN_KEYWORDS = {
+    "type": "object",
+    "properties": {
+        "id": {"type": "integer", "minimum": 1},
+        "name": {"type": "string", "minLength": 1, "maxLength": 40},
+        "mail": {"type": "string", "pattern": "@"},
+        "tags": {"type": "array", "items": {"type": "string"}, "uniqueItems": True},
+        "kind": {"enum": ["a", "b", "c"]},
+    },
+    "required": ["id", "name"],
+}
+
+
+def line_of(number):
+    """A line of some 300 bytes that the schema accepts."""
+    value = {
+        "id": number + 1,
+        "name": f"name {number}",
+        "mail": f"user{number}@example.com",
+        "tags": [f"tag{number % 7}", f"tag{number % 7 + 7}", "blue"],
+        "kind": "abc"[number % 3],
+        "note": "x" * 60,
+        "place": {"street": "Long Street", "house": number % 100, "town": "Springfield", "spots": [1.5, 2.25, 3]},
+        "active": number % 2 == 0,
+        "more": None,
+    }
+    return json.dumps(value, separators=(",", ":"))
+
+
+def timed(program, schema, folder):
+    """The milliseconds that the lines took, as the command tells, and the most memory in kilobytes."""
+    words = [program, schema, "--lines", "many.lines"]
+    with subprocess.Popen(words, stdout=subprocess.DEVNULL, stderr=subprocess.PIPE, cwd=folder) as call:
+        told = call.stderr.read().decode()
+        _pid, status, usage = os.wait4(call.pid, 0)
+        call.returncode = os.waitstatus_to_exitcode(status)
+    return int(re.search(r"(\d+) ms", told).group(1)), usage.ru_maxrss
+
+
+def measure(program, folder, count):
+    """Prints what so many lines cost by ten keywords and by none, and the memory that they took."""
+    with open(folder / "many.lines", "w", encoding="utf-8") as lines:
+        size = sum(lines.write(line_of(number) + "\n") for number in range(count))
+    best, memory = {}, {}
+    for _turn in range(3):
+        for schema in ("true.json", "ten.json"):
+            millis, most = timed(program, schema, folder)
+            best[schema] = min(millis, best.get(schema, millis))
+            memory[schema] = max(most, memory.get(schema, most))
+    ratio = best["ten.json"] / max(best["true.json"], 1)
+    print(f"{count} lines of {size // count} bytes: alone {best['true.json']} ms, {memory['true.json']} kB; "
+          f"by ten keywords {best['ten.json']} ms, {memory['ten.json']} kB; {ratio:.2f} times")
+
+
+def main():
+    program = str(Path(sys.argv[1]).resolve())
+    with tempfile.TemporaryDirectory() as name:
+        folder = Path(name)
+        fill(folder)
+        if sys.argv[2:3] == ["--lines"]:
+            (folder / "ten.json").write_text(json.dumps(TEN_KEYWORDS))
+            for count in sys.argv[3:]:
+                measure(program, folder, int(count))
+            return 0
+        return 1 if check(program, folder) else 0
+
+
+if __name__ == "__main__":
+    sys.exit(main())
