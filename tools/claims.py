@@ -46,6 +46,9 @@ SCOPE = (
     "regex_matcher::patterns",
     "regex_matcher::reading",
     "standard_keywords::table",
+    "standard_meta::documents",
+    "standard_meta::meta",
+    "standard_validator",
     "text_formats::formats",
 )
 
