@@ -182,7 +182,8 @@ const OF_STANDARDS: [Case; 19] = [
     ("email", "joe.bloggs@[IPv6:::1]", true),
 ];
 
-/// Examples of RFC 6570, sections 1.1, 1.2 and 3.2, and texts on either side of its grammar in section 2; and of that of RFC 6531, section 3.3.
+/// Examples of RFC 6570, sections 1.1, 1.2 and 3.2, and texts on either side of its grammar in section 2, and of that of RFC 6531,
+/// section 3.3.
 const OF_TEMPLATES_AND_ADDRESSES: [Case; 55] = [
     ("uri-template", "http://example.com/~{username}/", true),
     ("uri-template", "http://example.com/search{?q,lang}", true),
