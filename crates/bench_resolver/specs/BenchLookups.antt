@@ -1,5 +1,5 @@
 -- Where references lead: to a resource under a URI, and in it by a pointer or a name. (Core 2020-12, sections 8.2.1 to 8.2.3; Core
--- 2019-09, section 8.2.4.2; RFC 3986, section 3.5; RFC 6901, section 6)
+-- 2019-09, section 8.2.4.2; section 3.5 of RFC 3986; section 6 of RFC 6901)
 use Rattle.std.specs.List.{list_any}
 use Rattle.std.specs.Prelude.{Bool, Err, List, None, Ok, Option, Result, Some, [], codes, false, if◌then◌else◌, option_and_then}
 use Rattle.std.specs.Prelude.{option_map, slice_get, true, ℕ, ◌&&◌, ◌++◌, ◌==◌, ◌∷◌}

@@ -1,4 +1,4 @@
--- Pointers into a value: the path that one names. (RFC 6901, sections 3, 4 and 6)
+-- Pointers into a value: the path that one names. (sections 3, 4 and 6 of RFC 6901)
 use Rattle.std.specs.List.{slice_split}
 use Rattle.std.specs.Prelude.{Bool, List, None, Option, Some, [], false, if◌then◌else◌, nat_lt, not, option_and_then, option_map, ◌&&◌}
 use Rattle.std.specs.Prelude.{◌==◌, ◌^◌, ◌∷◌, ℕ}

@@ -1,4 +1,4 @@
--- A pointer leads back to the place that it shows, in every document that has something there. (RFC 6901, sections 3 to 5)
+-- A pointer leads back to the place that it shows, in every document that has something there. (sections 3 to 5 of RFC 6901)
 use Rattle.std.specs.Prelude.{◌≡◌, ◌<◌, ◌^◌, [], ◌∷◌, Some}
 use Rattle.serde_json.specs.Data.{Data}
 use Rattle.schema_definitions.specs.Instance.{Place, Step, subject_at, to_item, to_member, to_name}

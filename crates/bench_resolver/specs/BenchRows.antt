@@ -1,5 +1,5 @@
 -- Worked rows of the narrow rule: where references lead in small documents, by computation. (Core 2020-12, section 8.2;
--- RFC 6901, section 6)
+-- section 6 of RFC 6901)
 use Rattle.std.specs.Prelude.{Bool, Err, List, Ok, Result, [], codes, false, true, ℕ, ◌≡◌, ◌++◌, ◌∷◌}
 use Rattle.serde_json.specs.Data.{Data, array, boolean, item, member, no_items, no_members, object, string}
 use Rattle.schema_definitions.specs.Instance.{Place, Text, to_member}

@@ -1,5 +1,5 @@
--- How much of a pointer lies outside the resource of its target. (Core 2020-12, section 8.2; RFC 6901,
--- section 3)
+-- How much of a pointer lies outside the resource of its target. (Core 2020-12, section 8.2; section 3
+-- of RFC 6901)
 use Rattle.std.specs.Prelude.{Bool, false, true, None, Ok, Option, Some, [], if◌then◌else◌, is_some, length, slice_get, ℕ, ◌++◌, ◌≡◌, ◌∷◌}
 use Rattle.std.specs.Str.Lossy.{utf8_lossy}
 use Rattle.percent_encoding.specs.Percent.{percent_decode}

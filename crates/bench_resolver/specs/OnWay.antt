@@ -1,5 +1,5 @@
 -- A subschema lies one or two steps below its schema: so these steps say whether a path leads to one, and no list of all
--- subschemas is needed. (Core 2020-12, sections 8.2 and 9.2; RFC 6901, section 4)
+-- subschemas is needed. (Core 2020-12, sections 8.2 and 9.2; section 4 of RFC 6901)
 use Rattle.std.specs.Prelude.{Bool, List, None, Option, Some, false, flat_map, ℕ, ◌&&◌, ◌++◌, ◌+◌, ◌||◌}
 use Rattle.serde_json.specs.Data.{Data, Items, Members, array, item, member, no_items, no_members, object}
 use Rattle.serde_json.specs.Find.{get}

@@ -1,4 +1,4 @@
--- Pointers into JSON values. (RFC 6901, section 3; for relative ones the Internet-Draft on relative JSON pointers, section 3, in the state
+-- Pointers into JSON values. (section 3 of RFC 6901; for relative ones section 3 of the Internet-Draft on relative JSON pointers, in the state
 -- that draft 7 cites)
 use Rattle.std.specs.Prelude.{Bool, [], false, if◌then◌else◌, true, ◌&&◌, ◌==◌, ◌||◌, ◌∷◌}
 use Rattle.text_formats.specs.Characters.{Text, is_digit}

@@ -1,4 +1,4 @@
-//! Pointers, and the paths that they name (RFC 6901, sections 3 and 4).
+//! Pointers, and the paths that they name (sections 3 and 4 of RFC 6901).
 ghost use Rattle.std.specs.Prelude.{◌≡◌, IfOk, option_map, string_bytes, ◌==◌};
 ghost use Rattle.std.specs.List.{slice_split};
 ghost use Rattle.std.specs.Str.{all_ascii_digits};
