@@ -1,5 +1,6 @@
 -- What the words of a call choose.
-use Rattle.std.specs.Prelude.{codes}
+use Rattle.std.specs.Prelude.{None, Option, Some, bytes_eq, codes, if◌then◌else◌}
+use Rattle.schema_definitions.specs.Drafts.{Draft, draft_2019_09, draft_2020_12, draft_4, draft_6, draft_7}
 use Rattle.schema_definitions.specs.Instance.{Text}
 use Rattle.command_line.specs.declared.options.Output.{Output}
 use Rattle.command_line.specs.declared.options.Output.TheVariants as output
@@ -9,3 +10,21 @@ abbrev pub name_of : Output → Text
 name_of output.Text = codes "text"
 name_of output.Flag = codes "flag"
 name_of output.List = codes "list"
+
+-- the output that a word asks for
+abbrev pub output_named : Text → Option Output
+output_named name =
+    if bytes_eq name (codes "text") then Some output.Text
+    else if bytes_eq name (codes "flag") then Some output.Flag
+    else if bytes_eq name (codes "list") then Some output.List
+    else None
+
+-- the draft that a word asks for: the number, or the year and the month, of its release
+abbrev pub draft_named : Text → Option Draft
+draft_named name =
+    if bytes_eq name (codes "4") then Some draft_4
+    else if bytes_eq name (codes "6") then Some draft_6
+    else if bytes_eq name (codes "7") then Some draft_7
+    else if bytes_eq name (codes "2019-09") then Some draft_2019_09
+    else if bytes_eq name (codes "2020-12") then Some draft_2020_12
+    else None

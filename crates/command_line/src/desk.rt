@@ -1,4 +1,6 @@
 //! Where answers are written.
+ghost use Rattle.std.specs.Prelude.{◌≡◌, is_some};
+ghost use Rattle.command_line.specs.Outcomes.{outcome_told};
 
 use crate::outcomes::Outcome;
 use crate::pages::Page;
@@ -54,7 +56,9 @@ impl Desk {
 
     /// How a run comes out that answered so, or was stopped. It tells what was not told yet: that memory could not be had, or
     /// that an answer could not be written.
-    pub fn outcome_of(&self, rt: &HostRuntime, answered: Result<Outcome, Stop>) -> Outcome {
+    pub fn outcome_of(&self, rt: &HostRuntime, answered: Result<Outcome, Stop>) -> Outcome
+        ensures told { result ≡ outcome_told (is_some self.now.page.fault) answered }
+    {
         let outcome = match answered {
             Ok(outcome) => outcome,
             Err(Stop::Told) => Outcome::Unanswered,

@@ -1,6 +1,7 @@
 //! What the words of a call ask for.
-ghost use Rattle.std.specs.Prelude.{◌≡◌};
-ghost use Rattle.command_line.specs.Choices.{name_of};
+ghost use Rattle.std.specs.Prelude.{◌≡◌, ◌++◌, ◌∷◌, IfSome, option_map};
+ghost use Rattle.schema_keywords.specs.KeywordViews.{draft_of};
+ghost use Rattle.command_line.specs.Choices.{draft_named, name_of, output_named};
 
 use schema_keywords::keywords::Draft;
 
@@ -31,7 +32,9 @@ impl Output {
     }
 
     /// The output of this name.
-    pub fn named(name: &str) -> Option<Output> {
+    pub fn named(name: &str) -> Option<Output>
+        ensures named { result ≡ output_named name.now }
+    {
         match name {
             "text" => Some(Output::Text),
             "flag" => Some(Output::Flag),
@@ -42,7 +45,9 @@ impl Output {
 }
 
 /// The draft of this name.
-pub fn draft_named(name: &str) -> Option<Draft> {
+pub fn draft_named(name: &str) -> Option<Draft>
+    ensures named { option_map draft_of result ≡ draft_named name.now }
+{
     match name {
         "4" => Some(Draft::Draft4),
         "6" => Some(Draft::Draft6),
@@ -62,7 +67,9 @@ pub struct Resource<'w> {
 
 impl<'w> Resource<'w> {
     /// The resource of the words `URI=FILE`, whose URI ends before the first `=`. `None` where there is no `=`, or nothing on a side.
-    pub fn named(words: &'w str) -> Option<Resource<'w>> {
+    pub fn named(words: &'w str) -> Option<Resource<'w>>
+        ensures parts { IfSome result (λ r. words.now ≡ r.uri.now ++ 61 ∷ r.file.now) }
+    {
         match words.split_once('=') {
             Some((uri, file)) if !uri.is_empty() && !file.is_empty() => Some(Resource {
                 uri,
