@@ -63,6 +63,24 @@ pub(crate) fn built<K: Validate, T: KeywordTable<K>, R: Resolver, M: Matcher>(
     }
 }
 
+/// The validator of a row's schema by its own parts.
+pub(crate) fn built_by<K: Validate, T: KeywordTable<K>>(
+    alloc: Global,
+    table: &T,
+    row: &Value,
+) -> Result<Validator<K, BenchMatcher>, BuildError> {
+    let parts = parts_of(alloc, row)?;
+    let built = built::<K, T, BenchResolver, BenchMatcher>(
+        alloc,
+        table,
+        &parts.resolver,
+        &parts.matcher,
+        row,
+    );
+    drop(parts);
+    built
+}
+
 /// Adds that the schema was refused, and that it was by the limit.
 pub(crate) fn push_refusal(error: &BuildError, log: &mut String) -> Result<(), OutOfMemory> {
     match error.number() {
@@ -192,16 +210,7 @@ fn list_of<K: Validate, M: Matcher>(
 
 /// The list of the instance in column 2, by the bench's table and a row's schema and parts, or null where the schema is refused.
 pub(crate) fn listed(alloc: Global, row: &Value) -> Result<Value, OutOfMemory> {
-    let parts = parts_of(alloc, row)?;
-    let built = built::<BenchKeyword, BenchTable, BenchResolver, BenchMatcher>(
-        alloc,
-        &BenchTable {},
-        &parts.resolver,
-        &parts.matcher,
-        row,
-    );
-    drop(parts);
-    match built {
+    match built_by::<BenchKeyword, BenchTable>(alloc, &BenchTable {}, row) {
         Ok(validator) => list_of(alloc, &validator, column(row, 2)),
         Err(_) => Ok(Value::Null),
     }

@@ -1,9 +1,7 @@
 //! `x-items`, whose runs mark the number that its maker was given: a maker of the same object, reached in another resource while
 //! the first has not ended, is told the number that the first one reserved. The numbers stand in keywords of a type of its own, so
 //! the rows of `check_rows` do not see them.
-use crate::asking::{built, parts_of, push_refusal};
-use bench_parts::matcher::BenchMatcher;
-use bench_resolver::resolver::BenchResolver;
+use crate::asking::{built_by, push_refusal};
 use law_tests::items::ItemsKeyword;
 use node_table::node::Nodes;
 use node_table::node::validators::NodeValidator;
@@ -75,16 +73,7 @@ pub(crate) fn tell_numbers<K: Numbered, T: KeywordTable<K>>(
     row: &Value,
     log: &mut String,
 ) -> Result<(), OutOfMemory> {
-    let parts = parts_of(alloc, row)?;
-    let built = built::<K, T, BenchResolver, BenchMatcher>(
-        alloc,
-        table,
-        &parts.resolver,
-        &parts.matcher,
-        row,
-    );
-    drop(parts);
-    match built {
+    match built_by(alloc, table, row) {
         Ok(validator) => push_nodes(validator.nodes(), log),
         Err(error) => push_refusal(&error, log),
     }
