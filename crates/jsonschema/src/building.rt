@@ -75,7 +75,7 @@ fn hint_of(refused: &BuildError) -> &'static str {
         BuildError::NotASchema(_) => "a schema is an object, true or false",
         BuildError::ReferenceNotText(_) => "write the reference as a string",
         BuildError::Lookup(_) | BuildError::MissingRoot(_) => {
-            "the document that a reference leads to is handed over by --resource URI=FILE"
+            "mend the reference; a document that it leads to is handed over by --resource URI=FILE"
         }
         BuildError::KeywordRefused(_) => "write this keyword otherwise, or leave it out",
         BuildError::UnsupportedVocabulary(_) => {
