@@ -34,7 +34,7 @@ module _ (v : Sense) (most : ℕ) (some : 1 ≤ most) (none : branch_at v valida
   one_first (h.later n k) (h.here s) = absurd (n s)
   one_first (h.later n k) (h.later n' k') = one_first k k'
 
-  by_shared : (s s' o o' : Option Error) → s ≡ s' → h.IsFirst v s o → h.IsFirst v s' o' → o ≡ o'
+  by_shared : (s s' o o' : Option Error) → s ≡ s' → h.IsFirst v most s o → h.IsFirst v most s' o' → o ≡ o'
   by_shared (Some e) (Some e') o o' same is is' = is ∙ (same ∙ sym is')
   by_shared (Some e) None o o' same is is' = absurd (cc same)
   by_shared None (Some e) o o' same is is' = absurd (cc same)

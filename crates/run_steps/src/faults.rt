@@ -91,7 +91,7 @@ struct ErrorPlaces<'i> {
     absolute_keyword_location: Option<String>,
 }
 
-// The paths and the place of an error of the keyword's own.
+// The paths and the place of an error of the keyword's own, or of the one that it absorbs.
 fn error_places<'i, K>(
     alloc: Global,
     node: &Node<K>,
@@ -108,14 +108,15 @@ fn error_places<'i, K>(
         ≡ joined (path_of question.now.path.now) (unwrap_or (option_map string_bytes found.now.absorbed) (string_bytes name.now))
         ++ string_bytes found.now.path) }
     ensures absolute { IfOk result (λ p. option_map string_bytes p.absolute_keyword_location
-        ≡ keyword_absolute (node_of node.now) (string_bytes name.now)) }
+        ≡ keyword_absolute (node_of node.now)
+        (unwrap_or (option_map string_bytes found.now.absorbed) (string_bytes name.now))) }
     ensures stays { context.new ≡ context.old }
 {
     let first = spot_name(&found.absorbed, name);
     let rest = found.path.as_str();
     let schema_path = path_from(alloc, &node.location, first, rest)?;
     let evaluation_path = context.evaluation_path(alloc, question.path, first, rest)?;
-    let absolute_keyword_location = keyword_location(alloc, node, name)?;
+    let absolute_keyword_location = keyword_location(alloc, node, first)?;
     let place = place_below(question.place, found.below.as_slice())?;
     Ok(ErrorPlaces {
         place,

@@ -122,16 +122,14 @@ pub fn joined<'i>(found: Reply<'i>, more: Reply<'i>) -> Result<Reply<'i>, OutOfM
 pub fn keyword_location<K>(
     alloc: Global,
     node: &Node<K>,
-    name: &String,
+    name: &str,
 ) -> Result<Option<String>, OutOfMemory>
-    ensures absolute { IfOk result (λ t. option_map string_bytes t ≡ keyword_absolute (node_of node.now) (string_bytes name.now)) }
+    ensures absolute { IfOk result (λ t. option_map string_bytes t ≡ keyword_absolute (node_of node.now) name.now) }
 {
     if node.base.is_none() {
         return Ok(None);
     }
-    let location = node
-        .location
-        .join(LocationSegment::Property(name.as_str()))?;
+    let location = node.location.join(LocationSegment::Property(name))?;
     absolute_location(alloc, node, &location)
 }
 
@@ -148,7 +146,7 @@ fn stamp<'i, K>(
     ensures instance { IfOk result (λ _. error.new.instance ≡ error.old.instance) }
 {
     if error.absolute_keyword_location.is_none() {
-        let absolute = keyword_location(alloc, node, name)?;
+        let absolute = keyword_location(alloc, node, name.as_str())?;
         error.absolute_keyword_location = absolute;
     }
     Ok(())

@@ -126,7 +126,7 @@ module _ {K R : Type 0} (keywords : Keywords K R) (each : EachKeeps keywords) (m
     decides : Decides v most call
     decides = ([] ∷ [], alone, omega arith)
 
-    no_failure : (m : Met) → branch_at v call [] ≡ Some m → IsFailure v call any_error
+    no_failure : (m : Met) → branch_at v call [] ≡ Some m → IsFailure v most call any_error
     no_failure m e = absurd (cc (sym none ∙ e))
 
     verdict_alone : (b : Bool) → b ≡ verdict_of v [] → VerdictSays v most call b
@@ -157,7 +157,7 @@ module _ {K R : Type 0} (keywords : Keywords K R) (each : EachKeeps keywords) (m
   first_whole : (texts : Bool) (o : Option ValidationError) → option_map (error_of texts) o ≡ first_error ((run_under []).outcome tt).errors → branch_at v validate [] ≡ None → FirstAnswered v most texts o
   first_whole texts o says branch = go texts o (says ∙ ap (λ (o : Outcome). first_error o.errors) (outcome keywords each matcher nodes instance root n []))
     where
-      given : (o : Option ValidationError) → option_map (error_of false) o ≡ first_error (errors_of v []) → IfSome o (λ e. IsGiven v false e ⊎ IsFailure v validate (error_of true e))
+      given : (o : Option ValidationError) → option_map (error_of false) o ≡ first_error (errors_of v []) → IfSome o (λ e. IsGiven v false e ⊎ IsFailure v most validate (error_of true e))
       given None e = tt
       given (Some x) e = inl (completion_of [], in_first (errors_of v []) (error_of false x) e)
 
@@ -262,11 +262,11 @@ module _ {K R : Type 0} (keywords : Keywords K R) (each : EachKeeps keywords) (m
         | inr f ↦ subst (All (BorrowsItsPlace instance)) (sym f.alone) (All-cons (BorrowsItsPlace instance) f.error [] (at_failure f.error f.is f.instance) (All-nil (BorrowsItsPlace instance)))
       ]
         where
-          at_failure : (e : ValidationError) → IsFailure v call (error_of true e) → subject_of e.instance ≡ unwrap_or (subject_at instance e.place) (a_value instance) → BorrowsItsPlace instance e
+          at_failure : (e : ValidationError) → IsFailure v most call (error_of true e) → subject_of e.instance ≡ unwrap_or (subject_at instance e.place) (a_value instance) → BorrowsItsPlace instance e
           at_failure e is at = from_some (subject_at instance e.place) (subject_of e.instance) (a_value instance)
               (failure_stands instance is.met (All-contains (MetInside instance) (v.meets call is.run) is.met (sites_inside instance keywords each matcher nodes n root call is.run) is.meets) e.evaluation_path e.place is.located) at
 
-    failure_of : (call : Call) (es : List ValidationError) → FailureAlone v call instance es → OneFailure v call (map (error_of true) es)
+    failure_of : (call : Call) (es : List ValidationError) → FailureAlone v call most instance es → OneFailure v most call (map (error_of true) es)
     failure_of call es f = (error_of true f.error, f.is, ap (map (error_of true)) f.alone)
 
     -- ---- all errors
@@ -332,12 +332,12 @@ module _ {K R : Type 0} (keywords : Keywords K R) (each : EachKeeps keywords) (m
         let given = gives v validate is in
         record {
           verdict = subst (VerdictSays v most validate) (sym (none_head es.items)) (verdict v validate follows_it is);
-          given = elim given.each [ inl all ↦ of_all es.items all | inr f ↦ subst (λ xs. IfSome (slice_get xs 0) (λ e. IsGiven v false e ⊎ IsFailure v validate (error_of true e))) (sym f.alone) (inr f.is) ];
+          given = elim given.each [ inl all ↦ of_all es.items all | inr f ↦ subst (λ xs. IfSome (slice_get xs 0) (λ e. IsGiven v false e ⊎ IsFailure v most validate (error_of true e))) (sym f.alone) (inr f.is) ];
           undecided = λ not. let f = given.undecided not in (error_of true f.error, f.is, ap (λ xs. option_map (error_of true) (slice_get xs 0)) f.alone);
           alone = λ e. absurd (some_branch validate validate_later met some e);
         }
       where
-        of_all : (xs : List ValidationError) → All (OfRun v validate Step start) xs → IfSome (slice_get xs 0) (λ e. IsGiven v false e ⊎ IsFailure v validate (error_of true e))
+        of_all : (xs : List ValidationError) → All (OfRun v validate Step start) xs → IfSome (slice_get xs 0) (λ e. IsGiven v false e ⊎ IsFailure v most validate (error_of true e))
         of_all [] all = tt
         of_all (x ∷ xs) all = inl (each_given validate validate_later met runs x (All-head (OfRun v validate Step start) x xs all))
 

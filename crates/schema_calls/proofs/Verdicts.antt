@@ -50,7 +50,7 @@ module _ (v : Sense) (most : ℕ) (follows : Follows v) where
   errors_verdict false es says = says.verdict
   errors_verdict true es says = (
     λ decides.
-        let none = listed_none v iter_errors follows (map (error_of true) es) (says.0 decides) in
+        let none = listed_none v iter_errors follows most (map (error_of true) es) (says.0 decides) in
         (λ e. none.0 (empty_mapped (error_of true) es e), λ each. empty_from (error_of true) es (none.1 each)),
     λ undecided. let (e, fails, is) = says.1 undecided in one_there (error_of true) es e is,
   )

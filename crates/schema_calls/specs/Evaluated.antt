@@ -22,8 +22,8 @@ module _ (v : Sense) (most : ℕ) (texts : Bool) where
   pub record IsOfErrors (u : Unit_) : Type 0 where
     pub errors : List ValidationError
     pub made : u ≡ errors_unit (map (error_of texts) errors)
-    pub given : All (IsGiven v texts) errors ⊎ OneFailure v evaluate (map (error_of true) errors)
-    pub undecided : ¬ (Decides v most evaluate) → OneFailure v evaluate (map (error_of true) errors)
+    pub given : All (IsGiven v texts) errors ⊎ OneFailure v most evaluate (map (error_of true) errors)
+    pub undecided : ¬ (Decides v most evaluate) → OneFailure v most evaluate (map (error_of true) errors)
     pub shared : texts ≡ true → ErrorsOf v most evaluate (map (error_of true) errors)
 
   -- the call makes its first run; the verdict is yes exactly if every completion accepts, and no where the call doesn't decide; where the first run meets an unfinished match, the units are those of errors

@@ -21,25 +21,25 @@ module _ (v : Sense) (most : ℕ) where
   -- errors where texts are not spoken of: each is one of some completion's, or the failure stands alone; the latter where the call doesn't decide
   pub record ErrorsUnspoken (es : List ValidationError) : Type 0 where
     pub verdict : VerdictSays v most iter_errors (is_empty es)
-    pub given : All (IsGiven v false) es ⊎ OneFailure v iter_errors (map (error_of true) es)
-    pub undecided : ¬ (Decides v most iter_errors) → OneFailure v iter_errors (map (error_of true) es)
+    pub given : All (IsGiven v false) es ⊎ OneFailure v most iter_errors (map (error_of true) es)
+    pub undecided : ¬ (Decides v most iter_errors) → OneFailure v most iter_errors (map (error_of true) es)
     pub alone : branch_at v iter_errors [] ≡ None → ErrorsSay v most (map (error_of false) es)
 
   -- the same of a first error, or of none
   pub record FirstUnspoken (o : Option ValidationError) : Type 0 where
     pub verdict : VerdictSays v most validate (is_none o)
-    pub given : IfSome o (λ e. IsGiven v false e ⊎ IsFailure v validate (error_of true e))
-    pub undecided : ¬ (Decides v most validate) → (e : Error) × IsFailure v validate e × (option_map (error_of true) o ≡ Some e)
+    pub given : IfSome o (λ e. IsGiven v false e ⊎ IsFailure v most validate (error_of true e))
+    pub undecided : ¬ (Decides v most validate) → (e : Error) × IsFailure v most validate e × (option_map (error_of true) o ≡ Some e)
     pub alone : branch_at v validate [] ≡ None → FirstSays v most (option_map (error_of false) o)
 
   -- where errors come from, whatever they point at: each is one that some completion gives, or the call gives its one failure; the latter where it doesn't decide
   abbrev pub EachIsGiven : Bool → List ValidationError → Type 0
-  EachIsGiven texts es = Either (Decides v most iter_errors) (All (IsGiven v texts) es ⊎ OneFailure v iter_errors (map (error_of true) es)) (OneFailure v iter_errors (map (error_of true) es))
+  EachIsGiven texts es = Either (Decides v most iter_errors) (All (IsGiven v texts) es ⊎ OneFailure v most iter_errors (map (error_of true) es)) (OneFailure v most iter_errors (map (error_of true) es))
 
   -- the same of a first error
   abbrev pub FirstIsGiven : Bool → Option ValidationError → Type 0
   FirstIsGiven texts None = Unit {0}
-  FirstIsGiven texts (Some e) = Either (Decides v most validate) (IsGiven v texts e ⊎ IsFailure v validate (error_of true e)) (IsFailure v validate (error_of true e))
+  FirstIsGiven texts (Some e) = Either (Decides v most validate) (IsGiven v texts e ⊎ IsFailure v most validate (error_of true e)) (IsFailure v most validate (error_of true e))
 
   -- what the contracts of the two calls cite, texts being spoken of or not
   abbrev pub ErrorsAnswered : Bool → List ValidationError → Type 0

@@ -8,6 +8,7 @@ pub mod AlikePlans
 pub mod AlikeRuns
 pub mod GuardsAgree
 pub mod TablesAgree
+pub mod Nesting
 pub mod Growing
 pub mod Tables
 pub mod Placing

@@ -4,8 +4,8 @@ use Rattle.std.specs.Prelude.{Option, Some, None, Result, Ok, Err, flat_map, opt
 use Rattle.serde_json.specs.Data.{string}
 use Rattle.schema_definitions.specs.Instance.{Text, Place}
 use Rattle.schema_definitions.specs.Parts.{Parts}
-use Rattle.schema_definitions.specs.Making.{compile}
-use Rattle.schema_definitions.specs.Plan.{Edge, Key, Reference, found, is_self, ok_of, reference_edge, subschema, to_ref, to_dynamic, to_recursive, option_list}
+use Rattle.schema_definitions.specs.Making.{Request, compile, refer}
+use Rattle.schema_definitions.specs.Plan.{Edge, Key, Reference, fails, found, is_refused, is_self, ok_of, reference_edge, subschema, to_ref, to_dynamic, to_recursive, option_list}
 use Rattle.schema_meaning.specs.Reach.{Reached, reference_edges}
 use Rattle.schema_meaning.specs.Refusals.{Cause, lookup_causes, request_causes, undeclared}
 use Rattle.node_table.specs.NodeTable.{NodeEntry}
@@ -28,6 +28,15 @@ module _ {S K R : Type 0} (w : Parts S K R) where
 
   pub reference_clean : (k : Key S) (name : Text) (kind : Reference) (text : Text) (e : Edge S) → reference_edge w k name kind text ≡ Some e → lookup_causes w (found w k kind text) ≡ []
   reference_clean k name kind text e h = ok_clean _ _ e h
+
+  found_clean : {A : Type 0} (r : Result A Text) → lookup_causes w r ≡ [] → fails r ≡ false
+  found_clean (Ok a) clean = refl
+  found_clean (Err e) clean = absurd (let g : ⊥ = cc in g)
+
+  -- a request that has no cause of refusal is not refused
+  pub not_refused : (k : Key S) (r : Request) → request_causes w k r ≡ [] → is_refused w k r ≡ false
+  not_refused k (compile path) clean = found_clean _ clean
+  not_refused k (refer text) clean = found_clean _ clean
 
   self_found : {A : Type 0} (p : A → Bool) (r : Result A Text) → unwrap_or (option_map p (ok_of r)) false ≡ true → lookup_causes w r ≡ []
   self_found p (Ok a) h = refl

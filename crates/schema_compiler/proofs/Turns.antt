@@ -5,14 +5,14 @@ use Rattle.std.specs.declared.alloc.Global.{Global}
 use Rattle.std.proofs.lemmas.List.{append-nil}
 use Rattle.schema_definitions.specs.Instance.{Text, Place}
 use Rattle.schema_definitions.specs.Parts.{Parts}
-use Rattle.schema_definitions.specs.Making.{Made, Making, Request, Script, a_keyword, after_request, compile, followed, nothing, refer, refused, then_compile, then_end, then_pending, then_refer, then_reserve}
-use Rattle.schema_definitions.specs.Plan.{Edge, Key, found, is_self, part_made, requested, subschema, to_ref, option_list}
+use Rattle.schema_definitions.specs.Making.{Made, Making, Request, Script, a_keyword, after_request, compile, followed, nothing, refer, refused, stopped, then_compile, then_end, then_pending, then_refer, then_reserve, until_refused}
+use Rattle.schema_definitions.specs.Plan.{Edge, Key, found, is_refused, is_self, part_made, requested, subschema, to_ref, option_list}
 use Rattle.schema_meaning.specs.Reach.{maker_edges}
 use Rattle.schema_definitions.specs.Units.{absorbed_by}
 use Rattle.schema_keys.specs.declared.error.BuildError.{BuildError}
 use Rattle.schema_keys.specs.declared.error.BuildError.TheVariants.{KeywordRefused}
 use Rattle.schema_keys.specs.Refusing.{Refused}
-use Rattle.schema_compiler.proofs.References.{asked_not_self, leads_none, leads_some, skipped_self}
+use Rattle.schema_compiler.proofs.References.{asked_not_self, leads_none, leads_some, not_refused, skipped_self}
 use Rattle.schema_meaning.specs.Refusals.{Cause, end_causes, keyword_refused, lookup_causes, maker_causes, request_causes}
 use Rattle.schema_keys.proofs.Lists.{in_right}
 use Rattle.schema_definitions.specs.Reports as reports
@@ -238,11 +238,22 @@ module _ {S K C : Type 0} (w : Parts S K (Unit {0})) (shape : C → K) (limit ne
   abbrev pub causes_of : List Request → List Cause
   causes_of rs = flat_map (request_causes w k) rs
 
+  -- up to the first request that is refused
+  abbrev pub until : Making K → Making K
+  until m = until_refused (is_refused w k) m.requests m.ends
+
+  -- what is left to be asked for by a script
+  abbrev pub left_of : Script K → Making K
+  left_of s = until (followed (is_self w k to_ref) s)
+
+  goes_on : (r : Request) (m : Making K) → request_causes w k r ≡ [] → until (after_request r m) ≡ after_request r (until m)
+  goes_on r m clean = ap (λ b. after_request r (cond b stopped (until m))) (not_refused w k r clean)
+
   -- what a maker has asked for so far, and what each request got
   pub record Asked (making : Making K) (waiting : Waiting K) (told : Told) (es : Children) (keys keys' : List (Key S)) (nodes nodes' : List (NodeEntry C)) (t t' : Table S C) : Type 0 where
     pub requests : List Request
     pub due : IsDue waiting told (length requests)
-    pub so_far : making ≡ after requests (followed (is_self w k to_ref) (resumed waiting told))
+    pub so_far : making ≡ after requests (left_of (resumed waiting told))
     pub children : AreChildren w keys' k name es requests
     pub alike : AsksAlike (resumed waiting told)
     -- edges and numbers as they are without what the maker reserved
@@ -250,7 +261,7 @@ module _ {S K C : Type 0} (w : Parts S K (Unit {0})) (shape : C → K) (limit ne
     pub holds : Holds k.target.place name t.reserved t'.reserved
     pub steps : IsStep w shape limit (edges_of requests) (causes_of requests) keys keys' nodes nodes'
 
-  pub asked_begun : (making : Making K) (s : Script K) (waiting : Waiting K) (keys : List (Key S)) (nodes : List (NodeEntry C)) (t : Table S C) → making ≡ followed (is_self w k to_ref) s → AsksAlike s → waiting ≡ begun s → IsTable w shape limit keys nodes → IsUnderWay given t
+  pub asked_begun : (making : Making K) (s : Script K) (waiting : Waiting K) (keys : List (Key S)) (nodes : List (NodeEntry C)) (t : Table S C) → making ≡ left_of s → AsksAlike s → waiting ≡ begun s → IsTable w shape limit keys nodes → IsUnderWay given t
       → Asked making waiting nothing_yet [] keys keys nodes nodes t t
   asked_begun making s waiting keys nodes t e alike f stands way = rw f (record { requests = []; due = refl; so_far = e; children = tt; alike = alike; goes = goes_none given t way; holds = holds_none k.target.place name t.reserved; steps = step_none w shape limit keys nodes stands })
 
@@ -263,11 +274,11 @@ module _ {S K C : Type 0} (w : Parts S K (Unit {0})) (shape : C → K) (limit ne
       → Asked making waiting' told' (es ++ o ∷ []) keys keys'' nodes nodes'' t t''
   asked_next making waiting waiting' told told' es keys keys' keys'' nodes nodes' nodes'' {t} {t'} {t''} r o a e due alike leads goes step =
       let stays = grown_stays _ keys' keys'' nodes' nodes'' step.grown in
-      let f = followed (is_self w k to_ref) (resumed waiting' told') in
+      let f = left_of (resumed waiting' told') in
       record {
         requests = a.requests ++ r ∷ [];
         due = subst (IsDue waiting' told') (sym (length-more a.requests r)) due;
-        so_far = a.so_far ∙ ap (after a.requests) e ∙ ap (λ xs. record { requests = xs; ends = f.ends }) (sym (append_assoc a.requests (r ∷ []) f.requests));
+        so_far = a.so_far ∙ ap (λ m. after a.requests (until m)) e ∙ ap (after a.requests) (goes_on r (followed (is_self w k to_ref) (resumed waiting' told')) step.clean) ∙ ap (λ xs. record { requests = xs; ends = f.ends }) (sym (append_assoc a.requests (r ∷ []) f.requests));
         children = children_more keys'' es a.requests o r (children_stay w shape keys' keys'' stays k name es a.requests a.children) leads;
         alike = alike;
         holds = holds_then k.target.place name t.reserved t'.reserved t''.reserved a.holds goes.reserves;
@@ -303,12 +314,12 @@ module _ {S K C : Type 0} (w : Parts S K (Unit {0})) (shape : C → K) (limit ne
   asked_pending making waiting waiting' told told' es keys keys' nodes nodes' {t} {t'} kind a takes is =
       let st = pending_step shape (length a.requests) (resumed waiting told) kind waiting' (due_step shape waiting told (length a.requests) (Pending kind) waiting' a.due takes) in
       let all : AsksAlike (then_pending (purpose_of kind) st.0 st.1) = subst AsksAlike st.2 a.alike in
-      let before : making ≡ after a.requests (followed (is_self w k to_ref) st.0) = a.so_far ∙ ap (λ s. after a.requests (followed (is_self w k to_ref) s)) st.2 in
+      let before : making ≡ after a.requests (left_of st.0) = a.so_far ∙ ap (λ s. after a.requests (left_of s)) st.2 in
       subst (λ y. Asked making y told' es keys keys' nodes nodes' t t') (sym st.3) (⊎_elim
       (λ none. subst (λ y. Asked making (wants_pending (length a.requests) st.0 st.1) y es keys keys' nodes nodes' t t') (sym none)
       (record { requests = a.requests; due = refl; so_far = before; children = a.children; alike = all.1; goes = a.goes; holds = a.holds; steps = a.steps }))
       (λ one. subst (λ y. Asked making (wants_pending (length a.requests) st.0 st.1) y es keys keys' nodes nodes' t t') (sym one)
-      (record { requests = a.requests; due = refl; so_far = before ∙ ap (after a.requests) (all.0 (is_self w k to_ref)); children = a.children; alike = all.2; goes = a.goes; holds = a.holds; steps = a.steps }))
+      (record { requests = a.requests; due = refl; so_far = before ∙ ap (λ m. after a.requests (until m)) (all.0 (is_self w k to_ref)); children = a.children; alike = all.2; goes = a.goes; holds = a.holds; steps = a.steps }))
       is)
 
   -- a number is reserved
@@ -318,7 +329,7 @@ module _ {S K C : Type 0} (w : Parts S K (Unit {0})) (shape : C → K) (limit ne
   asked_reserve making waiting waiting' told told' es keys keys' nodes nodes' {t} {t'} kind rs r a takes is at named added =
       let st = reserve_step shape (length a.requests) (resumed waiting told) kind waiting' (due_step shape waiting told (length a.requests) (Reserve kind) waiting' a.due takes) in
       let all : AsksAlike (then_reserve (purpose_of kind) st.0) = subst AsksAlike st.1 a.alike in
-      let so_far : making ≡ after a.requests (followed (is_self w k to_ref) st.0) = a.so_far ∙ ap (λ s. after a.requests (followed (is_self w k to_ref) s)) st.1 in
+      let so_far : making ≡ after a.requests (left_of st.0) = a.so_far ∙ ap (λ s. after a.requests (left_of s)) st.1 in
       subst (λ y. Asked making y told' es keys keys' nodes nodes' t (having t' rs)) (sym st.2)
       (subst (λ y. Asked making (wants_reserved (length a.requests) st.0) y es keys keys' nodes nodes' t (having t' rs)) (sym is)
       (record { requests = a.requests; due = refl; so_far = so_far; children = a.children; alike = all; goes = a.goes; holds = holds_one k.target.place name t.reserved t'.reserved rs r a.holds at named added; steps = a.steps }))
@@ -355,7 +366,7 @@ module _ {S K C : Type 0} (w : Parts S K (Unit {0})) (shape : C → K) (limit ne
   ended_by : (making : Making K) (waiting : Waiting K) (told : Told) (es : Children) (keys keys' : List (Key S)) (nodes nodes' : List (NodeEntry C)) {t t' : Table S C} (m : Made K)
       → (a : Asked making waiting told es keys keys' nodes nodes' t t') → resumed waiting told ≡ then_end m → making ≡ record { requests = a.requests; ends = m }
   ended_by making waiting told es keys keys' nodes nodes' m a e =
-      a.so_far ∙ ap (λ s. after a.requests (followed (is_self w k to_ref) s)) e ∙ ap (λ rs. record { requests = rs; ends = m }) (append-nil a.requests)
+      a.so_far ∙ ap (λ s. after a.requests (left_of s)) e ∙ ap (λ rs. record { requests = rs; ends = m }) (append-nil a.requests)
 
   pub made_step : (making : Making K) (waiting : Waiting K) (told : Told) (es : Children) (keys keys' : List (Key S)) (nodes nodes' : List (NodeEntry C)) {t t' : Table S C} (m : Made K)
       → Asked making waiting told es keys keys' nodes nodes' t t' → resumed waiting told ≡ then_end m → end_causes w m ≡ []
@@ -424,17 +435,18 @@ module _ {S K C : Type 0} (w : Parts S K (Unit {0})) (shape : C → K) (limit ne
       → Asked making waiting told es keys keys' nodes nodes' t t' → followed (is_self w k to_ref) (resumed waiting told) ≡ after_request r f
       → Refused w limit (option_list (requested w k name r)) (request_causes w k r) keys' e → Refused w limit (maker_edges w k name making) (maker_causes w k making) keys e
   ask_refused making waiting told es keys keys' nodes nodes' r f e a is h =
-      let rest = request_causes w k r ++ (causes_of f.requests ++ end_causes w f.ends) in
-      let later = refused_later w shape limit (edges_of a.requests) (option_list (requested w k name r) ++ edges_of f.requests) (causes_of a.requests) rest keys keys' nodes nodes' e a.steps
-      (refused_first w (option_list (requested w k name r)) (edges_of f.requests) (request_causes w k r) (causes_of f.requests ++ end_causes w f.ends) limit keys' e h) in
-      let more : edges_of (r ∷ f.requests) ≡ option_list (requested w k name r) ++ edges_of f.requests = filter_map-append (requested w k name) (r ∷ []) f.requests ∙ ap (λ xs. xs ++ edges_of f.requests) (filter_map-one (requested w k name) r) in
-      let all : edges_of (a.requests ++ r ∷ f.requests) ≡ edges_of a.requests ++ (option_list (requested w k name r) ++ edges_of f.requests) = filter_map-append (requested w k name) a.requests (r ∷ f.requests) ∙ ap (λ xs. edges_of a.requests ++ xs) more in
-      let own : causes_of (a.requests ++ r ∷ f.requests) ++ end_causes w f.ends ≡ causes_of a.requests ++ rest
-      = ap (λ xs. xs ++ end_causes w f.ends) (flat_map-append (request_causes w k) a.requests (r ∷ f.requests)) ∙ append_assoc (causes_of a.requests) (causes_of (r ∷ f.requests)) (end_causes w f.ends)
-      ∙ ap (λ xs. causes_of a.requests ++ xs) (append_assoc (request_causes w k r) (causes_of f.requests) (end_causes w f.ends)) in
-      subst (λ m. Refused w limit (maker_edges w k name m) (maker_causes w k m) keys e) (sym (a.so_far ∙ ap (after a.requests) is))
-      (subst (λ xs. Refused w limit xs (causes_of (a.requests ++ r ∷ f.requests) ++ end_causes w f.ends) keys e) (sym all)
-      (subst (λ xs. Refused w limit (edges_of a.requests ++ (option_list (requested w k name r) ++ edges_of f.requests)) xs keys e) (sym own) later))
+      let rest : Making K = cond (is_refused w k r) stopped (until f) in
+      let causes = request_causes w k r ++ (causes_of rest.requests ++ end_causes w rest.ends) in
+      let later = refused_later w shape limit (edges_of a.requests) (option_list (requested w k name r) ++ edges_of rest.requests) (causes_of a.requests) causes keys keys' nodes nodes' e a.steps
+      (refused_first w (option_list (requested w k name r)) (edges_of rest.requests) (request_causes w k r) (causes_of rest.requests ++ end_causes w rest.ends) limit keys' e h) in
+      let more : edges_of (r ∷ rest.requests) ≡ option_list (requested w k name r) ++ edges_of rest.requests = filter_map-append (requested w k name) (r ∷ []) rest.requests ∙ ap (λ xs. xs ++ edges_of rest.requests) (filter_map-one (requested w k name) r) in
+      let all : edges_of (a.requests ++ r ∷ rest.requests) ≡ edges_of a.requests ++ (option_list (requested w k name r) ++ edges_of rest.requests) = filter_map-append (requested w k name) a.requests (r ∷ rest.requests) ∙ ap (λ xs. edges_of a.requests ++ xs) more in
+      let own : causes_of (a.requests ++ r ∷ rest.requests) ++ end_causes w rest.ends ≡ causes_of a.requests ++ causes
+      = ap (λ xs. xs ++ end_causes w rest.ends) (flat_map-append (request_causes w k) a.requests (r ∷ rest.requests)) ∙ append_assoc (causes_of a.requests) (causes_of (r ∷ rest.requests)) (end_causes w rest.ends)
+      ∙ ap (λ xs. causes_of a.requests ++ xs) (append_assoc (request_causes w k r) (causes_of rest.requests) (end_causes w rest.ends)) in
+      subst (λ m. Refused w limit (maker_edges w k name m) (maker_causes w k m) keys e) (sym (a.so_far ∙ ap (λ m. after a.requests (until m)) is))
+      (subst (λ xs. Refused w limit xs (causes_of (a.requests ++ r ∷ rest.requests) ++ end_causes w rest.ends) keys e) (sym all)
+      (subst (λ xs. Refused w limit (edges_of a.requests ++ (option_list (requested w k name r) ++ edges_of rest.requests)) xs keys e) (sym own) later))
 
   pub compile_refused : (making : Making K) (waiting waiting' : Waiting K) (told : Told) (es : Children) (keys keys' : List (Key S)) (nodes nodes' : List (NodeEntry C)) {t t' : Table S C} (path : Place) (e : BuildError)
       → Asked making waiting told es keys keys' nodes nodes' t t' → TakesTurn shape waiting told (Compile path) waiting'

@@ -23,6 +23,7 @@ use Rattle.schema_compiler.specs.Reserving.{Reserved}
 use Rattle.schema_compiler.specs.Steps.{IsAnswered, IsEdgeTo, IsNumbered, MakesPart, MakesParts, MakesPlan}
 use Rattle.schema_keys.specs.declared.error.BuildError.{BuildError}
 use Rattle.schema_keys.specs.declared.key.SchemaKey.{SchemaKey}
+use Rattle.schema_keys.specs.declared.options.CompileOptions.{CompileOptions}
 use Rattle.schema_compiler.specs.declared.compiler.setup.Compiler.{Compiler}
 use Rattle.schema_compiler.specs.declared.compiler.compilation.Compilation.{Compilation}
 
@@ -44,13 +45,17 @@ pub record Table (S C : Type 0) : Type 0 where
   pub reserved : List Reserved
 
 -- what is given, by the senses of resolver, table and keywords
-abbrev pub task : {R T S K C : Type 0} → (R → Resolver S) → (T → Text → Bool) → (T → Bool → Text → Members → Draft → Vocabularies → Bool → Script K) → (C → K) → Compiler R T → Task S K C
-task resolving owned script shape g = record {
-  parts = given_parts (resolving g.resolver.now) (owned g.table.now) (script g.table.now) g.options.now;
+abbrev pub task_of : {R T S K C : Type 0} → (R → Resolver S) → (T → Text → Bool) → (T → Bool → Text → Members → Draft → Vocabularies → Bool → Script K) → (C → K) → R → T → CompileOptions → ℕ → Task S K C
+task_of resolving owned script shape resolver table options nested = record {
+  parts = given_parts (resolving resolver) (owned table) (script table) options;
   shape = shape;
-  limit = g.options.now.node_limit;
-  nested = g.nested_limit;
+  limit = options.node_limit;
+  nested = nested;
 }
+
+-- the same of a compiler
+abbrev pub task : {R T S K C : Type 0} → (R → Resolver S) → (T → Text → Bool) → (T → Bool → Text → Members → Draft → Vocabularies → Bool → Script K) → (C → K) → Compiler R T → Task S K C
+task resolving owned script shape g = task_of resolving owned script shape g.resolver.now g.table.now g.options.now g.nested_limit
 
 -- what is filled so far, by the sense of the resolver's states
 abbrev pub filled : {S P C : Type 0} → (S → P) → Compilation S C → Table P C

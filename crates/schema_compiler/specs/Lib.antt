@@ -11,5 +11,6 @@ pub mod UnderWay
 pub mod Working
 pub mod Compilation
 pub mod Agreeing
+pub mod Nesting
 pub mod Rows
 pub mod Numbering

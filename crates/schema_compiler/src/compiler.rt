@@ -27,7 +27,7 @@ ghost use Rattle.schema_compiler.specs.Carried.{MakesKeyword, MakesMember, Makes
 ghost use Rattle.schema_compiler.specs.Carried.{Numbers, PlansNode, PlansObject, RefusesChild, RefusesEdge};
 ghost use Rattle.schema_compiler.specs.Carried.{RefusesKey, RefusesMaker, RefusesMember, RefusesMembers};
 ghost use Rattle.schema_compiler.specs.Carried.{RefusesNode, RefusesObject, filled, task};
-ghost use Rattle.schema_compiler.specs.Carried.{keyword_absorbs, member_absorbs};
+ghost use Rattle.schema_compiler.specs.Carried.{keyword_absorbs, member_absorbs, task_of};
 ghost use Rattle.schema_keys.specs.Compiling.{Each};
 ghost use Rattle.schema_compiler.specs.Reserving.{Ends, IsGivenUp, node_made};
 ghost use Rattle.schema_compiler.specs.UnderWay.{GoesChild, GoesMaker, GoesMember, GoesMembers, GoesNode};
@@ -74,7 +74,8 @@ pub use schema_keys::{check, context, error, key};
 /// Compiles the schema of a key and every schema that it reaches through subschemas and references. Returns their keys and
 /// nodes, one number for each key, the given key's being 0. At most `nested_limit` targets of `$ref` and `$dynamicRef` are
 /// compiled one inside another; the others wait on a list, and each is compiled in a round of its own. A matcher, the runs of
-/// keywords, and the options' draft and base are not read, so the contract holds for all of them.
+/// keywords, and the options' draft and base are not read, so the contract holds for all of them. A compiler of the same parts and
+/// limits may go on with the result, as by `compile_ref`.
 ///
 /// # Errors
 ///
@@ -98,6 +99,10 @@ pub fn compile<R: Resolver, K: Validate, T: KeywordTable<K>>(
         matcher keywords draft base) K.shape options.now.node_limit nested_limit (key_of R.point root)
         (map (key_of R.point) m.keys) m.nodes) }
     ensures reserved { IfOk result (λ m. Each IsGivenUp m.reservations) }
+    ensures table { IfOk result (λ m. IsWell (task_of R.resolving T.owned T.script K.shape
+        resolver.now table.now options.now nested_limit) (filled R.point m)) }
+    ensures under_way { IfOk result (λ m. IsUnderWay (task_of R.resolving T.owned T.script K.shape
+        resolver.now table.now options.now nested_limit) (filled R.point m)) }
     ensures refused { IfErr result (λ e. (matcher : matching.Matcher)
         (keywords : words.Keywords K.Shape (K.Run × words.Answer)) (draft : Option drafts.Draft)
         (base : Option Text) → RefusesRoot (all_parts (R.resolving resolver.now)
@@ -173,6 +178,10 @@ pub fn compile_subschema<R: Resolver, K: Validate, T: KeywordTable<K>>(
         matcher keywords draft base) K.shape options.now.node_limit nested_limit (key_of R.point root)
         (map (key_of R.point) m.keys) m.nodes) }
     ensures reserved { IfOk result (λ m. Each IsGivenUp m.reservations) }
+    ensures table { IfOk result (λ m. IsWell (task_of R.resolving T.owned T.script K.shape
+        resolver.now table.now options.now nested_limit) (filled R.point m)) }
+    ensures under_way { IfOk result (λ m. IsUnderWay (task_of R.resolving T.owned T.script K.shape
+        resolver.now table.now options.now nested_limit) (filled R.point m)) }
     ensures refused { IfErr result (λ e. (matcher : matching.Matcher)
         (keywords : words.Keywords K.Shape (K.Run × words.Answer)) (draft : Option drafts.Draft)
         (base : Option Text) → RefusesAlone (all_parts (R.resolving resolver.now)

@@ -48,6 +48,15 @@ followed is_self (then_pending purpose free held) = followed is_self free
 followed is_self (then_reserve purpose s) = followed is_self s
 followed is_self (then_end m) = record { requests = []; ends = m }
 
+-- a maker that is stopped makes nothing
+abbrev pub stopped : {K : Type 0} → Making K
+stopped = record { requests = []; ends = nothing }
+
+-- a maker is stopped by the first of its requests that is refused, which is the last that it makes
+abbrev pub until_refused : {K : Type 0} → (Request → Bool) → List Request → Made K → Making K
+until_refused is_refused [] m = record { requests = []; ends = m }
+until_refused is_refused (r ∷ rs) m = after_request r (if is_refused r then stopped else until_refused is_refused rs m)
+
 -- an entry of the table of built-in keywords
 pub record Builtin : Type 0 where
   pub name : Text

@@ -28,17 +28,17 @@ pub record Where : Type 0 where
   pub location : Text
   pub absolute : Text → Option Text
 
--- an error of the keyword's own, or of one that it absorbs
+-- an error of the keyword's own, or of one that it absorbs, with the absolute location of the one that its paths name
 abbrev pub error_at : Where → Text → Own → Error
 error_at x name o = let name' = unwrap_or o.spot.absorbed name in
-    record { place = x.place ++ o.spot.below; schema_path = joined x.location name' ++ o.spot.path; evaluation_path = joined x.path name' ++ o.spot.path; absolute = None; name = o.name; text = o.text }
+    record { place = x.place ++ o.spot.below; schema_path = joined x.location name' ++ o.spot.path; evaluation_path = joined x.path name' ++ o.spot.path; absolute = x.absolute (joined x.location name'); name = o.name; text = o.text }
 
--- the keyword that passes an error on gives it its absolute location, where it has none yet
+-- the keyword that passes an error on gives it its own absolute location, where it has none yet
 abbrev pub stamped : Option Text → Error → Error
 stamped location e = record e { absolute = elim e.absolute [ None ↦ location | Some a ↦ Some a ] }
 
 abbrev pub fault_error : Where → Text → Fault → Error
-fault_error x name (own o) = stamped (x.absolute (joined x.location name)) (error_at x name o)
+fault_error x name (own o) = error_at x name o
 fault_error x name (passed e) = stamped (x.absolute (joined x.location name)) e
 
 abbrev pub false_text : Bool → Subject → Text

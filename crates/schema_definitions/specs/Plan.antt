@@ -10,7 +10,7 @@ use Rattle.schema_definitions.specs.Instance.{Place, Text, member_of, same_place
 use Rattle.schema_definitions.specs.Pointer.{joined, pointer_to}
 use Rattle.schema_definitions.specs.Drafts.{Draft, SchemaPlace, Vocabularies, at_path, format_assertion_vocabulary, format_vocabulary, has_vocabulary, ref_stands_alone, same_draft, same_schema_place, same_vocabularies}
 use Rattle.schema_definitions.specs.Resolving.{Found}
-use Rattle.schema_definitions.specs.Making.{Making, Request, a_keyword, compile, followed, nothing, refer, refused}
+use Rattle.schema_definitions.specs.Making.{Making, Request, a_keyword, compile, followed, nothing, refer, refused, until_refused}
 use Rattle.schema_definitions.specs.Keywords.{Marked, a_child, a_reservation}
 use Rattle.schema_definitions.specs.Parts.{Parts}
 
@@ -96,6 +96,10 @@ sorted (x ∷ xs) = placed x (sorted xs)
 abbrev pub ok_of : {A E : Type 0} → Result A E → Option A
 ok_of (Ok a) = Some a
 ok_of (Err e) = None
+
+abbrev pub fails : {A E : Type 0} → Result A E → Bool
+fails (Ok a) = false
+fails (Err e) = true
 
 -- an edge to a child: its key, what it adds to the evaluation path, and whether it is a reference, and that of a `$recursiveRef`
 pub record Edge (S : Type 0) : Type 0 where
@@ -214,6 +218,12 @@ module _ {S K R : Type 0} (w : Parts S K R) where
   requested k name (compile path) = subschema k path
   requested k name (refer text) = if is_self k to_ref text then None else reference_edge k name to_ref text
 
+  -- a request is refused where the resolver finds nothing for it
+  abbrev pub is_refused : Key S → Request → Bool
+  is_refused k (compile path) = let place = at_path k.target.place path in
+      fails (w.resolver.in_subresource k.target.state (w.resolver.detect k.target.draft (schema_at place)) place)
+  is_refused k (refer text) = fails (found k to_ref text)
+
   -- the child that a keyword knows by the number of its request
   abbrev pub child : Key S → Text → List Request → ℕ → Option (Edge S)
   child k name requests i = option_and_then (requested k name) (slice_get requests i)
@@ -224,8 +234,12 @@ module _ {S K R : Type 0} (w : Parts S K R) where
   abbrev pub checks_formats : Key S → Bool
   checks_formats k = unwrap_or w.formats (ref_stands_alone k.target.draft || has_vocabulary k.target.vocabularies format_assertion_vocabulary || has_vocabulary k.target.vocabularies format_vocabulary)
 
+  -- what a maker asks for by its script, where no request is refused
+  abbrev pub scripted : Key S → Members → Bool → Text → Making K
+  scripted k whole custom name = followed (is_self k to_ref) (w.table.script custom name whole k.target.draft k.target.vocabularies (checks_formats k))
+
   abbrev pub making : Key S → Members → Bool → Text → Making K
-  making k whole custom name = followed (is_self k to_ref) (w.table.script custom name whole k.target.draft k.target.vocabularies (checks_formats k))
+  making k whole custom name = until_refused (is_refused k) (scripted k whole custom name).requests (scripted k whole custom name).ends
 
   abbrev pub part_made : Text → ℕ → Bool → Making K → Option (Part K)
   part_made name priority leaf m = elim m.ends [ a_keyword meaning absorbed ↦ Some (record { name = name; priority = priority; is_leaf = leaf; form = keyword meaning m.requests absorbed }) | nothing ↦ None | refused told error ↦ None ]

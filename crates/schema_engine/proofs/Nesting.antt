@@ -1,11 +1,12 @@
 -- One sense determines what each call answers, up to the site of its failure; so two validators that mean the plain meaning of one
 -- schema answer alike.
 use Rattle.std.proofs.Common.{◌≤◌, ℕ, Bool, List, [], ap, arith, false, inl, inr, map, refl, subst, sym, true, ◌∙◌, ◌∷◌, ◌≡◌, ◌⊎◌}
-use Rattle.std.specs.Prelude.{None, Option, Some, is_none, option_map}
+use Rattle.std.specs.Prelude.{IfSome, None, Option, Some, is_none, option_map}
 use Rattle.serde_json.specs.Data.{Data}
 use Rattle.schema_definitions.specs.Cover.{Call, Decides, Sense, branch_at, evaluate, is_valid, iter_errors, validate, whole}
 use Rattle.schema_meaning.specs.Deciding.{decides_or_not, larger_decides}
 use Rattle.schema_meaning.specs.Headline as h
+use Rattle.schema_meaning.proofs.RunOrder.{failure_within}
 use Rattle.schema_definitions.specs.Keywords.{Answer}
 use Rattle.schema_definitions.specs.Matching.{all_match}
 use Rattle.schema_definitions.specs.Reports.{Error, Unit_}
@@ -25,7 +26,7 @@ use Rattle.schema_validator.specs.Called.{HasPlainUnits, MeansPlainly, PlainlyOf
 use Rattle.schema_calls.specs.Evaluated.{EvaluationAnswered, verdict_in}
 use Rattle.schema_validator.specs.Handed.{Handed, Options}
 use Rattle.schema_validator.specs.Program.{OfEverySense, Program}
-use Rattle.schema_calls.specs.Spoken.{ErrorsAnswered, FirstAnswered}
+use Rattle.schema_calls.specs.Spoken.{ErrorsAnswered, FirstAnswered, IsGiven}
 use Rattle.schema_engine.specs.Nesting.{AllErrorsAgree, ErrorsAgree, EvaluationsAgree, EvaluationsOfBoth, FirstErrorsAgree, FirstsAgree, IsOfFailure, LargerErrors, LargerEvaluations, LargerFirstErrors, LargerVerdicts, SameErrors, SameFirst, SameUnits, UnitsOfBoth, VerdictsAgree, handed_to_both as both}
 use Rattle.schema_validator.proofs.PlainAnswers.{plainly_from}
 
@@ -53,7 +54,7 @@ module _ (v : Sense) (most : ℕ) where
   one_first (h.later n k) (h.here s) = absurd (n s)
   one_first (h.later n k) (h.later n' k') = one_first k k'
 
-  by_shared : (shared shared' o o' : Option Error) → shared ≡ shared' → h.IsFirst v shared o → h.IsFirst v shared' o' → SameFirst v most o o'
+  by_shared : (shared shared' o o' : Option Error) → shared ≡ shared' → h.IsFirst v most shared o → h.IsFirst v most shared' o' → SameFirst v most o o'
   by_shared (Some e) (Some e') o o' same is is' = inl (is ∙ (same ∙ sym is'))
   by_shared (Some e) None o o' same is is' = absurd (cc same)
   by_shared None (Some e) o o' same is is' = absurd (cc same)
@@ -93,7 +94,7 @@ module _ (v : Sense) (most : ℕ) where
   one_kept (leave n k) (leave n' k') = one_kept k k'
 
   module _ (call : Call) where
-    by_kept : (shared shared' es es' : List Error) → shared ≡ shared' → h.IsListed v call shared es → h.IsListed v call shared' es' → SameErrors v most call es es'
+    by_kept : (shared shared' es es' : List Error) → shared ≡ shared' → h.IsListed v most call shared es → h.IsListed v most call shared' es' → SameErrors v most call es es'
     by_kept (f ∷ fs) (f' ∷ fs') es es' same is is' = inl (is ∙ (same ∙ sym is'))
     by_kept (f ∷ fs) [] es es' same is is' = absurd (cc same)
     by_kept [] (f ∷ fs) es es' same is is' = absurd (cc same)
@@ -127,12 +128,12 @@ module _ (v : Sense) (most : ℕ) where
 
   -- the units of errors that are the failure alone
   of_failure : (texts : Bool) (u : Unit_) (errors : List ValidationError) → u ≡ errors_unit (map (error_of texts) errors)
-      → h.OneFailure v evaluate (map (error_of true) errors) → IsOfFailure v most texts u
+      → h.OneFailure v most evaluate (map (error_of true) errors) → IsOfFailure v most texts u
   of_failure texts u [] made (e, fails, is) = absurd (cc is)
   of_failure texts u (x ∷ (y ∷ more)) made (e, fails, is) = absurd (cc is)
   of_failure texts u (x ∷ []) made (e, fails, is) =
       let same : e ≡ error_of true x = cc in
-      record { error = x; fails = subst (h.IsFailure v evaluate) same fails; made = made }
+      record { error = x; fails = subst (h.IsFailure v most evaluate) same fails; made = made }
 
   -- an evaluation that doesn't decide meets an unfinished match
   meets_one : 1 ≤ most → ¬ (Decides v most evaluate) → branch_at v evaluate [] ≡ None → ⊥
@@ -166,13 +167,52 @@ module _ (v : Sense) (most most' : ℕ) (call : Call) (here : Decides v most cal
   within : {P Q : Type 0} → h.Either (Decides v most' call) P Q → h.Either (Decides v most call) P Q
   within says = (λ decides. says.0 there, λ not. absurd (not here))
 
+  fails_within : (e : Error) → h.IsFailure v most' call e → h.IsFailure v most call e
+  fails_within e = failure_within v call most most' e here
+
+  or_one_within : {P : Type 0} (es : List Error) → P ⊎ h.OneFailure v most' call es → P ⊎ h.OneFailure v most call es
+  or_one_within es (inl p) = inl p
+  or_one_within es (inr (e, fails, is)) = inr (e, fails_within e fails, is)
+
+  listed_within : (shared es : List Error) → h.IsListed v most' call shared es → h.IsListed v most call shared es
+  listed_within (f ∷ shared) es is = is
+  listed_within [] [] is = is
+  listed_within [] (e ∷ es) is = (is.0, fails_within e is.1, is.2)
+
+  errors_of_within : (es : List Error) → h.ErrorsOf v most' call es → h.ErrorsOf v most call es
+  errors_of_within es says = (λ decides. let (shared, kept, is) = says.0 there in (shared, kept, listed_within shared es is), λ not. absurd (not here))
+
+module _ (v : Sense) (most most' : ℕ) (here : Decides v most validate) (there : Decides v most' validate) where
+  is_first_within : (shared o : Option Error) → h.IsFirst v most' shared o → h.IsFirst v most shared o
+  is_first_within (Some e) o is = is
+  is_first_within None None is = is
+  is_first_within None (Some e) is = (is.0, fails_within v most most' validate here there e is.1)
+
+  first_says_within : (o : Option Error) → h.FirstSays v most' o → h.FirstSays v most o
+  first_says_within o says = (λ decides. let (shared, first, is) = says.0 there in (shared, first, is_first_within shared o is), λ not. absurd (not here))
+
+  first_given_within : (o : Option ValidationError) → IfSome o (λ e. IsGiven v false e ⊎ h.IsFailure v most' validate (error_of true e)) → IfSome o (λ e. IsGiven v false e ⊎ h.IsFailure v most validate (error_of true e))
+  first_given_within None given = tt
+  first_given_within (Some e) (inl given) = inl given
+  first_given_within (Some e) (inr fails) = inr (fails_within v most most' validate here there (error_of true e) fails)
+
 first_within : (v : Sense) (most most' : ℕ) → Decides v most validate → Decides v most' validate → (texts : Bool) (o : Option ValidationError) → FirstAnswered v most' texts o → FirstAnswered v most texts o
-first_within v most most' here there true o says = within v most most' validate here there says
-first_within v most most' here there false o says = record { verdict = within v most most' validate here there says.verdict; given = says.given; undecided = λ not. absurd (not here); alone = λ e. within v most most' validate here there (says.alone e) }
+first_within v most most' here there true o says = first_says_within v most most' here there (option_map (error_of true) o) says
+first_within v most most' here there false o says = record {
+  verdict = within v most most' validate here there says.verdict;
+  given = first_given_within v most most' here there o says.given;
+  undecided = λ not. absurd (not here);
+  alone = λ e. first_says_within v most most' here there (option_map (error_of false) o) (says.alone e);
+}
 
 errors_within : (v : Sense) (most most' : ℕ) → Decides v most iter_errors → Decides v most' iter_errors → (texts : Bool) (es : List ValidationError) → ErrorsAnswered v most' texts es → ErrorsAnswered v most texts es
-errors_within v most most' here there true es says = within v most most' iter_errors here there says
-errors_within v most most' here there false es says = record { verdict = within v most most' iter_errors here there says.verdict; given = says.given; undecided = λ not. absurd (not here); alone = λ e. within v most most' iter_errors here there (says.alone e) }
+errors_within v most most' here there true es says = errors_of_within v most most' iter_errors here there (map (error_of true) es) says
+errors_within v most most' here there false es says = record {
+  verdict = within v most most' iter_errors here there says.verdict;
+  given = or_one_within v most most' iter_errors here there (map (error_of true) es) says.given;
+  undecided = λ not. absurd (not here);
+  alone = λ e. errors_of_within v most most' iter_errors here there (map (error_of false) es) (says.alone e);
+}
 
 evaluation_within : (v : Sense) (most most' : ℕ) → 1 ≤ most → Decides v most evaluate → Decides v most' evaluate → (texts : Bool) (u : EvaluationNode) → EvaluationAnswered v most' texts u → EvaluationAnswered v most texts u
 evaluation_within v most most' some here there texts u says = record {
@@ -180,7 +220,13 @@ evaluation_within v most most' some here there texts u says = record {
   verdict = within v most most' evaluate here there says.verdict;
   apart = λ met.
       let of = says.apart met in
-      record { errors = of.errors; made = of.made; given = of.given; undecided = λ not. absurd (not here); shared = λ spoken. within v most most' evaluate here there (of.shared spoken) };
+      record {
+        errors = of.errors;
+        made = of.made;
+        given = or_one_within v most most' evaluate here there (map (error_of true) of.errors) of.given;
+        undecided = λ not. absurd (not here);
+        shared = λ spoken. errors_of_within v most most' evaluate here there (map (error_of true) of.errors) (of.shared spoken);
+      };
 }
 
 -- ---- two validators of one schema

@@ -36,7 +36,7 @@ use Rattle.schema_validator.specs.Program.{Program}
 module _ (v : Sense) (most : ℕ) where
   -- there is a first error, and it is the failure
   abbrev pub FirstFails : Option Error → Type 0
-  FirstFails o = (e : Error) × IsFailure v validate e × (o ≡ Some e)
+  FirstFails o = (e : Error) × IsFailure v most validate e × (o ≡ Some e)
 
   -- both are none, or the two errors are equal in place, paths, absolute location, keyword and text; or both are the failure
   abbrev pub SameFirst : Option Error → Option Error → Type 0
@@ -44,7 +44,7 @@ module _ (v : Sense) (most : ℕ) where
 
   -- the errors of two calls of one kind are equal in all of these, in one order; or both calls give the failure alone
   abbrev pub SameErrors : Call → List Error → List Error → Type 0
-  SameErrors call es es' = (es ≡ es') ⊎ (OneFailure v call es × OneFailure v call es')
+  SameErrors call es es' = (es ≡ es') ⊎ (OneFailure v most call es × OneFailure v most call es')
 
   -- where texts are not spoken of: both are none, or neither is; both are the failure where the call doesn't decide; and they are
   -- equal but for the texts where the first run meets no unfinished match
@@ -56,7 +56,7 @@ module _ (v : Sense) (most : ℕ) where
   -- the same of all errors
   pub record ErrorsAgreeUnspoken (es es' : List ValidationError) : Type 0 where
     pub verdict : is_empty es ≡ is_empty es'
-    pub undecided : ¬ (Decides v most iter_errors) → OneFailure v iter_errors (map (error_of true) es) × OneFailure v iter_errors (map (error_of true) es')
+    pub undecided : ¬ (Decides v most iter_errors) → OneFailure v most iter_errors (map (error_of true) es) × OneFailure v most iter_errors (map (error_of true) es')
     pub alone : branch_at v iter_errors [] ≡ None → map (error_of false) es ≡ map (error_of false) es'
 
   -- two first errors agree, texts being spoken of or not
@@ -72,7 +72,7 @@ module _ (v : Sense) (most : ℕ) where
   -- the units are made of the evaluation's one failure
   pub record IsOfFailure (texts : Bool) (u : Unit_) : Type 0 where
     pub error : ValidationError
-    pub fails : IsFailure v evaluate (error_of true error)
+    pub fails : IsFailure v most evaluate (error_of true error)
     pub made : u ≡ errors_unit (error_of texts error ∷ [])
 
   -- the units are equal; or both are made of the one failure

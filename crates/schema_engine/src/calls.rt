@@ -25,8 +25,8 @@ use serde_json::Value;
 use std::alloc::Global;
 
 /// Returns whether a schema accepts the instance. Where the matcher leaves matches unfinished, the schema has to accept it
-/// under every outcome of them, as with `Validator::is_valid`. Where each keyword of what the root reaches is monotone, it accepts
-/// exactly where the greatest solution does, also where chains of references return.
+/// under every outcome of them, as with `Validator::is_valid`. Where each keyword of what the root reaches is monotone, and the call
+/// decides, it accepts exactly where the greatest solution does, also where chains of references return.
 ///
 /// # Errors
 ///

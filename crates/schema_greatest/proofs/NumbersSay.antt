@@ -336,7 +336,7 @@ greatest_answers w keys nodes laws states numbered ranked monotone instance i ro
     let follows : (n : ℕ) → Follows (guarded_sense w.keywords w.matcher nodes (subject w instance) n i) = λ n. all_nodes_follow w.keywords laws w.matcher nodes (subject w instance) n i in (
       (λ call valid (deep, says). (deep + accepts.0, λ n l d. through ((says n (omega arith)).0 d) (accepts.1 n (omega arith)))),
       (λ first (deep, says). (deep + accepts.0, λ n l d. through (none_where_accepted _ (follows n) limit first (says n (omega arith)) d) (accepts.1 n (omega arith)))),
-      (λ errors (deep, says). (deep + accepts.0, λ n l d. through (listed_none _ iter_errors (follows n) errors ((says n (omega arith)).0 d)) (accepts.1 n (omega arith)))),
+      (λ errors (deep, says). (deep + accepts.0, λ n l d. through (listed_none _ iter_errors (follows n) limit errors ((says n (omega arith)).0 d)) (accepts.1 n (omega arith)))),
     )
 
 pub finishing_answers : {S K R : Type 0} (w : Parts S K R) (keys : Numbers S) (nodes : Nodes K) → FinishingAnswers w keys nodes

@@ -19,7 +19,7 @@ Contains-here x xs = (zero, omega arith, refl)
 Contains-later : {A : Type 0} (x : A) (xs : List A) (y : A) → Contains xs y → Contains (x ∷ xs) y
 Contains-later x xs y (i, is, at_i) = (suc i, omega arith, at_i)
 
-Contains-cases : {A : Type 0} (x : A) (xs : List A) (y : A) → Contains (x ∷ xs) y → (x ≡ y) ⊎ Contains xs y
+pub Contains-cases : {A : Type 0} (x : A) (xs : List A) (y : A) → Contains (x ∷ xs) y → (x ≡ y) ⊎ Contains xs y
 Contains-cases x xs y (zero, is, at_i) = inl at_i
 Contains-cases x xs y (suc i, is, at_i) = inr (i, omega arith, at_i)
 
@@ -62,11 +62,11 @@ module _ (v : Sense) (call : Call) where
 
   -- ---- the runs of a cover, in the order in which they are made
 
-  abbrev runs_of : {as' : Assumptions} {ms : List Assumptions} → Cover v call as' ms → List Assumptions
+  abbrev pub runs_of : {as' : Assumptions} {ms : List Assumptions} → Cover v call as' ms → List Assumptions
   runs_of {as'} (whole e) = as' ∷ []
   runs_of {as'} (split m e s t) = as' ∷ (runs_of s ++ runs_of t)
 
-  runs_count : {as' : Assumptions} {ms : List Assumptions} (t : Cover v call as' ms) → length (runs_of t) + 1 ≡ 2 * length ms
+  pub runs_count : {as' : Assumptions} {ms : List Assumptions} (t : Cover v call as' ms) → length (runs_of t) + 1 ≡ 2 * length ms
   runs_count (whole e) = refl
   runs_count (split {no = ns} {yes = ys} m e s t) = let a = runs_count s in let b = runs_count t in omega (arith, length-append ns ys, length-append (runs_of s) (runs_of t))
 
@@ -93,7 +93,7 @@ module _ (v : Sense) (call : Call) where
           by (inl i) = Contains-append_left (runs_of s) (runs_of t) (assuming m' b x) (f i)
           by (inr i) = Contains-append_right (runs_of s) (runs_of t) (assuming m' b x) (g i)
 
-  each_run : {ms : List Assumptions} (t : Cover v call [] ms) {x : Assumptions} → IsRun v call x → Contains (runs_of t) x
+  pub each_run : {ms : List Assumptions} (t : Cover v call [] ms) {x : Assumptions} → IsRun v call x → Contains (runs_of t) x
   each_run t first_run = first_in t
   each_run t (further {as' = y} m b r e) = further_in t y (each_run t r) m e b
 

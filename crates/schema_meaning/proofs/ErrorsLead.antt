@@ -11,7 +11,7 @@ use Rattle.schema_definitions.specs.Parts.{Parts}
 use Rattle.schema_definitions.specs.Matching.{Completion, Matching, matching}
 use Rattle.schema_definitions.specs.Making.{Request}
 use Rattle.schema_definitions.specs.Keywords.{Answers, Below, here, down, Question, Own, Fault, own, passed}
-use Rattle.schema_definitions.specs.Plan.{Key, Edge, Part, Form, keyword, reference, Plan, always, never, these, plan, plan_of, child, requested, reference_edge, height, schema_of, absolute_of}
+use Rattle.schema_definitions.specs.Plan.{Key, Edge, Part, Form, is_refused, keyword, reference, Plan, always, never, these, plan, plan_of, child, requested, reference_edge, height, schema_of, scripted, absolute_of}
 use Rattle.schema_definitions.specs.Meaning.{subject, at, place_below, stamped, fault_error, false_error, false_outcome, asked, referred_to, keyword_outcome, part_outcome, parts_outcome, outcome_of, within, unfold_}
 use Rattle.schema_definitions.specs.Laws.{IsPresent, steps_below, SpotInside, StandsInside, PassesUnchanged, KeepsLaws}
 use Rattle.schema_meaning.specs.Paths.{Walks, stands, goes, part_edges, names}
@@ -20,6 +20,7 @@ use Rattle.schema_meaning.specs.ErrorsLead.{EachKeepsAbsorbing, MakesAbsorbing, 
 use Rattle.schema_meaning.proofs.Questions.{later, in_flat_map}
 use Rattle.schema_meaning.proofs.Settles.{picked}
 use Rattle.schema_meaning.proofs.SameOutcome.{in_option_list}
+use Rattle.schema_meaning.proofs.Makings.{ends_until}
 use Rattle.schema_meaning.proofs.PlanForms.{EachForm, PlanForms, plan_forms}
 
 -- ---- places
@@ -88,7 +89,7 @@ module _ {S K R : Type 0} (w : Parts S K R) (absorbs : K → List Text) where
   absorbing makers k (number n) = tt
   absorbing makers k (string s) = tt
   absorbing makers k (array ds) = tt
-  absorbing makers k (object ms) = plan_forms w k ms Absorbing (λ kind text. tt) (λ custom name m absorbed e. makers custom name ms _ _ _ _ m absorbed e)
+  absorbing makers k (object ms) = plan_forms w k ms Absorbing (λ kind text. tt) (λ custom name m absorbed e. makers custom name ms _ _ _ _ m absorbed (ends_until (is_refused w k) (scripted w k ms custom name).requests (scripted w k ms custom name).ends m absorbed e))
 
 -- a part of a target absorbs what its keyword does
 pub absorbs_its : {S K R : Type 0} (w : Parts S K R) (absorbs : K → List Text) → MakesAbsorbing absorbs w.table → (k : Key S) (xs : List (Part K)) → plan w k ≡ these xs
@@ -175,8 +176,8 @@ module _ {S K R : Type 0} (w : Parts S K R) (root : Key S) where
           own_leads : (o : Own) → SpotInside (subject_in instance p) absorbed o.spot → Leading locations (fault_error (at w instance k path p) x.name (own o))
           own_leads o (present, (steps, is_path), in_absorbed) =
               let name : Text = unwrap_or o.spot.absorbed x.name in
-              here_leads (joined [] name ++ pointer_to steps) (keyword_location w k x.name)
-              (subst (EndsIn w k (joined [] name ++ pointer_to steps) (keyword_location w k x.name)) (sym is_plan) (x, name, steps, in_xs, is_name o.spot.absorbed in_absorbed, refl, refl))
+              here_leads (joined [] name ++ pointer_to steps) (keyword_location w k name)
+              (subst (EndsIn w k (joined [] name ++ pointer_to steps) (keyword_location w k name)) (sym is_plan) (x, name, steps, in_xs, is_name o.spot.absorbed in_absorbed, refl, refl))
               (fault_error (at w instance k path p) x.name (own o))
               (going_on path name steps o.spot.path is_path) (going_on k.location name steps o.spot.path is_path)
               (stands_below instance p o.spot.below there present) refl

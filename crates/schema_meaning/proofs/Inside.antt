@@ -10,10 +10,11 @@ use Rattle.schema_definitions.specs.Drafts.{at_path, ref_stands_alone}
 use Rattle.schema_definitions.specs.Parts.{Parts}
 use Rattle.schema_definitions.specs.Making.{Request, compile, refer, Making, Made, a_keyword, nothing, refused, Builtin}
 use Rattle.schema_definitions.specs.Resolving.{Found}
-use Rattle.schema_definitions.specs.Plan.{Key, Part, Form, keyword, reference, Reference, to_ref, reference_named, Plan, always, never, these, Edge, plan, plan_of, plan_alone, parts, part, builtin_part, part_made, reference_part, making, option_list, sorted, placed, requested, inside, referred, reference_edge, is_self, found, ok_of, schema_at, schema_of, height, is_recursive_ref}
+use Rattle.schema_definitions.specs.Plan.{Key, Part, Form, keyword, reference, Reference, to_ref, reference_named, Plan, always, never, these, Edge, plan, plan_of, plan_alone, parts, part, builtin_part, part_made, reference_part, is_refused, making, option_list, scripted, sorted, placed, requested, inside, referred, reference_edge, is_self, found, ok_of, schema_at, schema_of, height, is_recursive_ref}
 use Rattle.schema_meaning.specs.Paths.{part_edges}
 use Rattle.schema_meaning.specs.Numbered.{ValuesInside, IsBelow, MakersAskBelow, SubschemasInside}
 use Rattle.schema_meaning.proofs.Falls.{path_falls}
+use Rattle.schema_meaning.proofs.Makings.{each_until}
 
 module _ {S K R : Type 0} (w : Parts S K R) (values : ValuesInside w) (makers : MakersAskBelow w.table) where
   FormBelow : Form K → Type 0
@@ -72,13 +73,13 @@ module _ {S K R : Type 0} (w : Parts S K R) (values : ValuesInside w) (makers : 
       go : (o : Option Builtin) (r : Option Reference) → OptionBelow (elim o [ None ↦ None | Some b ↦ elim r [ Some kind ↦ reference_part w k name b.priority kind value | None ↦ part_made w name b.priority b.is_leaf (making w k whole false name) ] ])
       go None r = tt
       go (Some b) (Some kind) = reference_below k name b.priority kind value
-      go (Some b) None = made_below name b.priority b.is_leaf (making w k whole false name) (makers false name whole _ _ _ _)
+      go (Some b) None = made_below name b.priority b.is_leaf (making w k whole false name) (each_until (is_refused w k) IsBelow (scripted w k whole false name).requests (scripted w k whole false name).ends (makers false name whole _ _ _ _))
 
   part_below : (k : Key S) (whole : Members) (name : Text) (value : Data) → OptionBelow (part w k whole name value)
   part_below k whole name value = go (w.table.owns name)
     where
       go : (b : Bool) → OptionBelow (elim b [ true ↦ part_made w name 80 false (making w k whole true name) | false ↦ builtin_part w k whole name value ])
-      go true = made_below name 80 false (making w k whole true name) (makers true name whole _ _ _ _)
+      go true = made_below name 80 false (making w k whole true name) (each_until (is_refused w k) IsBelow (scripted w k whole true name).requests (scripted w k whole true name).ends (makers true name whole _ _ _ _))
       go false = builtin_below k whole name value
 
   parts_below : (k : Key S) (whole ms : Members) → PartsBelow (parts w k whole ms)

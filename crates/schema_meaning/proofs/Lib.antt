@@ -34,8 +34,10 @@ mod Runs
 pub mod PlainSense
 pub mod GuardedSense
 pub mod CoverCounts
+pub mod RunOrder
 pub mod SensesMeant
 mod PlanForms
+pub mod Makings
 pub mod WholeNumbers
 pub mod ErrorsLead
 pub mod NodeErrorsLead

@@ -1,5 +1,5 @@
 -- What the calls give points at keyword and value, but for the failure.
-use Rattle.std.proofs.Common.{◌≡◌, List, [], ◌∷◌, sym, subst, ap, inl, inr}
+use Rattle.std.proofs.Common.{◌≡◌, ℕ, List, [], ◌∷◌, sym, subst, ap, inl, inr}
 use Rattle.std.specs.Prelude.{All, Option, Some, None, ◌⊎◌}
 use Rattle.std.proofs.lemmas.List.Elements.{All-nil, All-cons, All-head, All-tail}
 use Rattle.serde_json.specs.Data.{Data}
@@ -19,10 +19,10 @@ module _ (P : Error → Type 0) (v : Sense) where
   of_kept (keep {e = e} {es = es} {kept = kept} is k) h = All-cons P e kept (All-head P e es h) (of_kept k (All-tail P e es h))
   of_kept (leave {e = e} {es = es} is k) h = of_kept k (All-tail P e es h)
 
-  pub of_lists : (call : Call) (es : List Error) → All P (v.says all_match).errors → Lists v call es → All P es ⊎ OneFailure v call es
-  of_lists call es h (f ∷ shared, kept, is) = inl (subst (All P) (sym is) (of_kept kept h))
-  of_lists call [] h ([], kept, accepts) = inl (All-nil P)
-  of_lists call (e ∷ es) h ([], kept, (refuses, failure, is)) = inr (e, failure, ap (λ (xs : List Error). e ∷ xs) is)
+  pub of_lists : (most : ℕ) (call : Call) (es : List Error) → All P (v.says all_match).errors → Lists v most call es → All P es ⊎ OneFailure v most call es
+  of_lists most call es h (f ∷ shared, kept, is) = inl (subst (All P) (sym is) (of_kept kept h))
+  of_lists most call [] h ([], kept, accepts) = inl (All-nil P)
+  of_lists most call (e ∷ es) h ([], kept, (refuses, failure, is)) = inr (e, failure, ap (λ (xs : List Error). e ∷ xs) is)
 
   abbrev pub OfOption : Option Error → Type 0
   OfOption None = Unit {0}
@@ -40,17 +40,17 @@ module _ (P : Error → Type 0) (v : Sense) where
   same_some : (a b : Error) → ◌≡◌ {A = Option Error} (Some a) (Some b) → a ≡ b
   same_some a b is = ap (error_or a) is
 
-  pub of_found : (o : Option Error) (e : Error) → OfOption o → IsFirst v o (Some e) → P e ⊎ IsFailure v validate e
-  of_found None e h is = inr is.1
-  of_found (Some x) e h is = inl (subst P (sym (same_some e x is)) h)
+  pub of_found : (most : ℕ) (o : Option Error) (e : Error) → OfOption o → IsFirst v most o (Some e) → P e ⊎ IsFailure v most validate e
+  of_found most None e h is = inr is.1
+  of_found most (Some x) e h is = inl (subst P (sym (same_some e x is)) h)
 
-  pub of_failure : (e : Error) → (x : Error) × IsFailure v validate x × (◌≡◌ {A = Option Error} (Some e) (Some x)) → IsFailure v validate e
-  of_failure e (x, failure, is) = subst (IsFailure v validate) (sym (same_some e x is)) failure
+  pub of_failure : (most : ℕ) (e : Error) → (x : Error) × IsFailure v most validate x × (◌≡◌ {A = Option Error} (Some e) (Some x)) → IsFailure v most validate e
+  of_failure most e (x, failure, is) = subst (IsFailure v most validate) (sym (same_some e x is)) failure
 
 module _ {S K R : Type 0} (w : Parts S K R) (root : Key S) (instance : Data) where
   pub listed_lead : ListedLead w root instance
-  listed_lead v leads limit errors says = (λ decides. of_lists (PointsAt w root instance) v iter_errors errors (leads all_match) (says.0 decides), says.1)
+  listed_lead v leads limit errors says = (λ decides. of_lists (PointsAt w root instance) v limit iter_errors errors (leads all_match) (says.0 decides), says.1)
 
   pub first_leads : FirstLeads w root instance
   first_leads v leads limit e says =
-      (λ decides. let (o, found, is) = says.0 decides in of_found (PointsAt w root instance) v o e (of_first (PointsAt w root instance) v found (leads all_match)) is, λ undecided. of_failure (PointsAt w root instance) v e (says.1 undecided))
+      (λ decides. let (o, found, is) = says.0 decides in of_found (PointsAt w root instance) v limit o e (of_first (PointsAt w root instance) v found (leads all_match)) is, λ undecided. of_failure (PointsAt w root instance) v limit e (says.1 undecided))

@@ -95,15 +95,15 @@ module _ (v : Sense) where
   first_is_head (leave s rest) (h.here t) = absurd (s t)
   first_is_head (leave s rest) (h.later t more) = first_is_head rest more
 
-  first_listed : (call : Call) (shared es : List Error) → h.IsListed v call shared es → call ≡ validate → h.IsFirst v (first_error shared) (first_error es)
-  first_listed call (f ∷ shared) es is same = ap first_error is
-  first_listed call [] [] is same = is
-  first_listed call [] (e ∷ es) is same = (is.0, subst (λ z. h.IsFailure v z e) same is.1)
+  first_listed : (most : ℕ) (call : Call) (shared es : List Error) → h.IsListed v most call shared es → call ≡ validate → h.IsFirst v most (first_error shared) (first_error es)
+  first_listed most call (f ∷ shared) es is same = ap first_error is
+  first_listed most call [] [] is same = is
+  first_listed most call [] (e ∷ es) is same = (is.0, subst (λ z. h.IsFailure v most z e) same is.1)
 
 module _ (v : Sense) (call : Call) (follows : Follows v) where
   -- what is listed is empty exactly where every completion accepts
-  pub listed_none : (es : List Error) → h.Lists v call es → (es ≡ []) ↔ EachAccepts v
-  listed_none es (shared, is_shared, is) = go shared es is_shared is
+  pub listed_none : (most : ℕ) (es : List Error) → h.Lists v most call es → (es ≡ []) ↔ EachAccepts v
+  listed_none most es (shared, is_shared, is) = go shared es is_shared is
     where
       no_errors : EachAccepts v → (v.says all_match).errors ≡ []
       no_errors each = (follows.agrees all_match).0 (each all_match)
@@ -112,7 +112,7 @@ module _ (v : Sense) (call : Call) (follows : Follows v) where
       kept_none [] kept none e = refl
       kept_none (x ∷ errors) kept k e = absurd (cc e)
 
-      go : (shared es : List Error) → Shared v shared → h.IsListed v call shared es → (es ≡ []) ↔ EachAccepts v
+      go : (shared es : List Error) → Shared v shared → h.IsListed v most call shared es → (es ≡ []) ↔ EachAccepts v
       go (f ∷ shared) es k is = (λ e. absurd (cc (sym is ∙ e)), λ each. absurd (cc (kept_none (v.says all_match).errors (f ∷ shared) k (no_errors each))))
       go [] [] k is = (λ e. is, λ each. refl)
       go [] (e ∷ es) k is = let ((c, nay), fails, one) = is in (λ e'. absurd (cc e'), λ each. absurd (cc (each c, nay)))
@@ -170,15 +170,15 @@ module _ (v : Sense) (call : Call) (follows : Follows v) where
           go (x ∷ (y ∷ l)) same kept nay = absurd (cc same)
 
       -- the sentence of `iter_errors`
-      pub lists : (failure : Error) → ((m : Met) → branch_at v call [] ≡ Some m → h.IsFailure v call failure) → h.Lists v call (listed v others last failure)
-      lists failure fails = (shared_with v others last, shared_with_is, go (shared_with v others last) refl)
+      pub lists : (most : ℕ) (failure : Error) → ((m : Met) → branch_at v call [] ≡ Some m → h.IsFailure v most call failure) → h.Lists v most call (listed v others last failure)
+      lists most failure fails = (shared_with v others last, shared_with_is, go (shared_with v others last) refl)
         where
           go : (shared : List Error) → shared_with v others last ≡ shared
-              → h.IsListed v call shared (or_failure shared (none_has v (others ++ last ∷ [])) failure)
+              → h.IsListed v most call shared (or_failure shared (none_has v (others ++ last ∷ [])) failure)
           go (f ∷ shared) e = refl
           go [] e = by (none_has v (others ++ last ∷ [])) refl
             where
-              by : (b : Bool) → none_has v (others ++ last ∷ []) ≡ b → h.IsListed v call [] (or_failure [] b failure)
+              by : (b : Bool) → none_has v (others ++ last ∷ []) ≡ b → h.IsListed v most call [] (or_failure [] b failure)
               by true nay = none_each nay
               by false nay = let (m, at) = branches cover is e nay in (some_refuse nay, fails m at, refl)
 
@@ -215,21 +215,21 @@ split_wants_all v call later {ns} {ys} m s t x in_it =
 
 module _ (v : Sense) (follows : Follows v) (others : List Assumptions) (last : Assumptions) (failure : Error) where
   pub errors_say : (limit : ℕ) (ms : List Assumptions) → Cover v iter_errors [] ms → ms ≡ others ++ last ∷ [] → 2 * length ms ≤ limit + 1
-      → ((m : Met) → branch_at v iter_errors [] ≡ Some m → h.IsFailure v iter_errors failure) → h.ErrorsSay v limit (listed v others last failure)
-  errors_say limit ms cover is few fails = (λ d. lists v iter_errors follows ms cover (λ m k. refl) others last is failure fails, λ n. absurd (n (ms, cover, few)))
+      → ((m : Met) → branch_at v iter_errors [] ≡ Some m → h.IsFailure v limit iter_errors failure) → h.ErrorsSay v limit (listed v others last failure)
+  errors_say limit ms cover is few fails = (λ d. lists v iter_errors follows ms cover (λ m k. refl) others last is limit failure fails, λ n. absurd (n (ms, cover, few)))
 
   -- so of each call whose further runs want all errors, where its first run meets an unfinished match
   pub later_errors_say : (limit : ℕ) (call : Call) → WantsAllLater call → (ms : List Assumptions) → Cover v call [] ms → ¬ (branch_at v call [] ≡ None) → ms ≡ others ++ last ∷ [] → 2 * length ms ≤ limit + 1
-      → ((m : Met) → branch_at v call [] ≡ Some m → h.IsFailure v call failure) → h.ErrorsOf v limit call (listed v others last failure)
+      → ((m : Met) → branch_at v call [] ≡ Some m → h.IsFailure v limit call failure) → h.ErrorsOf v limit call (listed v others last failure)
   later_errors_say limit call later _ (whole e) some is few fails = absurd (some e)
   later_errors_say limit call later _ (split {no = ns} {yes = ys} m e s t) some is few fails = (
-    λ d. lists v call follows (ns ++ ys) (split m e s t) (split_wants_all v call later m s t) others last is failure fails,
+    λ d. lists v call follows (ns ++ ys) (split m e s t) (split_wants_all v call later m s t) others last is limit failure fails,
     λ n. absurd (n (ns ++ ys, split m e s t, few)),
   )
 
   -- the first run alone: its first error is that of every completion
-  first_alone : branch_at v validate [] ≡ None → (o : Option Error) × h.FirstShared v (v.says all_match).errors o × h.IsFirst v o (first_error (errors_of v []))
-  first_alone e = go (v.says all_match).errors refl
+  first_alone : (most : ℕ) → branch_at v validate [] ≡ None → (o : Option Error) × h.FirstShared v (v.says all_match).errors o × h.IsFirst v most o (first_error (errors_of v []))
+  first_alone most e = go (v.says all_match).errors refl
     where
       each : (c : Completion) → first_error (errors_of v []) ≡ first_error (v.says c).errors
       each c = follows.speaks validate [] c (λ a b is. absurd (cc is)) (λ a b is. absurd (cc is)) e
@@ -242,44 +242,44 @@ module _ (v : Sense) (follows : Follows v) (others : List Assumptions) (last : A
       no_first [] is = refl
       no_first (y ∷ es) is = absurd (cc is)
 
-      go : (es : List Error) → (v.says all_match).errors ≡ es → (o : Option Error) × h.FirstShared v es o × h.IsFirst v o (first_error (errors_of v []))
-      go [] is = (None, h.none, subst (h.IsFirst v None) (sym (each all_match ∙ ap first_error is)) (λ c. (follows.agrees c).1 (no_first _ (sym (each all_match ∙ ap first_error is) ∙ each c))))
+      go : (es : List Error) → (v.says all_match).errors ≡ es → (o : Option Error) × h.FirstShared v es o × h.IsFirst v most o (first_error (errors_of v []))
+      go [] is = (None, h.none, subst (h.IsFirst v most None) (sym (each all_match ∙ ap first_error is)) (λ c. (follows.agrees c).1 (no_first _ (sym (each all_match ∙ ap first_error is) ∙ each c))))
       go (x ∷ es) is = (Some x, h.here (λ c. in_each_one x _ (sym (each all_match ∙ ap first_error is) ∙ each c)), each all_match ∙ ap first_error is)
 
-  first_of_members : (ms : List Assumptions) → Cover v validate [] ms → ms ≡ others ++ last ∷ []
-      → ((m : Met) → branch_at v validate [] ≡ Some m → h.IsFailure v validate failure)
-      → (o : Option Error) × h.FirstShared v (v.says all_match).errors o × h.IsFirst v o (first_error (listed v others last failure))
-  first_of_members _ (whole e) is fails =
+  first_of_members : (most : ℕ) (ms : List Assumptions) → Cover v validate [] ms → ms ≡ others ++ last ∷ []
+      → ((m : Met) → branch_at v validate [] ≡ Some m → h.IsFailure v most validate failure)
+      → (o : Option Error) × h.FirstShared v (v.says all_match).errors o × h.IsFirst v most o (first_error (listed v others last failure))
+  first_of_members most _ (whole e) is fails =
       let (nothing, same) = alone others last is in
-      subst (λ x. (o : Option Error) × h.FirstShared v (v.says all_match).errors o × h.IsFirst v o (first_error x))
-      (sym (ap₂ (λ l x. listed v l x failure) nothing (sym same) ∙ listed_alone v [] failure)) (first_alone e)
-  first_of_members _ (split {no = ns} {yes = ys} m e s t) is fails =
-      let (shared, is_shared, it) = lists v validate follows (ns ++ ys) (split m e s t) (split_wants_all v validate validate_later m s t) others last is failure fails in
-      (first_error shared, kept_first v is_shared, first_listed v validate shared _ it refl)
+      subst (λ x. (o : Option Error) × h.FirstShared v (v.says all_match).errors o × h.IsFirst v most o (first_error x))
+      (sym (ap₂ (λ l x. listed v l x failure) nothing (sym same) ∙ listed_alone v [] failure)) (first_alone most e)
+  first_of_members most _ (split {no = ns} {yes = ys} m e s t) is fails =
+      let (shared, is_shared, it) = lists v validate follows (ns ++ ys) (split m e s t) (split_wants_all v validate validate_later m s t) others last is most failure fails in
+      (first_error shared, kept_first v is_shared, first_listed v most validate shared _ it refl)
 
   pub first_says : (limit : ℕ) (ms : List Assumptions) → Cover v validate [] ms → ms ≡ others ++ last ∷ [] → 2 * length ms ≤ limit + 1
-      → ((m : Met) → branch_at v validate [] ≡ Some m → h.IsFailure v validate failure) → h.FirstSays v limit (first_error (listed v others last failure))
-  first_says limit ms cover is few fails = (λ d. first_of_members ms cover is fails, λ n. absurd (n (ms, cover, few)))
+      → ((m : Met) → branch_at v validate [] ≡ Some m → h.IsFailure v limit validate failure) → h.FirstSays v limit (first_error (listed v others last failure))
+  first_says limit ms cover is few fails = (λ d. first_of_members limit ms cover is fails, λ n. absurd (n (ms, cover, few)))
 
   nil_agrees : (o : Outcome) → Agrees o → (is_nil o.errors ≡ true) ↔ (o.verdict ≡ true)
   nil_agrees o a = (λ e. a.1 (nil_is o.errors e), λ e. ap is_nil (a.0 e))
 
-  nil_members : (ms : List Assumptions) → Cover v evaluate [] ms → ms ≡ others ++ last ∷ []
-      → ((m : Met) → branch_at v evaluate [] ≡ Some m → h.IsFailure v evaluate failure) → (is_nil (listed v others last failure) ≡ true) ↔ EachAccepts v
-  nil_members _ (whole e) is fails =
+  nil_members : (most : ℕ) (ms : List Assumptions) → Cover v evaluate [] ms → ms ≡ others ++ last ∷ []
+      → ((m : Met) → branch_at v evaluate [] ≡ Some m → h.IsFailure v most evaluate failure) → (is_nil (listed v others last failure) ≡ true) ↔ EachAccepts v
+  nil_members most _ (whole e) is fails =
       let (nothing, same) = alone others last is in
       let each = all_accept_each v evaluate follows ([] ∷ []) (whole e) in
       let it : listed v others last failure ≡ errors_of v [] = ap₂ (λ l x. listed v l x failure) nothing (sym same) ∙ listed_alone v [] failure in
       let agrees = nil_agrees (v.says (completion_of [])) (follows.agrees (completion_of [])) in
       (λ e'. each.0 (ap (λ b. b && true) (agrees.0 (sym (ap is_nil it) ∙ e'))), λ k. ap is_nil it ∙ agrees.1 (k (completion_of [])))
-  nil_members _ (split {no = ns} {yes = ys} m e s t) is fails =
-      let each = listed_none v evaluate follows _ (lists v evaluate follows (ns ++ ys) (split m e s t) (split_wants_all v evaluate evaluate_later m s t) others last is failure fails) in
+  nil_members most _ (split {no = ns} {yes = ys} m e s t) is fails =
+      let each = listed_none v evaluate follows most _ (lists v evaluate follows (ns ++ ys) (split m e s t) (split_wants_all v evaluate evaluate_later m s t) others last is most failure fails) in
       (λ e'. each.0 (nil_is _ e'), λ k. ap is_nil (each.1 k))
 
   -- an evaluation is valid where nothing is listed
   pub evaluate_says : (limit : ℕ) (ms : List Assumptions) → Cover v evaluate [] ms → ms ≡ others ++ last ∷ [] → 2 * length ms ≤ limit + 1
-      → ((m : Met) → branch_at v evaluate [] ≡ Some m → h.IsFailure v evaluate failure) → h.VerdictSays v limit evaluate (is_nil (listed v others last failure))
-  evaluate_says limit ms cover is few fails = (λ d. nil_members ms cover is fails, λ n. absurd (n (ms, cover, few)))
+      → ((m : Met) → branch_at v evaluate [] ≡ Some m → h.IsFailure v limit evaluate failure) → h.VerdictSays v limit evaluate (is_nil (listed v others last failure))
+  evaluate_says limit ms cover is few fails = (λ d. nil_members limit ms cover is fails, λ n. absurd (n (ms, cover, few)))
 
 -- ---- a list has one cover
 

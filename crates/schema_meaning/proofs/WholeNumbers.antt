@@ -5,10 +5,11 @@ use Rattle.std.proofs.lemmas.List.Elements.{All-cons, All-append}
 use Rattle.serde_json.specs.Data.{Data, null, boolean, number, string, array, object}
 use Rattle.serde_json.specs.Written.{has_float}
 use Rattle.schema_definitions.specs.Parts.{Parts}
-use Rattle.schema_definitions.specs.Plan.{Key, Part, Form, keyword, reference, Plan, always, never, these, plan, plan_of, schema_of}
+use Rattle.schema_definitions.specs.Plan.{Key, Part, Form, is_refused, keyword, reference, Plan, always, never, these, plan, plan_of, schema_of, scripted}
 use Rattle.schema_definitions.specs.Guarded.{NodeForm, node_keyword, node_reference, NodePart, NodePlan, node_always, node_never, node_these, Nodes}
 use Rattle.schema_meaning.specs.Numbered.{Numbers, SamePlan, SameParts, SameForm}
 use Rattle.schema_meaning.specs.Fractions.{MakesWhole, form_words, node_words, IsWholeWord, NumbersAreWhole}
+use Rattle.schema_meaning.proofs.Makings.{ends_until}
 use Rattle.schema_meaning.proofs.PlanForms.{EachForm, PlanForms, plan_forms}
 
 none : {A : Type 0} (P : A → Type 0) → All P []
@@ -61,7 +62,7 @@ module _ {S K R : Type 0} (w : Parts S K R) (is_whole : K → Bool) (keys : Numb
   of_schema table (number n) h = tt
   of_schema table (string s) h = tt
   of_schema table (array ds) h = tt
-  of_schema table (object ms) h = plan_of_each _ (plan_forms w k ms WholeForm (λ kind text. tt) (λ custom name m absorbed e. table custom name ms _ _ _ _ m absorbed e h))
+  of_schema table (object ms) h = plan_of_each _ (plan_forms w k ms WholeForm (λ kind text. tt) (λ custom name m absorbed e. table custom name ms _ _ _ _ m absorbed (ends_until (is_refused w k) (scripted w k ms custom name).requests (scripted w k ms custom name).ends m absorbed e) h))
 
 pub numbers_are_whole : {S K R : Type 0} (w : Parts S K R) (is_whole : K → Bool) (keys : Numbers S) (nodes : Nodes K) → NumbersAreWhole w is_whole keys nodes
 numbers_are_whole w is_whole keys nodes = λ table numbered i k is h.

@@ -100,7 +100,7 @@ none_where_accepted v follows limit o says decides =
     no_first (h.here s) e = absurd (cc e)
     no_first (h.later t more) e = absurd (cc e)
 
-    go : (shared o : Option Error) → h.FirstShared v (v.says all_match).errors shared → h.IsFirst v shared o → (o ≡ None) ↔ EachAccepts v
+    go : (shared o : Option Error) → h.FirstShared v (v.says all_match).errors shared → h.IsFirst v limit shared o → (o ≡ None) ↔ EachAccepts v
     go None None k is = (λ e. is, λ each. refl)
     go None (Some e) k is =
         let ((c, nay), fails) = is in

@@ -54,13 +54,13 @@ module _ {S K R : Type 0} (w : Parts S K R) where
     passes : {path : Text} {k : Key S} {locations : List (Option Text)} (x : Part K) (edge : Edge S) → Passes root path k locations
         → IsPartOf (plan w k) x → Contains (part_edges w k x.name x.form) edge → Passes root (path ++ edge.path) edge.key (keyword_location k x.name ∷ locations)
 
-  -- the rest is the path of a keyword, of one that it absorbs, or one below, and the location is the keyword's; where the
-  -- target is `false` there is no rest, and the location is the target's own
+  -- the rest is the path of a keyword, or of one that it absorbs, or one below, and the location is that of the one that the path
+  -- names; where the target is `false` there is no rest, and the location is the target's own
   abbrev pub EndsIn : Key S → Text → Option Text → Plan K → Type 0
   EndsIn k rest location always = ⊥
   EndsIn k rest location never = (rest ≡ []) × (location ≡ absolute_of w k k.location)
   EndsIn k rest location (these xs) = (x : Part K) × (name : Text) × (path : Place) × Contains xs x × Contains (names w x) name
-      × (rest ≡ joined [] name ++ pointer_to path) × (location ≡ keyword_location k x.name)
+      × (rest ≡ joined [] name ++ pointer_to path) × (location ≡ keyword_location k name)
 
   -- the error points at a keyword of a target that its evaluation path leads to, and at a value inside the instance
   pub record PointsAt (root : Key S) (instance : Data) (e : Error) : Type 0 where
@@ -98,8 +98,8 @@ module _ {S K R : Type 0} (w : Parts S K R) (root : Key S) (instance : Data) whe
   -- then so does each error that is listed, or the list is the one failure
   abbrev pub ListedLead : Type 0
   ListedLead = (v : Sense) → EachLeads v → (limit : ℕ) (errors : List Error) → ErrorsSay v limit errors
-      → Either (Decides v limit iter_errors) (All (PointsAt w root instance) errors ⊎ OneFailure v iter_errors errors) (OneFailure v iter_errors errors)
+      → Either (Decides v limit iter_errors) (All (PointsAt w root instance) errors ⊎ OneFailure v limit iter_errors errors) (OneFailure v limit iter_errors errors)
 
   -- and so does a first error, or it is the failure
   abbrev pub FirstLeads : Type 0
-  FirstLeads = (v : Sense) → EachLeads v → (limit : ℕ) (e : Error) → FirstSays v limit (Some e) → Either (Decides v limit validate) (PointsAt w root instance e ⊎ IsFailure v validate e) (IsFailure v validate e)
+  FirstLeads = (v : Sense) → EachLeads v → (limit : ℕ) (e : Error) → FirstSays v limit (Some e) → Either (Decides v limit validate) (PointsAt w root instance e ⊎ IsFailure v limit validate e) (IsFailure v limit validate e)

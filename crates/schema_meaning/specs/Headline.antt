@@ -12,7 +12,8 @@ use Rattle.schema_definitions.specs.Plan.{Key, schema_of}
 use Rattle.schema_meaning.specs.Returns.{Asked, Return}
 use Rattle.schema_definitions.specs.Units.{plain_units}
 use Rattle.schema_definitions.specs.Runs.{Met, Site}
-use Rattle.schema_definitions.specs.Cover.{Call, Decides, IsRun, Sense, branch_at, evaluate, is_valid, iter_errors, plain, validate}
+use Rattle.schema_definitions.specs.Cover.{Call, Decides, Sense, branch_at, evaluate, is_valid, iter_errors, plain, validate}
+use Rattle.schema_meaning.specs.RunOrder.{IsMade}
 use Rattle.schema_meaning.specs.Shared.{EachAccepts, IsShared, Shared, SomeRefuses}
 use Rattle.schema_meaning.specs.Reach.{IsReach, Reached, deep_enough}
 use Rattle.schema_definitions.specs.Guarded.{Nodes, guarded_sense}
@@ -36,12 +37,13 @@ abbrev pub shown_pattern : Site → Met → Text
 shown_pattern site first = unwrap_or site.pattern (unwrap_or first.site.pattern first.pair.pattern)
 
 module _ (v : Sense) where
-  -- one error for the first unfinished match of the call's first run, at a site that one of its runs gives for that match; its keyword is `pattern`
-  pub record IsFailure (call : Call) (e : Error) : Type 0 where
+  -- one error for the first unfinished match of the first run of a call that makes so many runs at most, at a site that one of the runs
+  -- that it makes gives for that match; its keyword is `pattern`
+  pub record IsFailure (most : ℕ) (call : Call) (e : Error) : Type 0 where
     pub first : Met
     pub is_first : branch_at v call [] ≡ Some first
     pub run : Assumptions
-    pub is_run : IsRun v call run
+    pub is_made : IsMade v most call run
     pub met : Met
     pub meets : Contains (v.meets call run) met
     pub same : met.pair ≡ first.pair
@@ -52,16 +54,16 @@ module _ (v : Sense) where
     pub named : e.name ≡ codes "pattern"
 
   -- the shared errors, or one failure where none is shared and some completion refuses
-  abbrev pub IsListed : Call → List Error → List Error → Type 0
-  IsListed call (f ∷ shared) es = es ≡ f ∷ shared
-  IsListed call [] [] = EachAccepts v
-  IsListed call [] (e ∷ es) = SomeRefuses v × IsFailure call e × (es ≡ [])
+  abbrev pub IsListed : ℕ → Call → List Error → List Error → Type 0
+  IsListed most call (f ∷ shared) es = es ≡ f ∷ shared
+  IsListed most call [] [] = EachAccepts v
+  IsListed most call [] (e ∷ es) = SomeRefuses v × IsFailure most call e × (es ≡ [])
 
-  abbrev pub Lists : Call → List Error → Type 0
-  Lists call es = (shared : List Error) × Shared v shared × IsListed call shared es
+  abbrev pub Lists : ℕ → Call → List Error → Type 0
+  Lists most call es = (shared : List Error) × Shared v shared × IsListed most call shared es
 
-  abbrev pub OneFailure : Call → List Error → Type 0
-  OneFailure call es = (e : Error) × IsFailure call e × (es ≡ e ∷ [])
+  abbrev pub OneFailure : ℕ → Call → List Error → Type 0
+  OneFailure most call es = (e : Error) × IsFailure most call e × (es ≡ e ∷ [])
 
   -- what a call answers that makes so many runs at most, where it decides and where it doesn't
   abbrev pub VerdictSays : ℕ → Call → Bool → Type 0
@@ -69,7 +71,7 @@ module _ (v : Sense) where
 
   -- the errors of a call whose further runs want all errors
   abbrev pub ErrorsOf : ℕ → Call → List Error → Type 0
-  ErrorsOf most call errors = Either (Decides v most call) (Lists call errors) (OneFailure call errors)
+  ErrorsOf most call errors = Either (Decides v most call) (Lists most call errors) (OneFailure most call errors)
 
   abbrev pub ErrorsSay : ℕ → List Error → Type 0
   ErrorsSay most = ErrorsOf most iter_errors
@@ -80,14 +82,14 @@ module _ (v : Sense) where
     here : {e : Error} {es : List Error} → IsShared v e → FirstShared (e ∷ es) (Some e)
     later : {e : Error} {es : List Error} {o : Option Error} → ¬ (IsShared v e) → FirstShared es o → FirstShared (e ∷ es) o
 
-  abbrev pub IsFirst : Option Error → Option Error → Type 0
-  IsFirst (Some e) first = first ≡ Some e
-  IsFirst None None = EachAccepts v
-  IsFirst None (Some e) = SomeRefuses v × IsFailure validate e
+  abbrev pub IsFirst : ℕ → Option Error → Option Error → Type 0
+  IsFirst most (Some e) first = first ≡ Some e
+  IsFirst most None None = EachAccepts v
+  IsFirst most None (Some e) = SomeRefuses v × IsFailure most validate e
 
   -- the first of what `iter_errors` gives by its sentence, the failure being the call's own
   abbrev pub FirstSays : ℕ → Option Error → Type 0
-  FirstSays most first = Either (Decides v most validate) ((o : Option Error) × FirstShared (v.says all_match).errors o × IsFirst o first) ((e : Error) × IsFailure validate e × (first ≡ Some e))
+  FirstSays most first = Either (Decides v most validate) ((o : Option Error) × FirstShared (v.says all_match).errors o × IsFirst most o first) ((e : Error) × IsFailure most validate e × (first ≡ Some e))
 
 module _ {S K R : Type 0} (w : Parts S K R) (root : Key S) (instance : Data) where
   -- texts are spoken of only where neither the instance nor a schema that is reached holds a fraction

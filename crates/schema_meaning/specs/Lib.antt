@@ -7,6 +7,7 @@ pub mod Refusals
 pub mod Documents
 pub mod MapPointers
 pub mod Greatest
+pub mod RunOrder
 pub mod Headline
 pub mod Depths
 pub mod Numbered

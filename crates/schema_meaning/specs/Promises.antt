@@ -37,9 +37,9 @@ abbrev pub NodesFollow : {K R : Type 0} → Keywords K R → Type 0
 NodesFollow {K} keywords = EachKeeps keywords → (matcher : Matcher) (nodes : Nodes K) (subject_of : Place → Subject) (n i : ℕ)
     → Follows (guarded_sense keywords matcher nodes subject_of n i)
 
--- the failure is one of the call, if its first run meets an unfinished match
-abbrev pub FailsWith : Sense → Call → Error → Type 0
-FailsWith v call e = (m : Met) → branch_at v call [] ≡ Some m → IsFailure v call e
+-- the failure is one of the call that makes so many runs at most, if its first run meets an unfinished match
+abbrev pub FailsWith : Sense → ℕ → Call → Error → Type 0
+FailsWith v most call e = (m : Met) → branch_at v call [] ≡ Some m → IsFailure v most call e
 
 -- the members of a call that decides within so many runs, the last of which assumes a yes everywhere
 abbrev pub AreMembers : Sense → ℕ → Call → List Assumptions → Assumptions → Type 0
@@ -52,15 +52,15 @@ abbrev pub SharedOfMembers : Type 0
 SharedOfMembers = (v : Sense) → Follows v → (others : List Assumptions) (last : Assumptions) → Cover v iter_errors [] (others ++ last ∷ []) → Shared v (shared_with v others last)
 
 abbrev pub ErrorsOfMembers : Type 0
-ErrorsOfMembers = (v : Sense) → Follows v → (others : List Assumptions) (last : Assumptions) (failure : Error) (limit : ℕ) → AreMembers v limit iter_errors others last → FailsWith v iter_errors failure
+ErrorsOfMembers = (v : Sense) → Follows v → (others : List Assumptions) (last : Assumptions) (failure : Error) (limit : ℕ) → AreMembers v limit iter_errors others last → FailsWith v limit iter_errors failure
     → ErrorsSay v limit (listed v others last failure)
 
 abbrev pub FirstOfMembers : Type 0
-FirstOfMembers = (v : Sense) → Follows v → (others : List Assumptions) (last : Assumptions) (failure : Error) (limit : ℕ) → AreMembers v limit validate others last → FailsWith v validate failure
+FirstOfMembers = (v : Sense) → Follows v → (others : List Assumptions) (last : Assumptions) (failure : Error) (limit : ℕ) → AreMembers v limit validate others last → FailsWith v limit validate failure
     → FirstSays v limit (first_error (listed v others last failure))
 
 abbrev pub EvaluationOfMembers : Type 0
-EvaluationOfMembers = (v : Sense) → Follows v → (others : List Assumptions) (last : Assumptions) (failure : Error) (limit : ℕ) → AreMembers v limit evaluate others last → FailsWith v evaluate failure
+EvaluationOfMembers = (v : Sense) → Follows v → (others : List Assumptions) (last : Assumptions) (failure : Error) (limit : ℕ) → AreMembers v limit evaluate others last → FailsWith v limit evaluate failure
     → VerdictSays v limit evaluate (is_nil (listed v others last failure))
 
 -- a call has one cover, and so doesn't decide where that takes more runs than the limit
@@ -121,7 +121,7 @@ NoneWhereAccepted = (v : Sense) → Follows v → (limit : ℕ) (o : Option Erro
 
 -- no error is listed exactly where every completion accepts
 abbrev pub NoneListed : Type 0
-NoneListed = (v : Sense) → Follows v → (call : Call) (es : List Error) → Lists v call es → (es ≡ []) ↔ EachAccepts v
+NoneListed = (v : Sense) → Follows v → (most : ℕ) (call : Call) (es : List Error) → Lists v most call es → (es ≡ []) ↔ EachAccepts v
 
 -- the first error is the head of the errors listed, where some are shared
 abbrev pub FirstIsHead : Type 0

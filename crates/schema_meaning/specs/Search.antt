@@ -74,6 +74,12 @@ module _ {T : Type 0} where
   ends (member r result) = 1
   ends (branch r f if_no if_yes) = ends if_no + ends if_yes
 
+  -- no list is run past one that waits: where something waits of the no of a branching, its yes waits
+  abbrev pub IsInOrder : Tree T → Type 0
+  IsInOrder unrun = Unit {0}
+  IsInOrder (member r result) = Unit {0}
+  IsInOrder (branch r f if_no if_yes) = IsInOrder if_no × IsInOrder if_yes × (0 < waiting if_no → if_yes ≡ unrun)
+
   -- the sites that the runs remember, run by run
   abbrev pub sites : Tree T → List (List Met)
   sites unrun = []
@@ -110,14 +116,15 @@ abbrev pub all_yes : Assumptions → Bool
 all_yes as' = list_all (λ a. a.outcome) as'
 
 module _ {S T : Type 0} (Step : S → Remembered → Remembered → T → S → Type 0) (first : Remembered) (start : S) (limit : ℕ) where
-  -- the runs that the search made, the first one among them, and the failure: the first match that the first run met and did
-  -- not assume, at the first of the sites of it that has an instance path. The uses of these runs, the first one's aside, lead
+  -- the runs that the search made in their order, the first one among them, and the failure: the first match that the first run met
+  -- and did not assume, at the first of the sites of it that has an instance path. The uses of these runs, the first one's aside, lead
   -- to the end, one after another, and there are no others. Where each use hands back the assumptions that it got, it branches
   -- only on matches that are not yet assumed
   pub record Made (end : S) (tree : Tree T) (failure : Failure) : Type 0 where
     pub unassumed : Failure
     pub is_first : first.unassumed ≡ Some unassumed
     pub grows : GrowsFrom Step first start tree end
+    pub in_order : IsInOrder tree
     pub few : runs tree ≤ limit
     pub located : failure ≡ located_by_all unassumed (sites tree)
     pub new : HandsBack Step start → BranchesAreNew first.assumptions tree

@@ -7,6 +7,7 @@ ghost use Rattle.schema_meaning.specs.Promises.{DecidesOrNot, FinishedDecides, F
 ghost use Rattle.schema_meaning.specs.Promises.{NoneWhereAccepted, OneCover, UndecidedPast};
 ghost use Rattle.schema_meaning.specs.Promises.{FinishingDecides, NodesFinishingDecide, NodesMeetUnfinished, PlainMeetsUnfinished};
 ghost use Rattle.schema_meaning.specs.Promises.{MembersDiffer, MembersRun, OneMember, PairsDecide, PairsDiffer, RunsOfCover};
+ghost use Rattle.schema_meaning.specs.RunOrder.{MakesItsRuns};
 
 /// A run under assumptions speaks for every completion that extends them.
 pub fn runs_speak<S, K, R>()
@@ -59,6 +60,11 @@ pub fn members_are_apart()
 /// A cover of L members takes 2 L - 1 runs.
 pub fn runs_are_counted()
     ensures counted { RunsOfCover }
+{}
+
+/// A call makes its runs one after another, up to its limit; one that decides makes each of them.
+pub fn runs_are_made()
+    ensures made { MakesItsRuns }
 {}
 
 /// A call's branches are on distinct pairs, so each member's completion extends it.

@@ -1,5 +1,5 @@
 -- The errors of the search over a sense's runs are those that the sense's call lists.
-use Rattle.std.proofs.Common.{◌≡◌, ℕ, zero, List, [], ◌∷◌, ◌++◌, ◌⊎◌, inl, inr, Bool, true, false, ◌&&◌, ◌||◌, cond, Some, None, sym, ◌∙◌, ap, ap₂, subst, refl, arith, map}
+use Rattle.std.proofs.Common.{◌≡◌, ◌<◌, ℕ, zero, List, [], ◌∷◌, ◌++◌, ◌⊎◌, inl, inr, Bool, true, false, ◌&&◌, ◌||◌, cond, Some, None, sym, ◌∙◌, ap, ap₂, subst, refl, arith, map}
 use Rattle.std.specs.Prelude.{All, Contains, Option, filter, option_map}
 use Rattle.std.proofs.lemmas.List.Elements.{All-contains, All-contains_itself, All-filter, All-map, All-nil, All-weaker, Contains-append_right}
 use Rattle.std.specs.List.{list_all, list_any}
@@ -26,7 +26,7 @@ use Rattle.schema_search.specs.declared.unfinished_matches.search.Outcomes.TheVa
 use Rattle.schema_meaning.proofs.CoversApart.{both_left, both_right}
 use Rattle.schema_meaning.proofs.Sentences.{first_says, later_errors_say, verdict_says}
 use Rattle.schema_search.proofs.SharedLists.{map_last}
-use Rattle.schema_search.proofs.SearchedSense.{call_each, call_part}
+use Rattle.schema_search.proofs.SearchedSense.{call_each, call_sited, some_run}
 use Rattle.schema_search.proofs.SearchedFailure.{IsAt, at_all, at_first, is_failure}
 use Rattle.schema_search.proofs.SearchedSays.{all_map, are_few, not_decided}
 
@@ -185,11 +185,13 @@ module _ (v : Sense) (call : Call) {S T V : Type 0} (Step : S → Remembered →
   first_is tree f made = sym is.remembers_first.first ∙ ap (option_map (λ (g : Failure). g.met)) made.is_first
 
   -- the failure of the search is one of the call's
-  pub fails : {end : S} (tree : Tree T) (f : Failure) → Made Step first start limit end tree f → IsFailure v call (failure_error f)
+  pub fails : {end : S} (tree : Tree T) (f : Failure) → Made Step first start limit end tree f → IsFailure v limit call (failure_error f)
   fails {end} tree f made =
       let e = first_is tree f made in
-      let at : IsAt v call made.unassumed f = subst (IsAt v call made.unassumed) (sym made.located) (at_all v call made.unassumed made.unassumed (sites tree) (call_part v call Step first start view says is tree end made.grows).sited (at_first v call made.unassumed e)) in
-      is_failure v call made.unassumed f at e (is.remembers_first.reason made.unassumed made.is_first) (failure_error f) refl
+      let sited = call_sited v call Step first start view says is limit tree end made.grows made.in_order made.few in
+      let some : 0 < limit = omega (arith, some_run v call Step first start view says is tree end made.grows, made.few) in
+      let at : IsAt v call limit made.unassumed f = subst (IsAt v call limit made.unassumed) (sym made.located) (at_all v call limit made.unassumed made.unassumed (sites tree) sited (at_first v call limit made.unassumed some e)) in
+      is_failure v call limit made.unassumed f at e (is.remembers_first.reason made.unassumed made.is_first) (failure_error f) refl
 
 module _ (v : Sense) (follows : Follows v) (root : Data) {S : Type 0} (Step : S → Remembered → Remembered → Vec ValidationError → S → Type 0) (first : Remembered) (start end : S) (limit : ℕ) where
   told_results : (tree : Tree (Vec ValidationError)) (results : List (Vec ValidationError)) (ms : List Assumptions) → results ≡ results_of tree → map errors_in (results_of tree) ≡ map (errors_of v) ms
@@ -246,11 +248,11 @@ shared_each P (r ∷ rs) xs h (front, end, is, shared) =
     kept [] false e = absurd (cc e)
 
 module _ (v : Sense) (call : Call) (root : Data) {S : Type 0} (Step : S → Remembered → Remembered → Vec ValidationError → S → Type 0) (first : Remembered) (start end : S) (limit : ℕ) (is : IsRunOf v call Step first start none_in (λ m. is_nil (errors_of v m))) where
-  failure_alone : (tree : Tree (Vec ValidationError)) (f : Failure) → Made Step first start limit end tree f → (es : List ValidationError) → OneError root f es → FailureAlone v call root es
+  failure_alone : (tree : Tree (Vec ValidationError)) (f : Failure) → Made Step first start limit end tree f → (es : List ValidationError) → OneError root f es → FailureAlone v call limit root es
   failure_alone tree f made es one = record {
     error = one.error;
     alone = one.alone;
-    is = subst (IsFailure v call) (sym one.is) (fails v call Step first start none_in (λ m. is_nil (errors_of v m)) is limit tree f made);
+    is = subst (IsFailure v limit call) (sym one.is) (fails v call Step first start none_in (λ m. is_nil (errors_of v m)) is limit tree f made);
     instance = one.instance;
   }
 
@@ -272,7 +274,7 @@ module _ (v : Sense) (call : Call) (root : Data) {S : Type 0} (Step : S → Reme
       lists = All-map (All (OfRun v call Step start)) (λ (r : Vec ValidationError). r.items) results.items
           (subst (All AllOfRuns) (sym same) (call_each v call Step first start none_in (λ m. is_nil (errors_of v m)) is AllOfRuns all_of_runs tree end made.grows))
 
-      go : (o : Option (List ValidationError)) → IsSharedBy (map (λ (r : Vec ValidationError). r.items) results.items) o → OrFailure root f o es.items → All (OfRun v call Step start) es.items ⊎ FailureAlone v call root es.items
+      go : (o : Option (List ValidationError)) → IsSharedBy (map (λ (r : Vec ValidationError). r.items) results.items) o → OrFailure root f o es.items → All (OfRun v call Step start) es.items ⊎ FailureAlone v call limit root es.items
       go (Some xs) shared answer = inl (subst (All (OfRun v call Step start)) (sym answer) (shared_each (OfRun v call Step start) (map (λ (r : Vec ValidationError). r.items) results.items) xs lists shared))
       go None shared answer = inr (failure_alone tree f made es.items answer)
   errors_given (Undecided f) (tree, made, cut) es one = record { each = inr (failure_alone tree f made es.items one); undecided = λ n. failure_alone tree f made es.items one }

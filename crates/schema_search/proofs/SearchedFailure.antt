@@ -1,13 +1,14 @@
 -- The failure of a search over a sense's runs is one of the call's.
-use Rattle.std.proofs.Common.{◌≡◌, zero, suc, List, [], ◌∷◌, Bool, true, false, cond, not, Some, None, sym, ◌∙◌, ap, ap₂, subst, refl, arith, ◌⊎◌, inl, inr}
+use Rattle.std.proofs.Common.{◌≡◌, ◌<◌, ℕ, zero, suc, List, [], ◌∷◌, Bool, true, false, cond, not, Some, None, sym, ◌∙◌, ap, ap₂, subst, refl, arith, ◌⊎◌, inl, inr}
 use Rattle.std.specs.Prelude.{Option, option_map, is_some, Contains, find, unwrap_or}
 use Rattle.schema_definitions.specs.Instance.{Place, Text}
 use Rattle.schema_definitions.specs.Matching.{Assumptions, assumed, same_pair, unfinished}
 use Rattle.schema_definitions.specs.Reports.{Error}
 use Rattle.schema_definitions.specs.Runs.{Met}
-use Rattle.schema_definitions.specs.Cover.{Call, IsRun, Sense, branch_at, first_run}
+use Rattle.schema_definitions.specs.Cover.{Call, Sense, branch_at}
 use Rattle.schema_meaning.specs.Headline.{IsFailure, reason_text, shown_at, shown_pattern}
 use Rattle.schema_definitions.specs.Unfinished.{Failure, located_by, located_by_all, or_pattern, preferred}
+use Rattle.schema_meaning.specs.RunOrder.{IsMade}
 use Rattle.schema_meaning.specs.Searched.{failure_error}
 use Rattle.schema_meaning.proofs.CoversApart.{Some-is, same_is}
 use Rattle.schema_search.proofs.SearchedSense.{AllSited, Sited}
@@ -28,11 +29,11 @@ shown : (p q : Option Text) (d : Text) → unwrap_or (or_pattern p q) d ≡ unwr
 shown (Some x) q d = refl
 shown None q d = refl
 
-module _ (v : Sense) (call : Call) (u : Failure) where
-  -- the failure is of the first match, at a site that a run gives for it
+module _ (v : Sense) (call : Call) (most : ℕ) (u : Failure) where
+  -- the failure is of the first match, at a site that one of so many runs gives for it
   pub record IsAt (f : Failure) : Type 0 where
     pub run : Assumptions
-    pub is_run : IsRun v call run
+    pub is_made : IsMade v most call run
     pub met : Met
     pub meets : Contains (v.meets call run) met
     pub same : met.pair ≡ u.met.pair
@@ -43,10 +44,10 @@ module _ (v : Sense) (call : Call) (u : Failure) where
     pub pattern : f.met.site.pattern ≡ or_pattern met.site.pattern u.met.site.pattern
     pub state : (f.met.site.pattern ≡ u.met.site.pattern) ⊎ (is_some f.met.site.located ≡ true)
 
-  pub at_first : branch_at v call [] ≡ Some u.met → IsAt u
-  at_first e = record {
+  pub at_first : 0 < most → branch_at v call [] ≡ Some u.met → IsAt u
+  at_first some e = record {
     run = [];
-    is_run = first_run;
+    is_made = (0, some, [], refl);
     met = u.met;
     meets = (found (λ x. not (is_some (assumed [] x.pair))) (v.meets call []) u.met e).0;
     same = refl;
@@ -58,8 +59,8 @@ module _ (v : Sense) (call : Call) (u : Failure) where
     state = inl refl;
   }
 
-  at_next : (f : Failure) (ms : List Met) → Sited v call ms → IsAt f → IsAt (located_by f ms)
-  at_next f ms (as', run, inside) h = go f.met.site.located (find (λ m. same_pair f.met.pair m.pair) ms) refl refl
+  at_next : (f : Failure) (ms : List Met) → Sited v call most ms → IsAt f → IsAt (located_by f ms)
+  at_next f ms (as', made, inside) h = go f.met.site.located (find (λ m. same_pair f.met.pair m.pair) ms) refl refl
     where
       go : (l : Option (Text × Place)) (o : Option Met) → f.met.site.located ≡ l → find (λ m. same_pair f.met.pair m.pair) ms ≡ o
           → IsAt (record f { met = record f.met { site = preferred l f.met.site (option_map (λ (m : Met). m.site) o) } })
@@ -70,7 +71,7 @@ module _ (v : Sense) (call : Call) (u : Failure) where
           let old : f.met.site.pattern ≡ u.met.site.pattern = elim h.state [ inl p ↦ p | inr q ↦ absurd (cc (e, q)) ] in
           record {
             run = as';
-            is_run = run;
+            is_made = made;
             met = m;
             meets = (inside m in_ms).0;
             same = sym (same_is f.met.pair m.pair passes) ∙ h.pair;
@@ -82,17 +83,17 @@ module _ (v : Sense) (call : Call) (u : Failure) where
             state = inr (inside m in_ms).1;
           }
 
-  pub at_all : (f : Failure) (sites : List (List Met)) → AllSited v call sites → IsAt f → IsAt (located_by_all f sites)
+  pub at_all : (f : Failure) (sites : List (List Met)) → AllSited v call most sites → IsAt f → IsAt (located_by_all f sites)
   at_all f [] a h = h
   at_all f (ms ∷ more) a h = at_all (located_by f ms) more a.1 (at_next f ms a.0 h)
 
   pub is_failure : (f : Failure) → IsAt f → branch_at v call [] ≡ Some u.met → v.is_match u.met.pair.pattern u.met.pair.subject ≡ unfinished u.reason
-      → (e : Error) → e ≡ failure_error f → IsFailure v call e
-  is_failure f h first reason e same = subst (IsFailure v call) (sym same) (record {
+      → (e : Error) → e ≡ failure_error f → IsFailure v most call e
+  is_failure f h first reason e same = subst (IsFailure v most call) (sym same) (record {
     first = u.met;
     is_first = first;
     run = h.run;
-    is_run = h.is_run;
+    is_made = h.is_made;
     met = h.met;
     meets = h.meets;
     same = h.same;

@@ -52,7 +52,7 @@ module _ (v : Sense) (call : Call) {S T V : Type 0} (Step : S → Remembered →
       }
 
   pub not_decided : {end : S} (limit : ℕ) (tree : Tree T) (f : Failure) → Made Step first start limit end tree f → Cut Step first start limit tree → ¬ (Decides v limit call)
-  not_decided {end} limit tree f made cut = undecided_past v call limit (ends tree) (call_part v call Step first start view says is tree end made.grows).part cut.many
+  not_decided {end} limit tree f made cut = undecided_past v call limit (ends tree) (call_part v call Step first start view says is tree end made.grows) cut.many
 
 module _ (v : Sense) (call : Call) (follows : Follows v) {S : Type 0} (Step : S → Remembered → Remembered → Bool → S → Type 0) (first : Remembered) (start end : S) (limit : ℕ) (is : IsRunOf v call Step first start (λ (b : Bool). b) (verdict_of v)) where
   yes_is : (tree : Tree Bool) (results : List Bool) → results ≡ results_of tree → map (λ b. b) (results_of tree) ≡ map (verdict_of v) (lists_of [] tree) → list_all (λ b. b) results ≡ all_accept v (lists_of [] tree)

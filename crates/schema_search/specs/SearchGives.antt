@@ -27,14 +27,14 @@ module _ (v : Sense) (call : Call) where
     pub all_assumed : remembered.unassumed ≡ None
     pub gives : Contains errors.items e
 
-  -- one error, which is the call's failure; its instance is what stands at its place, or else the root
-  pub record FailureAlone (root : Data) (es : List ValidationError) : Type 0 where
+  -- one error, which is the failure of the call within so many runs; its instance is what stands at its place, or else the root
+  pub record FailureAlone (limit : ℕ) (root : Data) (es : List ValidationError) : Type 0 where
     pub error : ValidationError
     pub alone : es ≡ error ∷ []
-    pub is : IsFailure v call (error_of true error)
+    pub is : IsFailure v limit call (error_of true error)
     pub instance : subject_of error.instance ≡ unwrap_or (subject_at root error.place) (a_value root)
 
   -- each error is one of a run, or the failure stands alone; the latter where the call doesn't decide within so many runs
   pub record GivesErrors (limit : ℕ) {S : Type 0} (Step : S → Remembered → Remembered → Vec ValidationError → S → Type 0) (start : S) (root : Data) (es : List ValidationError) : Type 0 where
-    pub each : All (OfRun Step start) es ⊎ FailureAlone root es
-    pub undecided : ¬ (Decides v limit call) → FailureAlone root es
+    pub each : All (OfRun Step start) es ⊎ FailureAlone limit root es
+    pub undecided : ¬ (Decides v limit call) → FailureAlone limit root es

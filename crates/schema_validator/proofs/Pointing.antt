@@ -57,18 +57,18 @@ module _ (v : Sense) where
 
   pub each_is_given : (most : ℕ) (texts : Bool) (es : List ValidationError) → ErrorsAnswered v most texts es → EachIsGiven v most texts es
   each_is_given most true es says = (
-    λ decides. elim (of_lists Given v iter_errors (map (error_of true) es) all_given (says.0 decides)) [ inl all ↦ inl (of_mapped Given (error_of true) es all) | inr failure ↦ inr failure ],
+    λ decides. elim (of_lists Given v most iter_errors (map (error_of true) es) all_given (says.0 decides)) [ inl all ↦ inl (of_mapped Given (error_of true) es all) | inr failure ↦ inr failure ],
     says.1,
   )
   each_is_given most false es says = (λ decides. says.given, says.undecided)
 
-  first_given : (o : Option Error) (e : Error) → FirstShared v (v.says all_match).errors o → IsFirst v o (Some e) → Given e ⊎ IsFailure v validate e
-  first_given o e found is = of_found Given v o e (of_first Given v found all_given) is
+  first_given : (most : ℕ) (o : Option Error) (e : Error) → FirstShared v (v.says all_match).errors o → IsFirst v most o (Some e) → Given e ⊎ IsFailure v most validate e
+  first_given most o e found is = of_found Given v most o e (of_first Given v found all_given) is
 
   pub first_is_given : (most : ℕ) (texts : Bool) (o : Option ValidationError) → FirstAnswered v most texts o → FirstIsGiven v most texts o
   first_is_given most texts None says = tt
-  first_is_given most true (Some e) says = (λ decides. let f = says.0 decides in first_given f.0 (error_of true e) f.1 f.2, λ not. of_failure Given v (error_of true e) (says.1 not))
-  first_is_given most false (Some e) says = (λ decides. says.given, λ not. of_failure Given v (error_of true e) (says.undecided not))
+  first_is_given most true (Some e) says = (λ decides. let f = says.0 decides in first_given most f.0 (error_of true e) f.1 f.2, λ not. of_failure Given v most (error_of true e) (says.1 not))
+  first_is_given most false (Some e) says = (λ decides. says.given, λ not. of_failure Given v most (error_of true e) (says.undecided not))
 
 -- ---- where the errors of compiled nodes point
 

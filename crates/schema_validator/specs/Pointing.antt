@@ -20,14 +20,14 @@ use Rattle.schema_output.specs.ErrorUnits.{errors_unit}
 module _ {S K R : Type 0} (w : Parts S K R) (root : Key S) (instance : Data) (v : Sense) (most : ℕ) where
   -- each of a call's errors points so, or the call gives its one failure; the latter where it doesn't decide
   abbrev pub EachPointsIn : Call → Bool → List ValidationError → Type 0
-  EachPointsIn call texts es = Either (Decides v most call) (All (PointsAt w root instance) (map (error_of texts) es) ⊎ OneFailure v call (map (error_of true) es)) (OneFailure v call (map (error_of true) es))
+  EachPointsIn call texts es = Either (Decides v most call) (All (PointsAt w root instance) (map (error_of texts) es) ⊎ OneFailure v most call (map (error_of true) es)) (OneFailure v most call (map (error_of true) es))
 
   abbrev pub EachPoints : Bool → List ValidationError → Type 0
   EachPoints = EachPointsIn iter_errors
 
   abbrev pub FirstPoints : Bool → Option ValidationError → Type 0
   FirstPoints texts None = Unit {0}
-  FirstPoints texts (Some e) = Either (Decides v most validate) (PointsAt w root instance (error_of texts e) ⊎ IsFailure v validate (error_of true e)) (IsFailure v validate (error_of true e))
+  FirstPoints texts (Some e) = Either (Decides v most validate) (PointsAt w root instance (error_of texts e) ⊎ IsFailure v most validate (error_of true e)) (IsFailure v most validate (error_of true e))
 
   -- there is one unit for each of these errors, inside one at empty locations, and the errors point so
   pub record IsOfPointing (texts : Bool) (u : Unit_) : Type 0 where

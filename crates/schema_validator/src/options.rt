@@ -122,8 +122,8 @@ impl ValidationOptions {
     }
 
     /// Lets so many targets of references be compiled one inside another. Where no chain of references returns, this changes no
-    /// answer, nor does it change a verdict of a call that decides, where each keyword is monotone. It decides how much stack the
-    /// build takes, and which edges of a cycle of references are guarded. Allocates nothing.
+    /// answer, a failure's site aside, nor does it change a verdict of a call that decides, where each keyword is monotone. It decides
+    /// how much stack the build takes, and which edges of a cycle of references are guarded. Allocates nothing.
     pub fn with_nested_limit(self, limit: usize) -> ValidationOptions
         ensures nested { result ≡ record self { nested = limit } }
     {

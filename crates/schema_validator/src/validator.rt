@@ -197,9 +197,9 @@ impl<K: Validate, M: Matcher> Validator<K, M> {
     }
 
     /// Returns whether each keyword of each node says that it is monotone: that a yes more among the answers to its questions turns
-    /// no yes of it to a no. References count as monotone. Where it returns `true`, the calls answer by the greatest solution of the
-    /// nodes: the largest set of numbers and places, each of which accepts where exactly those of the set do; also where chains of
-    /// references return. Allocates nothing.
+    /// no yes of it to a no. References count as monotone. Where it returns `true`, calls that decide answer by the greatest solution
+    /// of the nodes: the largest set of numbers and places, each of which accepts where exactly those of the set do; also where chains
+    /// of references return. Allocates nothing.
     pub fn is_monotone(&self) -> bool
         ensures exactly { (result ≡ true) ↔ EachSays K.says_monotone (numbered K.shape self.now.nodes) (length self.now.nodes) }
         ensures monotone { result ≡ true → (texts : Bool) → NodesAreMonotone K.shape K.words self.now texts }
@@ -537,8 +537,8 @@ impl<K: Validate, M: Matcher> Validator<K, M> {
     /// validator has no solver. The matcher has to finish every match. The verdict rests on the context, which holds nothing but what
     /// is so of this instance; with g numbers of nodes that a guarded edge leads to or that are not followed, and p places of the
     /// instance, no more than g * p * g pairs of them were begun in it, reference cycles included (`SolverContext::begun`). Where the
-    /// matcher says that it finishes every match, `is_valid`, `validate` and `iter_errors` ask this first. It answers `true` exactly
-    /// if the greatest solution of the nodes accepts.
+    /// matcher says that it finishes every match, `is_valid`, `validate` and `iter_errors` ask this first. Where each keyword is
+    /// monotone, as it says it is where there is a solver, it answers `true` exactly if the greatest solution of the nodes accepts.
     ///
     /// # Errors
     ///
@@ -564,9 +564,9 @@ impl<K: Validate, M: Matcher> Validator<K, M> {
     /// Returns the first error as an inner `Err`, and an inner `Ok` if the instance is valid. Where the matcher leaves matches
     /// unfinished, the error is the first that all outcomes of them share. It tells of such a match instead if some outcome
     /// refuses and they share no error, or if that takes more runs than a call makes. Any other error is one that the nodes give
-    /// under some outcome, so it points at keyword and value as the build promises of these. Where each keyword is monotone, there
-    /// is no error exactly if the greatest solution of the nodes accepts. Where the matcher says that it finishes every match, the
-    /// verdict is asked first, and the error only where the verdict is no.
+    /// under some outcome, so it points at keyword and value as the build promises of these. Where each keyword is monotone, and it
+    /// takes no more runs, there is no error exactly if the greatest solution of the nodes accepts. Where the matcher says that it
+    /// finishes every match, the verdict is asked first, and the error only where the verdict is no.
     ///
     /// # Errors
     ///
@@ -593,9 +593,9 @@ impl<K: Validate, M: Matcher> Validator<K, M> {
     /// Returns all errors in order, and none if the instance is valid. Where the matcher leaves matches unfinished, these are the
     /// errors that all outcomes of them share. There is one error, which tells of such a match, if some outcome refuses and
     /// they share no error, or if that takes more runs than a call makes. Any other error is one that the nodes give under some
-    /// outcome, so it points at keyword and value as the build promises of these. Where each keyword is monotone, there is no error
-    /// exactly if the greatest solution of the nodes accepts. Where the matcher says that it finishes every match, the verdict is
-    /// asked first, and the errors only where the verdict is no.
+    /// outcome, so it points at keyword and value as the build promises of these. Where each keyword is monotone, and it takes no
+    /// more runs, there is no error exactly if the greatest solution of the nodes accepts. Where the matcher says that it finishes
+    /// every match, the verdict is asked first, and the errors only where the verdict is no.
     ///
     /// # Errors
     ///
@@ -624,8 +624,9 @@ impl<K: Validate, M: Matcher> Validator<K, M> {
     /// chain of references returns. Where the matcher leaves matches unfinished that the run meets, the evaluation is made of the
     /// errors that all outcomes of them share instead: it has one unit for each, at its paths, without absolute locations and
     /// annotations, inside one at empty locations. There is one error, which tells of such a match, if some outcome refuses and
-    /// they share no error, or if that takes more runs than a call makes. The outermost unit is valid exactly if the instance is
-    /// valid under every outcome; where each keyword is monotone, exactly if the greatest solution of the nodes accepts.
+    /// they share no error, or if that takes more runs than a call makes. If it takes no more, the outermost unit is valid exactly
+    /// if the instance is valid under every outcome; where each keyword is monotone, exactly if the greatest solution of the nodes
+    /// accepts.
     ///
     /// # Errors
     ///

@@ -10,8 +10,8 @@ use schema_reports::location::OutOfMemory;
 use std::alloc::Global;
 
 impl<K: CloneKeyword, M: Matcher> Validator<K, M> {
-    /// Returns a clone of the validator: it has the same root, draft, nodes, limit of runs and numbers that a solver follows, and its
-    /// keywords and its matcher are clones, so it answers equally.
+    /// Returns a clone of the validator: it has the same root, draft, limit of runs and numbers that a solver follows, its nodes are the
+    /// same but for their keywords, which have the shapes of its source's, and its matcher matches alike. So it answers equally.
     ///
     /// # Errors
     ///

@@ -7,7 +7,7 @@ pub returns-clause-one : goal.returns-clause-one
 returns-clause-one c = λ v call ms ns s t. one_cover v call s t
 
 pub returns-clause-none : goal.returns-clause-none
-returns-clause-none c = λ v follows call es it. listed_none v call follows es it
+returns-clause-none c = λ v follows most call es it. listed_none v call follows most es it
 
 pub returns-clause-head : goal.returns-clause-head
 returns-clause-head c = λ v errors kept o k f. first_is_head v k f

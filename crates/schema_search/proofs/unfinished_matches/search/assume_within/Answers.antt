@@ -38,7 +38,7 @@ pub returns-then-runs-run_limit : goal.returns-then-runs-run_limit
 returns-then-runs-run_limit g c =
     let first = a_first c.args.first.unassumed c.requires.met in let u = first.0 in let some = first.1 in
     let w = stack_stop _ c.args.first u c.args.run.now _ _ c.in-Some.outcomes _ _ _ _ c.in-Some.ensures.items (c.loop-outcomes.invariant.completes u some) in
-    record { outcomes = (w.tree, record { unassumed = u; is_first = some; grows = w.grows; few = omega (arith, w.runs_are); located = sym w.failure_is; new = λ back. new_from _ c.args.run.now back c.args.first w.tree c.loop-outcomes.run w.grows }, is_cut _ c.args.first c.args.run.now c.args.run_limit w.tree (omega (arith, w.waiting_are)) (omega (arith, w.runs_are))); uses = used_within (goal.F-step g) c.loop-outcomes.runs c.args.run_limit c.args.run.now c.loop-outcomes.run (omega arith) c.loop-outcomes.invariant.uses }
+    record { outcomes = (w.tree, record { unassumed = u; is_first = some; grows = w.grows; in_order = w.in_order; few = omega (arith, w.runs_are); located = sym w.failure_is; new = λ back. new_from _ c.args.run.now back c.args.first w.tree c.loop-outcomes.run w.grows }, is_cut _ c.args.first c.args.run.now c.args.run_limit w.tree (omega (arith, w.waiting_are)) (omega (arith, w.runs_are))); uses = used_within (goal.F-step g) c.loop-outcomes.runs c.args.run_limit c.args.run.now c.loop-outcomes.run (omega arith) c.loop-outcomes.invariant.uses }
 
 pub returns-clause-outcomes : goal.returns-clause-outcomes
 returns-clause-outcomes g c =
@@ -46,7 +46,7 @@ returns-clause-outcomes g c =
     let e1 = c.in_default.ensures.cases in let e2 = c.in_default.ensures.rest in let e3 = c.in_default.not-Some in let e4 = c.in_default.is in let e5 = c.in_default.ensures.items in
     let empty : c.loop-outcomes.pending.items ≡ [] = grind (arith, common_steps) in
     let w = stack_end _ c.args.first u c.args.run.now _ _ _ _ _ empty (c.loop-outcomes.invariant.completes u some) in
-    (w.tree, record { unassumed = u; is_first = some; grows = w.grows; few = omega (arith, w.runs_are); located = sym w.failure_is; new = λ back. new_from _ c.args.run.now back c.args.first w.tree c.loop-outcomes.run w.grows }, is_whole _ c.args.first c.args.run.now c.args.run_limit w.tree w.waiting_are (λ back. new_from _ c.args.run.now back c.args.first w.tree c.loop-outcomes.run w.grows), sym w.results_are)
+    (w.tree, record { unassumed = u; is_first = some; grows = w.grows; in_order = w.in_order; few = omega (arith, w.runs_are); located = sym w.failure_is; new = λ back. new_from _ c.args.run.now back c.args.first w.tree c.loop-outcomes.run w.grows }, is_whole _ c.args.first c.args.run.now c.args.run_limit w.tree w.waiting_are (λ back. new_from _ c.args.run.now back c.args.first w.tree c.loop-outcomes.run w.grows), sym w.results_are)
 
 pub returns-clause-uses : goal.returns-clause-uses
 returns-clause-uses g c =
