@@ -17,11 +17,11 @@ use schema_parts::table::KeywordTable;
 
 /// Two validators that mean the plain meaning of one schema, and whose calls make equally many runs at most, answer alike of every
 /// instance, where no chain of references returns. `build` and `build_nested` give such validators whatever their limit on nested
-/// targets, so this limit changes no answer, a failure's site aside: the verdicts are equal, and so are the first error and all errors.
-/// Where both calls give the failure of a match that stays unfinished, each may show it at a site of its own. Where texts of errors are not
-/// spoken of, as the instance or the schema holds a fraction, it is said that both give an error or neither does, that both
-/// give the failure where the call does not decide, and that the errors are equal but for their texts where the first run meets
-/// no unfinished match.
+/// targets, so this limit changes no answer, a failure's site aside: the verdicts are equal, and so are the first error and all
+/// errors. Where both calls give the failure of a match that stays unfinished, each may show it at a site of its own. Where texts
+/// of errors are not spoken of, as the instance or the schema holds a fraction, it is said that both give an error or neither
+/// does, that both give the failure where the call does not decide, and that the errors are equal but for their texts where the
+/// first run meets no unfinished match.
 ///
 /// Two evaluations have one verdict, and both are made of the failure where the call does not decide. Where the first run meets an
 /// unfinished match and texts are spoken of, their units are equal, or both are made of the failure. Where it meets none, their

@@ -32,14 +32,14 @@ use std::alloc::Global;
 
 impl ValidationOptions {
     /// Builds a validator of a schema. The resolver has to have the schema as the document under the root's base: that is what is
-    /// compiled, and what the contract speaks of. Where no chain of references returns, the validator means the plain meaning of schema
-    /// and parts, and has its units. Returns or none, each error that it gives points at a keyword of the schema and at a value inside
-    /// the instance, and so does each unit that has an error. Where each keyword of what the root reaches is monotone, the nodes accept
-    /// exactly where the greatest solution does, and so does each call that decides: the largest set of targets and places, each of
-    /// which accepts where exactly those of the set do. Where each keyword of its nodes says that it is monotone, and nowhere else, the validator has a solver
-    /// (`Validator::solve`). As many targets of references are compiled one inside another as the options say, and for unfinished
-    /// matches the validator's calls make as many runs at most as they say (`with_run_limit`). Unless the options say otherwise, the
-    /// meta validators check the schema before it is compiled.
+    /// compiled, and what the contract speaks of. Where no chain of references returns, the validator means the plain meaning of
+    /// schema and parts, and has its units. Returns or none, each error that it gives points at a keyword of the schema and at a
+    /// value inside the instance, and so does each unit that has an error. Where each keyword of what the root reaches is
+    /// monotone, the nodes accept exactly where the greatest solution does, the largest set of targets and places each of which
+    /// accepts where exactly those of the set do; so does each call that decides. Where each keyword of its nodes says that it is
+    /// monotone, and nowhere else, the validator has a solver (`Validator::solve`). As many targets of references are compiled one
+    /// inside another as the options say, and for unfinished matches the validator's calls make as many runs at most as they say
+    /// (`with_run_limit`). Unless the options say otherwise, the meta validators check the schema before it is compiled.
     ///
     /// # Errors
     ///
@@ -101,9 +101,9 @@ impl ValidationOptions {
     }
 
     /// Builds a validator of a schema as `build` does, but with at most `nested` targets of references compiled one inside
-    /// another. Where no chain of references returns, this limit changes no answer, a failure's site aside, nor does it change a verdict
-    /// of a call that decides, where each keyword is monotone. It decides how much stack the build takes, and which edges of a cycle of references
-    /// are guarded.
+    /// another. Where no chain of references returns, this limit changes no answer, a failure's site aside, nor does it change a
+    /// verdict of a call that decides, where each keyword is monotone. It decides how much stack the build takes, and which edges
+    /// of a cycle of references are guarded.
     ///
     /// # Errors
     ///
