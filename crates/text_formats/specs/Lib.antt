@@ -1,8 +1,3 @@
-pub mod Addresses
-pub mod Characters
-pub mod Cutting
-pub mod Dates
-pub mod Durations
 pub mod Emails
 pub mod Formats
 pub mod Hostnames

@@ -1,15 +1,13 @@
 -- What each part of a text round a mark may be.
 use Rattle.std.specs.Prelude.{Bool}
-use Rattle.text_formats.specs.Addresses.{is_octet}
-use Rattle.text_formats.specs.Characters.{Text}
+use Rattle.dates_and_addresses.specs.Characters.{Text}
 use Rattle.text_formats.specs.Emails.{is_atom}
 use Rattle.text_formats.specs.Hostnames.{is_label}
 use Rattle.text_formats.specs.Templates.{is_variable}
 use Rattle.text_formats.specs.declared.parts.Part.{Part}
-use Rattle.text_formats.specs.declared.parts.Part.TheVariants.{Atom, Label, Octet, Variable}
+use Rattle.text_formats.specs.declared.parts.Part.TheVariants.{Atom, Label, Variable}
 
 abbrev pub is_part : Part → Text → Bool
 is_part (Atom wide) t = is_atom wide t
 is_part (Label wide) t = is_label wide t
-is_part Octet t = is_octet t
 is_part Variable t = is_variable t

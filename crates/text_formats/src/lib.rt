@@ -2,11 +2,6 @@
 //! the standard that defines it.
 #![tactic(auto)]
 
-pub mod addresses;
-pub mod characters;
-pub mod cutting;
-pub mod dates;
-pub mod durations;
 pub mod emails;
 pub mod formats;
 pub mod hostnames;

@@ -1,7 +1,7 @@
 -- Dates and times of day, as `full-date`, `full-time` and `date-time` have them. (RFC 3339, sections 5.6 and 5.7 and appendix C)
 use Rattle.std.specs.Prelude.{Bool, None, Option, Some, [], codes, drop, false, if◌then◌else◌, nat_le, not, take, ◌%◌, ◌&&◌, ◌*◌, ◌+◌, ◌-◌, ◌==◌, ◌||◌, ◌∷◌, ℕ}
-use Rattle.text_formats.specs.Characters.{Text, fits, four, two}
-use Rattle.text_formats.specs.Cutting.{after_digits, is_empty}
+use Rattle.dates_and_addresses.specs.Characters.{Text, fits, four, two}
+use Rattle.dates_and_addresses.specs.Cutting.{after_digits, is_empty}
 
 -- every fourth year has 29 February, but of the hundredth years only every fourth one (RFC 3339, appendix C)
 abbrev pub is_leap_year : ℕ → Bool

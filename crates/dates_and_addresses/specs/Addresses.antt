@@ -1,8 +1,8 @@
 -- Addresses of the Internet Protocol: IPv4address and IPv6address. (RFC 3986, section 3.2.2; RFC 4291, section 2.2)
 use Rattle.std.specs.Prelude.{Bool, List, None, Option, Some, [], ◌==◌, count_by, drop, false, if◌then◌else◌, length, nat_le, option_map, take, true, ◌&&◌, ◌*◌, ◌+◌, ◌∷◌, ℕ}
 use Rattle.std.specs.List.{list_all}
-use Rattle.text_formats.specs.Characters.{Text, is_digit, is_hex_digit, value}
-use Rattle.text_formats.specs.Cutting.{is_empty, parts}
+use Rattle.dates_and_addresses.specs.Characters.{Text, is_digit, is_hex_digit, value}
+use Rattle.dates_and_addresses.specs.Cutting.{is_empty, parts}
 
 -- dec-octet: a number of 0 to 255 in decimal digits, with no leading zero
 abbrev pub is_octet : Text → Bool

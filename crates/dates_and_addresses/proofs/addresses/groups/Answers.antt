@@ -1,6 +1,6 @@
 use Rattle.std.proofs.Common.{◌∙◌, ◌+◌, ap, arith, option_map, sym}
-use Rattle.text_formats.proofs.Parting.{groups_counted, groups_ended, groups_refused}
-use Rattle.text_formats.proofs.addresses.groups.Goals as goal
+use Rattle.dates_and_addresses.proofs.Parting.{groups_counted, groups_ended, groups_refused}
+use Rattle.dates_and_addresses.proofs.addresses.groups.Goals as goal
 
 pub returns-then-not-is_group-clause-groups : goal.returns-then-not-is_group-clause-groups
 returns-then-not-is_group-clause-groups c =

@@ -1,7 +1,7 @@
 -- Where a text is cut: at the first of a mark, at each of them, after a character, after digits.
 use Rattle.std.specs.Prelude.{Bool, List, None, Option, Some, [], drop, false, if◌then◌else◌, option_map, position, take, true, ℕ, ◌+◌, ◌==◌, ◌∷◌}
 use Rattle.std.specs.List.{slice_split}
-use Rattle.text_formats.specs.Characters.{Text, is_digit}
+use Rattle.dates_and_addresses.specs.Characters.{Text, is_digit}
 
 abbrev pub is_empty : Text → Bool
 is_empty [] = true

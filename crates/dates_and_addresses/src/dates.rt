@@ -1,6 +1,6 @@
 //! Dates and times of day. (RFC 3339, section 5.6)
 ghost use Rattle.std.specs.Prelude.{◌≡◌, ◌≤◌, ◌<◌, IfSome, option_map};
-ghost use Rattle.text_formats.specs.Dates as spec;
+ghost use Rattle.dates_and_addresses.specs.Dates as spec;
 
 use crate::characters::{fits, four, two};
 use crate::cutting::{after_digits, split};

@@ -1,7 +1,7 @@
 -- Durations. (RFC 3339, appendix A)
 use Rattle.std.specs.Prelude.{Bool, None, Option, Some, [], false, option_and_then, ◌&&◌, ◌==◌, ◌||◌, ◌∷◌, ℕ}
-use Rattle.text_formats.specs.Characters.{Text}
-use Rattle.text_formats.specs.Cutting.{after, after_digits, is_empty}
+use Rattle.dates_and_addresses.specs.Characters.{Text}
+use Rattle.dates_and_addresses.specs.Cutting.{after, after_digits, is_empty}
 
 -- what follows 1*DIGIT and a unit
 abbrev pub after_count : ℕ → Text → Option Text

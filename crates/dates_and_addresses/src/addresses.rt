@@ -1,14 +1,14 @@
 //! Addresses of the Internet Protocol. (RFC 3986, section 3.2.2; RFC 4291, section 2.2)
 ghost use Rattle.std.specs.Prelude.{◌≡◌, ◌≤◌, ◌+◌, IfSome, length, ◌<◌, ◌^◌};
-ghost use Rattle.text_formats.specs.Addresses as spec;
-ghost use Rattle.text_formats.specs.Cutting.{parts};
+ghost use Rattle.std.specs.List.{list_all};
+ghost use Rattle.dates_and_addresses.specs.Addresses as spec;
+ghost use Rattle.dates_and_addresses.specs.Cutting.{parts};
 
 use crate::characters::{are_hex_digits, is_digit, value};
 use crate::cutting::cut;
-use crate::parts::Part;
 
 // Whether a text is a number of 0 to 255 with no leading zero.
-pub(crate) fn is_octet(text: &[u8]) -> bool
+fn is_octet(text: &[u8]) -> bool
     ensures octet { result ≡ spec.is_octet text.now }
 {
     match text {
@@ -25,10 +25,26 @@ pub(crate) fn is_octet(text: &[u8]) -> bool
     }
 }
 
-pub(crate) fn is_ipv4_in(text: &[u8]) -> bool
+#[tactic(auto, using(crate::proofs::Parting::each_after, crate::proofs::Parting::each_alone))]
+// Whether each part of a text round a dot is such a number.
+fn are_octets(text: &[u8]) -> bool
+    ensures each { result ≡ list_all spec.is_octet (parts 46 text.now) }
+{
+    let mut rest = text;
+    while let Some((part, left)) = cut(rest, b'.') {
+        if !is_octet(part) {
+            return false;
+        }
+        rest = left;
+    }
+    is_octet(rest)
+}
+
+/// Whether the characters of a text are those of an IPv4 address.
+pub fn is_ipv4_in(text: &[u8]) -> bool
     ensures ipv4 { result ≡ spec.is_ipv4 text.now }
 {
-    text.iter().filter(|byte| **byte == b'.').count() == 3 && Part::Octet.is_each(text, b'.')
+    text.iter().filter(|byte| **byte == b'.').count() == 3 && are_octets(text)
 }
 
 /// Whether a text is an IPv4 address, as `127.0.0.1`.
@@ -120,7 +136,8 @@ fn leave_a_group(left: Option<usize>, right: Option<usize>) -> bool
     }
 }
 
-pub(crate) fn is_ipv6_in(text: &[u8]) -> bool
+/// Whether the characters of a text are those of an IPv6 address.
+pub fn is_ipv6_in(text: &[u8]) -> bool
     ensures ipv6 { result ≡ spec.is_ipv6 text.now }
 {
     match gap(text) {

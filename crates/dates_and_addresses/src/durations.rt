@@ -1,6 +1,6 @@
 //! Durations. (RFC 3339, appendix A)
 ghost use Rattle.std.specs.Prelude.{◌≡◌, option_map};
-ghost use Rattle.text_formats.specs.Durations as spec;
+ghost use Rattle.dates_and_addresses.specs.Durations as spec;
 
 use crate::cutting::{after, after_digits};
 

@@ -1,11 +1,11 @@
 //! Where a text is cut: at the first of a mark, after a character, after digits.
 ghost use Rattle.std.specs.Prelude.{◌≡◌, ◌<◌, ◌==◌, IfSome, length, option_map, position, take, drop};
-ghost use Rattle.text_formats.specs.Cutting as spec;
+ghost use Rattle.dates_and_addresses.specs.Cutting as spec;
 
 use crate::characters::is_digit;
 
-// A text cut after so many characters, or at its end.
-pub(crate) fn split(text: &[u8], count: usize) -> (&[u8], &[u8])
+/// A text cut after so many characters, or at its end.
+pub fn split(text: &[u8], count: usize) -> (&[u8], &[u8])
     ensures front { result.0.now ≡ take count text.now }
     ensures back { result.1.now ≡ drop count text.now }
 {
@@ -24,8 +24,8 @@ fn place_of(text: &[u8], mark: u8) -> Option<usize>
     text.iter().position(|byte| *byte == mark)
 }
 
-// The text before the first of a mark, and the text after it.
-pub(crate) fn cut(text: &[u8], mark: u8) -> Option<(&[u8], &[u8])>
+/// The text before the first of a mark, and the text after it.
+pub fn cut(text: &[u8], mark: u8) -> Option<(&[u8], &[u8])>
     ensures cut { option_map (λ p. (p.0.now, p.1.now)) result ≡ spec.cut mark text.now }
     ensures shorter { IfSome result (λ p. length p.1.now < length text.now) }
 {
@@ -35,8 +35,8 @@ pub(crate) fn cut(text: &[u8], mark: u8) -> Option<(&[u8], &[u8])>
     }
 }
 
-// What follows a character with which the text begins.
-pub(crate) fn after(text: &[u8], mark: u8) -> Option<&[u8]>
+/// What follows a character with which the text begins.
+pub fn after(text: &[u8], mark: u8) -> Option<&[u8]>
     ensures after { option_map (λ t. t.now) result ≡ spec.after mark text.now }
 {
     match text {
@@ -45,8 +45,8 @@ pub(crate) fn after(text: &[u8], mark: u8) -> Option<&[u8]>
     }
 }
 
-// What follows the digits with which a text begins, if any.
-pub(crate) fn past_digits(text: &[u8]) -> &[u8]
+/// What follows the digits with which a text begins, if any.
+pub fn past_digits(text: &[u8]) -> &[u8]
     ensures past { result.now ≡ spec.past_digits text.now }
 {
     let mut rest = text;

@@ -1,7 +1,7 @@
 use Rattle.std.proofs.Common.{◌≡◌, ◌≤◌, ◌+◌, length, option_map}
-use Rattle.text_formats.specs.Cutting.{parts}
-use Rattle.text_formats.specs.Addresses as spec
-use Rattle.text_formats.proofs.addresses.groups.Given as goal
+use Rattle.dates_and_addresses.specs.Cutting.{parts}
+use Rattle.dates_and_addresses.specs.Addresses as spec
+use Rattle.dates_and_addresses.proofs.addresses.groups.Given as goal
 
 abbrev pub invariant-loop-group : goal.invariant-loop-group
 invariant-loop-group l = record {

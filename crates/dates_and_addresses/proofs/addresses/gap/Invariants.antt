@@ -1,6 +1,6 @@
 use Rattle.std.proofs.Common.{◌≡◌, ◌+◌, length}
-use Rattle.text_formats.specs.Addresses as spec
-use Rattle.text_formats.proofs.addresses.gap.Given as goal
+use Rattle.dates_and_addresses.specs.Addresses as spec
+use Rattle.dates_and_addresses.proofs.addresses.gap.Given as goal
 
 abbrev pub invariant-loop-rest : goal.invariant-loop-rest
 invariant-loop-rest l = record {

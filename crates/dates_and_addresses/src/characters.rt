@@ -1,36 +1,38 @@
 //! Classes of ASCII characters, and what decimal digits stand for.
 ghost use Rattle.std.specs.Prelude.{◌≡◌, ◌<◌, ◌+◌, IsTrue, length};
 ghost use Rattle.std.specs.List.{list_all};
-ghost use Rattle.text_formats.specs.Characters as spec;
+ghost use Rattle.dates_and_addresses.specs.Characters as spec;
 
-// `0` to `9`.
-pub(crate) fn is_digit(byte: u8) -> bool
+/// Whether a character is `0` to `9`.
+pub fn is_digit(byte: u8) -> bool
     ensures digit { result ≡ spec.is_digit byte }
 {
     byte.is_ascii_digit()
 }
 
-// `A` to `Z`, `a` to `z`.
-pub(crate) fn is_letter(byte: u8) -> bool
+/// Whether a character is `A` to `Z` or `a` to `z`.
+pub fn is_letter(byte: u8) -> bool
     ensures letter { result ≡ spec.is_letter byte }
 {
     byte.is_ascii_alphabetic()
 }
 
-// A digit, `A` to `F`, `a` to `f`.
-pub(crate) fn is_hex_digit(byte: u8) -> bool
+/// Whether a character is a digit, `A` to `F` or `a` to `f`.
+pub fn is_hex_digit(byte: u8) -> bool
     ensures hex_digit { result ≡ spec.is_hex_digit byte }
 {
     byte.is_ascii_hexdigit()
 }
 
-pub(crate) fn are_digits(text: &[u8]) -> bool
+/// Whether each character of a text is a digit.
+pub fn are_digits(text: &[u8]) -> bool
     ensures digits { result ≡ list_all spec.is_digit text.now }
 {
     text.iter().all(|byte| is_digit(*byte))
 }
 
-pub(crate) fn are_hex_digits(text: &[u8]) -> bool
+/// Whether each character of a text is a hex digit.
+pub fn are_hex_digits(text: &[u8]) -> bool
     ensures digits { result ≡ list_all spec.is_hex_digit text.now }
 {
     text.iter().all(|byte| is_hex_digit(*byte))
@@ -89,8 +91,8 @@ fn are_like(picture: &[u8], text: &[u8]) -> bool
     true
 }
 
-// Whether a text is as long as a picture, and like it: `0` stands for a digit and `x` for a hex digit.
-pub(crate) fn fits(picture: &[u8], text: &[u8]) -> bool
+/// Whether a text is as long as a picture, and like it: `0` stands for a digit and `x` for a hex digit.
+pub fn fits(picture: &[u8], text: &[u8]) -> bool
     ensures fits { result ≡ spec.fits picture.now text.now }
     ensures same_length { IsTrue result → length text.now ≡ length picture.now }
 {

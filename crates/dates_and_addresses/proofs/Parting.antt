@@ -3,9 +3,9 @@ use Rattle.std.proofs.Common.{◌≡◌, ◌∙◌, ◌+◌, ◌==◌, ◌&&◌,
 use Rattle.std.specs.List.{after_first, before_first, list_all, position_or_len}
 use Rattle.std.proofs.lemmas.Bool.{cases_Bool, cases_lt, le-ltb, lt-ltb}
 use Rattle.std.proofs.lemmas.List.Splits.{length-slice_split, slice_split_first}
-use Rattle.text_formats.specs.Addresses.{groups, is_group, last_groups}
-use Rattle.text_formats.specs.Characters.{Text}
-use Rattle.text_formats.specs.Cutting.{cut, parts}
+use Rattle.dates_and_addresses.specs.Addresses.{groups, is_group, last_groups}
+use Rattle.dates_and_addresses.specs.Characters.{Text}
+use Rattle.dates_and_addresses.specs.Cutting.{cut, parts}
 
 cut_within : (m : ℕ) (t : Text) → position_or_len (λ c. c == m) t < length t
     → cut m t ≡ Some (before_first (λ c. c == m) t, after_first (λ c. c == m) t)

@@ -1,0 +1,5 @@
+pub mod Addresses
+pub mod Characters
+pub mod Cutting
+pub mod Dates
+pub mod Durations
