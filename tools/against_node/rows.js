@@ -1,4 +1,4 @@
-// rows.js COUNT SUBJECTS ROWS ANSWERS: writes rows for `crates/pattern_rows` to the file ROWS, each a pattern and the first SUBJECTS of the
+// rows.js COUNT SUBJECTS ROWS ANSWERS: writes rows to the file ROWS, each a pattern and the first SUBJECTS of the
 // subjects below, of the patterns written out here and COUNT random ones; and to ANSWERS what node's own engine, with the flag u, says.
 const fs = require("fs");
 const [count, subjectCount, rowsFile, answersFile] = process.argv.slice(2);
