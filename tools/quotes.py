@@ -6,9 +6,16 @@ A quoted file is a block of code whose first line names the file after the langu
 a line `..` between them. Each block of README.md, docs/*.md and crates/*/CALLING.md that names a file is compared with it. Prints a line for
 each; ends with 1 where one differs.
 
-Usage: python3 tools/quotes.py
+A whole program is a block that begins with ```rust whole program. The block before it is its line of crates.txt, the block after it what it
+prints. By --try each program of these pages (else of all documents) is run unproved, in a copy of the repository, some two minutes each.
+
+Usage: python3 tools/quotes.py [--try [PAGE..]]
 """
+import re
+import shutil
+import subprocess
 import sys
+import tempfile
 from pathlib import Path
 
 ROOT = Path(__file__).resolve().parent.parent
@@ -71,7 +78,48 @@ def difference(name, is_part, quoted):
     return None
 
 
+def programs(text):
+    """The whole programs of a document: for each its line of crates.txt, its text, and what it is to print."""
+    blocks = re.findall(r"^```([^\n]*)\n(.*?)^```$", text, re.M | re.S)
+    for before, (head, program), after in zip(blocks, blocks[1:], [*blocks[2:], ("", "")]):
+        if head == "rust whole program":
+            yield before[1].strip(), program, after[1]
+
+
+def outcome(line, program, wanted):
+    """What is wrong with a program, in words, or None. It is run in a copy of the repository."""
+    name = line.partition(":")[0]
+    if not re.fullmatch(r"[a-z]\w*:[\w ]*", line) or (ROOT / "crates" / name).exists():
+        return "no line of a new crate stands before it"
+    with tempfile.TemporaryDirectory() as folder:
+        copy = Path(folder)
+        shutil.copytree(ROOT / "crates", copy / "crates", ignore=shutil.ignore_patterns("out"))
+        listed = (ROOT / "crates.txt").read_text(encoding="utf-8")
+        (copy / "crates.txt").write_text(f"{listed}{line}\n", encoding="utf-8")
+        source = copy / "crates" / name / "src" / "main.rt"
+        source.parent.mkdir(parents=True)
+        source.write_text(program, encoding="utf-8")
+        run = subprocess.run(["rt", "try", "--seconds", "300"], cwd=source.parents[1], capture_output=True, text=True, check=False)
+    if run.returncode == 0 and run.stdout == wanted:
+        return None
+    return f"it ended with {run.returncode} and printed\n{run.stdout}{run.stderr}"
+
+
+def try_programs(pages):
+    """Runs the whole programs of pages."""
+    wrong = 0
+    for page in pages:
+        shown = page.relative_to(ROOT) if page.is_relative_to(ROOT) else page
+        for line, program, wanted in programs(page.read_text(encoding="utf-8")):
+            found = outcome(line, program, wanted)
+            wrong += found is not None
+            print(f"{shown}: {line.partition(':')[0]}: {found or 'prints what the page says'}", flush=True)
+    return 1 if wrong else 0
+
+
 def main():
+    if sys.argv[1:2] == ["--try"]:
+        return try_programs([Path(page) for page in sys.argv[2:]] or documents())
     wrong = 0
     for document in documents():
         for name, is_part, quoted in quotes(document.read_text(encoding="utf-8")):
