@@ -10,3 +10,4 @@ pub mod RankedTable
 pub mod FilledNumbers
 pub mod Escaping
 pub mod Cloned
+pub mod ClosedNumbers

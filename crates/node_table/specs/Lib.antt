@@ -9,3 +9,4 @@ pub mod NodeTable
 pub mod NodeViews
 pub mod Cloned
 pub mod ValidatorViews
+pub mod ClosedNumbers

@@ -8,6 +8,7 @@ ghost use Rattle.node_table.specs.NodeTable.{Adds, Fills, Begins, ComesLast, IsO
 
 pub mod absolute;
 mod cloning;
+mod sharing;
 pub mod validators;
 
 use schema_parts::numbers::{Edge, SchemaNode};
@@ -58,16 +59,19 @@ pub struct Node<K> {
     pub form: Option<NodeForm<K>>,
 }
 
-/// The nodes by number. The table is filled in rounds, and chains of edges that nothing guards do not return.
+/// The nodes by number. The table is filled in rounds, and chains of edges that nothing guards do not return. A number has a weight where
+/// no guarded edge is reached from it; contracts do not see the weights.
 #[derive(Drop)]
 pub struct Nodes<K> {
     nodes: Vec<Node<K>>,
     finished: usize,
+    weights: Vec<u8>,
 }
 
 impl<K> Model for Nodes<K> {
     ghost use Rattle.std.specs.Prelude.{map, List};
-    ghost use Rattle.node_table.specs.NodeTable.{NodeEntry, IsOrdered};
+    ghost use Rattle.node_table.specs.NodeTable.{NodeEntry};
+    ghost use Rattle.node_table.specs.ClosedNumbers.{HoldsTable};
     ghost use Rattle.node_table.specs.NodeViews.{node_of};
 
     ghost Value = { List (NodeEntry K) };
@@ -79,7 +83,7 @@ impl<K> Model for Nodes<K> {
 
     ghost view = { λ n. map node_of n.nodes.items };
 
-    ghost invariant = { λ n. IsOrdered (map node_of n.nodes.items) n.finished };
+    ghost invariant = { λ n. HoldsTable (map node_of n.nodes.items) n.finished n.weights.items };
 }
 
 ghost use Rattle.std.specs.Prelude.{None};
@@ -92,6 +96,7 @@ impl<K: Drop> Nodes<K> {
         Nodes {
             nodes: Vec::new(alloc),
             finished: 0,
+            weights: Vec::new(alloc),
         }
     }
 
@@ -123,6 +128,7 @@ impl<K: Drop> Nodes<K> {
         ensures added { OnOk result (self.new ≡ self.old ++ unfilled_node location (option_map string_bytes base) start round ∷ []) }
         ensures unchanged { OnErr result (self.new ≡ self.old) }
     {
+        self.weights.clear();
         let number = self.nodes.len();
         self.nodes.push(Node {
             location,
@@ -180,6 +186,7 @@ impl<K: Drop> Nodes<K> {
         requires later { IsNewRound self.old round }
         ensures begun { Begins self.old node.0 round self.new }
     {
+        self.weights.clear();
         let place = &mut self.nodes[node.0];
         place.round = Some(round);
     }
@@ -202,6 +209,7 @@ impl<K: Drop> Nodes<K> {
         let _within = count;
         let order = self.finished;
         self.finished += 1;
+        self.weights.clear();
         let place = &mut self.nodes[node.0];
         place.order = order;
         place.settled = settled;

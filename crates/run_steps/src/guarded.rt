@@ -1,11 +1,11 @@
-//! The pair of a guarded question: the node that it asks, and the place, with the place's number.
+//! The pair of a guarded question, or of one that asks a shared node: the node that it asks, and the place, with the place's number.
 ghost use Rattle.std.specs.Prelude.{◌≡◌, ◌==◌, ◌++◌, ◌∷◌, [], IfErr, IfOk, OnErr, OnOk, Some, false, is_some, true};
 ghost use Rattle.std.specs.List.{list_any};
 ghost use Rattle.serde_json.specs.View.{view};
 ghost use Rattle.schema_definitions.specs.Instance.{subject_at};
 ghost use Rattle.schema_reports.specs.InstanceViews.{subject_of};
 ghost use Rattle.schema_contexts.specs.Progress.{Context, EndsWith, busy_at, places_in};
-ghost use Rattle.schema_contexts.specs.Verdicts.{MayKeep, Remembers, read_verdict};
+ghost use Rattle.schema_contexts.specs.Verdicts.{MayKeep, Remembers, read_verdict, verdict_of};
 ghost use Rattle.run_steps.specs.EvaluationPlaces.{CarriesItsNumber, steps_to};
 ghost use Rattle.run_steps.specs.GuardedPairs.{IsNumbered, place_of};
 
@@ -118,6 +118,32 @@ impl<'q, 'i> GuardedPair<'q, 'i> {
         ensures read { result ≡ read_verdict self.now.node.0 (place_of self.now) context.now }
     {
         context.get_cached_result(self.node, self.number)
+    }
+
+    /// Returns the verdict that is remembered of the pair, whatever is in progress at its place. It allocates nothing.
+    pub fn lasting_verdict(&self, context: &ValidationContext<'i>) -> Option<bool>
+        requires numbered { IsNumbered (places_in context.now) self.now }
+        ensures read { result ≡ verdict_of self.now.node.0 (place_of self.now) context.now.verdicts }
+    {
+        context.remembered_verdict(self.node, self.number)
+    }
+
+    /// Remembers the verdict of the pair. Fails only if memory cannot be allocated, and then nothing has changed.
+    pub fn remember_verdict(
+        &self,
+        context: &mut ValidationContext<'i>,
+        verdict: bool,
+    ) -> Result<(), OutOfMemory>
+        requires numbered { IsNumbered (places_in context.old) self.now }
+        ensures kept { OnOk result (Remembers self.now.node.0 (place_of self.now) verdict context.old.verdicts context.new.verdicts) }
+        ensures frame { context.new ≡ record context.old {
+          verdicts = context.new.verdicts;
+          kept = context.new.kept;
+          words = context.new.words;
+        } }
+        ensures unchanged { OnErr result (context.new ≡ context.old) }
+    {
+        context.remember_verdict(self.node, self.number, verdict)
     }
 
     /// Remembers the verdict of the pair, if the instance is an array or an object, no other node is in progress at the place, and

@@ -157,7 +157,7 @@ pub fn check_vocabularies<R: Resolver, K: Validate, T: KeywordTable<K>>(
 }
 
 /// Compiles a schema as `compile` does, but by itself as a subschema of a document: whether the vocabularies of the key's own
-/// are declared is not asked, only of those that a reference leads to.
+/// are declared is not asked, only of those that a reference leads to. Which nodes are shared has been found out.
 ///
 /// # Errors
 ///
@@ -196,10 +196,11 @@ pub fn compile_subschema<R: Resolver, K: Validate, T: KeywordTable<K>>(
         options,
         nested_limit,
     };
-    let compiled = compiler.compiled_alone(root)?;
+    let mut compiled = compiler.compiled_alone(root)?;
     // (the call says that the table is ordered)
     let count = compiled.nodes.len();
     let _ordered = count;
+    compiled.nodes.share(alloc)?;
     Ok(compiled)
 }
 

@@ -17,7 +17,7 @@ ghost use Rattle.schema_parts.specs.EdgeViews.{edge_of};
 ghost use Rattle.serde_json.specs.View.{view};
 ghost use Rattle.schema_places.specs.Numbers.{NumbersAll, place_at};
 ghost use Rattle.schema_contexts.specs.Progress.{Adds, Distinct, Enters, EndsWith, FewRows, IsWide, begun, busy_at, guard_words, places_in};
-ghost use Rattle.schema_contexts.specs.Verdicts.{MayKeep, Remembers, is_alone, is_container, one_more, read_verdict};
+ghost use Rattle.schema_contexts.specs.Verdicts.{MayKeep, Remembers, is_alone, is_container, one_more, read_verdict, verdict_of};
 ghost use Rattle.schema_reports.specs.InstanceViews.{subject_of};
 
 use crate::bit_rows::{Rows, row_words};
@@ -43,8 +43,8 @@ const MEMO_MIN_VISITS: u64 = 16;
 
 /// The pairs of a node and a place that are in progress, the last entered last, and no pair twice; what the run assumes of
 /// unfinished matches, and remembers of those that it met; the marks of the keyword's run that is at work; and the verdicts that
-/// the run remembers of guarded questions, with how many of these it visited. A context is one run's. Contracts do not see the
-/// paths that it keeps.
+/// the run remembers of guarded questions and of shared nodes, with how many of the guarded ones it visited. A context is one run's.
+/// Contracts do not see the paths that it keeps.
 ///
 /// Places go by their numbers, which are given when the first is asked for. What is in progress is a row of bits for each node that
 /// was entered, and a count for each place; the verdicts of a node are two rows, of the places that are known and of the verdicts
@@ -389,13 +389,21 @@ impl<'i> ValidationContext<'i> {
         self.guard.has_bit(node.0, place)
     }
 
+    /// Returns the verdict that is remembered of the node at the place, whatever is in progress there. It allocates nothing.
+    pub fn remembered_verdict(&self, node: SchemaNode, place: usize) -> Option<bool>
+        requires known { place < length (places_in self.now) }
+        ensures read { result ≡ verdict_of node.0 (place_at (places_in self.now) place) self.now.verdicts }
+    {
+        self.known.verdict_in(node.0, place)
+    }
+
     /// Returns the verdict that is remembered of the node at the place, unless another node is in progress at that place. It
     /// allocates nothing.
     pub fn get_cached_result(&self, node: SchemaNode, place: usize) -> Option<bool>
         requires known { place < length (places_in self.now) }
         ensures read { result ≡ read_verdict node.0 (place_at (places_in self.now) place) self.now }
     {
-        let found = self.known.verdict_in(node.0, place)?;
+        let found = self.remembered_verdict(node, place)?;
         if self.is_alone(node, place) {
             Some(found)
         } else {
@@ -461,6 +469,34 @@ impl<'i> ValidationContext<'i> {
         if !self.is_alone(node, place) {
             return Ok(());
         }
+        self.remember_verdict(node, place, verdict)?;
+        Ok(())
+    }
+
+    /// Remembers the verdict of the node at the place.
+    ///
+    /// # Errors
+    ///
+    /// Fails only if memory cannot be allocated. Then nothing has changed.
+    pub fn remember_verdict(
+        &mut self,
+        node: SchemaNode,
+        place: usize,
+        verdict: bool,
+    ) -> Result<(), OutOfMemory>
+        requires known { place < length (places_in self.old) }
+        ensures kept { OnOk result (Remembers node.0 (place_at (places_in self.old) place) verdict
+            self.old.verdicts self.new.verdicts) }
+        ensures numbers { OnOk result (Adds node.0 self.old.kept self.new.kept) }
+        ensures few { OnOk result (FewRows self.new) }
+        ensures wide { OnOk result (IsWide self.new) }
+        ensures frame { self.new ≡ record self.old {
+          verdicts = self.new.verdicts;
+          kept = self.new.kept;
+          words = self.new.words;
+        } }
+        ensures unchanged { OnErr result (self.new ≡ self.old) }
+    {
         let words = row_words(self.places.numbered(self.alloc)?.len());
         self.known.make_row(self.alloc, node.0, 2 * words)?;
         self.known.put_bit(node.0, 0, place, true);

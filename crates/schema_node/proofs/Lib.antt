@@ -11,3 +11,4 @@ mod UnitsAsked
 mod Verdicts
 pub mod VerdictTurns
 mod Measures
+mod Shared

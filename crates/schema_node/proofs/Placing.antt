@@ -10,7 +10,7 @@ use Rattle.serde_json.specs.declared.value.Value.{Value}
 use Rattle.schema_definitions.specs.Instance.{Place, Step, Subject, a_value, after_step, subject_at}
 use Rattle.schema_meaning.proofs.Falls.{from_below}
 use Rattle.schema_contexts.specs.Progress.{Context, Pairs, busy_at, root_places}
-use Rattle.schema_contexts.specs.Verdicts.{read_verdict}
+use Rattle.schema_contexts.specs.Verdicts.{read_verdict, verdict_of}
 use Rattle.run_steps.specs.Askings.{Asking, IsAskedOf}
 use Rattle.run_steps.specs.EvaluationPlaces.{CarriesItsNumber}
 use Rattle.run_steps.specs.declared.evaluation_place.EvaluationPlace.{EvaluationPlace}
@@ -72,3 +72,6 @@ module _ (n m : ℕ) (p q : Place) (c d : Context) (node : m ≡ n) (place : q �
   pair_unknown busy free =
       let h = unknown _ _ busy free in
       (pair_busy n m p q c d _ false node place same refl h.0, sym pair_read ∙ h.1)
+
+  pub pair_lasting : (o : Option Bool) → o ≡ verdict_of m q d.verdicts → verdict_of n p c.verdicts ≡ o
+  pair_lasting o read = sym (read ∙ ap (λ (z : Context). verdict_of m q z.verdicts) same ∙ ap (λ (k : ℕ). verdict_of k q c.verdicts) node ∙ ap (λ (z : Place). verdict_of n z c.verdicts) place)

@@ -1,10 +1,9 @@
 -- What the functions of a run for the verdict are asked, and what they are answered: one record for each.
 use Rattle.std.specs.Prelude.{◌≡◌, ◌≤◌, ℕ, Bool, IfOk, List, Option, Result, map, option_map, string_bytes, true}
 use Rattle.schema_definitions.specs.Instance.{Text}
-use Rattle.schema_definitions.specs.Guarded.{Children, NodeEdge, NodeForm, NodePart}
+use Rattle.schema_definitions.specs.Guarded.{Children, NodeEdge, NodeForm, NodePart, node_edges}
 use Rattle.schema_definitions.specs.Keywords.{Answer, Below, Question as ChildQuestion, for_verdict}
 use Rattle.schema_definitions.specs.Laws.{IsPresent, steps_below}
-use Rattle.schema_reports.specs.InstanceViews.{subject_of}
 use Rattle.schema_parts.specs.EdgeViews.{edge_of}
 use Rattle.schema_parts.specs.KeywordViews.{mode_of}
 use Rattle.schema_parts.specs.declared.keyword.Answer as code_answer
@@ -14,6 +13,7 @@ use Rattle.schema_parts.specs.declared.keyword.Reply as code
 use Rattle.schema_parts.specs.declared.keyword.Reply.TheVariants as told
 use Rattle.schema_parts.specs.declared.numbers.Edge.{Edge}
 use Rattle.schema_contexts.specs.Progress.{Context, places_in}
+use Rattle.node_table.specs.ClosedNumbers.{ReachesNoGuard}
 use Rattle.node_table.specs.NodeTable.{shaped_form, shaped_part}
 use Rattle.node_table.specs.NodeViews.{entry_of, form_of}
 use Rattle.node_table.specs.declared.node.Entry.{Entry}
@@ -33,9 +33,10 @@ use Rattle.schema_node.specs.Visits.{EdgeCounts, FormCounts, LeadsNowhere, NodeC
 abbrev pub setting_by : {C R K M : Type 0} → keyword.Ghosts C R K → matcher.Ghosts M → Engine C M → Setting K (R × Answer)
 setting_by k m e = setting k.words k.is_whole k.shape m.matching e
 
--- what is asked: a number; entries of one, the form of an entry, a keyword's child; and what an edge leads to, which may have to be guarded
+-- what is asked: a number, which may have to reach no guarded edge; entries of one, the form of an entry, a keyword's child; and what an
+-- edge leads to, which may have to be guarded
 pub data Wanted (K : Type 0) : Type 0 where
-  a_node : ℕ → Wanted K
+  a_node a_shared : ℕ → Wanted K
   some_parts : ℕ → List (NodePart K) → Wanted K
   a_form : ℕ → Text → NodeForm K → Wanted K
   an_entry : ℕ → NodePart K → Wanted K
@@ -45,6 +46,7 @@ pub data Wanted (K : Type 0) : Type 0 where
 -- the number that it is asked of
 abbrev pub number_in : {K : Type 0} → Wanted K → ℕ
 number_in (a_node i) = i
+number_in (a_shared i) = i
 number_in (some_parts i xs) = i
 number_in (a_form i name form) = i
 number_in (an_entry i x) = i
@@ -56,6 +58,7 @@ module _ {K R : Type 0} (g : Setting K R) (q : Asking) where
   -- it stands in the table, and a child's place in the subject
   abbrev pub StandsIn : Wanted K → Type 0
   StandsIn (a_node i) = Unit {0}
+  StandsIn (a_shared i) = ReachesNoGuard (λ j. node_edges (g.nodes.entries j)) i
   StandsIn (some_parts i xs) = HasParts g.nodes i xs
   StandsIn (a_form i name form) = HasForm g.nodes i form
   StandsIn (an_entry i x) = HasForm g.nodes i x.form
@@ -66,6 +69,7 @@ module _ {K R : Type 0} (g : Setting K R) (q : Asking) where
   module _ (c c' : Context) where
     abbrev pub counts_of : Wanted K → Type 0
     counts_of (a_node i) = NodeCounts g.nodes q c c' i
+    counts_of (a_shared i) = NodeCounts g.nodes q c c' i
     counts_of (some_parts i xs) = PartsCount g.nodes q c c' xs
     counts_of (a_form i name form) = FormCounts g.nodes q c c' form
     counts_of (an_entry i x) = FormCounts g.nodes q c c' x.form
@@ -75,6 +79,7 @@ module _ {K R : Type 0} (g : Setting K R) (q : Asking) where
 
     abbrev pub says_of : Wanted K → Bool → Type 0
     says_of (a_node i) b = NodeSays g q c i (told.Truth b)
+    says_of (a_shared i) b = NodeSays g q c i (told.Truth b)
     says_of (some_parts i xs) b = PartsSay g q c i xs (told.Truth b)
     says_of (a_form i name form) b = FormSays g q c i name form (told.Truth b)
     says_of (an_entry i x) b = FormSays g q c i x.name x.form (told.Truth b)
@@ -84,6 +89,7 @@ module _ {K R : Type 0} (g : Setting K R) (q : Asking) where
 
     abbrev pub meets_of : Wanted K → Type 0
     meets_of (a_node i) = MeetsNode g q c c' i
+    meets_of (a_shared i) = MeetsNode g q c c' i
     meets_of (some_parts i xs) = MeetsParts g q c c' i xs
     meets_of (a_form i name form) = MeetsForm g q c c' i name form
     meets_of (an_entry i x) = MeetsEntry g q c c' i x
@@ -93,6 +99,7 @@ module _ {K R : Type 0} (g : Setting K R) (q : Asking) where
 
     abbrev pub remembers_of : Wanted K → Bool → Type 0
     remembers_of (a_node i) b = NodeRemembers q c c' g.nodes i (told.Truth b)
+    remembers_of (a_shared i) b = Unit {0}
     remembers_of (some_parts i xs) b = PartsRemember q c c' xs (told.Truth b)
     remembers_of (a_form i name form) b = FormRemembers q c c' form (told.Truth b)
     remembers_of (an_entry i x) b = FormRemembers q c c' x.form (told.Truth b)

@@ -162,6 +162,13 @@ fn clone_nodes<K: CloneKeyword>(
     Ok(copies)
 }
 
+fn clone_weights(weights: &Vec<u8>) -> Result<Vec<u8>, OutOfMemory>
+    ensures same { IfOk result (λ copy. copy.items ≡ weights.now.items) }
+{
+    let copy = weights.clone()?;
+    Ok(copy)
+}
+
 impl<K: CloneKeyword> Nodes<K> {
     /// Returns a clone of the nodes: each keyword is a clone, and all else is the same.
     ///
@@ -173,9 +180,11 @@ impl<K: CloneKeyword> Nodes<K> {
         ensures nodes { IfOk result (λ copy. shaped_nodes K.shape copy ≡ shaped_nodes K.shape self.now) }
         ensures numbered { IfOk result (λ copy. numbered K.shape copy ≡ numbered K.shape self.now) }
     {
+        let weights = clone_weights(&self.weights)?;
         Ok(Nodes {
             nodes: clone_nodes(alloc, self.nodes.as_slice())?,
             finished: self.finished,
+            weights,
         })
     }
 }

@@ -1,7 +1,8 @@
 //! Runs of nodes for the verdict alone. A level of an instance takes little room on the stack: no reply is moved, only a yes or a no.
 ghost use Rattle.schema_parts.specs.KeywordViews.{below_of};
 ghost use Rattle.schema_parts.specs.EdgeViews.{edge_of};
-ghost use Rattle.schema_node.specs.Answered.{Answers, IsAsked, a_guarded, a_node, an_edge, setting_by, the_child, the_entries, the_entry};
+ghost use Rattle.schema_node.specs.Answered.{Answers, IsAsked, a_guarded, a_node, a_shared, an_edge, setting_by};
+ghost use Rattle.schema_node.specs.Answered.{the_child, the_entries, the_entry};
 
 use crate::node::verdict_turns::keyword_verdict;
 use node_table::node::{Entry, EntryForm, NodeForm};
@@ -175,7 +176,8 @@ pub(crate) fn verdict_child<'i, K: Validate, M: Matcher>(
     }
 }
 
-// The verdict of the node that an edge leads to; yes where the edge is guarded and the pair is in progress.
+// The verdict of the node that an edge leads to; yes where the edge is guarded and the pair is in progress. A shared node is asked once a
+// place.
 #[cycle(verdict)]
 fn verdict_edge<'i, K: Validate, M: Matcher>(
     engine: &Engine<'_, K, M>,
@@ -197,7 +199,40 @@ fn verdict_edge<'i, K: Validate, M: Matcher>(
         path: &whole,
         mode: question.mode,
     };
+    if engine.nodes.is_shared(edge.node) {
+        return shared_verdict(engine, edge.node, &asked, context);
+    }
     verdict_node(engine, edge.node, &asked, context)
+}
+
+// That of a shared node: it is the same whatever is in progress at the place, so it is asked there once, and remembered. Its room on the
+// stack is its own, so that a node that is not shared pays nothing for it.
+#[cycle(verdict)]
+#[inline(never)]
+fn shared_verdict<'i, K: Validate, M: Matcher>(
+    engine: &Engine<'_, K, M>,
+    node: SchemaNode,
+    question: &Question<'_, 'i>,
+    context: &mut ValidationContext<'i>,
+) -> Result<bool, OutOfMemory>
+    requires { IsAsked (setting_by K.Validate M.Matcher.own engine.now) question.now (a_shared node.0) context.old }
+    ensures { Answers (setting_by K.Validate M.Matcher.own engine.now) question.now
+        (a_shared node.0) context.old context.new result }
+{
+    let pair = GuardedPair::new(context, node, question.place)?;
+    if let Some(valid) = pair.lasting_verdict(context) {
+        return Ok(valid);
+    }
+    let place = pair.numbered_place();
+    let asked = Question {
+        instance: question.instance,
+        place: &place,
+        path: question.path,
+        mode: question.mode,
+    };
+    let valid = verdict_node(engine, node, &asked, context)?;
+    pair.remember_verdict(context, valid)?;
+    Ok(valid)
 }
 
 // That of a guarded edge: yes where the pair is in progress. A verdict that the run remembers is the answer, and one that is computed

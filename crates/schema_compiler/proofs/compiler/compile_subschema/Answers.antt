@@ -15,18 +15,18 @@ returns-clause-compiled g c =
     let done = c.in_ok-compiled.ensures in
     let at = done.2 in
     let r = c.len-count.ensures.ordered in
-    λ matcher keywords draft base. compiled (g.R.Resolver.resolving c.args.resolver.now) (record { owns = g.T.KeywordTable.owned c.args.table.now; builtin = builtin; script = g.T.KeywordTable.script c.args.table.now })
+    λ matcher keywords draft base. rw c.share.ensures.same (compiled (g.R.Resolver.resolving c.args.resolver.now) (record { owns = g.T.KeywordTable.owned c.args.table.now; builtin = builtin; script = g.T.KeywordTable.script c.args.table.now })
     c.args.options.now.formats (map string_bytes c.args.options.now.declared.items) matcher keywords draft base g.K.Validate.shape new.keys new.nodes c.args.options.now.node_limit c.args.nested_limit (v c.args.root)
-    at.table at.grown (all_formed _ (v c.args.root) new done.0 at done.1) at.first r.0 r.1 (all_found _ (v c.args.root) new done.0 at done.1) at.under_way.guards at.under_way.within
+    at.table at.grown (all_formed _ (v c.args.root) new done.0 at done.1) at.first r.0 r.1 (all_found _ (v c.args.root) new done.0 at done.1) at.under_way.guards at.under_way.within)
 
 pub returns-clause-reserved : goal.returns-clause-reserved
 returns-clause-reserved g c = c.in_ok-compiled.ensures.2.given_up
 
 pub returns-clause-table : goal.returns-clause-table
-returns-clause-table g c = c.in_ok-compiled.ensures.2.table
+returns-clause-table g c = rw c.share.ensures.same c.in_ok-compiled.ensures.2.table
 
 pub returns-clause-under_way : goal.returns-clause-under_way
-returns-clause-under_way g c = c.in_ok-compiled.ensures.2.under_way
+returns-clause-under_way g c = rw c.share.ensures.same c.in_ok-compiled.ensures.2.under_way
 
 pub returns-in_err-compiled-clause-refused : goal.returns-in_err-compiled-clause-refused
 returns-in_err-compiled-clause-refused g c =

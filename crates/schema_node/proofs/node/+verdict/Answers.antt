@@ -1,10 +1,10 @@
-use Rattle.std.proofs.Common.{◌≡◌, ◌∙◌, ◌==◌, ◌+◌, ◌≤◌, Bool, arith, sym, refl, rules, ap, subst, map, option_map, string_bytes, length, Some, false, true, true≢false, inl, inr, List, [], ◌∷◌, ◌++◌, drop}
+use Rattle.std.proofs.Common.{◌≡◌, ◌∙◌, ◌==◌, ◌+◌, ◌≤◌, Bool, arith, suc, sym, refl, rules, ap, subst, map, option_map, string_bytes, length, Some, false, true, true≢false, inl, inr, List, [], ◌∷◌, ◌++◌, drop}
 use Rattle.std.proofs.lemmas.Grind.{common_steps}
 use Rattle.schema_reports.specs.InstanceViews.{subject_of, step_of}
 use Rattle.schema_definitions.specs.Keywords.{Question, ask, ecma, for_verdict, mark, match_text, no_reply, truth, unmark}
 use Rattle.run_steps.specs.EvaluationPlaces.{steps_to}
 use Rattle.run_steps.specs.GuardedPairs.{place_of}
-use Rattle.schema_node.proofs.Placing.{carries_on, pair_entered, pair_known, pair_unknown, stands_at, stands_below, stands_on}
+use Rattle.schema_node.proofs.Placing.{carries_on, pair_entered, pair_known, pair_lasting, pair_unknown, stands_at, stands_below, stands_on}
 use Rattle.schema_contexts.specs.Progress.{places_in}
 use Rattle.schema_parts.specs.declared.numbers.SchemaNode.{SchemaNode}
 use Rattle.std.specs.List.{list_any}
@@ -18,7 +18,7 @@ use Rattle.schema_definitions.specs.Matching.{Matcher, completed, matching, sett
 use Rattle.schema_definitions.specs.Guarded.{node_at, node_never, same_edge, node_always}
 use Rattle.schema_parts.specs.KeywordViews.{below_of, marked_of, mode_of, reply_of, answer_of, Tells, turn_of}
 use Rattle.schema_contexts.specs.Matches.{after_match, settling}
-use Rattle.schema_node.specs.NodeMeets.{ChildMeets, EdgeMeets, FormMeets, child_run, part_looked, parts_looked, reading}
+use Rattle.schema_node.specs.NodeMeets.{ChildMeets, EdgeMeets, FormMeets, NodeMeets, child_run, part_looked, parts_looked, reading}
 use Rattle.node_table.specs.NodeTable.{numbered, shaped_form, shaped_part}
 use Rattle.schema_parts.specs.EdgeViews.{edge_of}
 use Rattle.node_table.specs.NodeViews.{entry_of, form_of, node_of, plan_of}
@@ -26,7 +26,7 @@ use Rattle.run_steps.specs.NodeRuns.{ChildReplies, EdgeReplies, Reading, Reads, 
 use Rattle.schema_contexts.specs.Progress.{Context, NoDeeper, busy_at}
 use Rattle.schema_node.specs.RightVerdicts.{LaysOut}
 use Rattle.run_steps.specs.Askings.{asking}
-use Rattle.schema_node.specs.RunStates.{EdgeSays, FormRemembers, FormSays, MeetsNode, NodeSays, StaysRight, setting}
+use Rattle.schema_node.specs.RunStates.{EdgeSays, FormRemembers, FormSays, Keeps, MeetsNode, NodeSays, StaysRight, setting}
 use Rattle.schema_contexts.specs.Verdicts.{one_more}
 use Rattle.schema_parts.specs.declared.keyword.Reply.TheVariants as told
 use Rattle.schema_node.proofs.GoesOn.{alone_remembers, asked_across, computed_meets, computed_says, ended_remembers, kept_remembers, kept_stays, pairs_back, planned_remembers, read_meets_edge, read_remembers, read_says, reference_remembers, right_matched, right_same}
@@ -37,7 +37,7 @@ use Rattle.schema_contexts.proofs.Pairs.{busy-below, busy-pushed, deeper-below, 
 use Rattle.run_steps.proofs.KeywordTurns.{falls_turned, right_at_once, tells_nothing, asked_on, asks_there, begins_on, can_after, ended_on, mark_taken_on, marked_on, matched_on, matches_there, told_pattern_on, ask_goes_on, match_goes_on, ecma_goes_on, mark_goes_on, unmark_goes_on}
 use Rattle.schema_meaning.proofs.Alike.{asked_alike}
 use Rattle.schema_parts.proofs.Replies.{if_ok_always, if_ok_mono}
-use Rattle.run_steps.proofs.NodeRuns.{agrees_answers, agrees_says, child_below, child_here, edge_busy, falls_below, falls_here, form_reference, needs_of_entered, node_by_plan, one_entry, settled_entries, stands_in, start_entries, where_is}
+use Rattle.run_steps.proofs.NodeRuns.{agrees_answers, agrees_says, child_below, child_here, edge_busy, falls_below, falls_here, form_reference, free_case, needs_of_entered, node_by_plan, one_entry, settled_entries, stands_in, start_entries, where_is}
 use Rattle.schema_contexts.proofs.Matches.{after_assumes, moved, meets_same}
 use Rattle.run_steps.proofs.AskedMatches.{step_asks}
 use Rattle.schema_node.proofs.KeywordMeets.{meets_all, meets_asked, meets_at_once, meets_begun, meets_mark_taken, meets_marked, meets_matched, meets_nothing}
@@ -53,7 +53,10 @@ use Rattle.schema_node.proofs.UnitsAsked.{answer_is, child_valid, told_is}
 use Rattle.run_steps.specs.VerdictRuns.{told_reply}
 use Rattle.schema_node.proofs.VerdictTurns.{asked_verdict, asks_begun, asks_on, stepped_by, turned_by, verdict_told}
 use Rattle.schema_node.proofs.Verdicts.{joins_verdict, keyword_replies, stamps_verdict, verdict_replies, yes_says}
-use Rattle.schema_node.proofs.Measures.{lower_same, lower_across, lower_reference, lower_entered, as_many, no_fewer}
+use Rattle.schema_node.proofs.Measures.{lower_same, lower_across, lower_reference, lower_entered, lower_shared, as_many, no_fewer}
+use Rattle.schema_node.proofs.Shared.{meets_again, read_again, shared_counts, stays_kept}
+use Rattle.node_table.proofs.ClosedNumbers.{reaches_numbered}
+use Rattle.schema_definitions.specs.Laws.{EachKeeps}
 use Rattle.schema_node.proofs.node.+verdict.Goals as goal
 
 pub verdict::verdict_child-verdict_edge-requires : goal.verdict::verdict_child-verdict_edge-requires
@@ -556,6 +559,28 @@ verdict::verdict_entries-returns g t c = record {
       ended_remembers (asking c.args.question.now) entry_of (shaped_part g.K.Validate.shape) c.args.entries.now c.loop-entry.entry-index c.loop-entry-test.false c.args.context.now c.loop-entry.context (told.Truth true) c.loop-entry.invariant.remembers;
 }
 
+pub verdict::verdict_edge-shared_verdict-requires : goal.verdict::verdict_edge-shared_verdict-requires
+verdict::verdict_edge-shared_verdict-requires g t c =
+    let ns = numbered g.K.Validate.shape c.args.engine.now.nodes.now in
+    let e = edge_of c.args.edge.now in
+    let s = subject_of c.args.question.now.instance in
+    let busy = busy_at (steps_to c.args.question.now.place.now) c.args.context.now.in_progress in
+    let count = length c.args.engine.now.nodes.now in
+    let needs : edge_needs ns count e s busy ≡ suc (left ns count e.node s busy) = free_case e.guarded (list_any (λ k. k == e.node) busy) (suc (left ns count e.node s busy)) _ 0 c.if-edge.false in
+    let free = reaches_numbered g.K.Validate.shape c.args.engine.now.nodes.now e.node (c.is_shared.ensures.closed c.if-is_shared.true) in
+    λ κs h. (lower_shared _ _ t needs c.decreases, (h.0, (h.1.0, (h.1.1.0, (h.1.1.1, record { may = record { known = c.requires.may.known; ranked = c.requires.may.ranked; above = c.requires.may.above; wanted = c.requires.may.wanted; stands = c.requires.may.stands; goes_on = c.requires.may.goes_on }; carries = c.requires.carries; verdict = c.requires.verdict; stands = free })))))
+
+pub verdict::verdict_edge-returns-then-is_shared : goal.verdict::verdict_edge-returns-then-is_shared
+verdict::verdict_edge-returns-then-is_shared g t c = record {
+  keeps = search rules;
+  counts = search rules;
+  visits = if_ok_mono c.shared_verdict.result _ _ (λ b counts. free_counts (numbered g.K.Validate.shape c.args.engine.now.nodes.now) (asking c.args.question.now) c.args.context.now (edge_of c.args.edge.now) c.shared_verdict.new.context c.if-edge.false counts) c.shared_verdict.ensures.visits;
+  says = search rules;
+  meets = search rules;
+  stays = search rules;
+  remembers = search rules;
+}
+
 pub verdict::verdict_edge-returns : goal.verdict::verdict_edge-returns
 verdict::verdict_edge-returns g t c = record {
   keeps = search rules;
@@ -566,6 +591,85 @@ verdict::verdict_edge-returns g t c = record {
   stays = search rules;
   remembers = search rules;
 }
+
+pub verdict::shared_verdict-verdict_node-requires : goal.verdict::shared_verdict-verdict_node-requires
+verdict::shared_verdict-verdict_node-requires g t c =
+    let ns = numbered g.K.Validate.shape c.args.engine.now.nodes.now in
+    let set = setting g.K.Validate.words g.K.Validate.is_whole g.K.Validate.shape g.M.Matcher.matching c.args.engine.now in
+    let q = asking c.args.question.now in
+    let p = steps_to c.args.question.now.place.now in
+    let i = c.args.node.0 in
+    let c0 = c.args.context.now in
+    let c1 = c.new.new.context in
+    let same : c1 ≡ c0 = c.in_ok-pair.ensures.unchanged in
+    let count = length c.args.engine.now.nodes.now in
+    let s = subject_of c.args.question.now.instance in
+    let there : steps_to c.numbered_place-place.result ≡ p = c.numbered_place-place.ensures.same ∙ c.in_ok-pair.ensures.place in
+    let l = ap (λ q. left ns count i s (busy_at q c1.in_progress)) there ∙ ap (λ (z : Context). left ns count i s (busy_at p z.in_progress)) same in
+    let deeper = subst (λ q. NoDeeper q c1.in_progress) (sym there) (subst (λ (z : Context). NoDeeper p z.in_progress) (sym same) c.requires.may.above) in
+    let (layout, laid, right) = c.requires.may.goes_on in
+    let laid' = subst (λ q. LaysOut layout q s) (sym there) laid in
+    let right' = right_same set layout c0 c1 (ap (λ (z : Context). z.remembered) same) (ap (λ (z : Context). z.verdicts) same) right in
+    let root = ap (λ (z : Context). z.root) same in
+    let carries = carries_on c0.root c1.root c.numbered_place-place.result root (c.numbered_place-place.ensures.carries c0 c.in_ok-pair.ensures.numbered) in
+    λ κs h. (lower_same _ _ t 10 0 l c.decreases, (h.0, (h.1.0, (h.1.1.0, (h.1.1.1, record { may = record { known = c.requires.may.known; ranked = c.requires.may.ranked; above = deeper; wanted = c.requires.may.wanted; stands = stands_at c0.root _ q _ root there c.requires.may.stands; goes_on = (layout, laid', right') }; carries = carries; verdict = c.requires.verdict; stands = tt })))))
+
+pub verdict::shared_verdict-returns-in-Some : goal.verdict::shared_verdict-returns-in-Some
+verdict::shared_verdict-returns-in-Some g t c =
+    let ns = numbered g.K.Validate.shape c.args.engine.now.nodes.now in
+    let set = setting g.K.Validate.words g.K.Validate.is_whole g.K.Validate.shape g.M.Matcher.matching c.args.engine.now in
+    let q = asking c.args.question.now in
+    let p = steps_to c.args.question.now.place.now in
+    let i = c.args.node.0 in
+    let c0 = c.args.context.now in
+    let c1 = c.new.new.context in
+    let same : c1 ≡ c0 = c.in_ok-pair.ensures.unchanged in
+    let laws : (texts : Bool) → EachKeeps (g.K.Validate.words texts) = λ texts m. (g.K.Validate.absorbed m, keeps_of_turns (g.K.Validate.words texts) m (g.K.Validate.absorbed m) (g.K.Validate.remaining m) (g.K.Validate.can_be texts m) (g.K.Validate.ends texts m) (g.K.Validate.fits texts m) (g.met.K.Validate.turn_laws texts m) (g.met.K.Validate.function_laws texts m)) in
+    let found = pair_lasting i c.in_ok-pair.pair.node.0 p (place_of c.in_ok-pair.pair) c0 c1 (ap (λ (n : SchemaNode). n.0) c.in_ok-pair.ensures.node) c.in_ok-pair.ensures.place same (Some c.in-Some.valid) c.in-Some.ensures.read in
+    record {
+      keeps = search rules;
+      counts = search rules;
+      visits = shared_counts ns q c0 c1 i c.requires.stands (ap (λ (z : Context). z.visits) same);
+      says = read_again set laws q c.requires.verdict c0 i c.requires.may.known c.requires.may.ranked c.requires.stands c.requires.may.goes_on c.in-Some.valid found;
+      meets = meets_again set laws q c.requires.verdict c0 i c.requires.may.known c.requires.may.ranked c.requires.stands c.requires.may.goes_on c.in-Some.valid found c1 (ap (λ (z : Context). z.remembered) same);
+      stays = search rules;
+      remembers = tt;
+    }
+
+pub verdict::shared_verdict-returns : goal.verdict::shared_verdict-returns
+verdict::shared_verdict-returns g t c =
+    let ns = numbered g.K.Validate.shape c.args.engine.now.nodes.now in
+    let set = setting g.K.Validate.words g.K.Validate.is_whole g.K.Validate.shape g.M.Matcher.matching c.args.engine.now in
+    let q = asking c.args.question.now in
+    let p = steps_to c.args.question.now.place.now in
+    let i = c.args.node.0 in
+    let c0 = c.args.context.now in
+    let c1 = c.new.new.context in
+    let same : c1 ≡ c0 = c.in_ok-pair.ensures.unchanged in
+    let laws : (texts : Bool) → EachKeeps (g.K.Validate.words texts) = λ texts m. (g.K.Validate.absorbed m, keeps_of_turns (g.K.Validate.words texts) m (g.K.Validate.absorbed m) (g.K.Validate.remaining m) (g.K.Validate.can_be texts m) (g.K.Validate.ends texts m) (g.K.Validate.fits texts m) (g.met.K.Validate.turn_laws texts m) (g.met.K.Validate.function_laws texts m)) in
+    let v = c.in_ok-valid.valid in
+    let c2 = c.verdict_node.new.context in
+    let c3 = c.remember_verdict.new.context in
+    let there : steps_to c.numbered_place-place.result ≡ p = c.numbered_place-place.ensures.same ∙ c.in_ok-pair.ensures.place in
+    let at_asked : (record { subject = q.subject; place = steps_to c.numbered_place-place.result; path = q.path; mode = q.mode }) ≡ q = λ j. record { subject = q.subject; place = there j; path = q.path; mode = q.mode } in
+    let frame = c.remember_verdict.ensures.frame in
+    let met : c3.remembered ≡ c2.remembered = ap (λ (z : Context). z.remembered) frame in
+    let keeps : Keeps c0 c2 = subst (λ (z : Context). Keeps z c2) same c.in_ok-valid.ensures.keeps in
+    let says : NodeSays set q c0 i (told.Truth v) = subst (λ (z : Context). NodeSays set q z i (told.Truth v)) same (subst (λ z. NodeSays set z c1 i (told.Truth v)) at_asked c.in_ok-valid.ensures.says) in
+    let meets : MeetsNode set q c0 c2 i = subst (λ (z : Context). MeetsNode set q z c2 i) same (subst (λ z. MeetsNode set z c1 c2 i) at_asked c.in_ok-valid.ensures.meets) in
+    let counts : NodeCounts ns q c0 c2 i = subst (λ (z : Context). NodeCounts ns q z c2 i) same (subst (λ z. NodeCounts ns z c1 c2 i) at_asked c.in_ok-valid.ensures.visits) in
+    let stays : StaysRight set q c0 c2 = subst (λ (z : Context). StaysRight set q z c2) same (subst (λ z. StaysRight set z c1 c2) at_asked c.in_ok-valid.ensures.stays) in
+    let kept = rw (ap (λ (n : SchemaNode). n.0) c.in_ok-pair.ensures.node, c.in_ok-pair.ensures.place) at c.in_ok-remember_verdict.ensures.kept in
+    let visits : c3.visits ≡ c2.visits = ap (λ (z : Context). z.visits) frame in
+    record {
+      keeps = record { root = ap (λ (z : Context). z.root) frame ∙ keeps.root; in_progress = ap (λ (z : Context). z.in_progress) frame ∙ keeps.in_progress; assumptions = ap (λ (z : Context). z.remembered.assumptions) frame ∙ keeps.assumptions; marking = ap (λ (z : Context). z.marking) frame ∙ keeps.marking };
+      counts = subst (λ z. z ≤ c3.visits) (ap (λ (z : Context). z.visits) same) (subst (λ z. c1.visits ≤ z) (sym visits) c.in_ok-valid.ensures.counts);
+      visits = λ mode depth n takes. visits ∙ counts mode depth n takes;
+      says = says;
+      meets = subst (λ (r : Remembered). NodeMeets set.words set.is_whole set.nodes set.count (settling set.matcher c0.remembered.assumptions) q.mode q.path q.place (busy_at q.place c0.in_progress) q.subject c0.remembered r i) (sym met) meets;
+      stays = stays_kept set laws q c.requires.verdict c0 i c.requires.may.known c.requires.may.ranked c.requires.stands c2 c3 v says meets keeps stays g.met.K.Validate.asks_verdicts kept met;
+      remembers = tt;
+    }
 
 pub verdict::guarded_verdict-returns-in-Some : goal.verdict::guarded_verdict-returns-in-Some
 verdict::guarded_verdict-returns-in-Some g t c = record {

@@ -48,6 +48,9 @@ decreases-verdict::verdict_reference g l = 20 * edge_needs (numbered g.K.Validat
 abbrev pub decreases-verdict::verdict_edge : goal.decreases-verdict::verdict_edge
 decreases-verdict::verdict_edge g l = 20 * edge_needs (numbered g.K.Validate.shape l.engine.now.nodes.now) (length l.engine.now.nodes.now) (edge_of l.edge.now) (subject_of l.question.now.instance) (busy_at (steps_to l.question.now.place.now) l.context.now.in_progress) + 1
 
+abbrev pub decreases-verdict::shared_verdict : goal.decreases-verdict::shared_verdict
+decreases-verdict::shared_verdict g l = 20 * left (numbered g.K.Validate.shape l.engine.now.nodes.now) (length l.engine.now.nodes.now) l.node.0 (subject_of l.question.now.instance) (busy_at (steps_to l.question.now.place.now) l.context.now.in_progress) + 11
+
 abbrev pub decreases-verdict::guarded_verdict : goal.decreases-verdict::guarded_verdict
 decreases-verdict::guarded_verdict g l = 20 * edge_needs (numbered g.K.Validate.shape l.engine.now.nodes.now) (length l.engine.now.nodes.now) (edge_of l.edge.now) (subject_of l.question.now.instance) (busy_at (steps_to l.question.now.place.now) l.context.now.in_progress)
 

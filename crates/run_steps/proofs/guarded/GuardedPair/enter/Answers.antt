@@ -1,4 +1,4 @@
-use Rattle.std.proofs.Common.{◌≡◌, ◌++◌, ◌∷◌, [], subst}
+use Rattle.std.proofs.Common.{subst}
 use Rattle.schema_definitions.specs.Instance.{Place}
 use Rattle.schema_places.proofs.Closing.{stands}
 use Rattle.schema_contexts.specs.Progress.{Enters, places_in}
