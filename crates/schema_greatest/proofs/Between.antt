@@ -1,14 +1,16 @@
--- The sets between what is answered yes and what is not refused; and how what is said is kept as more is found.
-use Rattle.std.proofs.Common.{◌≡◌, ◌∙◌, ℕ, ◌<◌, ◌++◌, ◌||◌, not, Bool, true, false, refl, sym, ap, append_assoc, true≢false, inl, inr}
+-- The answers that fit what is found; and how what is said is kept as more is found.
+use Rattle.std.proofs.Common.{◌≡◌, ◌∙◌, ℕ, ◌<◌, ◌++◌, ◌||◌, ◌&&◌, not, Bool, true, false, refl, sym, subst, ap, append_assoc, true≢false, inl, inr}
 use Rattle.std.specs.Prelude.{None, Option, Some}
 use Rattle.std.proofs.lemmas.Bool.{false_from_ne_true, or_left, or_right}
 use Rattle.schema_definitions.specs.Instance.{Place}
 use Rattle.schema_definitions.specs.Keywords.{Below}
+use Rattle.schema_definitions.specs.Guarded.{NodeEdge}
 use Rattle.schema_definitions.specs.Meaning.{place_below}
 use Rattle.schema_definitions.proofs.Products.{in_either}
-use Rattle.schema_greatest.specs.Under.{FailsUnderEach, PairSet, Solving, IsSolvable, Stands}
-use Rattle.schema_greatest.specs.Found.{Between, Found, Grows, IsSound, SaysPair, SaysUnder, accepted_now, refused, settled}
-use Rattle.schema_greatest.proofs.Under.{below_begins, under_more}
+use Rattle.schema_greatest.specs.Under.{EdgeAnswers, PairSet, Solving, by_set}
+use Rattle.schema_greatest.specs.Found.{Found, Grows, accepted_now, refused, settled}
+use Rattle.schema_greatest.specs.Stages.{Fits, IsStaged, PairTells, Tells, for_now}
+use Rattle.schema_greatest.proofs.Under.{below_begins}
 
 -- ---- what is known
 
@@ -52,57 +54,79 @@ module _ (f : Found) (i : ℕ) (p : Place) where
   pub accepted_cases : {P : Type 0} → (f.busy i p ≡ true → P) → (f.assumed i p ≡ true → P) → (settled f i p ≡ true → P) → accepted_now f i p ≡ true → P
   accepted_cases a b c is = in_either (f.busy i p) _ a (in_either (f.assumed i p) _ b c) is
 
-module _ {K R : Type 0} (w : Solving K R) (f : Found) (sound : IsSound w f) (i : ℕ) (p : Place) where
-  pub busy_unknown : f.busy i p ≡ true → f.known i p ≡ None
-  busy_unknown is = sound.apart i p (or_left _ _ is)
+module _ (f : Found) (i : ℕ) (p : Place) where
+  pub now_busy : f.busy i p ≡ true → for_now f i p ≡ true
+  now_busy is = or_left _ _ is
 
-  pub assumed_unknown : f.assumed i p ≡ true → f.known i p ≡ None
-  assumed_unknown is = sound.apart i p (or_right (f.busy i p) _ is)
+  pub now_assumed : f.assumed i p ≡ true → for_now f i p ≡ true
+  now_assumed is = or_right (f.busy i p) _ is
 
-  pub accepted_not_refused : accepted_now f i p ≡ true → refused f i p ≡ false
-  accepted_not_refused = accepted_cases f i p
-      (λ is. unknown_not_refused f i p (busy_unknown is))
-      (λ is. unknown_not_refused f i p (assumed_unknown is))
-      (λ is. ap (λ o. elim o as (λ (o : Option Bool). Bool) [ None ↦ false | Some v ↦ not v ]) (is_settled f i p is))
+  pub now_cases : {P : Type 0} → (f.busy i p ≡ true → P) → (f.assumed i p ≡ true → P) → for_now f i p ≡ true → P
+  now_cases a b is = in_either (f.busy i p) (f.assumed i p) a b is
 
--- ---- sets between
+-- ---- answers that fit
 
-abbrev pub both_sets : PairSet → PairSet → PairSet
-both_sets a b i p = a i p || b i p
+-- less leans on fewer
+pub lean_less : (f : Found) (l k : Bool) (answers : EdgeAnswers) → (l ≡ true → k ≡ true) → Fits f k answers → Fits f l answers
+lean_less f l k answers less fits = record { alike = fits.alike; known = fits.known; leaning = λ is. fits.leaning (less is) }
 
-module _ {K R : Type 0} (w : Solving K R) (solvable : IsSolvable w) (f : Found) (sound : IsSound w f) where
-  -- what is answered yes is such a set
-  pub between_now : Between f (accepted_now f)
-  between_now = record {
-    above = λ i p is. is;
-    below = λ i p is. false_from_ne_true (accepted_now f i p) (λ said. true≢false (sym is ∙ accepted_not_refused w f sound i p said));
+pub lean_none : (f : Found) (l : Bool) (answers : EdgeAnswers) → Fits f l answers → Fits f false answers
+lean_none f l answers fits = lean_less f false l answers (λ is. absurd (true≢false (sym is))) fits
+
+module _ {K R : Type 0} (w : Solving K R) (f : Found) (staged : IsStaged w f) where
+  pub known_not_now : (i : ℕ) (p : Place) (v : Bool) → f.known i p ≡ Some v → for_now f i p ≡ false
+  known_not_now i p v is = false_from_ne_true (for_now f i p) (λ now. let f : ⊥ = let both : Some v ≡ None = sym is ∙ staged.apart i p now in cc both in f)
+
+  pub busy_unknown : (i : ℕ) (p : Place) → f.busy i p ≡ true → f.known i p ≡ None
+  busy_unknown i p is = staged.apart i p (now_busy f i p is)
+
+  pub assumed_unknown : (i : ℕ) (p : Place) → f.assumed i p ≡ true → f.known i p ≡ None
+  assumed_unknown i p is = staged.apart i p (now_assumed f i p is)
+
+  -- those at hand, and yes for now
+  abbrev pub with_now : EdgeAnswers → EdgeAnswers
+  with_now answers e p = answers e p || for_now f e.node p
+
+  pub with_now_fits : (answers : EdgeAnswers) → Fits f false answers → Fits f true (with_now answers)
+  with_now_fits answers fits = record {
+    alike = λ a b p node guards. both (answers a p) (answers b p) (for_now f a.node p) (for_now f b.node p) (fits.alike a b p node guards) (ap (λ n. for_now f n p) node);
+    known = λ e p v is. both (answers e p) v (for_now f e.node p) false (fits.known e p v is) (known_not_now e.node p v is) ∙ no_more v;
+    leaning = λ is e p now. or_right (answers e p) _ now;
   }
+    where
+      both : (a b c d : Bool) → a ≡ b → c ≡ d → (a || c) ≡ (b || d)
+      both a b c d x y = ap (λ z. z || c) x ∙ ap (λ z. b || z) y
 
-  -- and so it is with any set that stands by itself
-  pub between_with : (inside : PairSet) → Stands w inside → Between f (both_sets inside (accepted_now f))
-  between_with inside stands = record {
-    above = λ i p is. or_right (inside i p) _ is;
-    below = λ i p is. false_from_ne_true (inside i p || accepted_now f i p) (in_either (inside i p) (accepted_now f i p)
-        (λ has. let fails = sound.fails i p is in fails.1 inside stands (stands i p fails.0 has))
-        (λ said. true≢false (sym is ∙ accepted_not_refused w f sound i p said)));
+      no_more : (v : Bool) → (v || false) ≡ v
+      no_more true = refl
+      no_more false = refl
+
+  -- what is answered yes now, by pairs
+  pub accepted_fits : Fits f true (by_set (accepted_now f))
+  accepted_fits = record {
+    alike = λ a b p node guards. ap (λ n. accepted_now f n p) node;
+    known = λ e p v is. answered e.node p v is;
+    leaning = λ is e p. now_cases f e.node p (by_busy f e.node p) (by_assumed f e.node p);
   }
+    where
+      known_value : (o : Option Bool) (v : Bool) → o ≡ Some v → (let b : Bool = elim o [ None ↦ false | Some x ↦ x ] in b) ≡ v
+      known_value o v is = ap (λ o. elim o as (λ (o : Option Bool). Bool) [ None ↦ false | Some x ↦ x ]) is
 
-  -- so what says no under all of them fails under every set that stands by itself
-  pub fails_under_each : (i : ℕ) (p : Place) → i < w.count → SaysUnder w f i p false → FailsUnderEach w i p
-  fails_under_each i p l says inside stands is = true≢false
-      (sym (under_more w solvable inside (both_sets inside (accepted_now f)) i p l (λ j q. or_left _ _) is) ∙ says (both_sets inside (accepted_now f)) (between_with inside stands))
+      joined : (a b c v : Bool) → (a || b) ≡ false → c ≡ v → (a || (b || c)) ≡ v
+      joined true b c v none is = absurd (true≢false none)
+      joined false true c v none is = absurd (true≢false none)
+      joined false false c v none is = is
+
+      answered : (i : ℕ) (p : Place) (v : Bool) → f.known i p ≡ Some v → accepted_now f i p ≡ v
+      answered i p v is = joined (f.busy i p) (f.assumed i p) (settled f i p) v (known_not_now i p v is) (known_value (f.known i p) v is)
 
 -- ---- what is answered of a pair at once
 
-pub says_known : (f : Found) (i : ℕ) (p : Place) (v : Bool) → f.known i p ≡ Some v → SaysPair f i p v
-says_known f i p true is inside between = between.above i p (by_settled f i p (settled_by f i p is))
-says_known f i p false is inside between = between.below i p (refused_by f i p is)
+pub tells_known : (f : Found) (i : ℕ) (p : Place) (v l : Bool) → f.known i p ≡ Some v → PairTells f i p v l
+tells_known f i p v l is answers fits e node = fits.known e p v (subst (λ n. f.known n p ≡ Some v) (sym node) is)
 
-pub says_busy : (f : Found) (i : ℕ) (p : Place) → f.busy i p ≡ true → SaysPair f i p true
-says_busy f i p is inside between = between.above i p (by_busy f i p is)
-
-pub says_assumed : (f : Found) (i : ℕ) (p : Place) → f.assumed i p ≡ true → SaysPair f i p true
-says_assumed f i p is inside between = between.above i p (by_assumed f i p is)
+pub tells_now : (f : Found) (i : ℕ) (p : Place) → for_now f i p ≡ true → PairTells f i p true true
+tells_now f i p is answers fits e node = fits.leaning refl e p (subst (λ n. for_now f n p ≡ true) (sym node) is)
 
 -- ---- as more is found
 
@@ -129,18 +153,14 @@ grows_below q b f g a = record {
   ];
 }
 
-pub grows_between : (q : Place) (f g : Found) → Grows q f g → (inside : PairSet) → Between g inside → Between f inside
-grows_between q f g a inside between = record {
-  above = λ i p. accepted_cases f i p
-      (λ is. between.above i p (by_busy g i p (a.busy i p ∙ is)))
-      (λ is. between.above i p (by_assumed g i p (a.assumed i p is)))
-      (λ is. between.above i p (by_settled g i p (settled_by g i p (a.known i p true (is_settled f i p is)))));
-  below = λ i p is. between.below i p (refused_by g i p (a.known i p false (is_refused f i p is)));
+pub grows_fits : (q : Place) (f g : Found) → Grows q f g → (l k : Bool) → (l ≡ true → k ≡ true) → (answers : EdgeAnswers) → Fits g k answers → Fits f l answers
+grows_fits q f g grew l k less answers fits = record {
+  alike = fits.alike;
+  known = λ e p v is. fits.known e p v (grew.known e.node p v is);
+  leaning = λ is e p. now_cases f e.node p
+      (λ now. fits.leaning (less is) e p (now_busy g e.node p (grew.busy e.node p ∙ now)))
+      (λ now. fits.leaning (less is) e p (now_assumed g e.node p (grew.assumed e.node p now)));
 }
 
--- what was said is said still
-pub says_still : {K R : Type 0} (w : Solving K R) (q : Place) (f g : Found) → Grows q f g → (i : ℕ) (p : Place) (b : Bool) → SaysUnder w f i p b → SaysUnder w g i p b
-says_still w q f g a i p b says inside between = says inside (grows_between q f g a inside between)
-
-pub pair_says_still : (q : Place) (f g : Found) → Grows q f g → (i : ℕ) (p : Place) (b : Bool) → SaysPair f i p b → SaysPair g i p b
-pair_says_still q f g a i p b says inside between = says inside (grows_between q f g a inside between)
+pub grows_fits_same : (q : Place) (f g : Found) → Grows q f g → (l : Bool) (answers : EdgeAnswers) → Fits g l answers → Fits f l answers
+grows_fits_same q f g grew l answers fits = grows_fits q f g grew l l (λ is. is) answers fits

@@ -39,7 +39,7 @@ module _ {K R : Type 0} (keywords : Keywords K R) (matcher : Matcher) (nodes : N
   parts_verdict [] = refl
   parts_verdict (x ∷ xs) = ap₂ (λ a b. a && b) (part_verdict x.name x.form) (parts_verdict xs)
 
-  node_verdict : (node_outcome keywords matcher nodes subject_of c i path p f).verdict ≡ node_holds keywords matcher nodes subject_of c i p (λ e b. (f e b).verdict)
+  pub node_verdict : (node_outcome keywords matcher nodes subject_of c i path p f).verdict ≡ node_holds keywords matcher nodes subject_of c i p (λ e b. (f e b).verdict)
   node_verdict = go (nodes.entries i)
     where
       go : (o : NodePlan K)

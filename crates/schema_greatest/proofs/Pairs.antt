@@ -13,7 +13,7 @@ same_step-self (to_member k) = (bytes_eq-Decides k k).1 refl
 same_step-self (to_item i) = search rules
 same_step-self (to_name k) = (bytes_eq-Decides k k).1 refl
 
-same_place-self : (p : Place) → same_place p p ≡ true
+pub same_place-self : (p : Place) → same_place p p ≡ true
 same_place-self [] = refl
 same_place-self (s ∷ p) = both_true _ _ (same_step-self s) (same_place-self p)
 
@@ -28,7 +28,7 @@ step_equal (to_name k) (to_member l) h = absurd (true≢false (sym h))
 step_equal (to_name k) (to_item l) h = absurd (true≢false (sym h))
 step_equal (to_name k) (to_name l) h = ap to_name ((bytes_eq-Decides k l).0 h)
 
-place_equal : (p q : Place) → same_place p q ≡ true → p ≡ q
+pub place_equal : (p q : Place) → same_place p q ≡ true → p ≡ q
 place_equal [] [] h = refl
 place_equal [] (t ∷ q) h = absurd (true≢false (sym h))
 place_equal (s ∷ p) [] h = absurd (true≢false (sym h))

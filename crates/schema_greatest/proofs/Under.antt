@@ -1,16 +1,17 @@
--- A number under a set: at every depth that is enough, and more of it under more pairs.
+-- A number under answers of edges: the same at every depth that is enough, by what is asked at the place and below it, and more where more are yes.
 use Rattle.std.proofs.Common.{◌≡◌, ◌∙◌, ℕ, zero, suc, ◌<◌, ◌++◌, Bool, true, false, [], ◌∷◌, refl, sym, subst, ap, arith, append_assoc, true≢false}
 use Rattle.std.proofs.lemmas.List.{append-nil}
 use Rattle.schema_definitions.specs.Instance.{Place}
 use Rattle.schema_definitions.specs.Keywords.{Below, here, down}
 use Rattle.schema_definitions.specs.Meaning.{place_below}
-use Rattle.schema_definitions.specs.Guarded.{NodeEdge}
+use Rattle.schema_definitions.specs.Reports.{Outcome}
+use Rattle.schema_definitions.specs.Guarded.{NodeEdge, node_outcome}
 use Rattle.schema_meaning.specs.Numbered.{left, subject_in}
 use Rattle.schema_meaning.proofs.Reading.{Reads, reads_of}
-use Rattle.schema_meaning.proofs.Settles.{NodeAsks, free_falls}
-use Rattle.schema_greatest.specs.NodesSay.{IsNodeSolution, node_holds}
-use Rattle.schema_greatest.proofs.NodesSay.{node_more, word_monotone}
-use Rattle.schema_greatest.specs.Under.{PairSet, Solving, IsSolvable, Stands, across_under, under, under_within}
+use Rattle.schema_meaning.proofs.Settles.{NodeAsks, free_falls, node_local}
+use Rattle.schema_greatest.specs.NodesSay.{node_holds}
+use Rattle.schema_greatest.proofs.NodesSay.{node_more, node_verdict, word_monotone}
+use Rattle.schema_greatest.specs.Under.{EachMonotone, EdgeAnswers, Solving, IsSolvable, across_by, by_within, under_by}
 
 pub same_bool : (a b : Bool) → (a ≡ true → b ≡ true) → (b ≡ true → a ≡ true) → a ≡ b
 same_bool true b f g = sym (f refl)
@@ -22,6 +23,10 @@ pub below_begins : (p : Place) (b : Below) → (r : Place) × (place_below p b �
 below_begins p here = ([], sym (append-nil p))
 below_begins p (down s) = (s ∷ [], refl)
 
+-- an outcome with a verdict
+verdict_alone : Bool → Outcome
+verdict_alone b = record { verdict = b; errors = [] }
+
 module _ {K R : Type 0} (w : Solving K R) (solvable : IsSolvable w) where
   reads : Reads w.keywords
   reads = reads_of w.keywords solvable.laws
@@ -30,23 +35,19 @@ module _ {K R : Type 0} (w : Solving K R) (solvable : IsSolvable w) where
   pub leads_inside : (i : ℕ) (p : Place) (e : NodeEdge) (b : Below) → i < w.count → NodeAsks w.instance w.nodes i p e b → e.node < w.count
   leads_inside i p e b l asks = (solvable.ranked i l e asks.edge).0
 
-  -- more yeses among the answers turn no yes to a no
-  pub holds_more : (i : ℕ) (p : Place) (f g : NodeEdge → Below → Bool) → i < w.count
-      → ((e : NodeEdge) (b : Below) → NodeAsks w.instance w.nodes i p e b → f e b ≡ true → g e b ≡ true)
-      → node_holds w.keywords w.matcher w.nodes (subject_in w.instance) w.completion i p f ≡ true
-      → node_holds w.keywords w.matcher w.nodes (subject_in w.instance) w.completion i p g ≡ true
-  holds_more i p f g l h is = node_more w.keywords reads w.matcher w.nodes w.instance w.completion i p f g
-      (word_monotone w.keywords reads w.matcher w.nodes w.instance w.completion w.count solvable.ranked solvable.monotone i l) h is
+  abbrev holds : ℕ → Place → (NodeEdge → Below → Bool) → Bool
+  holds = node_holds w.keywords w.matcher w.nodes (subject_in w.instance) w.completion
 
-  holds_same : (i : ℕ) (p : Place) (f g : NodeEdge → Below → Bool) → i < w.count
-      → ((e : NodeEdge) (b : Below) → NodeAsks w.instance w.nodes i p e b → f e b ≡ g e b)
-      → node_holds w.keywords w.matcher w.nodes (subject_in w.instance) w.completion i p f
-      ≡ node_holds w.keywords w.matcher w.nodes (subject_in w.instance) w.completion i p g
-  holds_same i p f g l h = same_bool _ _
-      (holds_more i p f g l (λ e b asks is. sym (h e b asks) ∙ is))
-      (holds_more i p g f l (λ e b asks is. h e b asks ∙ is))
+  -- what a number says rests on what its edges answer that it may ask
+  pub holds_same : (i : ℕ) (p : Place) (f g : NodeEdge → Below → Bool)
+      → ((e : NodeEdge) (b : Below) → NodeAsks w.instance w.nodes i p e b → f e b ≡ g e b) → holds i p f ≡ holds i p g
+  unfolding verdict_alone
+  holds_same i p f g h =
+      sym (node_verdict w.keywords w.matcher w.nodes (subject_in w.instance) w.completion i [] p (λ e b. verdict_alone (f e b)))
+      ∙ ap (λ (o : Outcome). o.verdict) (node_local w.keywords w.matcher w.instance w.nodes reads w.completion i [] p (λ e b. verdict_alone (f e b)) (λ e b. verdict_alone (g e b)) (λ e b asks. ap verdict_alone (h e b asks)))
+      ∙ node_verdict w.keywords w.matcher w.nodes (subject_in w.instance) w.completion i [] p (λ e b. verdict_alone (g e b))
 
-  -- an edge that is not answered by the set is not guarded
+  -- an edge that is not answered by these is not guarded
   free : (e : NodeEdge) → w.cut e ≡ false → e.guarded ≡ false
   free e is = go e.guarded refl
     where
@@ -54,88 +55,74 @@ module _ {K R : Type 0} (w : Solving K R) (solvable : IsSolvable w) where
       go true guarded = absurd (true≢false (sym (solvable.cuts e guarded) ∙ is))
       go false guarded = refl
 
-  by_cut : (c x y y' : Bool) → (c ≡ false → y ≡ y') → ◌≡◌ {A = Bool} (elim c [ true ↦ x | false ↦ y ]) (elim c [ true ↦ x | false ↦ y' ])
-  by_cut true x y y' h = refl
-  by_cut false x y y' h = h refl
+  pub by_cut : (c x x' y y' : Bool) → (c ≡ true → x ≡ x') → (c ≡ false → y ≡ y') → ◌≡◌ {A = Bool} (elim c [ true ↦ x | false ↦ y ]) (elim c [ true ↦ x' | false ↦ y' ])
+  by_cut true x x' y y' g h = g refl
+  by_cut false x x' y y' g h = h refl
 
-  settles : (inside : PairSet) (m n i : ℕ) (p : Place) → i < w.count → left w.nodes w.count i (subject_in w.instance p) [] < m → left w.nodes w.count i (subject_in w.instance p) [] < n
-      → under_within w inside m i p ≡ under_within w inside n i p
-  settles inside zero n i p l a b = absurd (omega arith)
-  settles inside (suc m) zero i p l a b = absurd (omega arith)
-  settles inside (suc m) (suc n) i p l a b = holds_same i p _ _ l (λ e d asks. by_cut (w.cut e) _ _ _ (λ uncut.
-      let f = falls e d asks uncut in
-      settles inside m n e.node (place_below p d) (leads_inside i p e d l asks) (omega (arith, f, a)) (omega (arith, f, b))))
-    where
-      falls : (e : NodeEdge) (d : Below) → NodeAsks w.instance w.nodes i p e d → w.cut e ≡ false → left w.nodes w.count e.node (subject_in w.instance (place_below p d)) [] < left w.nodes w.count i (subject_in w.instance p) []
-      falls e here asks uncut = free_falls w.instance w.nodes w.count solvable.ranked i p [] e here l asks (free e uncut)
-      falls e (down s) asks uncut = free_falls w.instance w.nodes w.count solvable.ranked i p [] e (down s) l asks (free e uncut)
+  -- the measure falls along such an edge
+  pub free_lower : (i : ℕ) (p : Place) (e : NodeEdge) (d : Below) → i < w.count → NodeAsks w.instance w.nodes i p e d → w.cut e ≡ false
+      → left w.nodes w.count e.node (subject_in w.instance (place_below p d)) [] < left w.nodes w.count i (subject_in w.instance p) []
+  free_lower i p e here l asks uncut = free_falls w.instance w.nodes w.count solvable.ranked i p [] e here l asks (free e uncut)
+  free_lower i p e (down s) l asks uncut = free_falls w.instance w.nodes w.count solvable.ranked i p [] e (down s) l asks (free e uncut)
 
-  -- ---- what a number says under a set is what its node says over the answers of its edges
+  pub settles : (answers : EdgeAnswers) (m n i : ℕ) (p : Place) → i < w.count → left w.nodes w.count i (subject_in w.instance p) [] < m → left w.nodes w.count i (subject_in w.instance p) [] < n
+      → by_within w answers m i p ≡ by_within w answers n i p
+  settles answers zero n i p l a b = absurd (omega arith)
+  settles answers (suc m) zero i p l a b = absurd (omega arith)
+  settles answers (suc m) (suc n) i p l a b = holds_same i p _ _ (λ e d asks. by_cut (w.cut e) _ _ _ _ (λ cut. refl) (λ uncut.
+      let f = free_lower i p e d l asks uncut in
+      settles answers m n e.node (place_below p d) (leads_inside i p e d l asks) (omega (arith, f, a)) (omega (arith, f, b))))
 
-  pub under_is : (inside : PairSet) (i : ℕ) (p : Place) → i < w.count
-      → under w inside i p ≡ node_holds w.keywords w.matcher w.nodes (subject_in w.instance) w.completion i p (across_under w inside (under w inside) p)
-  under_is inside i p l = holds_same i p _ _ l (λ e d asks. by_cut (w.cut e) _ _ _ (λ uncut.
-      settles inside (left w.nodes w.count i (subject_in w.instance p) []) (suc (left w.nodes w.count e.node (subject_in w.instance (place_below p d)) [])) e.node (place_below p d)
-      (leads_inside i p e d l asks) (falls e d asks uncut) (omega arith)))
-    where
-      falls : (e : NodeEdge) (d : Below) → NodeAsks w.instance w.nodes i p e d → w.cut e ≡ false → left w.nodes w.count e.node (subject_in w.instance (place_below p d)) [] < left w.nodes w.count i (subject_in w.instance p) []
-      falls e here asks uncut = free_falls w.instance w.nodes w.count solvable.ranked i p [] e here l asks (free e uncut)
-      falls e (down s) asks uncut = free_falls w.instance w.nodes w.count solvable.ranked i p [] e (down s) l asks (free e uncut)
+  -- ---- what a number says under answers is what its node says over those of its edges
 
-  -- ---- more pairs at the place and below it turn no yes to a no
+  pub under_is : (answers : EdgeAnswers) (i : ℕ) (p : Place) → i < w.count → under_by w answers i p ≡ holds i p (across_by w answers (under_by w answers) p)
+  under_is answers i p l = holds_same i p _ _ (λ e d asks. by_cut (w.cut e) _ _ _ _ (λ cut. refl) (λ uncut.
+      settles answers (left w.nodes w.count i (subject_in w.instance p) []) (suc (left w.nodes w.count e.node (subject_in w.instance (place_below p d)) [])) e.node (place_below p d)
+      (leads_inside i p e d l asks) (free_lower i p e d l asks uncut) (omega arith)))
 
-  across_more : (c x x' y y' : Bool) → (x ≡ true → x' ≡ true) → (y ≡ true → y' ≡ true)
-      → (let a : Bool = elim c [ true ↦ x | false ↦ y ] in a) ≡ true → (let a : Bool = elim c [ true ↦ x' | false ↦ y' ] in a) ≡ true
-  across_more true x x' y y' f g is = f is
-  across_more false x x' y y' f g is = g is
+  -- ---- it rests on what is answered at the place and below it
 
-  more_below : (fewer more : PairSet) (p : Place) (b : Below) → ((j : ℕ) (r : Place) → fewer j (p ++ r) ≡ true → more j (p ++ r) ≡ true)
-      → (j : ℕ) (r : Place) → fewer j (place_below p b ++ r) ≡ true → more j (place_below p b ++ r) ≡ true
-  more_below fewer more p b h j r =
+  at_below : (P : Place → Type 0) (p : Place) (b : Below) → ((r : Place) → P (p ++ r)) → P (place_below p b)
+  at_below P p b h = let begins = below_begins p b in subst P (sym begins.1) (h begins.0)
+
+  all_below : (P : Place → Type 0) (p : Place) (b : Below) → ((r : Place) → P (p ++ r)) → (r : Place) → P (place_below p b ++ r)
+  all_below P p b h r =
       let begins = below_begins p b in
       let whole : place_below p b ++ r ≡ p ++ (begins.0 ++ r) = ap (λ q. q ++ r) begins.1 ∙ append_assoc p begins.0 r in
-      subst (λ q. fewer j q ≡ true → more j q ≡ true) (sym whole) (h j (begins.0 ++ r))
+      subst P (sym whole) (h (begins.0 ++ r))
 
-  more_at : (fewer more : PairSet) (p : Place) (b : Below) → ((j : ℕ) (r : Place) → fewer j (p ++ r) ≡ true → more j (p ++ r) ≡ true)
-      → (j : ℕ) → fewer j (place_below p b) ≡ true → more j (place_below p b) ≡ true
-  more_at fewer more p b h j =
-      let begins = below_begins p b in
-      subst (λ q. fewer j q ≡ true → more j q ≡ true) (sym begins.1) (h j begins.0)
+  abbrev SameAt : EdgeAnswers → EdgeAnswers → Place → Type 0
+  SameAt f g q = (e : NodeEdge) → f e q ≡ g e q
 
-  within_more : (fewer more : PairSet) (n i : ℕ) (p : Place) → i < w.count → ((j : ℕ) (r : Place) → fewer j (p ++ r) ≡ true → more j (p ++ r) ≡ true)
-      → under_within w fewer n i p ≡ true → under_within w more n i p ≡ true
-  within_more fewer more zero i p l h is = refl
-  within_more fewer more (suc n) i p l h is = holds_more i p _ _ l (λ e b asks. across_more (w.cut e) _ _ _ _
-      (more_at fewer more p b h e.node)
-      (within_more fewer more n e.node (place_below p b) (leads_inside i p e b l asks) (more_below fewer more p b h))) is
+  within_same : (f g : EdgeAnswers) (n i : ℕ) (p : Place) → ((r : Place) → SameAt f g (p ++ r)) → by_within w f n i p ≡ by_within w g n i p
+  within_same f g zero i p h = refl
+  within_same f g (suc n) i p h = holds_same i p _ _ (λ e b asks. by_cut (w.cut e) _ _ _ _
+      (λ cut. at_below (SameAt f g) p b h e)
+      (λ uncut. within_same f g n e.node (place_below p b) (all_below (SameAt f g) p b h)))
 
-  pub under_more_below : (fewer more : PairSet) (i : ℕ) (p : Place) → i < w.count → ((j : ℕ) (r : Place) → fewer j (p ++ r) ≡ true → more j (p ++ r) ≡ true)
-      → under w fewer i p ≡ true → under w more i p ≡ true
-  under_more_below fewer more i p = within_more fewer more (suc (left w.nodes w.count i (subject_in w.instance p) [])) i p
+  pub under_same : (f g : EdgeAnswers) (i : ℕ) (p : Place) → ((r : Place) (e : NodeEdge) → f e (p ++ r) ≡ g e (p ++ r)) → under_by w f i p ≡ under_by w g i p
+  under_same f g i p h = within_same f g (suc (left w.nodes w.count i (subject_in w.instance p) [])) i p h
 
-  pub under_more : (fewer more : PairSet) (i : ℕ) (p : Place) → i < w.count → ((j : ℕ) (q : Place) → fewer j q ≡ true → more j q ≡ true)
-      → under w fewer i p ≡ true → under w more i p ≡ true
-  under_more fewer more i p l h = under_more_below fewer more i p l (λ j r. h j (p ++ r))
+  -- ---- where each keyword is monotone, more yeses turn no yes to a no
 
-  -- ---- sets that stand by themselves, and solutions, in which the set answers each edge
+  module _ (monotone : EachMonotone w) where
+    holds_more : (i : ℕ) (p : Place) (f g : NodeEdge → Below → Bool) → i < w.count
+        → ((e : NodeEdge) (b : Below) → NodeAsks w.instance w.nodes i p e b → f e b ≡ true → g e b ≡ true) → holds i p f ≡ true → holds i p g ≡ true
+    holds_more i p f g l h is = node_more w.keywords reads w.matcher w.nodes w.instance w.completion i p f g
+        (word_monotone w.keywords reads w.matcher w.nodes w.instance w.completion w.count solvable.ranked monotone i l) h is
 
-  pub solution_of : (inside : PairSet) → Stands w inside
-      → IsNodeSolution w.keywords w.matcher w.nodes (subject_in w.instance) w.completion w.count (under w inside)
-  solution_of inside stands i p l is = holds_more i p _ _ l (λ e b asks. go (w.cut e) e b (leads_inside i p e b l asks)) (sym (under_is inside i p l) ∙ is)
-    where
-      go : (c : Bool) (e : NodeEdge) (b : Below) → e.node < w.count → (let a : Bool = elim c [ true ↦ inside e.node (place_below p b) | false ↦ under w inside e.node (place_below p b) ] in a) ≡ true → under w inside e.node (place_below p b) ≡ true
-      go true e b k said = stands e.node (place_below p b) k said
-      go false e b k said = said
+    across_more : (c x x' y y' : Bool) → (x ≡ true → x' ≡ true) → (y ≡ true → y' ≡ true)
+        → (let a : Bool = elim c [ true ↦ x | false ↦ y ] in a) ≡ true → (let a : Bool = elim c [ true ↦ x' | false ↦ y' ] in a) ≡ true
+    across_more true x x' y y' f g is = f is
+    across_more false x x' y y' f g is = g is
 
-  solution_within : (inside : PairSet) → IsNodeSolution w.keywords w.matcher w.nodes (subject_in w.instance) w.completion w.count inside
-      → (n i : ℕ) (p : Place) → i < w.count → inside i p ≡ true → under_within w inside n i p ≡ true
-  solution_within inside solves zero i p l is = refl
-  solution_within inside solves (suc n) i p l is = holds_more i p _ _ l (λ e b asks said. go (w.cut e) e b said (solution_within inside solves n e.node (place_below p b) (leads_inside i p e b l asks) said)) (solves i p l is)
-    where
-      go : (c : Bool) (e : NodeEdge) (b : Below) → inside e.node (place_below p b) ≡ true → under_within w inside n e.node (place_below p b) ≡ true
-          → (let a : Bool = elim c [ true ↦ inside e.node (place_below p b) | false ↦ under_within w inside n e.node (place_below p b) ] in a) ≡ true
-      go true e b said deeper = said
-      go false e b said deeper = deeper
+    within_more : (fewer more : EdgeAnswers) (n i : ℕ) (p : Place) → i < w.count → ((e : NodeEdge) (q : Place) → fewer e q ≡ true → more e q ≡ true)
+        → by_within w fewer n i p ≡ true → by_within w more n i p ≡ true
+    within_more fewer more zero i p l h is = refl
+    within_more fewer more (suc n) i p l h is = holds_more i p _ _ l (λ e b asks. across_more (w.cut e) _ _ _ _
+        (h e (place_below p b))
+        (within_more fewer more n e.node (place_below p b) (leads_inside i p e b l asks) h)) is
 
-  pub solution_stands : (inside : PairSet) → IsNodeSolution w.keywords w.matcher w.nodes (subject_in w.instance) w.completion w.count inside → Stands w inside
-  solution_stands inside solves i p l is = solution_within inside solves (suc (left w.nodes w.count i (subject_in w.instance p) [])) i p l is
+    pub under_more : (fewer more : EdgeAnswers) (i : ℕ) (p : Place) → i < w.count → ((e : NodeEdge) (q : Place) → fewer e q ≡ true → more e q ≡ true)
+        → under_by w fewer i p ≡ true → under_by w more i p ≡ true
+    under_more fewer more i p = within_more fewer more (suc (left w.nodes w.count i (subject_in w.instance p) [])) i p

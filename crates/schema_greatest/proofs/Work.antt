@@ -6,7 +6,8 @@ use Rattle.std.proofs.lemmas.Bool.{and_parts, false_from_ne_true, or_left, or_ri
 use Rattle.schema_definitions.specs.Instance.{Place, same_place}
 use Rattle.schema_definitions.proofs.Products.{both_true, in_either}
 use Rattle.schema_greatest.specs.Under.{Solving, IsSolvable}
-use Rattle.schema_greatest.specs.Found.{Found, Grows, IsSound, NoneAt, NoneDeeper, after_no, after_yes, after_yes_alone, entered, is_this}
+use Rattle.schema_greatest.specs.Found.{Found, Grows, NoneDeeper, after_no, after_yes, after_yes_alone, after_yes_free, entered, is_this}
+use Rattle.schema_greatest.specs.Stages.{IsStaged}
 use Rattle.schema_greatest.specs.Work.{AtMostAt, IsAmong, IsBounded, IsCounted, Pairs, one_if, sum_over, weight, weight_of}
 use Rattle.schema_greatest.proofs.Pairs.{of_this, this_self, with_cases, with_others}
 use Rattle.schema_greatest.proofs.Between.{assumed_unknown}
@@ -82,7 +83,7 @@ entered_counts all most f i p begun among unseen idle free counted = omega (arit
         (in_either (f.busy j q) (f.assumed j q) (λ now. or_left ((entered f i p).busy j q) _ (with_others f.busy i p j q now)) (λ now. or_right ((entered f i p).busy j q) _ now)) in
         omega (arith, none, more))
 
-module _ {K R : Type 0} (w : Solving K R) (solvable : IsSolvable w) (old f : Found) (i : ℕ) (p : Place) (l : i < w.count) (before : IsSound w old) (sound : IsSound w f) (grew : Grows p (entered old i p) f) (all : Pairs) (most begun : ℕ) where
+module _ {K R : Type 0} (w : Solving K R) (solvable : IsSolvable w) (old f : Found) (i : ℕ) (p : Place) (l : i < w.count) (before : IsStaged w old) (sound : IsStaged w f) (grew : Grows p (entered old i p) f) (all : Pairs) (most begun : ℕ) where
   -- what is answered yes and was neither assumed since nor is the pair was so before
   was_so : (j : ℕ) (q : Place) → is_this i p j q ≡ false → (f.assumed j q && not (old.assumed j q)) ≡ false → (f.busy j q || f.assumed j q) ≡ true → (old.busy j q || old.assumed j q) ≡ true
   was_so j q other earlier = in_either (f.busy j q) (f.assumed j q)
@@ -101,16 +102,33 @@ module _ {K R : Type 0} (w : Solving K R) (solvable : IsSolvable w) (old f : Fou
           (λ now. with_cases old.busy i p j q (λ this. or_right (old.busy j q) _ (or_left (is_this i p j q) _ this)) (λ was. or_left (old.busy j q) _ was) (sym (grew.busy j q) ∙ now))
           (λ now. or_right (old.busy j q) _ (with_others f.assumed i p j q now)))
 
+  pub freed_counts : IsCounted all most f begun → IsCounted all most (after_yes_free old f i p) begun
+  freed_counts counted = omega (arith, counted, sum_le (weight most f) (weight most (after_yes_free old f i p)) each all)
+    where
+      each : (j : ℕ) (q : Place) → weight most f j q ≤ weight most (after_yes_free old f i p) j q
+      each j q = by_test (is_this i p j q)
+          (λ this.
+          let o : f.known j q ≡ None = of_this (λ k r. f.known k r ≡ None) i p j q this (unknown w solvable old f i p l before sound grew) in
+          let was : weight most f j q ≡ one_if (f.busy j q || f.assumed j q) = ap (λ o. weight_of most o (f.busy j q || f.assumed j q)) o in
+          let now : weight most (after_yes_free old f i p) j q ≡ 1 = ap (λ o. weight_of most o (old.busy j q || f.assumed j q)) (if_true (is_this i p j q) (Some true) (f.known j q) this) in
+          omega (arith, was, now, one_at_most (f.busy j q || f.assumed j q)))
+          (λ other.
+          let now : weight most (after_yes_free old f i p) j q ≡ weight_of most (f.known j q) (old.busy j q || f.assumed j q) = ap (λ o. weight_of most o (old.busy j q || f.assumed j q)) (if_false (is_this i p j q) (Some true) (f.known j q) other) in
+          let more = weight_more most (f.known j q) (f.busy j q || f.assumed j q) (old.busy j q || f.assumed j q) (in_either (f.busy j q) (f.assumed j q)
+          (λ now. with_cases old.busy i p j q (λ this. absurd (true≢false (sym this ∙ other))) (λ was. or_left (old.busy j q) _ was) (sym (grew.busy j q) ∙ now))
+          (λ now. or_right (old.busy j q) _ now)) in
+          omega (arith, now, more))
+
   abbrev fresh : ℕ → Place → Bool
   fresh j q = is_this i p j q || (f.assumed j q && not (old.assumed j q))
 
-  pub settled_counts : NoneAt p old → NoneDeeper p old → IsCounted all most f begun → IsCounted all most (after_yes_alone old f i p) begun
-  settled_counts none_at none_deeper counted = omega (arith, counted, sum_le (weight most f) (weight most (after_yes_alone old f i p)) each all)
+  pub settled_counts : IsCounted all most f begun → IsCounted all most (after_yes_alone old f i p) begun
+  settled_counts counted = omega (arith, counted, sum_le (weight most f) (weight most (after_yes_alone old f i p)) each all)
     where
       each : (j : ℕ) (q : Place) → weight most f j q ≤ weight most (after_yes_alone old f i p) j q
       each j q = by_test (fresh j q)
           (λ is.
-          let o : f.known j q ≡ None = new_unknown w solvable old f i p l before sound grew none_at none_deeper j q is in
+          let o : f.known j q ≡ None = new_unknown w solvable old f i p l before sound grew j q is in
           let was : weight most f j q ≡ one_if (f.busy j q || f.assumed j q) = ap (λ o. weight_of most o (f.busy j q || f.assumed j q)) o in
           let now : weight most (after_yes_alone old f i p) j q ≡ 1 = ap (λ o. weight_of most o (old.busy j q || old.assumed j q)) (if_true (fresh j q) (Some true) (f.known j q) is) in
           omega (arith, was, now, one_at_most (f.busy j q || f.assumed j q)))

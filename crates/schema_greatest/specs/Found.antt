@@ -47,10 +47,6 @@ pub record Grows (q : Place) (old new : Found) : Type 0 where
 abbrev pub SaysUnder : {K R : Type 0} → Solving K R → Found → ℕ → Place → Bool → Type 0
 SaysUnder w f i p b = (inside : PairSet) → Between f inside → under w inside i p ≡ b
 
--- and so does a pair that is answered by a set
-abbrev pub SaysPair : Found → ℕ → Place → Bool → Type 0
-SaysPair f i p b = (inside : PairSet) → Between f inside → inside i p ≡ b
-
 -- ---- the steps of a pair
 
 abbrev pub is_this : ℕ → Place → ℕ → Place → Bool
@@ -67,7 +63,7 @@ entered f i p = record f { busy = with_pair f.busy i p }
 abbrev pub after_no : Found → Found → ℕ → Place → Found
 after_no old f i p = record { busy = old.busy; assumed = old.assumed; known = λ j q. if is_this i p j q then Some false else f.known j q }
 
--- after a yes beside another pair in progress at its place: it is assumed
+-- after a yes that leans, beside another pair in progress at its place: it is assumed
 abbrev pub after_yes : Found → Found → ℕ → Place → Found
 after_yes old f i p = record { busy = old.busy; assumed = with_pair f.assumed i p; known = f.known }
 
@@ -78,6 +74,10 @@ after_yes_alone old f i p = record {
   assumed = old.assumed;
   known = λ j q. if is_this i p j q || (f.assumed j q && not (old.assumed j q)) then Some true else f.known j q;
 }
+
+-- after a yes that leans on nothing found: it is settled, and what was assumed since it was begun stays assumed
+abbrev pub after_yes_free : Found → Found → ℕ → Place → Found
+after_yes_free old f i p = record { busy = old.busy; assumed = f.assumed; known = λ j q. if is_this i p j q then Some true else f.known j q }
 
 -- no pair in progress lies deeper than a place
 abbrev pub NoneDeeper : Place → Found → Type 0

@@ -5,7 +5,7 @@ pub mod Rows
 pub mod Cycles
 pub mod Under
 pub mod Found
+pub mod Stages
 pub mod Solved
-pub mod Says
 pub mod Turning
 pub mod Work

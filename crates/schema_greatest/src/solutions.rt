@@ -9,6 +9,8 @@ ghost use Rattle.schema_greatest.specs.NodesSay.{NodesSayGreatest};
 ghost use Rattle.schema_greatest.specs.NumbersSay.{FinishingAnswers, GreatestAnswers, KeysAcceptAlike, LargestStands};
 ghost use Rattle.schema_greatest.specs.NumbersSay.{NumbersAcceptGreatest, NumbersAreMonotone, NumbersSayGreatest};
 ghost use Rattle.schema_greatest.specs.NumbersSay.{PlainIsGreatest, ReachedAnswer, ReachedFinish, ReachedStand};
+ghost use Rattle.schema_greatest.specs.Solved.{SolverSaysGreatest, SolverSaysGuarded, StagedIsSound, TellsUnderSets};
+ghost use Rattle.schema_greatest.specs.Under.{Solving};
 ghost use Rattle.schema_meaning.specs.Numbered.{Numbers};
 
 /// Where every keyword is monotone, what numbered nodes say is their greatest solution, whether questions return or not.
@@ -42,4 +44,13 @@ pub fn reached_say_greatest<S, K, R>()
     ensures answer { (w : Parts S K R) (keys : List (Key S)) (nodes : Nodes K) → ReachedAnswer w keys nodes }
     ensures finish { (w : Parts S K R) (keys : List (Key S)) (nodes : Nodes K) → ReachedFinish w keys nodes }
     ensures stand { (w : Parts S K R) (keys : List (Key S)) (nodes : Nodes K) → ReachedStand w keys nodes }
+{}
+
+/// What is found by stages, each resting on those before it, says what nodes say under guards, whether keywords are monotone or not; where
+/// each is, the greatest solution.
+pub fn solver_says<K, R>()
+    ensures guarded { (w : Solving K R) → SolverSaysGuarded w }
+    ensures greatest { (w : Solving K R) → SolverSaysGreatest w }
+    ensures sound { (w : Solving K R) → StagedIsSound w }
+    ensures sets { (w : Solving K R) → TellsUnderSets w }
 {}

@@ -5,7 +5,7 @@ use Rattle.std.proofs.lemmas.Bool.{false_from_ne_true}
 use Rattle.schema_definitions.specs.Instance.{Place}
 use Rattle.schema_contexts.specs.Progress.{Pairs}
 use Rattle.schema_contexts.specs.Verdicts.{Remembers, is_pair, verdict_of}
-use Rattle.schema_greatest.specs.Found.{after_no, after_yes, after_yes_alone, entered, is_this}
+use Rattle.schema_greatest.specs.Found.{after_no, after_yes, after_yes_alone, after_yes_free, entered, is_this}
 use Rattle.schema_greatest.proofs.Pairs.{of_this, this_self}
 use Rattle.schema_pairs.specs.Contexts.{SettlesAll, Solver, found_of, has_pair}
 
@@ -60,18 +60,25 @@ module _ (i : ℕ) (p : Place) where
     known = λ j q. verdict_of j q (verdicts k);
   }
 
-  refused_known : (e new : Solver) → Remembers i p false e.verdicts new.verdicts → (j : ℕ) (q : Place) → verdict_of j q new.verdicts ≡ (if is_this i p j q then Some false else verdict_of j q e.verdicts)
-  refused_known e new refused j q = go (is_this i p j q) refl
+  remembered : (v : Bool) (e new : Solver) → Remembers i p v e.verdicts new.verdicts → (j : ℕ) (q : Place) → verdict_of j q new.verdicts ≡ (if is_this i p j q then Some v else verdict_of j q e.verdicts)
+  remembered v e new kept j q = go (is_this i p j q) refl
     where
-      go : (b : Bool) → is_this i p j q ≡ b → verdict_of j q new.verdicts ≡ (if b then Some false else verdict_of j q e.verdicts)
-      go true this = of_this (λ m r. verdict_of m r new.verdicts ≡ Some false) i p j q this refused.its
-      go false other = refused.others j q (other_way i p j q other)
+      go : (b : Bool) → is_this i p j q ≡ b → verdict_of j q new.verdicts ≡ (if b then Some v else verdict_of j q e.verdicts)
+      go true this = of_this (λ m r. verdict_of m r new.verdicts ≡ Some v) i p j q this kept.its
+      go false other = kept.others j q (other_way i p j q other)
 
   pub found_refused : (old e new : Solver) → new.in_progress ≡ old.in_progress → new.assumed ≡ old.assumed → Remembers i p false e.verdicts new.verdicts → found_of new ≡ after_no (found_of old) (found_of e) i p
   found_refused old e new left dropped refused = λ k. record {
     busy = has_pair (left k);
     assumed = has_pair (dropped k);
-    known = λ j q. refused_known e new refused j q k;
+    known = λ j q. remembered false e new refused j q k;
+  }
+
+  pub found_freed : (old e new : Solver) → new.in_progress ≡ old.in_progress → new.assumed ≡ e.assumed → Remembers i p true e.verdicts new.verdicts → found_of new ≡ after_yes_free (found_of old) (found_of e) i p
+  found_freed old e new left same kept = λ k. record {
+    busy = has_pair (left k);
+    assumed = has_pair (same k);
+    known = λ j q. remembered true e new kept j q k;
   }
 
   pub found_settled : (old e new : Solver) (more : Pairs) → new.in_progress ≡ old.in_progress → new.assumed ≡ old.assumed → e.assumed ≡ old.assumed ++ more

@@ -1,6 +1,6 @@
 //! What a solver has found while it runs: the pairs in progress, those that are assumed, and the verdicts that are known.
-ghost use Rattle.std.specs.Prelude.{◌≡◌, ◌<◌, ◌≤◌, ◌*◌, ◌++◌, ◌∷◌, ◌⊎◌, ◌&&◌, ◌||◌, []};
-ghost use Rattle.std.specs.Prelude.{All, IfErr, IfOk, IfSome, None, OnErr, OnOk, Some, false, not, true, ℕ};
+ghost use Rattle.std.specs.Prelude.{◌≡◌, ◌<◌, ◌≤◌, ◌*◌, ◌++◌, ◌∷◌, ◌&&◌, []};
+ghost use Rattle.std.specs.Prelude.{All, IfErr, IfOk, IfSome, None, OnErr, OnOk, false, not, true, ℕ};
 ghost use Rattle.std.specs.Prelude.{drop, length, map, option_map, take};
 ghost use Rattle.std.specs.Borrow.{sem};
 ghost use Rattle.std.specs.List.{list_any};
@@ -15,8 +15,9 @@ ghost use Rattle.schema_contexts.specs.Verdicts.{Remembers, verdict_of};
 ghost use Rattle.serde_json.specs.View.{view};
 ghost use Rattle.schema_pairs.specs.Contexts.{SettlesAll, has_pair, solver_places};
 ghost use Rattle.schema_pairs.specs.ContextViews.{HaveBits, KeepsVerdict, SettlesPairs, has_number_pair};
-ghost use Rattle.schema_pairs.specs.Answering.{AssumesBeside, Begins, IsApart, Refuses, SettlesAlone, fresh};
+ghost use Rattle.schema_pairs.specs.Answering.{Accepts, AssumesBeside, Begins, IsApart, IsBeside, IsFound, Refuses, SettlesBeside, fresh};
 
+use crate::said::Said;
 use schema_contexts::bit_rows::{Rows, row_words};
 use schema_contexts::marks::Marks;
 use schema_contexts::numbered_pairs::{NumberedPair, count_at, make_counts, push_within};
@@ -81,6 +82,16 @@ fn room_after(pairs: usize) -> usize
     ensures some { 1 ≤ result }
 {
     if pairs == 0 { FIRST_PAIRS } else { 1 }
+}
+
+// A yes that leans.
+fn for_now() -> Said
+    ensures yes { result ≡ record { valid = true; leans = true } }
+{
+    Said {
+        valid: true,
+        leans: true,
+    }
 }
 
 // Remembers the verdict of a pair; there are so many places. Fails only if memory cannot be allocated, and then nothing has changed.
@@ -171,25 +182,26 @@ impl<'i> SolverContext<'i> {
         Ok(numbered)
     }
 
-    /// Returns what the pair is answered by what is found: its verdict where that is known, yes where it is in progress or assumed,
-    /// and nothing else. It allocates nothing.
-    pub fn state(&self, node: SchemaNode, place: usize) -> Option<bool>
+    /// Returns what the pair is answered by what is found: its verdict where that is known, a yes that leans where it is in progress or
+    /// assumed, and nothing else. It allocates nothing.
+    pub fn state(&self, node: SchemaNode, place: usize) -> Option<Said>
         requires known { place < length (solver_places self.now) }
-        ensures known { IfSome result (λ b. (verdict_of node.0 (place_at (solver_places self.now) place) self.now.verdicts ≡ Some b)
-            ⊎ ((b ≡ true) × ((has_pair self.now.in_progress node.0 (place_at (solver_places self.now) place)
-            || has_pair self.now.assumed node.0 (place_at (solver_places self.now) place)) ≡ true))) }
+        ensures known { IfSome result (IsFound node.0 (place_at (solver_places self.now) place) self.now) }
         ensures unknown { result ≡ None → verdict_of node.0 (place_at (solver_places self.now) place) self.now.verdicts ≡ None }
         ensures idle { result ≡ None → has_pair self.now.in_progress node.0 (place_at (solver_places self.now) place) ≡ false }
         ensures free { result ≡ None → has_pair self.now.assumed node.0 (place_at (solver_places self.now) place) ≡ false }
     {
         if let Some(verdict) = self.known.verdict_in(node.0, place) {
-            return Some(verdict);
+            return Some(Said {
+                valid: verdict,
+                leans: false,
+            });
         }
         if self.guard.has_bit(node.0, place) {
-            return Some(true);
+            return Some(for_now());
         }
         if self.yeses.has_bit(node.0, place) {
-            return Some(true);
+            return Some(for_now());
         }
         None
     }
@@ -241,10 +253,10 @@ impl<'i> SolverContext<'i> {
         count_at(self.counts.as_slice(), place) == 0
     }
 
-    // Remembers a no of the pair for good. On `Err` nothing has changed.
-    fn refuse(&mut self, node: SchemaNode, place: usize) -> Result<(), OutOfMemory>
+    // Remembers a verdict of the pair for good. On `Err` nothing has changed.
+    fn remember(&mut self, node: SchemaNode, place: usize, verdict: bool) -> Result<(), OutOfMemory>
         requires known { place < length (solver_places self.old) }
-        ensures refused { OnOk result (Remembers node.0 (place_at (solver_places self.old) place) false
+        ensures remembered { OnOk result (Remembers node.0 (place_at (solver_places self.old) place) verdict
             self.old.verdicts self.new.verdicts) }
         ensures unchanged { OnErr result (self.new ≡ self.old) }
         ensures root { self.new.root ≡ self.old.root }
@@ -254,7 +266,7 @@ impl<'i> SolverContext<'i> {
         ensures begun { self.new.begun ≡ self.old.begun }
     {
         let places = self.places.numbered(self.alloc)?.len();
-        keep_verdict(self.alloc, &mut self.known, places, node.0, place, false)
+        keep_verdict(self.alloc, &mut self.known, places, node.0, place, verdict)
     }
 
     // Drops what was assumed since the mark, none of which was assumed before it too.
@@ -313,42 +325,75 @@ impl<'i> SolverContext<'i> {
         Ok(())
     }
 
-    /// Keeps what the node of a pair said, once the pair has been left; the mark is what `enter` returned, and nothing that was assumed
-    /// since may have been assumed before it too. A no is known for good, and what was assumed since the mark is dropped. A yes is known
-    /// for good, with all that was assumed since, where no other pair is in progress at the place; else it is assumed. Fails only if
-    /// memory cannot be allocated. Then, of a no, nothing has changed; of a yes, what was assumed stays so, and some of what was to be
-    /// known may be.
+    /// Keeps what the node of a pair said, once the pair has been left, and returns what the pair is answered from then on; the mark is
+    /// what `enter` returned, and nothing that was assumed since may have been assumed before it too. A no is known for good, and what was
+    /// assumed since the mark is dropped. A yes is known for good, with all that was assumed since, where no other pair is in progress at
+    /// the place; else it alone is, where it leans on nothing, and is assumed where it leans. Fails only if memory cannot be allocated.
+    /// Then, of a no, nothing has changed; of a yes, what was assumed stays so, and some of what was to be known may be.
     pub fn keep_answer(
         &mut self,
         node: SchemaNode,
         place: usize,
         mark: usize,
-        valid: bool,
-    ) -> Result<(), OutOfMemory>
+        said: Said,
+    ) -> Result<Said, OutOfMemory>
         requires known { place < length (solver_places self.old) }
         requires own { OwnNumbers (solver_places self.old) }
         requires apart { IsApart mark self.old }
-        ensures refused { OnOk result (valid ≡ false
+        ensures valid { IfOk result (λ now. now.valid ≡ said.valid) }
+        ensures refused { IfOk result (λ now. said.valid ≡ false
             → Refuses node.0 (place_at (solver_places self.old) place) mark self.old self.new) }
-        ensures accepted { OnOk result (valid ≡ true
-            → SettlesAlone node.0 (place_at (solver_places self.old) place) mark self.old self.new
-            ⊎ AssumesBeside node.0 (place_at (solver_places self.old) place) self.old self.new) }
-        ensures unchanged { OnErr result (valid ≡ false → self.new ≡ self.old) }
+        ensures accepted { IfOk result (λ now. said.valid ≡ true
+            → Accepts node.0 (place_at (solver_places self.old) place) mark said now self.old self.new) }
+        ensures unchanged { OnErr result (said.valid ≡ false → self.new ≡ self.old) }
         ensures assumed { OnErr result (self.new.assumed ≡ self.old.assumed) }
         ensures root { self.new.root ≡ self.old.root }
         ensures in_progress { self.new.in_progress ≡ self.old.in_progress }
         ensures marking { self.new.marking ≡ self.old.marking }
         ensures begun { self.new.begun ≡ self.old.begun }
     {
-        if !valid {
-            self.refuse(node, place)?;
+        if !said.valid {
+            self.remember(node, place, false)?;
         } else if self.is_idle(place) {
             self.settle(node, place, mark)?;
         } else {
-            return self.assume(node, place);
+            return self.keep_beside(node, place, said);
         }
         self.drop_since(mark);
-        Ok(())
+        Ok(Said {
+            valid: said.valid,
+            leans: false,
+        })
+    }
+
+    // Keeps a yes beside another pair in progress at the place: for good where it leans on nothing, and else it is assumed. On `Err`
+    // nothing has changed.
+    fn keep_beside(
+        &mut self,
+        node: SchemaNode,
+        place: usize,
+        said: Said,
+    ) -> Result<Said, OutOfMemory>
+        requires known { place < length (solver_places self.old) }
+        requires yes { said.valid ≡ true }
+        requires beside { IsBeside (place_at (solver_places self.old) place) self.old }
+        ensures same { IfOk result (λ now. now ≡ said) }
+        ensures assumed { OnOk result (said.leans ≡ true
+            → AssumesBeside node.0 (place_at (solver_places self.old) place) self.old self.new) }
+        ensures settled { OnOk result (said.leans ≡ false
+            → SettlesBeside node.0 (place_at (solver_places self.old) place) self.old self.new) }
+        ensures unchanged { OnErr result (self.new ≡ self.old) }
+        ensures root { self.new.root ≡ self.old.root }
+        ensures in_progress { self.new.in_progress ≡ self.old.in_progress }
+        ensures marking { self.new.marking ≡ self.old.marking }
+        ensures begun { self.new.begun ≡ self.old.begun }
+    {
+        if said.leans {
+            self.assume(node, place)?;
+        } else {
+            self.remember(node, place, true)?;
+        }
+        Ok(said)
     }
 
     /// Returns `true` if the keyword's run that is at work has marked this already: the same request, or a child that leads to the

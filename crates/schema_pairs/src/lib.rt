@@ -4,4 +4,5 @@
 pub mod context;
 pub mod followed;
 pub mod pair;
+pub mod said;
 pub(crate) mod weights;

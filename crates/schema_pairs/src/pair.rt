@@ -1,6 +1,6 @@
 //! The pair of a question that is answered by what is found: the node that it asks, and the place, with the place's number.
-ghost use Rattle.std.specs.Prelude.{◌≡◌, ◌++◌, ◌∷◌, ◌⊎◌, ◌||◌, []};
-ghost use Rattle.std.specs.Prelude.{false, true, IfOk, IfSome, None, OnErr, OnOk, Some, is_some, length};
+ghost use Rattle.std.specs.Prelude.{◌≡◌, ◌++◌, ◌∷◌, []};
+ghost use Rattle.std.specs.Prelude.{false, true, IfOk, IfSome, None, OnErr, OnOk, is_some, length};
 ghost use Rattle.serde_json.specs.View.{view};
 ghost use Rattle.schema_definitions.specs.Instance.{subject_at};
 ghost use Rattle.schema_places.specs.Numbers.{OwnNumbers};
@@ -8,10 +8,11 @@ ghost use Rattle.schema_contexts.specs.Progress.{EndsWith};
 ghost use Rattle.schema_contexts.specs.Verdicts.{verdict_of};
 ghost use Rattle.run_steps.specs.EvaluationPlaces.{CarriesItsNumber, steps_to};
 ghost use Rattle.schema_pairs.specs.Contexts.{Solver, has_pair, solver_places};
-ghost use Rattle.schema_pairs.specs.Answering.{AssumesBeside, Begins, IsApart, Refuses, SettlesAlone};
+ghost use Rattle.schema_pairs.specs.Answering.{Accepts, Begins, IsApart, IsFound, Refuses};
 ghost use Rattle.schema_pairs.specs.SolverPairs.{IsNumbered, place_of};
 
 use crate::context::SolverContext;
+use crate::said::Said;
 use run_steps::evaluation_place::EvaluationPlace;
 use schema_parts::numbers::SchemaNode;
 use schema_reports::location::OutOfMemory;
@@ -60,13 +61,11 @@ impl<'q, 'i> SolverPair<'q, 'i> {
         self.place.numbered(self.number)
     }
 
-    /// Returns what the pair is answered by what is found: its verdict where that is known, yes where it is in progress or assumed,
-    /// and nothing else. It allocates nothing.
-    pub fn state(&self, context: &SolverContext<'i>) -> Option<bool>
+    /// Returns what the pair is answered by what is found: its verdict where that is known, a yes that leans where it is in progress or
+    /// assumed, and nothing else. It allocates nothing.
+    pub fn state(&self, context: &SolverContext<'i>) -> Option<Said>
         requires numbered { IsNumbered (solver_places context.now) self.now }
-        ensures known { IfSome result (λ b. (verdict_of self.now.node.0 (place_of self.now) context.now.verdicts ≡ Some b)
-            ⊎ ((b ≡ true) × ((has_pair context.now.in_progress self.now.node.0 (place_of self.now)
-            || has_pair context.now.assumed self.now.node.0 (place_of self.now)) ≡ true))) }
+        ensures known { IfSome result (IsFound self.now.node.0 (place_of self.now) context.now) }
         ensures unknown { result ≡ None → verdict_of self.now.node.0 (place_of self.now) context.now.verdicts ≡ None }
         ensures idle { result ≡ None → has_pair context.now.in_progress self.now.node.0 (place_of self.now) ≡ false }
         ensures free { result ≡ None → has_pair context.now.assumed self.now.node.0 (place_of self.now) ≡ false }
@@ -100,32 +99,32 @@ impl<'q, 'i> SolverPair<'q, 'i> {
         context.exit(self.node, self.number);
     }
 
-    /// Keeps what the node of the pair said, once the pair has been left; the mark is what `enter` returned, and nothing that was assumed
-    /// since may have been assumed before it too. A no is known for good, and what was assumed since the mark is dropped. A yes is known
-    /// for good, with all that was assumed since, where no other pair is in progress at the place; else it is assumed. Fails only if
-    /// memory cannot be allocated. Then, of a no, nothing has changed; of a yes, what was assumed stays so, and some of what was to be
-    /// known may be.
+    /// Keeps what the node of the pair said, once the pair has been left, and returns what the pair is answered from then on; the mark is
+    /// what `enter` returned, and nothing that was assumed since may have been assumed before it too. A no is known for good, and what was
+    /// assumed since the mark is dropped. A yes is known for good, with all that was assumed since, where no other pair is in progress at
+    /// the place; else it alone is, where it leans on nothing, and is assumed where it leans. Fails only if memory cannot be allocated.
+    /// Then, of a no, nothing has changed; of a yes, what was assumed stays so, and some of what was to be known may be.
     pub fn keep_answer(
         &self,
         context: &mut SolverContext<'i>,
         mark: usize,
-        valid: bool,
-    ) -> Result<(), OutOfMemory>
+        said: Said,
+    ) -> Result<Said, OutOfMemory>
         requires numbered { IsNumbered (solver_places context.old) self.now }
         requires own { OwnNumbers (solver_places context.old) }
         requires apart { IsApart mark context.old }
-        ensures refused { OnOk result (valid ≡ false
+        ensures valid { IfOk result (λ now. now.valid ≡ said.valid) }
+        ensures refused { IfOk result (λ now. said.valid ≡ false
             → Refuses self.now.node.0 (place_of self.now) mark context.old context.new) }
-        ensures accepted { OnOk result (valid ≡ true
-            → SettlesAlone self.now.node.0 (place_of self.now) mark context.old context.new
-            ⊎ AssumesBeside self.now.node.0 (place_of self.now) context.old context.new) }
-        ensures unchanged { OnErr result (valid ≡ false → context.new ≡ context.old) }
+        ensures accepted { IfOk result (λ now. said.valid ≡ true
+            → Accepts self.now.node.0 (place_of self.now) mark said now context.old context.new) }
+        ensures unchanged { OnErr result (said.valid ≡ false → context.new ≡ context.old) }
         ensures assumed { OnErr result (context.new.assumed ≡ context.old.assumed) }
         ensures root { context.new.root ≡ context.old.root }
         ensures in_progress { context.new.in_progress ≡ context.old.in_progress }
         ensures marking { context.new.marking ≡ context.old.marking }
         ensures begun { context.new.begun ≡ context.old.begun }
     {
-        context.keep_answer(self.node, self.number, mark, valid)
+        context.keep_answer(self.node, self.number, mark, said)
     }
 }

@@ -16,22 +16,23 @@ use Rattle.schema_meaning.specs.Numbered.{Ranked, left, subject_in}
 use Rattle.schema_meaning.proofs.Falls.{left_below, left_entered, left_lower, step_falls}
 use Rattle.schema_places.specs.Numbers.{OwnNumbers, number_of}
 use Rattle.schema_parts.specs.AtOnce.{EndsAtOnce}
-use Rattle.schema_parts.specs.KeywordViews.{Tells}
+use Rattle.schema_parts.specs.KeywordViews.{Tells as MayTell}
 use Rattle.schema_contexts.specs.Progress.{Pairs, busy_at}
 use Rattle.schema_contexts.specs.Verdicts.{Remembers, is_pair, verdict_of}
 use Rattle.schema_contexts.proofs.Pairs.{among-pair, busy-pushed, snoc_first}
 use Rattle.run_steps.specs.NodeRuns.{HasForm}
 use Rattle.run_steps.proofs.NodeRuns.{stands_in}
 use Rattle.schema_greatest.specs.Under.{IsSolvable}
-use Rattle.schema_greatest.specs.Found.{NoneAt, SaysPair, SaysUnder}
-use Rattle.schema_greatest.specs.Says.{FormSays, PartsSay, parts_under}
-use Rattle.schema_greatest.proofs.Between.{grows_between, says_assumed, says_busy, says_known}
-use Rattle.schema_greatest.proofs.Turning.{at_once_under}
+use Rattle.schema_greatest.specs.Found.{NoneAt}
+use Rattle.schema_greatest.specs.Stages.{FormTells, PairTells, PartsTell, Tells, parts_by}
+use Rattle.schema_greatest.proofs.Between.{grows_fits, lean_less, tells_known, tells_now}
+use Rattle.schema_greatest.proofs.Turning.{at_once_by}
 use Rattle.schema_pairs.specs.Contexts.{SettlesAll, Solver, found_of, has_pair, solver_places}
-use Rattle.schema_pairs.specs.Answering.{AssumesBeside, Begins, Refuses, SettlesAlone}
+use Rattle.schema_pairs.specs.Answering.{Accepts, Begins, IsFound, Refuses}
+use Rattle.schema_pairs.specs.declared.said.Said.{Said}
 use Rattle.schema_solver.specs.Solving.{Goes, HasEachCut, InEach, IsNew, Leaves, MaySolve, Setting, is_cut, solving_in}
 use Rattle.schema_solver.specs.Needs.{PairRan, SaysTheRest, edge_needs, pair_needs}
-use Rattle.schema_solver.proofs.PairSteps.{assumed_goes, assumed_says, refused_goes, refused_says, settled_goes, settled_says}
+use Rattle.schema_solver.proofs.PairSteps.{assumed_goes, assumed_says, freed_goes, freed_says, refused_goes, refused_says, settled_goes, settled_says}
 use Rattle.schema_solver.proofs.PlacesOnce.{once_from_own, there_from_number}
 use Rattle.schema_solver.proofs.Turned.{solvable_in, tells_there}
 
@@ -108,11 +109,10 @@ at_pair {m = m} {i = i} {q = q} {p = p} {d = d} {c = c} F node place same h = su
 
 module _ {K R : Type 0} (g : Setting K R) (old : Solver) (s : Subject) (p : Place) (i : ℕ) (may : MaySolve g old s p i) where
   -- what is found of a pair is what it says
-  pub found_says : (b : Bool) → (verdict_of i p old.verdicts ≡ Some b) ⊎ ((b ≡ true) × ((has_pair old.in_progress i p || has_pair old.assumed i p) ≡ true)) → SaysPair (found_of old) i p b
-  found_says b found = elim found [
-    | inl known ↦ says_known (found_of old) i p b known
-    | inr (is, held) ↦ subst (SaysPair (found_of old) i p) (sym is) (in_either (has_pair old.in_progress i p) (has_pair old.assumed i p)
-        (says_busy (found_of old) i p) (says_assumed (found_of old) i p) held)
+  pub found_says : (said : Said) → IsFound i p old said → PairTells (found_of old) i p said.valid said.leans
+  found_says said found = elim found [
+    | inl (known, free) ↦ tells_known (found_of old) i p said.valid said.leans known
+    | inr (is, leans, held) ↦ subst (λ b. PairTells (found_of old) i p b said.leans) (sym is) (subst (PairTells (found_of old) i p true) (sym leans) (tells_now (found_of old) i p held))
   ]
 
   -- the measure falls when it is entered
@@ -137,17 +137,17 @@ module _ {K R : Type 0} (g : Setting K R) (old : Solver) (p : Place) (i : ℕ) w
     once = once_from_own (solver_places old) own;
   }
 
-  pub pair_ran : (m : ℕ) (q r : Place) (c b e x : Solver) (mark : ℕ) (v : Bool) → m ≡ i → q ≡ p → c ≡ old → r ≡ q
+  pub pair_ran : (m : ℕ) (q r : Place) (c b e x : Solver) (mark : ℕ) (v : Said) → m ≡ i → q ≡ p → c ≡ old → r ≡ q
       → verdict_of m q c.verdicts ≡ None → has_pair c.in_progress m q ≡ false → has_pair c.assumed m q ≡ false
       → (n : ℕ) → number_of q (solver_places old) ≡ Some n → OwnNumbers (solver_places old) → ((ns : List ℕ) → HasEachCut g ns → list_any (λ k. i == k) ns ≡ true)
-      → Begins m q c b → Goes g r b e → InEach g (view e.root) (λ texts w. SaysUnder w (found_of e) i r v) → mark ≡ length c.assumed
+      → Begins m q c b → Goes g r b e → InEach g (view e.root) (λ texts w. Tells w (found_of e) i r v.valid v.leans) → mark ≡ length c.assumed
       → e.in_progress ≡ x.in_progress ++ (m, q) ∷ [] → x.root ≡ e.root → x.assumed ≡ e.assumed → x.verdicts ≡ e.verdicts → x.marking ≡ e.marking → x.begun ≡ e.begun
       → PairRan g old b e x p i mark v
   pair_ran m q r c b e x mark v node place same at_q unknown idle free n numbered own among begins went says at_mark left root assumed verdicts marking begun = record {
     is_new = pair_new m q c node place same unknown idle free n numbered own among;
     begins = at_pair (λ k z c. Begins k z c b) node place same begins;
     went = subst (λ z. Goes g z b e) (at_q ∙ place) went;
-    says = subst (λ z. InEach g (view e.root) (λ texts w. SaysUnder w (found_of e) i z v)) (at_q ∙ place) says;
+    says = subst (λ z. InEach g (view e.root) (λ texts w. Tells w (found_of e) i z v.valid v.leans)) (at_q ∙ place) says;
     at_mark = at_mark ∙ ap (λ (c : Solver). length c.assumed) same;
     in_progress = at_pair (λ k z c. e.in_progress ≡ x.in_progress ++ (k, z) ∷ []) node place same left;
     root = root;
@@ -157,7 +157,7 @@ module _ {K R : Type 0} (g : Setting K R) (old : Solver) (p : Place) (i : ℕ) w
     begun_still = begun;
   }
 
-  module _ (b e x : Solver) (mark : ℕ) (v : Bool) (ran : PairRan g old b e x p i mark v) where
+  module _ (b e x : Solver) (mark : ℕ) (v : Said) (ran : PairRan g old b e x p i mark v) where
     in_progress_then : e.in_progress ≡ old.in_progress ++ (i, p) ∷ []
     in_progress_then = ran.went.in_progress ∙ ran.begins.in_progress
 
@@ -185,93 +185,120 @@ module _ {K R : Type 0} (g : Setting K R) (old : Solver) (p : Place) (i : ℕ) w
       ran_settles settles = subst (λ es. SettlesAll ((i, p) ∷ es) e.verdicts n.verdicts) since_mark (subst (λ vs. SettlesAll ((i, p) ∷ drop mark x.assumed) vs n.verdicts) ran.verdicts settles)
 
 module _ {K R : Type 0} (g : Setting K R) (laws : (texts : Bool) → EachKeeps (g.words texts)) (old : Solver) (s : Subject) (p : Place) (i : ℕ) (may : MaySolve g old s p i)
-    (b e x : Solver) (mark : ℕ) (v : Bool) (ran : PairRan g old b e x p i mark v)
+    (b e x : Solver) (mark : ℕ) (v : Said) (ran : PairRan g old b e x p i mark v)
     (n : Solver) (root : n.root ≡ x.root) (still : n.in_progress ≡ x.in_progress) (marking : n.marking ≡ x.marking) (begun : n.begun ≡ x.begun) where
   leaves : Leaves old e n
   leaves = ran_leaves g old p i b e x mark v ran n root still marking begun
 
-  ran_says : (c : Bool) → v ≡ c → InEach g (view e.root) (λ texts w. SaysUnder w (found_of e) i p c)
-  ran_says c is = subst (λ c. InEach g (view e.root) (λ texts w. SaysUnder w (found_of e) i p c)) is ran.says
+  ran_says : (c l : Bool) → v.valid ≡ c → v.leans ≡ l → InEach g (view e.root) (λ texts w. Tells w (found_of e) i p c l)
+  ran_says c l is leans = subst (λ l. InEach g (view e.root) (λ texts w. Tells w (found_of e) i p c l)) leans (subst (λ c. InEach g (view e.root) (λ texts w. Tells w (found_of e) i p c v.leans)) is ran.says)
 
-  module _ (is_no : v ≡ false) (dropped : n.assumed ≡ take mark x.assumed) (refused : Remembers i p false x.verdicts n.verdicts) where
-    ran_refused_goes : Goes g p old n
-    ran_refused_goes = refused_goes g laws old b s p i may ran.is_new ran.begins e n ran.went leaves (ran_says false is_no)
-        (dropped ∙ before_mark g old p i b e x mark v ran) (subst (λ vs. Remembers i p false vs n.verdicts) ran.verdicts refused)
+  -- what is left and said of the pair: it goes on, and the pair says this
+  abbrev Kept : Said → Type 0
+  Kept now = Goes g p old n × PairTells (found_of n) i p now.valid now.leans
 
-    ran_refused_says : SaysPair (found_of n) i p false
-    ran_refused_says = refused_says g laws old b s p i may ran.is_new ran.begins e n ran.went leaves (ran_says false is_no)
-        (dropped ∙ before_mark g old p i b e x mark v ran) (subst (λ vs. Remembers i p false vs n.verdicts) ran.verdicts refused)
+  kept_as : (now : Said) (c l : Bool) → now.valid ≡ c → now.leans ≡ l → PairTells (found_of n) i p c l → PairTells (found_of n) i p now.valid now.leans
+  kept_as now c l is leans tells = subst (λ c. PairTells (found_of n) i p c now.leans) (sym is) (subst (PairTells (found_of n) i p c) (sym leans) tells)
 
-  module _ (is_yes : v ≡ true) (k : ℕ) (beside : has_pair x.in_progress k p ≡ true) (pushed : n.assumed ≡ x.assumed ++ (i, p) ∷ []) (verdicts : n.verdicts ≡ x.verdicts) where
-    beside_old : has_pair old.in_progress k p ≡ true
-    beside_old = ap (λ es. has_pair es k p) (sym (sym still ∙ leaves.in_progress)) ∙ beside
+  module _ (is_no : v.valid ≡ false) (dropped : n.assumed ≡ take mark x.assumed) (refused : Remembers i p false x.verdicts n.verdicts) where
+    ran_refused : (now : Said) → now.valid ≡ false → Kept now
+    ran_refused now is = (
+      refused_goes g laws old b s p i may ran.is_new ran.begins e n ran.went leaves v.leans (ran_says false v.leans is_no refl)
+          (dropped ∙ before_mark g old p i b e x mark v ran) (subst (λ vs. Remembers i p false vs n.verdicts) ran.verdicts refused),
+      kept_as now false now.leans is refl (refused_says g laws old b s p i may ran.is_new ran.begins e n ran.went leaves v.leans (ran_says false v.leans is_no refl)
+          (dropped ∙ before_mark g old p i b e x mark v ran) (subst (λ vs. Remembers i p false vs n.verdicts) ran.verdicts refused) now.leans),
+    )
 
-    ran_assumed_goes : Goes g p old n
-    ran_assumed_goes = assumed_goes g laws old b s p i may ran.is_new ran.begins e n ran.went leaves (ran_says true is_yes) k beside_old
-        (pushed ∙ ap (λ es. es ++ (i, p) ∷ []) ran.assumed) (verdicts ∙ ran.verdicts)
+  module _ (is_yes : v.valid ≡ true) where
+    beside_old : (k : ℕ) → has_pair x.in_progress k p ≡ true → has_pair old.in_progress k p ≡ true
+    beside_old k beside = ap (λ es. has_pair es k p) (sym (sym still ∙ leaves.in_progress)) ∙ beside
 
-    ran_assumed_says : SaysPair (found_of n) i p true
-    ran_assumed_says = assumed_says g laws old b s p i may ran.is_new ran.begins e n ran.went leaves (ran_says true is_yes) k beside_old
-        (pushed ∙ ap (λ es. es ++ (i, p) ∷ []) ran.assumed) (verdicts ∙ ran.verdicts)
+    ran_assumed : (k : ℕ) → has_pair x.in_progress k p ≡ true → n.assumed ≡ x.assumed ++ (i, p) ∷ [] → n.verdicts ≡ x.verdicts → (now : Said) → now.valid ≡ true → now.leans ≡ true → Kept now
+    ran_assumed k beside pushed verdicts now is yes_leans = (
+      assumed_goes g laws old b s p i may ran.is_new ran.begins e n ran.went leaves v.leans (ran_says true v.leans is_yes refl) k (beside_old k beside)
+          (pushed ∙ ap (λ es. es ++ (i, p) ∷ []) ran.assumed) (verdicts ∙ ran.verdicts),
+      kept_as now true true is yes_leans (assumed_says g laws old b s p i may ran.is_new ran.begins e n ran.went leaves v.leans (ran_says true v.leans is_yes refl) k (beside_old k beside)
+          (pushed ∙ ap (λ es. es ++ (i, p) ∷ []) ran.assumed) (verdicts ∙ ran.verdicts)),
+    )
 
-  module _ (is_yes : v ≡ true) (none : (k : ℕ) → has_pair x.in_progress k p ≡ false) (dropped : n.assumed ≡ take mark x.assumed) (settles : SettlesAll ((i, p) ∷ drop mark x.assumed) x.verdicts n.verdicts) where
-    none_old : NoneAt p (found_of old)
-    none_old k = ap (λ es. has_pair es k p) (sym (sym still ∙ leaves.in_progress)) ∙ none k
+    ran_freed : v.leans ≡ false → (k : ℕ) → has_pair x.in_progress k p ≡ true → n.assumed ≡ x.assumed → Remembers i p true x.verdicts n.verdicts → (now : Said) → now.valid ≡ true → Kept now
+    ran_freed free k beside same kept now is = (
+      freed_goes g laws old b s p i may ran.is_new ran.begins e n ran.went leaves (ran_says true false is_yes free) k (beside_old k beside)
+          (same ∙ ran.assumed) (subst (λ vs. Remembers i p true vs n.verdicts) ran.verdicts kept),
+      kept_as now true now.leans is refl (freed_says g laws old b s p i may ran.is_new ran.begins e n ran.went leaves (ran_says true false is_yes free) k (beside_old k beside)
+          (same ∙ ran.assumed) (subst (λ vs. Remembers i p true vs n.verdicts) ran.verdicts kept) now.leans),
+    )
 
-    ran_settled_goes : Goes g p old n
-    ran_settled_goes = settled_goes g laws old b s p i may ran.is_new ran.begins e n ran.went leaves (ran_says true is_yes) none_old
-        (dropped ∙ before_mark g old p i b e x mark v ran) (ran_settles g old p i b e x mark v ran n root still marking begun settles)
+    none_old : ((k : ℕ) → has_pair x.in_progress k p ≡ false) → NoneAt p (found_of old)
+    none_old none k = ap (λ es. has_pair es k p) (sym (sym still ∙ leaves.in_progress)) ∙ none k
 
-    ran_settled_says : SaysPair (found_of n) i p true
-    ran_settled_says = settled_says g laws old b s p i may ran.is_new ran.begins e n ran.went leaves (ran_says true is_yes) none_old
-        (dropped ∙ before_mark g old p i b e x mark v ran) (ran_settles g old p i b e x mark v ran n root still marking begun settles)
+    ran_settled : ((k : ℕ) → has_pair x.in_progress k p ≡ false) → n.assumed ≡ take mark x.assumed → SettlesAll ((i, p) ∷ drop mark x.assumed) x.verdicts n.verdicts → (now : Said) → now.valid ≡ true → Kept now
+    ran_settled none dropped settles now is = (
+      settled_goes g laws old b s p i may ran.is_new ran.begins e n ran.went leaves v.leans (ran_says true v.leans is_yes refl) (none_old none)
+          (dropped ∙ before_mark g old p i b e x mark v ran) (ran_settles g old p i b e x mark v ran n root still marking begun settles),
+      kept_as now true now.leans is refl (settled_says g laws old b s p i may ran.is_new ran.begins e n ran.went leaves v.leans (ran_says true v.leans is_yes refl) (none_old none)
+          (dropped ∙ before_mark g old p i b e x mark v ran) (ran_settles g old p i b e x mark v ran n root still marking begun settles) now.leans),
+    )
+
+    ran_accepted : (now : Said) → now.valid ≡ true → Accepts i p mark v now x n → Kept now
+    ran_accepted now is accepts = elim accepts [
+      | inl ((none, dropped, settles), free) ↦ ran_settled none dropped settles now is
+      | inr other ↦ elim other [
+        | inl (((k, beside), pushed, verdicts), yes_leans) ↦ ran_assumed k beside pushed verdicts now is yes_leans
+        | inr (((k, beside), same, kept), free, now_free) ↦ ran_freed free k beside same kept now is
+      ]
+    ]
 
   either_way : {A : Type 0} → (b : Bool) → (b ≡ false → A) → (b ≡ true → A) → A
   either_way false f h = f refl
   either_way true f h = h refl
 
-  module _ (as_no : v ≡ false → Refuses i p mark x n) (as_yes : v ≡ true → SettlesAlone i p mark x n ⊎ AssumesBeside i p x n) where
-    pub ran_goes : Goes g p old n
-    ran_goes = either_way v
-        (λ is. let (dropped, refused) = as_no is in ran_refused_goes is dropped refused)
-        (λ is. elim (as_yes is) [
-          | inl (none, dropped, settles) ↦ ran_settled_goes is none dropped settles
-          | inr ((k, beside), pushed, verdicts) ↦ ran_assumed_goes is k beside pushed verdicts
-        ])
-
-    pub ran_says_pair : SaysPair (found_of n) i p v
-    ran_says_pair = either_way v
-        (λ is. let (dropped, refused) = as_no is in subst (SaysPair (found_of n) i p) (sym is) (ran_refused_says is dropped refused))
-        (λ is. subst (SaysPair (found_of n) i p) (sym is) (elim (as_yes is) [
-          | inl (none, dropped, settles) ↦ ran_settled_says is none dropped settles
-          | inr ((k, beside), pushed, verdicts) ↦ ran_assumed_says is k beside pushed verdicts
-        ]))
+  pub ran_kept : (now : Said) → now.valid ≡ v.valid → (v.valid ≡ false → Refuses i p mark x n) → (v.valid ≡ true → Accepts i p mark v now x n) → Goes g p old n × PairTells (found_of n) i p now.valid now.leans
+  ran_kept now same as_no as_yes = either_way v.valid
+      (λ is. let (dropped, refused) = as_no is in ran_refused is dropped refused now (same ∙ is))
+      (λ is. ran_accepted is now (same ∙ is) (as_yes is))
 
 -- ---- the entries of a node, one after another
 
-module _ {K R : Type 0} (g : Setting K R) (p : Place) (c d : Solver) (went : Goes g p c d) (all : List (NodePart K)) (x : NodePart K) (rest : List (NodePart K))
-    (so_far : InEach g (view c.root) (λ texts w. SaysTheRest w p (found_of c) all (x ∷ rest))) where
-  said_before : InEach g (view d.root) (λ texts w. SaysTheRest w p (found_of d) all (x ∷ rest))
-  said_before = subst (λ u. InEach g (view u) (λ texts w. SaysTheRest w p (found_of d) all (x ∷ rest))) (sym went.root)
-      (λ texts tells inside between. so_far texts tells inside (grows_between p (found_of c) (found_of d) went.grew inside between))
+module _ {K R : Type 0} (g : Setting K R) (p : Place) (c d : Solver) (went : Goes g p c d) (all : List (NodePart K)) (x : NodePart K) (rest : List (NodePart K)) (l : Bool)
+    (so_far : InEach g (view c.root) (λ texts w. SaysTheRest w p (found_of c) l all (x ∷ rest))) where
+  said_before : InEach g (view d.root) (λ texts w. SaysTheRest w p (found_of c) l all (x ∷ rest))
+  said_before = subst (λ u. InEach g (view u) (λ texts w. SaysTheRest w p (found_of c) l all (x ∷ rest))) (sym went.root) so_far
 
-  pub entry_accepts : InEach g (view d.root) (λ texts w. FormSays w p (found_of d) x.form true) → InEach g (view d.root) (λ texts w. SaysTheRest w p (found_of d) all rest)
-  entry_accepts says texts tells inside between = said_before texts tells inside between ∙ ap (λ b. b && parts_under (solving_in g (view d.root) texts) p inside rest) (says texts tells inside between)
+  first_yes : (a b : Bool) → a ≡ true → (a || b) ≡ true
+  first_yes true b h = refl
+  first_yes false b h = absurd (true≢false (sym h))
 
-  pub entry_refuses : InEach g (view d.root) (λ texts w. FormSays w p (found_of d) x.form false) → InEach g (view d.root) (λ texts w. PartsSay w p (found_of d) all false)
-  entry_refuses says texts tells inside between = said_before texts tells inside between ∙ ap (λ b. b && parts_under (solving_in g (view d.root) texts) p inside rest) (says texts tells inside between)
+  last_yes : (a b : Bool) → b ≡ true → (a || b) ≡ true
+  last_yes true b h = refl
+  last_yes false b h = h
+
+  no_after : (a b : Bool) → b ≡ false → (a && b) ≡ false
+  no_after true b h = h
+  no_after false b h = refl
+
+  pub entry_accepts : (k : Bool) → InEach g (view d.root) (λ texts w. FormTells w p (found_of d) x.form true k) → InEach g (view d.root) (λ texts w. SaysTheRest w p (found_of d) (l || k) all rest)
+  entry_accepts k says texts tells = record {
+    same = λ answers fits.
+        (said_before texts tells).same answers (grows_fits p (found_of c) (found_of d) went.grew l (l || k) (first_yes l k) answers fits)
+        ∙ ap (λ b. b && parts_by (solving_in g (view d.root) texts) p answers rest) (says texts tells answers (lean_less (found_of d) k (l || k) answers (last_yes l k) fits));
+    refuses = λ answers no. (said_before texts tells).refuses answers (no_after _ _ no);
+  }
+
+  pub entry_refuses : (k : Bool) → InEach g (view d.root) (λ texts w. FormTells w p (found_of d) x.form false k) → InEach g (view d.root) (λ texts w. PartsTell w p (found_of d) all false k)
+  entry_refuses k says texts tells answers fits = (said_before texts tells).refuses answers (ap (λ b. b && parts_by (solving_in g (view d.root) texts) p answers rest) (says texts tells answers fits))
 
 -- ---- a keyword that tells its verdict at once
 
 module _ {K R : Type 0} (g : Setting K R) (laws : (texts : Bool) → EachKeeps (g.words texts)) (c : Solver) (s : Subject) (p : Place) (i : ℕ) (may : MaySolve g c s p i) where
   pub solvable_here : (root : Data) (texts : Bool) → IsSolvable (solving_in g root texts)
-  solvable_here root texts = solvable_in g laws may.ranked may.monotone root texts
+  solvable_here root texts = solvable_in g laws may.ranked root texts
 
   module _ (m : K) (es : Children) (form : HasForm g.nodes i (node_keyword m es)) where
     pub says_at_once : (absorbed : List Text) (remaining : Subject → R → ℕ) (can_be : Bool → Subject → R → Type 0) (end_of : Bool → Standing R → Answer) (Fits : Bool → Standing R → Type 0)
         → ((texts : Bool) → TurnLaws (g.words texts) m absorbed remaining (can_be texts) (end_of texts) (Fits texts)) → (valid : Bool)
-        → ((texts : Bool) → Tells texts (g.is_whole m) s → EndsAtOnce (g.words texts) m s valid)
-        → InEach g (view c.root) (λ texts w. FormSays w p (found_of c) (node_keyword m es) valid)
+        → ((texts : Bool) → MayTell texts (g.is_whole m) s → EndsAtOnce (g.words texts) m s valid)
+        → InEach g (view c.root) (λ texts w. FormTells w p (found_of c) (node_keyword m es) valid false)
     says_at_once absorbed remaining can_be end_of Fits turn_laws valid at_once texts tells =
         let ends : EndsAtOnce (g.words texts) m (subject_in (view c.root) p) valid = subst (λ z. EndsAtOnce (g.words texts) m z valid) (sym (stands_in (view c.root) p s may.stands)) (at_once texts (tells_there g c s p i m es may form texts tells)) in
-        at_once_under (solving_in g (view c.root) texts) (solvable_here (view c.root) texts) p m absorbed remaining (can_be texts) (end_of texts) (Fits texts) (turn_laws texts) es (found_of c) valid ends.asks_nothing ends.says
+        at_once_by (solving_in g (view c.root) texts) (solvable_here (view c.root) texts) p m absorbed remaining (can_be texts) (end_of texts) (Fits texts) (turn_laws texts) es (found_of c) (may.sound texts tells) valid ends.asks_nothing ends.says

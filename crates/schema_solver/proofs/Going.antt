@@ -1,28 +1,33 @@
 -- Steps of a solver one after another, how it begins, and what it says at the end.
-use Rattle.std.proofs.Common.{◌≡◌, ◌∙◌, ℕ, ◌++◌, ◌<◌, ◌≤◌, ◌||◌, not, Bool, [], length, refl, sym, subst, ap, ap₂, append_assoc, arith, true≢false}
+use Rattle.std.proofs.Common.{◌≡◌, ◌∙◌, ℕ, ◌++◌, ◌<◌, ◌≤◌, ◌||◌, not, Bool, true, false, [], length, refl, sym, subst, ap, ap₂, append_assoc, arith, true≢false}
+use Rattle.std.specs.Prelude.{Some}
 use Rattle.std.proofs.lemmas.Bool.{false_from_ne_true, or_left}
 use Rattle.std.proofs.lemmas.List.{append-nil}
 use Rattle.std.proofs.lemmas.List.Elements.{All-nil}
+use Rattle.serde_json.specs.Data.{Data}
 use Rattle.serde_json.specs.View.{view}
 use Rattle.serde_json.specs.declared.value.Value.{Value}
-use Rattle.schema_definitions.specs.Instance.{Place, Subject, a_value, subject_at}
+use Rattle.schema_definitions.specs.Instance.{Place, Subject, Text, a_value, subject_at}
+use Rattle.schema_definitions.specs.Guarded.{guarded_within, node_outcome, yes_outcome}
 use Rattle.schema_definitions.specs.Keywords.{Below}
 use Rattle.schema_definitions.specs.Laws.{EachKeeps}
 use Rattle.schema_definitions.specs.Meaning.{place_below}
 use Rattle.schema_definitions.proofs.Products.{in_either}
 use Rattle.schema_parts.specs.MatcherViews.{FinishesEach}
 use Rattle.schema_contexts.specs.Progress.{NoDeeper, root_places}
-use Rattle.schema_meaning.specs.Numbered.{Ranked}
-use Rattle.schema_greatest.specs.NodesSay.{AreMonotone}
+use Rattle.schema_contexts.specs.Verdicts.{verdict_of}
+use Rattle.schema_meaning.specs.Numbered.{Ranked, left, subject_in}
 use Rattle.schema_greatest.specs.Under.{Solving, IsSolvable}
-use Rattle.schema_greatest.specs.Found.{IsSound, SaysUnder}
+use Rattle.schema_greatest.specs.Found.{Found, IsSound}
+use Rattle.schema_greatest.specs.Stages.{Fits, IsStaged, Tells}
 use Rattle.schema_greatest.specs.Work.{IsCounted, pairs_of}
-use Rattle.schema_greatest.proofs.Between.{grows_below, grows_none, grows_on}
-use Rattle.schema_greatest.proofs.Solved.{nothing_sound, solver_says_guarded}
+use Rattle.schema_greatest.proofs.Between.{grows_below, grows_none, grows_on, lean_less}
+use Rattle.schema_greatest.proofs.Solved.{nothing_staged, solver_says_guarded, staged_is_sound, tells_under_sets}
+use Rattle.schema_greatest.proofs.Staged.{told_guarded}
 use Rattle.schema_greatest.proofs.Bounds.{bounded_by}
 use Rattle.schema_pairs.specs.Contexts.{Solver, found_of, has_pair}
 use Rattle.schema_pairs.specs.Answering.{fresh}
-use Rattle.schema_solver.specs.Solving.{BeginsFew, Goes, InEach, IsSoundIn, MaySolve, SaysAsNodes, Setting, StaysCounted, solving_in}
+use Rattle.schema_solver.specs.Solving.{BeginsFew, Goes, HoldsAsNodes, InEach, IsSoundIn, IsStagedIn, MaySolve, RestsOnFound, SaysAsNodes, Setting, StaysCounted, solving_in}
 use Rattle.schema_pairs.proofs.FoundOf.{has_append}
 
 module _ {K R : Type 0} (g : Setting K R) where
@@ -31,7 +36,7 @@ module _ {K R : Type 0} (g : Setting K R) where
       subst (λ v. IsCounted (pairs_of ns (root_places v)) (length ns) (found_of b) b.begun → IsCounted (pairs_of ns (root_places v)) (length ns) (found_of c) c.begun) root (second ns each) (first ns each counted)
 
   -- no step, and two
-  pub goes_none : (p : Place) (c : Solver) → IsSoundIn g c → Goes g p c c
+  pub goes_none : (p : Place) (c : Solver) → IsStagedIn g c → Goes g p c c
   goes_none p c sound = record {
     root = refl;
     in_progress = refl;
@@ -77,7 +82,6 @@ module _ {K R : Type 0} (g : Setting K R) where
   may_after p c c' s i may went = record {
     known = may.known;
     ranked = may.ranked;
-    monotone = may.monotone;
     finishes = may.finishes;
     above = subst (NoDeeper p) (sym went.in_progress) may.above;
     stands = ap (λ v. subject_at (view v) p) went.root ∙ may.stands;
@@ -86,39 +90,66 @@ module _ {K R : Type 0} (g : Setting K R) where
 
   -- ---- as it begins
 
-  pub fresh_sound : (v : Value) → IsSoundIn g (fresh v)
-  fresh_sound v texts tells = nothing_sound (solving_in g (view v) texts)
+  pub fresh_staged : (v : Value) → IsStagedIn g (fresh v)
+  fresh_staged v texts tells = nothing_staged (solving_in g (view v) texts)
 
   -- so any number of the table may be asked of the root place
-  pub fresh_may : (v : Value) (i : ℕ) → i < g.count → Ranked g.nodes g.count → ((texts : Bool) → AreMonotone (g.words texts) g.nodes g.count) → FinishesEach g.matcher → MaySolve g (fresh v) (a_value (view v)) [] i
-  fresh_may v i known ranked monotone finishes = record {
+  pub fresh_may : (v : Value) (i : ℕ) → i < g.count → Ranked g.nodes g.count → FinishesEach g.matcher → MaySolve g (fresh v) (a_value (view v)) [] i
+  fresh_may v i known ranked finishes = record {
     known = known;
     ranked = ranked;
-    monotone = monotone;
     finishes = finishes;
     above = All-nil (λ (e : ℕ × Place). length e.1 ≤ 0);
     stands = refl;
-    sound = fresh_sound v;
+    sound = fresh_staged v;
   }
 
   -- ---- at the end
 
-  module _ (laws : (texts : Bool) → EachKeeps (g.words texts)) (ranked : Ranked g.nodes g.count) (monotone : (texts : Bool) → AreMonotone (g.words texts) g.nodes g.count)
-      (v : Value) (i : ℕ) (l : i < g.count) (c : Solver) (went : Goes g [] (fresh v) c) where
+  module _ (laws : (texts : Bool) → EachKeeps (g.words texts)) (ranked : Ranked g.nodes g.count) (v : Value) (i : ℕ) (l : i < g.count) (c : Solver) (went : Goes g [] (fresh v) c) where
+    solvable : (texts : Bool) → IsSolvable (solving_in g (view v) texts)
+    solvable texts = record {
+      laws = laws texts;
+      ranked = ranked;
+      cuts = λ e guarded. or_left _ _ guarded;
+      alike = λ d e same guards. ap₂ (λ x y. x || not (g.is_followed y)) guards same;
+    }
+
+    staged : InEach g (view v) (λ texts w. IsStaged w (found_of c))
+    staged = subst (λ u. InEach g (view u) (λ texts w. IsStaged w (found_of c))) went.root went.sound
+
+    -- what leans on nothing may lean
+    may_lean : (w : Solving K R) (f : Found) (b k : Bool) → Tells w f i [] b k → Tells w f i [] b true
+    may_lean w f true k tells answers fits = tells answers (lean_less f k true answers (λ is. refl) fits)
+    may_lean w f false k tells answers fits = tells answers fits
+
     -- what is said of the number is what its nodes say under guards
-    pub end_says : (b : Bool) → InEach g (view c.root) (λ texts w. SaysUnder w (found_of c) i [] b) → SaysAsNodes g (view v) i b
-    end_says b says texts tells path n low =
+    pub end_says : (b k : Bool) → InEach g (view c.root) (λ texts w. Tells w (found_of c) i [] b k) → SaysAsNodes g (view v) i b
+    end_says b k says texts tells path n low =
         let w : Solving K R = solving_in g (view v) texts in
-        let solvable : IsSolvable w = record {
-          laws = laws texts;
-          ranked = ranked;
-          monotone = monotone texts;
-          cuts = λ e guarded. or_left _ _ guarded;
-          alike = λ d e same guards. ap₂ (λ x y. x || not (g.is_followed y)) guards same;
-        } in
-        let sound : InEach g (view v) (λ texts w. IsSound w (found_of c)) = subst (λ u. InEach g (view u) (λ texts w. IsSound w (found_of c))) went.root went.sound in
-        let said : InEach g (view v) (λ texts w. SaysUnder w (found_of c) i [] b) = subst (λ u. InEach g (view u) (λ texts w. SaysUnder w (found_of c) i [] b)) went.root says in
-        solver_says_guarded w solvable i [] b l (found_of c, sound texts tells, (λ j q. ap (λ es. has_pair es j q) went.in_progress), said texts tells) path n low
+        let said : InEach g (view v) (λ texts w. Tells w (found_of c) i [] b k) = subst (λ u. InEach g (view u) (λ texts w. Tells w (found_of c) i [] b k)) went.root says in
+        solver_says_guarded w (solvable texts) i [] b l (found_of c, staged texts tells, (λ j q. ap (λ es. has_pair es j q) went.in_progress), may_lean w (found_of c) b k (said texts tells)) path n low
+
+    -- it is what it says under each set between what is answered yes and what is not refused
+    pub end_rests : (b k : Bool) → InEach g (view c.root) (λ texts w. Tells w (found_of c) i [] b k) → RestsOnFound g c i b
+    end_rests b k says texts tells = tells_under_sets (solving_in g (view c.root) texts) (found_of c) i [] b (may_lean (solving_in g (view c.root) texts) (found_of c) b k (says texts tells))
+
+    -- what is held is so, where each keyword is monotone
+    pub end_sound : IsSoundIn g c
+    end_sound monotone = subst (λ u. InEach g (view u) (λ texts w. IsSound w (found_of c))) (sym went.root) (λ texts tells. staged_is_sound (solving_in g (view v) texts) (solvable texts) (monotone texts) (found_of c) (staged texts tells))
+
+    -- each verdict that is held is what the nodes say
+    pub end_holds : HoldsAsNodes g c
+    end_holds = subst (λ u. Held (view u)) (sym went.root) held
+      where
+        Held : Data → Type 0
+        Held root = InEach g root (λ texts w. (i : ℕ) (p : Place) (v : Bool) → verdict_of i p c.verdicts ≡ Some v → (path : Text) (n : ℕ) → left g.nodes g.count i (subject_in w.instance p) [] < n
+            → (guarded_within yes_outcome (node_outcome w.keywords w.matcher w.nodes (subject_in w.instance) w.completion) n i path p []).verdict ≡ v)
+
+        held : Held (view v)
+        held texts tells j p b known path n low =
+            let stages = (staged texts tells).stages in
+            told_guarded (solving_in g (view v) texts) (solvable texts) (found_of c).known stages j path p [] (stages.stage j p) b (stages.inside j p b known) (stages.rests j p b known) (λ k there. absurd (true≢false (sym there))) n low
 
     -- and few pairs were begun
     pub end_few : BeginsFew g v c.begun

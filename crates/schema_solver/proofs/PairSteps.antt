@@ -14,16 +14,17 @@ use Rattle.schema_contexts.specs.Progress.{NoDeeper, Pairs, root_places}
 use Rattle.schema_contexts.specs.Verdicts.{Remembers, is_pair}
 use Rattle.run_steps.specs.NodeRuns.{TellsAll}
 use Rattle.schema_greatest.specs.Under.{Solving, IsSolvable}
-use Rattle.schema_greatest.specs.Found.{Grows, IsSound, NoneAt, NoneDeeper, SaysPair, SaysUnder, after_no, after_yes, after_yes_alone, entered, is_this}
+use Rattle.schema_greatest.specs.Found.{Grows, NoneAt, NoneDeeper, after_no, after_yes, after_yes_alone, after_yes_free, entered, is_this}
+use Rattle.schema_greatest.specs.Stages.{IsStaged, PairTells, Tells, for_now}
 use Rattle.schema_greatest.specs.Work.{IsCounted, Pairs as AllPairs, pairs_of}
 use Rattle.schema_greatest.proofs.Pairs.{of_this, this_place}
-use Rattle.schema_greatest.proofs.Steps.{alone_grows, alone_says, alone_sound, assumes_grows, assumes_says, assumes_sound, entered_sound, no_grows, no_says, no_sound}
-use Rattle.schema_greatest.proofs.Work.{assumed_counts, entered_counts, refused_counts, settled_counts}
+use Rattle.schema_greatest.proofs.Steps.{alone_grows, alone_says, alone_sound, assumes_grows, assumes_says, assumes_sound, entered_sound, free_grows, free_says, free_sound, no_grows, no_says, no_sound}
+use Rattle.schema_greatest.proofs.Work.{assumed_counts, entered_counts, freed_counts, refused_counts, settled_counts}
 use Rattle.schema_greatest.proofs.Bounds.{pairs_among, pairs_few}
 use Rattle.schema_pairs.specs.Contexts.{SettlesAll, Solver, found_of, has_pair, solver_places}
 use Rattle.schema_pairs.specs.Answering.{Begins}
 use Rattle.schema_solver.specs.Solving.{Goes, HasEachCut, InEach, IsNew, Leaves, MaySolve, Setting, solving_in}
-use Rattle.schema_pairs.proofs.FoundOf.{has_pushed, found_assumed, found_entered, found_refused, found_settled}
+use Rattle.schema_pairs.proofs.FoundOf.{has_pushed, found_assumed, found_entered, found_freed, found_refused, found_settled}
 
 -- what no pair in progress lies deeper than is so of what is found
 deeper : (p : Place) (es : Pairs) → NoDeeper p es → (j : ℕ) (q : Place) → has_pair es j q ≡ true → length q ≤ length p
@@ -48,7 +49,6 @@ module _ {K R : Type 0} (g : Setting K R) (laws : (texts : Bool) → EachKeeps (
     solvable root texts = record {
       laws = laws texts;
       ranked = may.ranked;
-      monotone = may.monotone texts;
       cuts = λ e guarded. or_left _ _ guarded;
       alike = λ c d same guards. ap₂ (λ x y. x || not (g.is_followed y)) guards same;
     }
@@ -61,13 +61,12 @@ module _ {K R : Type 0} (g : Setting K R) (laws : (texts : Bool) → EachKeeps (
     begun_may = record {
       known = may.known;
       ranked = may.ranked;
-      monotone = may.monotone;
       finishes = may.finishes;
       above = subst (NoDeeper p) (sym begins.in_progress) (All-append (λ (e : ℕ × Place). length e.1 ≤ length p) old.in_progress ((i, p) ∷ []) may.above (All-cons (λ (e : ℕ × Place). length e.1 ≤ length p) (i, p) [] (omega arith) (All-nil (λ (e : ℕ × Place). length e.1 ≤ length p))));
       stands = ap (λ v. subject_at (view v) p) begins.root ∙ may.stands;
-      sound = at_root (λ texts w. IsSound w (found_of b)) old.root b.root (sym begins.root)
-          (λ texts tells. subst (IsSound (solving_in g (view old.root) texts)) (sym found_b)
-          (entered_sound (solving_in g (view old.root) texts) (solvable (view old.root) texts) (found_of old) i p (may.sound texts tells) is_new.unknown));
+      sound = at_root (λ texts w. IsStaged w (found_of b)) old.root b.root (sym begins.root)
+          (λ texts tells. subst (IsStaged (solving_in g (view old.root) texts)) (sym found_b)
+          (entered_sound (solving_in g (view old.root) texts) (solvable (view old.root) texts) (found_of old) i p (may.sound texts tells) is_new.unknown is_new.free));
     }
 
     module _ (e n : Solver) (went : Goes g p b e) (leaves : Leaves old e n) where
@@ -80,14 +79,18 @@ module _ {K R : Type 0} (g : Setting K R) (laws : (texts : Bool) → EachKeeps (
       abbrev In : Bool → Solving K R
       In texts = solving_in g (view old.root) texts
 
-      abbrev Says : Bool → Type 0
-      Says v = InEach g (view e.root) (λ texts w. SaysUnder w (found_of e) i p v)
+      abbrev Says : Bool → Bool → Type 0
+      Says v leans = InEach g (view e.root) (λ texts w. Tells w (found_of e) i p v leans)
 
-      says_old : (v : Bool) → Says v → InEach g (view old.root) (λ texts w. SaysUnder w (found_of e) i p v)
-      says_old v = at_root (λ texts w. SaysUnder w (found_of e) i p v) e.root old.root root_e
+      says_old : (v leans : Bool) → Says v leans → InEach g (view old.root) (λ texts w. Tells w (found_of e) i p v leans)
+      says_old v leans = at_root (λ texts w. Tells w (found_of e) i p v leans) e.root old.root root_e
 
-      sound_e : InEach g (view old.root) (λ texts w. IsSound w (found_of e))
-      sound_e = at_root (λ texts w. IsSound w (found_of e)) e.root old.root root_e went.sound
+      -- it was neither in progress nor assumed before
+      was_not : for_now (found_of old) i p ≡ false
+      was_not = ap (λ b. b || has_pair old.assumed i p) is_new.idle ∙ is_new.free
+
+      sound_e : InEach g (view old.root) (λ texts w. IsStaged w (found_of e))
+      sound_e = at_root (λ texts w. IsStaged w (found_of e)) e.root old.root root_e went.sound
 
       grew_e : Grows p (entered (found_of old) i p) (found_of e)
       grew_e = subst (λ f. Grows p f (found_of e)) found_b went.grew
@@ -125,7 +128,7 @@ module _ {K R : Type 0} (g : Setting K R) (laws : (texts : Bool) → EachKeeps (
 
       -- ---- after a no
 
-      module _ (says : Says false) (dropped : n.assumed ≡ old.assumed) (refused : Remembers i p false e.verdicts n.verdicts) where
+      module _ (leans : Bool) (says : Says false leans) (dropped : n.assumed ≡ old.assumed) (refused : Remembers i p false e.verdicts n.verdicts) where
         found_no : found_of n ≡ after_no (found_of old) (found_of e) i p
         found_no = found_refused i p old e n leaves.in_progress dropped refused
 
@@ -137,24 +140,24 @@ module _ {K R : Type 0} (g : Setting K R) (laws : (texts : Bool) → EachKeeps (
           assumed = dropped ∙ sym (append-nil old.assumed);
           apart = λ j q is. absurd (true≢false (sym is));
           grew = subst (Grows p (found_of old)) (sym found_no) (no_grows (In false) silent_w (found_of old) (found_of e) i p may.known (may.sound false silent) (sound_e false silent) grew_e);
-          sound = at_root (λ texts w. IsSound w (found_of n)) old.root n.root (sym root_n) (λ texts tells. subst (IsSound (In texts)) (sym found_no)
-              (no_sound (In texts) (solvable (view old.root) texts) (found_of old) (found_of e) i p may.known (may.sound texts tells) (sound_e texts tells) grew_e is_new.idle is_new.free (says_old false says texts tells)));
+          sound = at_root (λ texts w. IsStaged w (found_of n)) old.root n.root (sym root_n) (λ texts tells. subst (IsStaged (In texts)) (sym found_no)
+              (no_sound (In texts) (solvable (view old.root) texts) (found_of old) (found_of e) i p may.known (may.sound texts tells) (sound_e texts tells) grew_e was_not leans (says_old false leans says texts tells)));
           counted = λ ns each counted. subst (λ f. IsCounted (All_ ns) (length ns) f n.begun) (sym found_no)
               (refused_counts (In false) silent_w (found_of old) (found_of e) i p may.known (may.sound false silent) (sound_e false silent) grew_e (All_ ns) (length ns) n.begun
               (pairs_among ns (solver_places old) i p (is_new.among ns each) is_new.there) (pairs_few ns (solver_places old) is_new.once) none_deeper (counted_e ns each counted));
         }
 
-        pub refused_says : SaysPair (found_of n) i p false
-        refused_says = subst (λ f. SaysPair f i p false) (sym found_no) (no_says (In false) silent_w (found_of old) (found_of e) i p may.known (may.sound false silent) (sound_e false silent) grew_e)
+        pub refused_says : (k : Bool) → PairTells (found_of n) i p false k
+        refused_says k = subst (λ f. PairTells f i p false k) (sym found_no) (no_says (In false) silent_w (found_of old) (found_of e) i p may.known (may.sound false silent) (sound_e false silent) grew_e k)
 
       -- ---- after a yes beside another pair in progress at its place
 
-      module _ (says : Says true) (k : ℕ) (beside : has_pair old.in_progress k p ≡ true) (pushed : n.assumed ≡ e.assumed ++ (i, p) ∷ []) (verdicts : n.verdicts ≡ e.verdicts) where
+      module _ (leans : Bool) (says : Says true leans) (k : ℕ) (beside : has_pair old.in_progress k p ≡ true) (pushed : n.assumed ≡ e.assumed ++ (i, p) ∷ []) (verdicts : n.verdicts ≡ e.verdicts) where
         found_assumes : found_of n ≡ after_yes (found_of old) (found_of e) i p
         found_assumes = found_assumed i p old e n leaves.in_progress pushed verdicts
 
-        pub assumed_says : SaysPair (found_of n) i p true
-        assumed_says = subst (λ f. SaysPair f i p true) (sym found_assumes) (assumes_says (In false) silent_w (found_of old) (found_of e) i p may.known (may.sound false silent) (sound_e false silent) grew_e)
+        pub assumed_says : PairTells (found_of n) i p true true
+        assumed_says = subst (λ f. PairTells f i p true true) (sym found_assumes) (assumes_says (In false) silent_w (found_of old) (found_of e) i p may.known (may.sound false silent) (sound_e false silent) grew_e)
 
         pub assumed_goes : Goes g p old n
         assumed_goes = record {
@@ -164,20 +167,43 @@ module _ {K R : Type 0} (g : Setting K R) (laws : (texts : Bool) → EachKeeps (
           assumed = pushed ∙ ap (λ es. es ++ (i, p) ∷ []) grown ∙ append_assoc old.assumed went.more ((i, p) ∷ []);
           apart = λ j q is. pushed_apart i p old.assumed went.more is_new.free apart_old j q is;
           grew = subst (Grows p (found_of old)) (sym found_assumes) (assumes_grows (In false) silent_w (found_of old) (found_of e) i p may.known (may.sound false silent) (sound_e false silent) grew_e);
-          sound = at_root (λ texts w. IsSound w (found_of n)) old.root n.root (sym root_n) (λ texts tells. subst (IsSound (In texts)) (sym found_assumes)
-              (assumes_sound (In texts) (solvable (view old.root) texts) (found_of old) (found_of e) i p may.known (may.sound texts tells) (sound_e texts tells) grew_e (says_old true says texts tells) k beside));
+          sound = at_root (λ texts w. IsStaged w (found_of n)) old.root n.root (sym root_n) (λ texts tells. subst (IsStaged (In texts)) (sym found_assumes)
+              (assumes_sound (In texts) (solvable (view old.root) texts) (found_of old) (found_of e) i p may.known (may.sound texts tells) (sound_e texts tells) grew_e was_not leans (says_old true leans says texts tells) k beside));
           counted = λ ns each counted. subst (λ f. IsCounted (All_ ns) (length ns) f n.begun) (sym found_assumes)
               (assumed_counts (In false) silent_w (found_of old) (found_of e) i p may.known (may.sound false silent) (sound_e false silent) grew_e (All_ ns) (length ns) n.begun (counted_e ns each counted));
         }
 
+      -- ---- after a yes that leans on nothing, beside another
+
+      module _ (says : Says true false) (k : ℕ) (beside : has_pair old.in_progress k p ≡ true) (same : n.assumed ≡ e.assumed) (kept : Remembers i p true e.verdicts n.verdicts) where
+        found_free : found_of n ≡ after_yes_free (found_of old) (found_of e) i p
+        found_free = found_freed i p old e n leaves.in_progress same kept
+
+        pub freed_says : (k : Bool) → PairTells (found_of n) i p true k
+        freed_says k = subst (λ f. PairTells f i p true k) (sym found_free) (free_says (In false) silent_w (found_of old) (found_of e) i p may.known (may.sound false silent) (sound_e false silent) grew_e k)
+
+        pub freed_goes : Goes g p old n
+        freed_goes = record {
+          root = root_n;
+          in_progress = leaves.in_progress;
+          more = went.more;
+          assumed = same ∙ grown;
+          apart = apart_old;
+          grew = subst (Grows p (found_of old)) (sym found_free) (free_grows (In false) silent_w (found_of old) (found_of e) i p may.known (may.sound false silent) (sound_e false silent) grew_e);
+          sound = at_root (λ texts w. IsStaged w (found_of n)) old.root n.root (sym root_n) (λ texts tells. subst (IsStaged (In texts)) (sym found_free)
+              (free_sound (In texts) (solvable (view old.root) texts) (found_of old) (found_of e) i p may.known (may.sound texts tells) (sound_e texts tells) grew_e was_not k beside (says_old true false says texts tells)));
+          counted = λ ns each counted. subst (λ f. IsCounted (All_ ns) (length ns) f n.begun) (sym found_free)
+              (freed_counts (In false) silent_w (found_of old) (found_of e) i p may.known (may.sound false silent) (sound_e false silent) grew_e (All_ ns) (length ns) n.begun (counted_e ns each counted));
+        }
+
       -- ---- after a yes of the only pair in progress at its place
 
-      module _ (says : Says true) (none_at : NoneAt p (found_of old)) (dropped : n.assumed ≡ old.assumed) (settles : SettlesAll ((i, p) ∷ went.more) e.verdicts n.verdicts) where
+      module _ (leans : Bool) (says : Says true leans) (none_at : NoneAt p (found_of old)) (dropped : n.assumed ≡ old.assumed) (settles : SettlesAll ((i, p) ∷ went.more) e.verdicts n.verdicts) where
         found_alone : found_of n ≡ after_yes_alone (found_of old) (found_of e) i p
         found_alone = found_settled i p old e n went.more leaves.in_progress dropped grown apart_old settles
 
-        pub settled_says : SaysPair (found_of n) i p true
-        settled_says = subst (λ f. SaysPair f i p true) (sym found_alone) (alone_says (In false) silent_w (found_of old) (found_of e) i p may.known (may.sound false silent) (sound_e false silent) grew_e none_at none_deeper)
+        pub settled_says : (k : Bool) → PairTells (found_of n) i p true k
+        settled_says k = subst (λ f. PairTells f i p true k) (sym found_alone) (alone_says (In false) silent_w (found_of old) (found_of e) i p may.known (may.sound false silent) (sound_e false silent) grew_e k)
 
         pub settled_goes : Goes g p old n
         settled_goes = record {
@@ -186,9 +212,9 @@ module _ {K R : Type 0} (g : Setting K R) (laws : (texts : Bool) → EachKeeps (
           more = [];
           assumed = dropped ∙ sym (append-nil old.assumed);
           apart = λ j q is. absurd (true≢false (sym is));
-          grew = subst (Grows p (found_of old)) (sym found_alone) (alone_grows (In false) silent_w (found_of old) (found_of e) i p may.known (may.sound false silent) (sound_e false silent) grew_e none_at none_deeper);
-          sound = at_root (λ texts w. IsSound w (found_of n)) old.root n.root (sym root_n) (λ texts tells. subst (IsSound (In texts)) (sym found_alone)
-              (alone_sound (In texts) (solvable (view old.root) texts) (found_of old) (found_of e) i p may.known (may.sound texts tells) (sound_e texts tells) grew_e none_at none_deeper (says_old true says texts tells)));
+          grew = subst (Grows p (found_of old)) (sym found_alone) (alone_grows (In false) silent_w (found_of old) (found_of e) i p may.known (may.sound false silent) (sound_e false silent) grew_e);
+          sound = at_root (λ texts w. IsStaged w (found_of n)) old.root n.root (sym root_n) (λ texts tells. subst (IsStaged (In texts)) (sym found_alone)
+              (alone_sound (In texts) (solvable (view old.root) texts) (found_of old) (found_of e) i p may.known (may.sound texts tells) (sound_e texts tells) grew_e none_at none_deeper leans (says_old true leans says texts tells)));
           counted = λ ns each counted. subst (λ f. IsCounted (All_ ns) (length ns) f n.begun) (sym found_alone)
-              (settled_counts (In false) silent_w (found_of old) (found_of e) i p may.known (may.sound false silent) (sound_e false silent) grew_e (All_ ns) (length ns) n.begun none_at none_deeper (counted_e ns each counted));
+              (settled_counts (In false) silent_w (found_of old) (found_of e) i p may.known (may.sound false silent) (sound_e false silent) grew_e (All_ ns) (length ns) n.begun (counted_e ns each counted));
         }

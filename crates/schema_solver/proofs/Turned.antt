@@ -1,6 +1,8 @@
 -- A keyword's run for its verdict that a solver answers, in each reading of texts: how it begins, goes on after each turn, and ends.
-use Rattle.std.proofs.Common.{◌≡◌, ◌∙◌, ℕ, zero, suc, ◌<◌, ◌||◌, not, Bool, false, List, [], refl, sym, subst, ap, ap₂, arith}
+use Rattle.std.proofs.Common.{◌≡◌, ◌∙◌, ℕ, zero, suc, ◌<◌, ◌||◌, ◌&&◌, not, Bool, true, false, List, [], refl, sym, subst, ap, ap₂, arith, true≢false}
+use Rattle.std.specs.Prelude.{Err, IfErr, Ok, OnErr, Result}
 use Rattle.std.specs.List.{list_any}
+use Rattle.std.proofs.lemmas.List.Elements.{All-contains}
 use Rattle.std.proofs.lemmas.Bool.{or_left}
 use Rattle.serde_json.specs.Data.{Data}
 use Rattle.serde_json.specs.View.{view}
@@ -12,8 +14,12 @@ use Rattle.schema_definitions.specs.Remembering.{AlwaysAsksVerdict, AsksVerdict,
 use Rattle.schema_definitions.specs.Runs.{with_mark, without_last}
 use Rattle.schema_definitions.specs.Turns.{Standing, TurnLaws, marks_after, reply_to}
 use Rattle.schema_definitions.specs.Guarded.{Children, NodeForm, node_keyword, same_edge}
+use Rattle.schema_meaning.specs.Fractions.{node_words}
 use Rattle.schema_meaning.specs.Numbered.{Ranked, subject_in}
-use Rattle.schema_greatest.specs.NodesSay.{AreMonotone}
+use Rattle.schema_pairs.specs.declared.said.Said.{Said}
+use Rattle.schema_solver.specs.declared.question.Stopped.{Stopped}
+use Rattle.schema_solver.specs.declared.question.Stopped.TheVariants.{OutOfMemory}
+use Rattle.schema_meaning.specs.Greatest.{IsMonotone}
 use Rattle.schema_parts.specs.KeywordViews.{Tells, answer_of, fresh}
 use Rattle.schema_parts.specs.declared.keyword.Answer as code_answer
 use Rattle.schema_contexts.specs.Matches.{settling}
@@ -23,16 +29,17 @@ use Rattle.run_steps.specs.declared.evaluation_place.EvaluationPlace.{Evaluation
 use Rattle.schema_contexts.proofs.Matches.{decides, deciding}
 use Rattle.run_steps.specs.NodeRuns.{HasForm, TellsAll}
 use Rattle.run_steps.proofs.KeywordTurns.{falls_turned}
-use Rattle.run_steps.proofs.NodeParts.{tells_keyword}
+use Rattle.run_steps.proofs.NodeParts.{keyword_in, tells_keyword}
 use Rattle.run_steps.proofs.NodeRuns.{stands_in}
-use Rattle.schema_greatest.specs.Under.{PairSet, Solving, IsSolvable}
-use Rattle.schema_greatest.specs.Found.{Between, Grows}
-use Rattle.schema_greatest.specs.Says.{ChildSays, FormSays}
-use Rattle.schema_greatest.specs.Turning.{TurnsUnder, answers_under, matches_here, subject_here, units_under}
-use Rattle.schema_greatest.proofs.Between.{grows_between, grows_none}
-use Rattle.schema_greatest.proofs.Turning.{answer_verdict, begins_under, ended_under, turned_under}
+use Rattle.schema_greatest.specs.Under.{Solving, IsSolvable}
+use Rattle.schema_greatest.specs.Found.{Grows}
+use Rattle.schema_greatest.specs.Stages.{ChildTells, Consistent, FormTells, IsStaged}
+use Rattle.schema_greatest.specs.Turning.{Given, TurnsBy, answers_by, matches_here, subject_here, units_by}
+use Rattle.schema_greatest.proofs.Between.{grows_fits_same, grows_none}
+use Rattle.schema_greatest.proofs.Says.{consistent_less}
+use Rattle.schema_greatest.proofs.Turning.{answer_verdict, begins_by, ended_by, turned_by as turned_once}
 use Rattle.schema_pairs.specs.Contexts.{Solver, found_of, solver_places}
-use Rattle.schema_solver.specs.Solving.{Goes, InEach, IsSoundIn, MaySolve, Setting, solving_in}
+use Rattle.schema_solver.specs.Solving.{EachSays, Goes, InEach, IsStagedIn, MaySolve, Setting, solving_in}
 use Rattle.schema_solver.specs.TurningOn.{AsksOn, HasBegun, TurnsOn}
 use Rattle.schema_solver.proofs.Going.{goes_none}
 
@@ -45,14 +52,22 @@ pub begun_with : {K R : Type 0} (g : Setting K (R × Answer)) (s : Subject) (m :
     → ((texts : Bool) → (g.words texts).begin m s for_verdict ≡ (run, fresh for_verdict)) → ((texts : Bool) → answer_of texts a ≡ fresh for_verdict) → HasBegun g s m run a
 begun_with g s m run a begins is texts = begins texts ∙ ap (λ b. (run, b)) (sym (is texts))
 
+-- what is said of a keyword stops for want of memory alone, where it says that it is monotone
+pub never_stops : (result : Result Said Stopped) (b : Bool) → OnErr result (b ≡ false) → b ≡ true → IfErr result (λ e. e ≡ OutOfMemory)
+never_stops (Ok s) b stops is = tt
+never_stops (Err e) b stops is = absurd (true≢false (sym is ∙ stops))
+
+-- so does one of a number, where each does
+pub keyword_says : {K R : Type 0} (g : Setting K R) (says : K → Bool) (i : ℕ) (m : K) (es : Children) → EachSays g says → i < g.count → HasForm g.nodes i (node_keyword m es) → says m ≡ true
+keyword_says g says i m es each l form = All-contains (λ m. says m ≡ true) (node_words (g.nodes.entries i)) m (each i l) (keyword_in g.nodes i m es form)
+
 module _ {K R : Type 0} (g : Setting K R) where
   -- what is solved keeps the laws in each reading
-  pub solvable_in : ((texts : Bool) → EachKeeps (g.words texts)) → Ranked g.nodes g.count → ((texts : Bool) → AreMonotone (g.words texts) g.nodes g.count)
+  pub solvable_in : ((texts : Bool) → EachKeeps (g.words texts)) → Ranked g.nodes g.count
       → (root : Data) (texts : Bool) → IsSolvable (solving_in g root texts)
-  solvable_in keeps ranked monotone root texts = record {
+  solvable_in keeps ranked root texts = record {
     laws = keeps texts;
     ranked = ranked;
-    monotone = monotone texts;
     cuts = λ e guarded. or_left _ _ guarded;
     alike = λ d e same guards. ap₂ (λ x y. x || not (g.is_followed y)) guards same;
   }
@@ -70,17 +85,21 @@ module _ {K R : Type 0} (g : Setting K R) where
     counted = went.counted;
   }
 
-  pub goes_marked : (p : Place) (c c' : Solver) → IsSoundIn g c → c'.root ≡ c.root → c'.in_progress ≡ c.in_progress → c'.assumed ≡ c.assumed → c'.verdicts ≡ c.verdicts → c'.begun ≡ c.begun → Goes g p c c'
+  pub goes_marked : (p : Place) (c c' : Solver) → IsStagedIn g c → c'.root ≡ c.root → c'.in_progress ≡ c.in_progress → c'.assumed ≡ c.assumed → c'.verdicts ≡ c.verdicts → c'.begun ≡ c.begun → Goes g p c c'
   goes_marked p c c' sound root pairs assumed verdicts begun =
       let same : (record c { marking = c'.marking }) ≡ c'
       = λ i. record { root = (sym root) i; in_progress = (sym pairs) i; assumed = (sym assumed) i; verdicts = (sym verdicts) i; marking = c'.marking; begun = (sym begun) i } in
       subst (Goes g p c) same (with_marks p c c'.marking (goes_none g p c sound))
 
-  -- what was said is said still after a step
-  pub says_after : (q : Place) (c c' : Solver) → Goes g q c c' → (p : Place) (x : NodeForm K) (b : Bool) (v : Bool → Bool) → ((texts : Bool) → b ≡ v texts)
-      → InEach g (view c.root) (λ texts w. FormSays w p (found_of c) x (v texts)) → InEach g (view c'.root) (λ texts w. FormSays w p (found_of c') x b)
-  says_after q c c' went p x b v is says = subst (λ u. InEach g (view u) (λ texts w. FormSays w p (found_of c') x b)) (sym went.root)
-      (λ texts tells inside between. says texts tells inside (grows_between q (found_of c) (found_of c') went.grew inside between) ∙ sym (is texts))
+  -- what was said is said still after a step; a no leans no more or less
+  pub says_after : (q : Place) (c c' : Solver) → Goes g q c c' → (p : Place) (x : NodeForm K) (b l : Bool) (v : Bool → Bool) → ((texts : Bool) → b ≡ v texts)
+      → InEach g (view c.root) (λ texts w. FormTells w p (found_of c) x (v texts) l) → InEach g (view c'.root) (λ texts w. FormTells w p (found_of c') x b (b && l))
+  says_after q c c' went p x b l v is says = subst (λ u. InEach g (view u) (λ texts w. FormTells w p (found_of c') x b (b && l))) (sym went.root)
+      (λ texts tells. twice (solving_in g (view c.root) texts) b (subst (λ z. FormTells (solving_in g (view c.root) texts) p (found_of c) x z l) (sym (is texts)) (says texts tells)))
+    where
+      twice : (w : Solving K R) (b : Bool) → FormTells w p (found_of c) x b l → FormTells w p (found_of c') x b (b && l)
+      twice w true tells answers fits = tells answers (grows_fits_same q (found_of c) (found_of c') went.grew l answers fits)
+      twice w false tells answers fits = tells answers (grows_fits_same q (found_of c) (found_of c') went.grew false answers fits)
 
   -- a reading in which texts are spoken of lets a keyword of the table speak of them
   pub tells_there : (c : Solver) (s : Subject) (p : Place) (i : ℕ) (m : K) (es : Children) → MaySolve g c s p i → HasForm g.nodes i (node_keyword m es)
@@ -137,106 +156,118 @@ module _ {K R : Type 0} (g : Setting K R) where
         go zero low asks = absurd (omega (arith, low))
         go (suc n) low asks = subst AsksVerdict step asks.0
 
-    -- ---- it stands well under every set between
+    -- ---- it stands well by all that edges may answer
 
     module _ (keeps : (texts : Bool) → EachKeeps (g.words texts)) (c0 : Solver) (p : Place) (i : ℕ) (may : MaySolve g c0 s p i) (es : Children) (form : HasForm g.nodes i (node_keyword m es)) where
       abbrev here_in : Bool → Solving K R
       here_in = solving_in g (view c0.root)
 
-      abbrev Leads : Solver → List Marked → (Bool → R) → (Bool → Reply) → Type 0
+      abbrev Leads : Solver → Bool → List Marked → (Bool → R) → (Bool → Reply) → Type 0
       Leads = TurnsOn g m (view c0.root) p end_of Fits es
 
       abbrev solvable : (texts : Bool) → IsSolvable (here_in texts)
-      solvable = solvable_in keeps may.ranked may.monotone (view c0.root)
+      solvable = solvable_in keeps may.ranked (view c0.root)
 
       there : subject_in (view c0.root) p ≡ s
       there = stands_in (view c0.root) p s may.stands
 
-      pub leads_begun : (marks : List Marked) (r : Bool → R) → marks ≡ [] → ((texts : Bool) → (g.words texts).begin m s for_verdict ≡ r texts) → Leads c0 marks r (λ texts. no_reply)
+      pub leads_begun : (marks : List Marked) (r : Bool → R) → marks ≡ [] → ((texts : Bool) → (g.words texts).begin m s for_verdict ≡ r texts) → Leads c0 false marks r (λ texts. no_reply)
       leads_begun marks r none begun texts tells =
           let w : Solving K R = here_in texts in
-          let way = begins_under w (solvable texts) p m absorbed remaining (can_be texts) (end_of texts) (Fits texts) (laws texts) es (found_of c0) in
+          let way = begins_by w (solvable texts) p m absorbed remaining (can_be texts) (end_of texts) (Fits texts) (laws texts) es (found_of c0) in
           let began : w.keywords.begin m (subject_here w p) for_verdict ≡ r texts = ap (λ t. (g.words texts).begin m t for_verdict) there ∙ begun texts in
-          subst (λ l. TurnsUnder w p (found_of c0) m (end_of texts) (Fits texts) es l (r texts) no_reply) (sym none)
-          (subst (λ u. TurnsUnder w p (found_of c0) m (end_of texts) (Fits texts) es [] u no_reply) began way)
+          subst (λ l. TurnsBy w p (found_of c0) false m (end_of texts) (Fits texts) es l (r texts) no_reply) (sym none)
+          (subst (λ u. TurnsBy w p (found_of c0) false m (end_of texts) (Fits texts) es [] u no_reply) began way)
 
-      abbrev marks_under : (texts : Bool) → PairSet → List Marked → Turn → List Marked
-      marks_under texts inside = let w : Solving K R = here_in texts in marks_after (g.words texts) m (subject_here w p) (matches_here w p) (answers_under w p inside es) (units_under w p inside es) (same_edge es)
+      abbrev marks_by : (texts : Bool) → Given (here_in texts) p → List Marked → Turn → List Marked
+      marks_by texts given = let w : Solving K R = here_in texts in marks_after (g.words texts) m (subject_here w p) (matches_here w p) (answers_by w p given es) (units_by w p given es) (same_edge es)
 
-      abbrev reply_under : (texts : Bool) → PairSet → List Marked → Turn → Reply
-      reply_under texts inside = let w : Solving K R = here_in texts in reply_to (g.words texts) m (subject_here w p) (matches_here w p) (answers_under w p inside es) (units_under w p inside es) (same_edge es)
+      abbrev reply_by : (texts : Bool) → Given (here_in texts) p → List Marked → Turn → Reply
+      reply_by texts given = let w : Solving K R = here_in texts in reply_to (g.words texts) m (subject_here w p) (matches_here w p) (answers_by w p given es) (units_by w p given es) (same_edge es)
 
-      leads_turned : (c c' : Solver) → Grows p (found_of c) (found_of c') → (marks marks' : List Marked) (r r' : Bool → R) (reply reply' : Bool → Reply) (t : Turn)
+      leads_turned : (c c' : Solver) → Grows p (found_of c) (found_of c') → (l k : Bool) → (l ≡ true → k ≡ true) → (marks marks' : List Marked) (r r' : Bool → R) (reply reply' : Bool → Reply) (t : Turn)
           → Turned s m r r' reply → Stepped s m r reply t → ¬ (t ≡ done)
-          → InEach g (view c0.root) (λ texts w. (inside : PairSet) → Between (found_of c') inside → marks_under texts inside marks t ≡ marks')
-          → InEach g (view c0.root) (λ texts w. (inside : PairSet) → Between (found_of c') inside → reply_under texts inside marks t ≡ reply' texts)
-          → Leads c marks r reply → Leads c' marks' r' reply'
-      leads_turned c c' grew marks marks' r r' reply reply' t turned stepped more held told leads texts tells =
+          → ((texts : Bool) → TellsAll texts (view c0.root) g.is_whole g.nodes g.count → (given : Given (here_in texts) p) → Consistent (here_in texts) p (found_of c') k given → marks_by texts given marks t ≡ marks')
+          → ((texts : Bool) → TellsAll texts (view c0.root) g.is_whole g.nodes g.count → (given : Given (here_in texts) p) → Consistent (here_in texts) p (found_of c') k given → reply_by texts given marks t ≡ reply' texts)
+          → Leads c l marks r reply → Leads c' k marks' r' reply'
+      leads_turned c c' grew l k less marks marks' r r' reply reply' t turned stepped more held told leads texts tells =
           let w : Solving K R = here_in texts in
           let speaks = tells_there c0 s p i m es may form texts tells in
           let step : w.keywords.step m (subject_here w p) (r texts) (reply texts) ≡ t = ap (λ u. (g.words texts).step m u (r texts) (reply texts)) there ∙ stepped texts speaks in
           let turn : w.keywords.turn m (subject_here w p) (r texts) (reply texts) ≡ r' texts = ap (λ u. (g.words texts).turn m u (r texts) (reply texts)) there ∙ turned texts speaks in
-          subst (λ u. TurnsUnder w p (found_of c') m (end_of texts) (Fits texts) es marks' u (reply' texts)) turn
-          (turned_under w (solvable texts) p m absorbed remaining (can_be texts) (end_of texts) (Fits texts) (laws texts) es (found_of c) (found_of c') grew marks marks' (r texts) (reply texts) (reply' texts) t step more
+          subst (λ u. TurnsBy w p (found_of c') k m (end_of texts) (Fits texts) es marks' u (reply' texts)) turn
+          (turned_once w (solvable texts) p m absorbed remaining (can_be texts) (end_of texts) (Fits texts) (laws texts) es (found_of c) (found_of c') grew l k less marks marks' (r texts) (reply texts) (reply' texts) t step more
           (held texts tells) (told texts tells) (leads texts tells))
 
+      first_yes : (a b : Bool) → a ≡ true → (a || b) ≡ true
+      first_yes true b h = refl
+      first_yes false b h = absurd (true≢false (sym h))
+
+      last_yes : (a b c : Bool) → (c && b) ≡ true → (a || b) ≡ true
+      last_yes true b c h = refl
+      last_yes false b true h = h
+      last_yes false b false h = absurd (true≢false (sym h))
+
       -- after a question for a verdict
-      pub leads_asked : (c c' : Solver) → Goes g p c c' → c.root ≡ c0.root → (marks marks' : List Marked) → marks' ≡ marks → (r r' : Bool → R) (reply : Bool → Reply) (q : Question) (mode : Mode) (b : Bool)
+      pub leads_asked : (c c' : Solver) → Goes g p c c' → c.root ≡ c0.root → (l k : Bool) (marks marks' : List Marked) → marks' ≡ marks → (r r' : Bool → R) (reply : Bool → Reply) (q : Question) (mode : Mode) (b : Bool)
           → Turned s m r r' reply → Stepped s m r reply (ask q mode) → mode ≡ for_verdict
-          → InEach g (view c'.root) (λ texts w. ChildSays w p (found_of c') es q b)
-          → Leads c marks r reply → Leads c' marks' r' (λ texts. truth b)
-      leads_asked c c' went root marks marks' kept r r' reply q mode b turned stepped wanted says =
-          let says' : InEach g (view c0.root) (λ texts w. ChildSays w p (found_of c') es q b) = subst (λ v. InEach g (view v) (λ texts w. ChildSays w p (found_of c') es q b)) (went.root ∙ root) says in
-          leads_turned c c' went.grew marks marks' r r' reply (λ texts. truth b) (ask q for_verdict) turned (λ texts speaks. stepped texts speaks ∙ ap (ask q) wanted) (λ e. cc e)
-          (λ texts tells inside between. sym kept)
-          (λ texts tells inside between. ap truth (answer_verdict (here_in texts) p inside es q ∙ says' texts tells inside between))
+          → InEach g (view c'.root) (λ texts w. ChildTells w p (found_of c') es q b k)
+          → Leads c l marks r reply → Leads c' (l || k) marks' r' (λ texts. truth b)
+      leads_asked c c' went root l k marks marks' kept r r' reply q mode b turned stepped wanted says =
+          let says' : InEach g (view c0.root) (λ texts w. ChildTells w p (found_of c') es q b k) = subst (λ v. InEach g (view v) (λ texts w. ChildTells w p (found_of c') es q b k)) (went.root ∙ root) says in
+          leads_turned c c' went.grew l (l || k) (first_yes l k) marks marks' r r' reply (λ texts. truth b) (ask q for_verdict) turned (λ texts speaks. stepped texts speaks ∙ ap (ask q) wanted) (λ e. cc e)
+          (λ texts tells given consistent. sym kept)
+          (λ texts tells given consistent. ap truth (answer_verdict (here_in texts) p given es q ∙ says' texts tells given (consistent_less (here_in texts) p (found_of c') (b && k) (l || k) (last_yes l k b) given consistent)))
 
       -- after a match that is finished
-      pub leads_matched : (c : Solver) (marks : List Marked) (r r' : Bool → R) (reply : Bool → Reply) (a : Pair) (point : MatchPoint) (b : Bool)
+      pub leads_matched : (c : Solver) (l : Bool) (marks : List Marked) (r r' : Bool → R) (reply : Bool → Reply) (a : Pair) (point : MatchPoint) (b : Bool)
           → Turned s m r r' reply → Stepped s m r reply (match_text a point) → g.matcher.is_match a.pattern a.subject ≡ finished b
-          → Leads c marks r reply → Leads c marks r' (λ texts. truth b)
-      leads_matched c marks r r' reply a point b turned stepped is =
-          leads_turned c c (grows_none p (found_of c)) marks marks r r' reply (λ texts. truth b) (match_text a point) turned stepped (λ e. cc e)
-          (λ texts tells inside between. refl)
-          (λ texts tells inside between. ap (λ o. truth (settled (completed (completion_of []) (record { pattern = a.pattern; subject = a.subject })) o)) is)
+          → Leads c l marks r reply → Leads c l marks r' (λ texts. truth b)
+      leads_matched c l marks r r' reply a point b turned stepped is =
+          leads_turned c c (grows_none p (found_of c)) l l (λ is. is) marks marks r r' reply (λ texts. truth b) (match_text a point) turned stepped (λ e. cc e)
+          (λ texts tells given consistent. refl)
+          (λ texts tells given consistent. ap (λ o. truth (settled (completed (completion_of []) (record { pattern = a.pattern; subject = a.subject })) o)) is)
 
       -- after a question for a pattern
-      pub leads_told : (c : Solver) (marks : List Marked) (r r' : Bool → R) (reply : Bool → Reply) (text : Text) (b : Bool)
+      pub leads_told : (c : Solver) (l : Bool) (marks : List Marked) (r r' : Bool → R) (reply : Bool → Reply) (text : Text) (b : Bool)
           → Turned s m r r' reply → Stepped s m r reply (ecma text) → b ≡ g.matcher.is_ecma text
-          → Leads c marks r reply → Leads c marks r' (λ texts. truth b)
-      leads_told c marks r r' reply text b turned stepped is =
-          leads_turned c c (grows_none p (found_of c)) marks marks r r' reply (λ texts. truth b) (ecma text) turned stepped (λ e. cc e)
-          (λ texts tells inside between. refl)
-          (λ texts tells inside between. ap truth (sym is))
+          → Leads c l marks r reply → Leads c l marks r' (λ texts. truth b)
+      leads_told c l marks r r' reply text b turned stepped is =
+          leads_turned c c (grows_none p (found_of c)) l l (λ is. is) marks marks r r' reply (λ texts. truth b) (ecma text) turned stepped (λ e. cc e)
+          (λ texts tells given consistent. refl)
+          (λ texts tells given consistent. ap truth (sym is))
 
       -- after a mark, and after the last one is taken away
-      pub leads_marked : (c c' : Solver) → Goes g p c c' → (marks marks' : List Marked) (r r' : Bool → R) (reply : Bool → Reply) (k : Marked) (b : Bool)
+      pub leads_marked : (c c' : Solver) → Goes g p c c' → (l : Bool) (marks marks' : List Marked) (r r' : Bool → R) (reply : Bool → Reply) (k : Marked) (b : Bool)
           → Turned s m r r' reply → Stepped s m r reply (mark k) → marks' ≡ with_mark (same_edge es) k marks → b ≡ list_any (same_edge es k) marks
-          → Leads c marks r reply → Leads c' marks' r' (λ texts. truth b)
-      leads_marked c c' went marks marks' r r' reply k b turned stepped held is =
-          leads_turned c c' went.grew marks marks' r r' reply (λ texts. truth b) (mark k) turned stepped (λ e. cc e)
-          (λ texts tells inside between. sym held)
-          (λ texts tells inside between. ap truth (sym is))
+          → Leads c l marks r reply → Leads c' l marks' r' (λ texts. truth b)
+      leads_marked c c' went l marks marks' r r' reply k b turned stepped held is =
+          leads_turned c c' went.grew l l (λ is. is) marks marks' r r' reply (λ texts. truth b) (mark k) turned stepped (λ e. cc e)
+          (λ texts tells given consistent. sym held)
+          (λ texts tells given consistent. ap truth (sym is))
 
-      pub leads_unmarked : (c c' : Solver) → Goes g p c c' → (marks marks' : List Marked) (r r' : Bool → R) (reply : Bool → Reply)
+      pub leads_unmarked : (c c' : Solver) → Goes g p c c' → (l : Bool) (marks marks' : List Marked) (r r' : Bool → R) (reply : Bool → Reply)
           → Turned s m r r' reply → Stepped s m r reply unmark → marks' ≡ without_last marks
-          → Leads c marks r reply → Leads c' marks' r' (λ texts. no_reply)
-      leads_unmarked c c' went marks marks' r r' reply turned stepped left =
-          leads_turned c c' went.grew marks marks' r r' reply (λ texts. no_reply) unmark turned stepped (λ e. cc e)
-          (λ texts tells inside between. sym left)
-          (λ texts tells inside between. refl)
+          → Leads c l marks r reply → Leads c' l marks' r' (λ texts. no_reply)
+      leads_unmarked c c' went l marks marks' r r' reply turned stepped left =
+          leads_turned c c' went.grew l l (λ is. is) marks marks' r r' reply (λ texts. no_reply) unmark turned stepped (λ e. cc e)
+          (λ texts tells given consistent. sym left)
+          (λ texts tells given consistent. refl)
 
-      -- as it ends: what is found is what the keyword says
-      pub leads_ended : (c : Solver) → c.root ≡ c0.root → (marks : List Marked) (r r' : Bool → R) (reply : Bool → Reply) (valid : Bool → Bool)
+      -- as it ends: what is found is what the keyword says, which is so of a monotone keyword alone where it leans
+      pub leads_ended : (c : Solver) → c.root ≡ c0.root → IsStagedIn g c → (l : Bool) (marks : List Marked) (r r' : Bool → R) (reply : Bool → Reply) (valid : Bool → Bool)
           → Turned s m r r' reply → Stepped s m r reply done → ((texts : Bool) → ((g.words texts).answer (r' texts)).verdict ≡ valid texts)
-          → Leads c marks r reply → InEach g (view c.root) (λ texts w. FormSays w p (found_of c) (node_keyword m es) (valid texts))
-      leads_ended c root marks r r' reply valid turned stepped found leads = subst (λ v. InEach g (view v) (λ texts w. FormSays w p (found_of c) (node_keyword m es) (valid texts))) (sym root) says
+          → Leads c l marks r reply → InEach g (view c.root) (λ texts w. (l ≡ true → IsMonotone w.keywords m) → FormTells w p (found_of c) (node_keyword m es) (valid texts) l)
+      leads_ended c root staged l marks r r' reply valid turned stepped found leads = subst (λ v. InEach g (view v) (λ texts w. (l ≡ true → IsMonotone w.keywords m) → FormTells w p (found_of c) (node_keyword m es) (valid texts) l)) (sym root) says
         where
-          says : InEach g (view c0.root) (λ texts w. FormSays w p (found_of c) (node_keyword m es) (valid texts))
-          says texts tells =
+          staged_there : InEach g (view c0.root) (λ texts w. IsStaged w (found_of c))
+          staged_there = subst (λ v. InEach g (view v) (λ texts w. IsStaged w (found_of c))) root staged
+
+          says : InEach g (view c0.root) (λ texts w. (l ≡ true → IsMonotone w.keywords m) → FormTells w p (found_of c) (node_keyword m es) (valid texts) l)
+          says texts tells monotone =
               let w : Solving K R = here_in texts in
               let speaks = tells_there c0 s p i m es may form texts tells in
               let step : w.keywords.step m (subject_here w p) (r texts) (reply texts) ≡ done = ap (λ u. (g.words texts).step m u (r texts) (reply texts)) there ∙ stepped texts speaks in
               let turn : w.keywords.turn m (subject_here w p) (r texts) (reply texts) ≡ r' texts = ap (λ u. (g.words texts).turn m u (r texts) (reply texts)) there ∙ turned texts speaks in
-              subst (λ b. FormSays w p (found_of c) (node_keyword m es) b) (ap (λ u. ((g.words texts).answer u).verdict) turn ∙ found texts)
-              (ended_under w (solvable texts) p m absorbed remaining (can_be texts) (end_of texts) (Fits texts) (laws texts) es (found_of c) marks (r texts) (reply texts) step (leads texts tells))
+              subst (λ b. FormTells w p (found_of c) (node_keyword m es) b l) (ap (λ u. ((g.words texts).answer u).verdict) turn ∙ found texts)
+              (ended_by w (solvable texts) p m absorbed remaining (can_be texts) (end_of texts) (Fits texts) (laws texts) es (found_of c) (staged_there texts tells) l monotone marks (r texts) (reply texts) step (leads texts tells))

@@ -1,6 +1,6 @@
 -- What the functions of a solver's cycle are asked, and what they leave and say: one record for each.
 use Rattle.std.specs.List.{list_any}
-use Rattle.std.specs.Prelude.{Bool, IfOk, List, Option, Result, map, option_map, true, ℕ, ◌==◌, ◌≡◌}
+use Rattle.std.specs.Prelude.{Bool, IfErr, IfOk, List, Option, Result, map, option_map, true, ℕ, ◌==◌, ◌≡◌}
 use Rattle.serde_json.specs.View.{view}
 use Rattle.schema_definitions.specs.Instance.{Place, Subject}
 use Rattle.schema_definitions.specs.Guarded.{Children, NodeEdge, NodeForm, NodePart}
@@ -16,11 +16,15 @@ use Rattle.run_steps.specs.EvaluationPlaces.{CarriesItsNumber, steps_to}
 use Rattle.run_steps.specs.NodeRuns.{HasChildren, HasForm, HasParts, form_at_work}
 use Rattle.run_steps.specs.declared.question.NamedKeyword.{NamedKeyword}
 use Rattle.schema_greatest.specs.Under.{Solving}
-use Rattle.schema_greatest.specs.Found.{Found, SaysPair, SaysUnder}
-use Rattle.schema_greatest.specs.Says.{ChildSays, EdgeSays, FormSays, PartsSay}
+use Rattle.schema_meaning.specs.Greatest.{IsMonotone}
+use Rattle.schema_greatest.specs.Found.{Found}
+use Rattle.schema_greatest.specs.Stages.{ChildTells, EdgeTells, FormTells, PairTells, PartsTell, Tells}
 use Rattle.schema_pairs.specs.Contexts.{Solver, found_of, solver_places}
+use Rattle.schema_pairs.specs.declared.said.Said.{Said}
 use Rattle.schema_solver.specs.declared.question.Asked.{Asked}
-use Rattle.schema_solver.specs.Solving.{Goes, HasEachCut, InEach, IsEdge, MaySolve, Setting}
+use Rattle.schema_solver.specs.declared.question.Stopped.{Stopped}
+use Rattle.schema_solver.specs.declared.question.Stopped.TheVariants.{OutOfMemory}
+use Rattle.schema_solver.specs.Solving.{EachSays, Goes, HasEachCut, InEach, IsEdge, MaySolve, Setting}
 
 -- what is asked at a place: a number, and as a pair; entries of one, the form of an entry, a keyword's child; and what an edge leads to
 pub data Wanted (K : Type 0) : Type 0 where
@@ -49,13 +53,13 @@ StandsIn g s (a_child i es q) = HasChildren g.nodes i es × IsPresent s (steps_b
 StandsIn g s (an_edge e) = IsEdge g e
 
 -- what is said of it
-abbrev pub says_of : {K R : Type 0} → Wanted K → Solving K R → Place → Found → Bool → Type 0
-says_of (a_node i) w p f = SaysUnder w f i p
-says_of (a_pair i) w p f = SaysPair f i p
-says_of (some_parts i xs) w p f = PartsSay w p f xs
-says_of (a_form i form) w p f = FormSays w p f form
-says_of (a_child i es q) w p f = ChildSays w p f es q
-says_of (an_edge e) w p f = EdgeSays w p f e here
+abbrev pub says_of : {K R : Type 0} → Wanted K → Solving K R → Place → Found → Said → Type 0
+says_of (a_node i) w p f s = Tells w f i p s.valid s.leans
+says_of (a_pair i) w p f s = PairTells f i p s.valid s.leans
+says_of (some_parts i xs) w p f s = PartsTell w p f xs s.valid s.leans
+says_of (a_form i form) w p f s = FormTells w p f form s.valid s.leans
+says_of (a_child i es q) w p f s = ChildTells w p f es q s.valid s.leans
+says_of (an_edge e) w p f s = EdgeTells w p f e here s.valid s.leans
 
 -- it may be asked
 pub record MayAsk {K R : Type 0} (g : Setting K R) (q : Asked) (a : Wanted K) (c : Solver) : Type 0 where
@@ -63,23 +67,27 @@ pub record MayAsk {K R : Type 0} (g : Setting K R) (q : Asked) (a : Wanted K) (c
   pub carries : CarriesItsNumber (solver_places c) q.place.now
   pub stands : StandsIn g (subject_of q.instance) a
 
--- what a result leaves and says: what it does to the context, where the marks stay, and what is true of it in each reading
-pub record Solved {K R T E : Type 0} (g : Setting K R) (p : Place) (c c' : Solver) (result : Result T E) (says_this : T → Solving K R → Found → Type 0) : Type 0 where
+-- what a result leaves and says: what it does to the context, where the marks stay, what is true of it in each reading, and that it stops for
+-- want of memory alone, where each keyword says that it is monotone
+pub record Solved {K R T : Type 0} (g : Setting K R) (says_monotone : K → Bool) (p : Place) (c c' : Solver) (result : Result T Stopped) (says_this : T → Solving K R → Found → Type 0) : Type 0 where
   pub goes : IfOk result (λ _. Goes g p c c')
   pub marking : IfOk result (λ _. c'.marking ≡ c.marking)
   pub says : IfOk result (λ b. InEach g (view c'.root) (λ texts w. says_this b w (found_of c')))
+  pub stops : EachSays g says_monotone → IfErr result (λ e. e ≡ OutOfMemory)
 
--- and of turns, which leave marks; their answer may differ by the reading
-pub record Turned {K R T E : Type 0} (g : Setting K R) (p : Place) (c c' : Solver) (result : Result T E) (says_this : Bool → Solving K R → Found → Type 0) : Type 0 where
+-- and of turns, which leave marks; their answer may differ by the reading, and is said where it leans of a monotone keyword alone
+pub record Turned {K R : Type 0} (g : Setting K R) (says_monotone : K → Bool) (p : Place) (c c' : Solver) (result : Result Bool Stopped) (m : K) (says_this : Bool → Bool → Solving K R → Found → Type 0) : Type 0 where
   pub goes : IfOk result (λ _. Goes g p c c')
-  pub says : IfOk result (λ _. InEach g (view c'.root) (λ texts w. says_this texts w (found_of c')))
+  pub says : IfOk result (λ leans. InEach g (view c'.root) (λ texts w. (leans ≡ true → IsMonotone w.keywords m) → says_this texts leans w (found_of c')))
+  pub stops : EachSays g says_monotone → IfErr result (λ e. e ≡ OutOfMemory)
 
 -- what was asked is answered
-abbrev pub Solves : {K R E : Type 0} → Setting K R → Asked → Wanted K → Solver → Solver → Result Bool E → Type 0
-Solves g q a c c' result = Solved g (steps_to q.place.now) c c' result (λ b w f. says_of a w (steps_to q.place.now) f b)
+abbrev pub Solves : {K R : Type 0} → Setting K R → (K → Bool) → Asked → Wanted K → Solver → Solver → Result Said Stopped → Type 0
+Solves g says_monotone q a c c' result = Solved g says_monotone (steps_to q.place.now) c c' result (λ s w f. says_of a w (steps_to q.place.now) f s)
 
-abbrev pub Turns : {K R T E : Type 0} → Setting K R → Asked → Wanted K → Solver → Solver → Result T E → (Bool → Bool) → Type 0
-Turns g q a c c' result v = Turned g (steps_to q.place.now) c c' result (λ texts w f. says_of a w (steps_to q.place.now) f (v texts))
+abbrev pub Turns : {C K R : Type 0} → Setting K R → (K → Bool) → Asked → (C → K) → NamedKeyword C → Solver → Solver → Result Bool Stopped → (Bool → Bool) → Type 0
+Turns g says_monotone q shape k c c' result v = Turned g says_monotone (steps_to q.place.now) c c' result (shape k.keyword.now)
+    (λ texts leans w f. FormTells w (steps_to q.place.now) f (form_at_work shape k) (v texts) leans)
 
 -- ---- what is asked, by the values of the program
 

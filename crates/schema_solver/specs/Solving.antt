@@ -8,6 +8,7 @@ use Rattle.schema_definitions.specs.Instance.{Place, Subject, Text, same_place, 
 use Rattle.schema_definitions.specs.Keywords.{Keywords}
 use Rattle.schema_definitions.specs.Matching.{Matcher, completion_of}
 use Rattle.schema_definitions.specs.Guarded.{NodeEdge, Nodes, guarded_within, node_edges, node_outcome, yes_outcome}
+use Rattle.schema_meaning.specs.Fractions.{node_words}
 use Rattle.schema_meaning.specs.Numbered.{Ranked, left, subject_in}
 use Rattle.schema_greatest.specs.NodesSay.{AreMonotone}
 use Rattle.schema_parts.specs.MatcherViews.{FinishesEach}
@@ -16,6 +17,7 @@ use Rattle.schema_contexts.specs.Verdicts.{verdict_of}
 use Rattle.run_steps.specs.NodeRuns.{TellsAll}
 use Rattle.schema_greatest.specs.Under.{Solving}
 use Rattle.schema_greatest.specs.Found.{Grows, IsSound, SaysUnder}
+use Rattle.schema_greatest.specs.Stages.{IsStaged}
 use Rattle.schema_greatest.specs.Work.{EachOnce, IsBoundedBy, IsCounted, pairs_of}
 use Rattle.schema_pairs.specs.Contexts.{Solver, found_of, has_pair, solver_places}
 
@@ -50,8 +52,17 @@ module _ {K R : Type 0} (g : Setting K R) where
   abbrev pub InEach : Data → (Bool → Solving K R → Type 0) → Type 0
   InEach root fact = (texts : Bool) → TellsAll texts root g.is_whole g.nodes g.count → fact texts (solving_in root texts)
 
+  -- what a context holds was told by stages
+  abbrev pub IsStagedIn : Solver → Type 0
+  IsStagedIn c = InEach (view c.root) (λ texts w. IsStaged w (found_of c))
+
+  -- so where each keyword is monotone it is so of every set that stands by itself
   abbrev pub IsSoundIn : Solver → Type 0
-  IsSoundIn c = InEach (view c.root) (λ texts w. IsSound w (found_of c))
+  IsSoundIn c = ((texts : Bool) → AreMonotone (g.words texts) g.nodes g.count) → InEach (view c.root) (λ texts w. IsSound w (found_of c))
+
+  -- each keyword of the nodes says of itself that it is monotone
+  abbrev pub EachSays : (K → Bool) → Type 0
+  EachSays says = (i : ℕ) → i < g.count → All (λ m. says m ≡ true) (node_words (g.nodes.entries i))
 
   -- each number that an edge leads to whose pair is answered by what is found
   abbrev pub HasEachCut : List ℕ → Type 0
@@ -66,13 +77,13 @@ module _ {K R : Type 0} (g : Setting K R) where
   pub record MaySolve (c : Solver) (s : Subject) (p : Place) (i : ℕ) : Type 0 where
     pub known : i < g.count
     pub ranked : Ranked g.nodes g.count
-    pub monotone : (texts : Bool) → AreMonotone (g.words texts) g.nodes g.count
     pub finishes : FinishesEach g.matcher
     pub above : NoDeeper p c.in_progress
     pub stands : subject_at (view c.root) p ≡ Some s
-    pub sound : IsSoundIn c
+    pub sound : IsStagedIn c
 
-  -- what is in progress stays, more is assumed that was not, what is known stays known, what is found stays sound, and the count right
+  -- what is in progress stays, more is assumed that was not, what is known stays known, what is found is told by stages still, and the
+  -- count right
   pub record Goes (p : Place) (c c' : Solver) : Type 0 where
     pub root : c'.root ≡ c.root
     pub in_progress : c'.in_progress ≡ c.in_progress
@@ -80,7 +91,7 @@ module _ {K R : Type 0} (g : Setting K R) where
     pub assumed : c'.assumed ≡ c.assumed ++ more
     pub apart : (i : ℕ) (q : Place) → has_pair more i q ≡ true → has_pair c.assumed i q ≡ false
     pub grew : Grows p (found_of c) (found_of c')
-    pub sound : IsSoundIn c'
+    pub sound : IsStagedIn c'
     pub counted : StaysCounted c c'
 
 -- ---- the steps of a pair
@@ -108,6 +119,12 @@ pub record IsNew {K R : Type 0} (g : Setting K R) (c : Solver) (p : Place) (i : 
 abbrev pub SaysAsNodes : {K R : Type 0} → Setting K R → Data → ℕ → Bool → Type 0
 SaysAsNodes g root i b = InEach g root (λ texts w. (path : Text) (n : ℕ) → left g.nodes g.count i (subject_in root []) [] < n
     → (guarded_within yes_outcome (node_outcome w.keywords w.matcher w.nodes (subject_in root) w.completion) n i path [] []).verdict ≡ b)
+
+-- each verdict that a context holds is what nodes say under guards with no pair in progress
+abbrev pub HoldsAsNodes : {K R : Type 0} → Setting K R → Solver → Type 0
+HoldsAsNodes g c = InEach g (view c.root) (λ texts w. (i : ℕ) (p : Place) (v : Bool) → verdict_of i p c.verdicts ≡ Some v
+    → (path : Text) (n : ℕ) → left g.nodes g.count i (subject_in w.instance p) [] < n
+    → (guarded_within yes_outcome (node_outcome w.keywords w.matcher w.nodes (subject_in w.instance) w.completion) n i path p []).verdict ≡ v)
 
 -- what is said of a number at the root place is what it says under each set that has all pairs that a context holds as answered yes, and
 -- none that it holds as refused

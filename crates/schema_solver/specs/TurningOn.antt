@@ -8,7 +8,7 @@ use Rattle.schema_definitions.specs.Turns.{Standing}
 use Rattle.schema_definitions.specs.Guarded.{Children}
 use Rattle.schema_parts.specs.KeywordViews.{answer_of}
 use Rattle.schema_parts.specs.declared.keyword.Answer as code_answer
-use Rattle.schema_greatest.specs.Turning.{TurnsUnder}
+use Rattle.schema_greatest.specs.Turning.{TurnsBy}
 use Rattle.schema_pairs.specs.Contexts.{Solver, found_of}
 use Rattle.schema_solver.specs.Solving.{InEach, Setting}
 
@@ -21,6 +21,6 @@ module _ {K R : Type 0} (g : Setting K R) (m : K) where
   abbrev pub AsksOn : Subject → ℕ → R → Reply → Type 0
   AsksOn s turns r reply = (n : ℕ) × (turns < n) × AlwaysAsksVerdict (g.words false) m s n r reply
 
-  -- in each reading it stands well under every set between
-  abbrev pub TurnsOn : Data → Place → (Bool → Standing R → Answer) → (Bool → Standing R → Type 0) → Children → Solver → List Marked → (Bool → R) → (Bool → Reply) → Type 0
-  TurnsOn root p end_of fits es c marks r reply = InEach g root (λ texts w. TurnsUnder w p (found_of c) m (end_of texts) (fits texts) es marks (r texts) (reply texts))
+  -- in each reading it stands well by all that edges may answer which is as what it was told, of which no yes leans more than this
+  abbrev pub TurnsOn : Data → Place → (Bool → Standing R → Answer) → (Bool → Standing R → Type 0) → Children → Solver → Bool → List Marked → (Bool → R) → (Bool → Reply) → Type 0
+  TurnsOn root p end_of fits es c leans marks r reply = InEach g root (λ texts w. TurnsBy w p (found_of c) leans m (end_of texts) (fits texts) es marks (r texts) (reply texts))

@@ -1,10 +1,11 @@
-//! What a solver is made with, and what it is asked.
+//! What a solver is made with, what it is asked, and why it may stop.
+ghost use Rattle.std.specs.Prelude.{◌≡◌};
 
 use node_table::node::Nodes;
 use run_steps::evaluation_place::EvaluationPlace;
 use schema_pairs::followed::Followed;
 use schema_reports::instance::Instance;
-use std::alloc::Global;
+use std::alloc::{AllocError, Global};
 
 /// What a solver is made with, and does not change.
 #[derive_where(Clone, Copy)]
@@ -20,4 +21,21 @@ pub struct SolverEngine<'r, K, M> {
 pub struct Asked<'q, 'i> {
     pub instance: Instance<'i>,
     pub place: &'q EvaluationPlace<'q, 'i>,
+}
+
+/// Why a solver says nothing: memory could not be allocated, or a keyword that does not say that it is monotone was told a yes that leans.
+#[derive(Clone, Copy)]
+pub enum Stopped {
+    OutOfMemory,
+    Leans,
+}
+
+impl From<AllocError> for Stopped {
+    ghost use Rattle.schema_solver.specs.declared.question.Stopped.TheVariants as stopped;
+
+    ghost from_gives = { λ _ e. e ≡ stopped.OutOfMemory };
+
+    fn from(_refused: AllocError) -> Stopped {
+        Stopped::OutOfMemory
+    }
 }

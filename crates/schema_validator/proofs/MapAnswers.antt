@@ -14,7 +14,7 @@ use Rattle.schema_keys.specs.DocumentSchemas.{IndicesFit, schemas_of}
 use Rattle.schema_validator.specs.Entries.{HoldsPlaces, RefusesOneOf}
 use Rattle.schema_validator.specs.Handed.{Handed, Options, parts_of}
 use Rattle.schema_validator.specs.MapViews.{Entries}
-use Rattle.schema_validator.specs.Mapped.{EachAcceptsGreatest, EachHasPlainUnits, EachIsCompiledFrom, EachMeansPlainly, EachPointsPlainly, EachSolvesWhereMonotone, EachsUnitsPoint, HoldsCompiled, HoldsEach, MapIsBuilt, MapRefused, no_root, not_accepted, not_declared, past_limit}
+use Rattle.schema_validator.specs.Mapped.{EachAcceptsGreatest, EachHasPlainUnits, EachIsCompiledFrom, EachMeansPlainly, EachPointsPlainly, EachHasSolver, EachsUnitsPoint, HoldsCompiled, HoldsEach, MapIsBuilt, MapRefused, no_root, not_accepted, not_declared, past_limit}
 use Rattle.schema_validator.specs.Program.{Program}
 use Rattle.schema_validator.specs.Roots.{IsRootKey, RefusesKey, root_parts}
 use Rattle.schema_validator.proofs.DocumentMap.{holds_compiled, holds_each, of_each}
@@ -32,7 +32,7 @@ module _ {S K R C M : Type 0} (h : Handed S K R C M) (options : Options) (schema
     pub points : EachPointsPlainly h options schema m
     pub units_point : EachsUnitsPoint h options schema m
     pub greatest : EachAcceptsGreatest h options schema m
-    pub solver : EachSolvesWhereMonotone h options schema m
+    pub solver : EachHasSolver h options schema m
     pub programs : EachIsCompiledFrom h options schema m
     pub at_each : HoldsEach h options schema m
 

@@ -1,6 +1,6 @@
--- What a solver says of the root's number is what the run of the root's node decides; and where a validator that is made has a solver.
-use Rattle.std.proofs.Common.{◌∙◌, ◌≡◌, Bool, List, [], ap, length, subst, sym, true}
-use Rattle.std.specs.Prelude.{Err, IfOk, IfSome, None, Ok, Option, Result, Some, is_some, ◌↔◌}
+-- What a solver says of the root's number is what the run of the root's node decides; and that a validator that is made has a solver.
+use Rattle.std.proofs.Common.{◌∙◌, ◌≡◌, Bool, List, [], ap, subst, sym, true}
+use Rattle.std.specs.Prelude.{Err, IfOk, IfSome, None, Ok, Option, Result, Some, is_some}
 use Rattle.serde_json.specs.Data.{Data}
 use Rattle.schema_definitions.specs.Keywords.{Keywords}
 use Rattle.schema_definitions.specs.Matching.{Matcher}
@@ -11,11 +11,9 @@ use Rattle.node_table.specs.NodeTable.{NodeEntry, numbered}
 use Rattle.schema_pairs.specs.Following.{IsFollowing}
 use Rattle.schema_solver.specs.Asked.{solver_over}
 use Rattle.schema_solver.specs.Solving.{SaysAsNodes}
-use Rattle.schema_verdicts.specs.Saying.{EachSays}
 use Rattle.schema_validator.specs.Answers.{SaysVerdict}
-use Rattle.schema_validator.specs.Handed.{Handed}
 use Rattle.schema_validator.specs.Program.{Program}
-use Rattle.schema_validator.specs.Solved.{SolvesWhereMonotone}
+use Rattle.schema_validator.specs.Solved.{HasSolver}
 
 pub solved_decides : {K S R M : Type 0} (shape : K → S) (words : Bool → Keywords S R) (is_whole : S → Bool) (matching : M → Matcher) (p : Program K M) (followed : List Bool) (instance : Data) (valid : Bool)
     → SaysAsNodes (solver_over words is_whole shape p.nodes followed (matching p.matcher)) instance p.root valid → SaysVerdict shape words is_whole matching p instance [] valid
@@ -28,11 +26,11 @@ pub of_some : {X : Type 0} (found : Option X) (x : X) (P : X → Type 0) → fou
 of_some found x P is h = subst (λ o. IfSome o P) is h
 
 -- a validator that is made of nodes, with what finds verdicts of these
-pub solves_made : {S K R C M : Type 0} (h : Handed S K R C M) (nodes : List (NodeEntry C)) (followed : Option (List Bool)) (p : Program C M) → p.nodes ≡ nodes → p.followed ≡ followed
-    → ((is_some followed ≡ true) ↔ EachSays h.says_monotone (numbered h.shape nodes) (length nodes)) → IfSome followed (IsFollowing nodes) → SolvesWhereMonotone h p
-solves_made {C = C} h nodes followed p same is says follows =
-    subst (λ (o : Option (List Bool)). ((is_some o ≡ true) ↔ EachSays h.says_monotone (numbered h.shape p.nodes) (length p.nodes)) × IfSome o (IsFollowing p.nodes)) (sym is)
-    (subst (λ (ns : List (NodeEntry C)). ((is_some followed ≡ true) ↔ EachSays h.says_monotone (numbered h.shape ns) (length ns)) × IfSome followed (IsFollowing ns)) (sym same) (says, follows))
+pub solves_made : {C M : Type 0} (nodes : List (NodeEntry C)) (followed : Option (List Bool)) (p : Program C M) → p.nodes ≡ nodes → p.followed ≡ followed
+    → is_some followed ≡ true → IfSome followed (IsFollowing nodes) → HasSolver p
+solves_made {C = C} nodes followed p same is made follows =
+    subst (λ (o : Option (List Bool)). (is_some o ≡ true) × IfSome o (IsFollowing p.nodes)) (sym is)
+    (subst (λ (ns : List (NodeEntry C)). (is_some followed ≡ true) × IfSome followed (IsFollowing ns)) (sym same) (made, follows))
 
 -- what follows from two facts about the value that there is, if there is one
 pub if_ok_some_both : {X E : Type 0} (found : Result (Option X) E) (P Q R : X → Type 0) → ((x : X) → P x → Q x → R x)

@@ -20,7 +20,7 @@ use Rattle.schema_validator.specs.MapViews.{Entries, at_pointer}
 use Rattle.schema_validator.specs.Mapped.{RefusesLimit, name_of}
 use Rattle.schema_validator.specs.Program.{Program}
 use Rattle.schema_validator.specs.ProgramOf.{IsProgramFrom}
-use Rattle.schema_validator.specs.Solved.{SolvesWhereMonotone}
+use Rattle.schema_validator.specs.Solved.{HasSolver}
 use Rattle.schema_validator.specs.Promised.{HasKeysUnits, MeansKey, PointsFromKey, UnitsPointFromKey}
 
 module _ {S K R C M : Type 0} (h : Handed S K R C M) (options : Options) where
@@ -56,7 +56,7 @@ module _ {S K R C M : Type 0} (h : Handed S K R C M) (options : Options) (schema
     pub points : PointsFromKey h.resolver h.table h.matcher h.words options key h.shape h.matching p
     pub units_point : UnitsPointFromKey h.resolver h.table h.matcher h.words options key h.shape h.matching p
     pub greatest : AcceptsAsKey h options key p
-    pub solver : SolvesWhereMonotone h p
+    pub solver : HasSolver p
     pub program : IsProgramFrom h.resolver h.table h.matcher options options.nested schema h.shape h.matching key p
     pub within : length p.nodes ≤ options.limit
     pub compiles : (texts : Bool) (cause : Cause) → ¬ (StandsBelow (parts h options texts) key cause)

@@ -20,7 +20,7 @@ use Rattle.schema_validator.specs.Handed.{Handed, Options, parts_of}
 use Rattle.schema_validator.specs.MapViews.{Entries, at_pointer}
 use Rattle.schema_validator.specs.Program.{Program}
 use Rattle.schema_validator.specs.ProgramOf.{IsProgramFrom}
-use Rattle.schema_validator.specs.Solved.{SolvesWhereMonotone}
+use Rattle.schema_validator.specs.Solved.{HasSolver}
 use Rattle.schema_validator.specs.Promised.{HasKeysUnits, MeansKey, PointsFromKey, UnitsPointFromKey}
 use Rattle.schema_validator.specs.Roots.{IsRootKey, RefusesKey}
 
@@ -73,9 +73,9 @@ module _ {S K R C M : Type 0} (h : Handed S K R C M) (options : Options) (schema
   abbrev pub EachAcceptsGreatest : Entries (Program C M) → Type 0
   EachAcceptsGreatest es = OfEach es (λ key p. AcceptsAsKey h options key p)
 
-  -- it has a solver exactly where each keyword of its nodes says that it is monotone
-  abbrev pub EachSolvesWhereMonotone : Entries (Program C M) → Type 0
-  EachSolvesWhereMonotone es = OfEach es (λ key p. SolvesWhereMonotone h p)
+  -- it has a solver
+  abbrev pub EachHasSolver : Entries (Program C M) → Type 0
+  EachHasSolver es = OfEach es (λ key p. HasSolver p)
 
   -- its nodes correspond one to one to the keys that this key reaches, which are no more than the limit; its draft is the root's, and its matcher answers as the one that is handed in
   abbrev pub EachIsCompiledFrom : Entries (Program C M) → Type 0
@@ -88,7 +88,7 @@ module _ {S K R C M : Type 0} (h : Handed S K R C M) (options : Options) (schema
     pub points : PointsFromKey h.resolver h.table h.matcher h.words options key h.shape h.matching p
     pub units_point : UnitsPointFromKey h.resolver h.table h.matcher h.words options key h.shape h.matching p
     pub greatest : AcceptsAsKey h options key p
-    pub solver : SolvesWhereMonotone h p
+    pub solver : HasSolver p
     pub within : length p.nodes ≤ options.limit
     pub program : IsProgramFrom h.resolver h.table h.matcher options options.nested schema h.shape h.matching key p
 

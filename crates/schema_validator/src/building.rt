@@ -7,7 +7,7 @@ ghost use Rattle.schema_validator.specs.Checked.{PassesCheck};
 ghost use Rattle.schema_validator.specs.FirstCauses.{FirstOfBuild};
 ghost use Rattle.schema_validator.specs.Greatest.{AcceptsAsSchema};
 ghost use Rattle.schema_validator.specs.Handed.{default_nested, default_options, handed};
-ghost use Rattle.schema_validator.specs.Solved.{SolvesWhereMonotone};
+ghost use Rattle.schema_validator.specs.Solved.{HasSolver};
 
 use crate::options::ValidationOptions;
 use crate::validator::Validator;
@@ -62,9 +62,7 @@ impl<K: Validate, M: Matcher> Validator<K, M> {
         ensures program { IfOk result (λ v. IsCompiledFrom
             (handed S.Resolver T.KeywordTable K.Validate M.Matcher.own resolver.now table.now matcher.now)
             default_options (view schema.now) default_nested v) }
-        ensures solver { IfOk result (λ v. SolvesWhereMonotone
-            (handed S.Resolver T.KeywordTable K.Validate M.Matcher.own resolver.now table.now matcher.now)
-            v) }
+        ensures solver { IfOk result HasSolver }
         ensures built { IfOk result (λ _. SchemaBuilds
             (handed S.Resolver T.KeywordTable K.Validate M.Matcher.own resolver.now table.now matcher.now)
             default_options (view schema.now)) }

@@ -4,7 +4,6 @@ ghost use Rattle.schema_keywords.specs.KeywordViews.{draft_of};
 ghost use Rattle.node_table.specs.NodeTable.{numbered};
 ghost use Rattle.schema_validator.specs.Called.{HasUnitsAsCompiled, MeansAsCompiled};
 ghost use Rattle.schema_validator.specs.Handed.{default_runs, handed};
-ghost use Rattle.schema_verdicts.specs.Finding.{SolvesFor};
 
 use crate::validator::Validator;
 use node_table::node::Nodes;
@@ -71,7 +70,6 @@ pub(crate) fn of_compiled_within<S: Resolver, T: KeywordTable<K>, K: Validate, M
 ) -> Result<Validator<K, M>, OutOfMemory>
     requires inside { root.0 < length nodes }
     requires limit { 1 ≤ run_limit }
-    requires solves { SolvesFor K.words (numbered K.shape nodes) (length nodes) finder }
     ensures made { IfOk result (λ v. (v.nodes ≡ nodes) × (v.root ≡ root.0) × (v.draft ≡ draft_of draft)) }
     ensures runs { IfOk result (λ v. v.runs ≡ run_limit) }
     ensures solver { IfOk result (λ v. v.followed ≡ finder) }

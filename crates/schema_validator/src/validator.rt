@@ -23,7 +23,6 @@ ghost use Rattle.schema_validator.specs.SharedErrors.{AreShared};
 ghost use Rattle.schema_validator.specs.Solved.{BeganFew, RestsOnContext};
 ghost use Rattle.schema_validator.specs.Asked.{RunDecides, RunFindsFirst, RunListsErrors, RunMeets, RunReplies};
 ghost use Rattle.schema_meaning.specs.Numbered.{Ranked};
-ghost use Rattle.schema_verdicts.specs.Finding.{SolvesFor};
 ghost use Rattle.schema_verdicts.specs.Saying.{EachSays};
 ghost use Rattle.node_table.specs.NodeTable.{numbered};
 
@@ -68,8 +67,6 @@ pub struct Validator<K: Validate, M> {
 impl<K: Validate, M> Model for Validator<K, M> {
     ghost use Rattle.schema_keywords.specs.KeywordViews.{draft_of};
     ghost use Rattle.schema_validator.specs.Program.{Program};
-    ghost use Rattle.node_table.specs.NodeTable.{numbered};
-    ghost use Rattle.schema_verdicts.specs.Finding.{SolvesFor};
     ghost use Rattle.std.specs.Prelude.{◌<◌, ◌≤◌, length};
     ghost use Rattle.serde_json.specs.contracts.value.Value as value;
     ghost use Rattle.std.specs.Coded.{codes};
@@ -87,8 +84,7 @@ impl<K: Validate, M> Model for Validator<K, M> {
       followed = v.finder;
     } };
 
-    ghost invariant = { λ v. (v.root.0 < length v.nodes) × (1 ≤ v.run_limit)
-        × SolvesFor K.words (numbered K.shape v.nodes) (length v.nodes) v.finder };
+    ghost invariant = { λ v. (v.root.0 < length v.nodes) × (1 ≤ v.run_limit) };
 }
 
 // The first of these errors.
@@ -148,7 +144,6 @@ impl<K: Validate, M: Matcher> Validator<K, M> {
     ) -> Validator<K, M>
         requires inside { root.0 < length nodes }
         requires limit { 1 ≤ run_limit }
-        requires solves { SolvesFor K.words (numbered K.shape nodes) (length nodes) finder }
         ensures made { result ≡ record {
           nodes = nodes;
           root = root.0;
@@ -284,7 +279,9 @@ impl<K: Validate, M: Matcher> Validator<K, M> {
         instance: &'i Value,
     ) -> Result<Option<SolvedVerdict<'i>>, OutOfMemory>
         requires finishes { finishes ≡ true → FinishesEach (M.matching self.now.matcher) }
-        ensures exactly { IfOk result (λ found. is_some found ≡ (is_some self.now.followed && finishes)) }
+        ensures exactly { EachSays K.says_monotone (numbered K.shape self.now.nodes) (length self.now.nodes)
+            → IfOk result (λ found. is_some found ≡ (is_some self.now.followed && finishes)) }
+        ensures only { IfOk result (λ found. is_some found ≡ true → (is_some self.now.followed && finishes) ≡ true) }
         ensures finishes { IfOk result (λ found. IfSome found (λ _. FinishesEach (M.matching self.now.matcher))) }
         ensures says { IfOk result (λ found. IfSome found (λ v. RunDecides
             K.Validate M.Matcher.own self.now (view instance.now) [] v.valid)) }
@@ -533,12 +530,14 @@ impl<K: Validate, M: Matcher> Validator<K, M> {
         Ok(self.valid_under_each(alloc, instance)?)
     }
 
-    /// Returns whether the instance is valid, as a solver finds it, with the context in which it found that; `None` exactly where the
-    /// validator has no solver. The matcher has to finish every match. The verdict rests on the context, which holds nothing but what
-    /// is so of this instance; with g numbers of nodes that a guarded edge leads to or that are not followed, and p places of the
+    /// Returns whether the instance is valid, as a solver finds it, with the context in which it found that; `None` where the validator
+    /// has no solver, and where the solver gave up. That it never does where each keyword says that it is monotone: it gives up where
+    /// another keyword is answered a yes that leans on a pair in progress or assumed. The matcher has to finish every match. The verdict
+    /// rests on the context: each verdict that this holds is what the nodes say of this instance, and where each keyword is monotone, it
+    /// holds nothing but what is so; with g numbers of nodes that a guarded edge leads to or that are not followed, and p places of the
     /// instance, no more than g * p * g pairs of them were begun in it, reference cycles included (`SolverContext::begun`). Where the
-    /// matcher says that it finishes every match, `is_valid`, `validate` and `iter_errors` ask this first. Where each keyword is
-    /// monotone, as it says it is where there is a solver, it answers `true` exactly if the greatest solution of the nodes accepts.
+    /// matcher says that it finishes every match, `is_valid`, `validate` and `iter_errors` ask this first. Where each keyword is monotone,
+    /// it answers `true` exactly if the greatest solution of the nodes accepts.
     ///
     /// # Errors
     ///
@@ -549,7 +548,9 @@ impl<K: Validate, M: Matcher> Validator<K, M> {
         instance: &'i Value,
     ) -> Result<Option<SolvedVerdict<'i>>, OutOfMemory>
         requires finishes { FinishesEach (M.matching self.now.matcher) }
-        ensures exactly { IfOk result (λ found. is_some found ≡ is_some self.now.followed) }
+        ensures exactly { EachSays K.says_monotone (numbered K.shape self.now.nodes) (length self.now.nodes)
+            → IfOk result (λ found. is_some found ≡ is_some self.now.followed) }
+        ensures only { IfOk result (λ found. is_some found ≡ true → is_some self.now.followed ≡ true) }
         ensures depth { IfOk result (λ found. IfSome found (λ v. DecidesFromSomeDepth
             K.Validate M.Matcher.own self.now (view instance.now) v.valid)) }
         ensures greatest { IfOk result (λ found. IfSome found (λ v. DecidesAccepted

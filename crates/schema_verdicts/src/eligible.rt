@@ -1,5 +1,5 @@
 //! Where a solver finds the verdicts of some nodes.
-ghost use Rattle.std.specs.Prelude.{◌≡◌, ◌<◌, ◌&&◌, ◌↔◌, [], IfOk, IfSome, None, is_some, length, true};
+ghost use Rattle.std.specs.Prelude.{◌≡◌, ◌<◌, ◌&&◌, [], IfOk, IfSome, None, is_some, length, true};
 ghost use Rattle.serde_json.specs.View.{view};
 ghost use Rattle.schema_verdicts.specs.Saying.{EachSays};
 ghost use Rattle.schema_pairs.specs.Following.{IsFollowing};
@@ -7,9 +7,8 @@ ghost use Rattle.schema_parts.specs.MatcherViews.{FinishesEach};
 ghost use Rattle.node_table.specs.NodeTable.{numbered};
 ghost use Rattle.schema_solver.specs.Asked.{solver_over};
 ghost use Rattle.schema_solver.specs.Solving.{BeginsFew, SaysAsNodes};
-ghost use Rattle.schema_verdicts.specs.Finding.{IsFoundAt, SolvesFor};
+ghost use Rattle.schema_verdicts.specs.Finding.{IsFoundAt};
 
-use crate::monotone::is_monotone;
 use node_table::node::Nodes;
 use schema_pairs::context::SolverContext;
 use schema_pairs::followed::Followed;
@@ -32,7 +31,7 @@ pub struct SolvedVerdict<'i> {
     pub context: SolverContext<'i>,
 }
 
-/// Finds the verdicts of some nodes by a solver, where each of their keywords is monotone and the matcher finishes every match, and none
+/// Finds the verdicts of some nodes by a solver, where the matcher finishes every match and the solver does not give up, and none
 /// elsewhere. Contracts see which numbers the solver follows, where there is one.
 #[derive(Drop)]
 pub struct Solver {
@@ -55,20 +54,15 @@ impl Solver {
         Solver { followed: None }
     }
 
-    /// Returns the one of these nodes: it finds verdicts exactly where each keyword says that it is monotone. Fails only if memory
-    /// cannot be allocated.
+    /// Returns the one of these nodes. Fails only if memory cannot be allocated.
     pub fn of<K: Validate>(alloc: Global, nodes: &Nodes<K>) -> Result<Solver, OutOfMemory>
-        ensures exactly { IfOk result (λ f. (is_some f ≡ true) ↔ EachSays K.says_monotone (numbered K.shape nodes.now) (length nodes.now)) }
-        ensures solves { IfOk result (λ f. SolvesFor K.words (numbered K.shape nodes.now) (length nodes.now) f) }
+        ensures made { IfOk result (λ f. is_some f ≡ true) }
         ensures follows { IfOk result (λ f. IfSome f (IsFollowing nodes.now)) }
     {
-        if is_monotone(nodes) {
-            let numbers = Followed::of(alloc, nodes)?;
-            return Ok(Solver {
-                followed: Some(numbers),
-            });
-        }
-        Ok(Solver::none())
+        let numbers = Followed::of(alloc, nodes)?;
+        Ok(Solver {
+            followed: Some(numbers),
+        })
     }
 
     /// Returns the same once more. Fails only if memory cannot be allocated.
@@ -83,12 +77,13 @@ impl Solver {
         }
     }
 
-    /// Returns the verdict of a node of the instance, where a solver may find it: where it finds verdicts of these nodes, and the matcher
-    /// is said to finish every match. Elsewhere it returns `None`. With the verdict it returns the context in which it was found, which
-    /// speaks of this instance and holds nothing but what is so: the verdict is what the node says under each set with all pairs that
-    /// the context answers yes and none that it refused. With g numbers that a guarded edge leads to or that are not followed, and p
-    /// places, that context began at most g * p * g pairs. (Which numbers are followed changes nothing of what is said, so `says` names
-    /// none.) Fails only if memory cannot be allocated.
+    /// Returns the verdict of a node of the instance, where a solver finds it: where it may find verdicts of these nodes, the matcher is
+    /// said to finish every match, and it does not give up, which it never does where each keyword says that it is monotone. Elsewhere it
+    /// returns `None`. With the verdict it returns the context in which it was found, which speaks of this instance: each verdict that it
+    /// holds is what the nodes say, and the verdict is what the node says under each set with all pairs that the context answers yes and
+    /// none that it refused; where each keyword is monotone, all that it holds is so of every set that stands by itself. With g numbers
+    /// that a guarded edge leads to or that are not followed, and p places, that context began at most g * p * g pairs. (Which numbers
+    /// are followed changes nothing of what is said, so `says` names none.) Fails only if memory cannot be allocated.
     pub fn verdict<'i, K: Validate, M: Matcher>(
         &self,
         alloc: Global,
@@ -99,9 +94,10 @@ impl Solver {
         instance: &'i Value,
     ) -> Result<Option<SolvedVerdict<'i>>, OutOfMemory>
         requires known { node.0 < length nodes.now }
-        requires solves { SolvesFor K.words (numbered K.shape nodes.now) (length nodes.now) self.now }
         requires finishes { finishes ≡ true → FinishesEach (M.matching matcher.now) }
-        ensures exactly { IfOk result (λ found. is_some found ≡ (is_some self.now && finishes)) }
+        ensures exactly { EachSays K.says_monotone (numbered K.shape nodes.now) (length nodes.now)
+            → IfOk result (λ found. is_some found ≡ (is_some self.now && finishes)) }
+        ensures only { IfOk result (λ found. is_some found ≡ true → (is_some self.now && finishes) ≡ true) }
         ensures finishes { IfOk result (λ found. IfSome found (λ _. FinishesEach (M.matching matcher.now))) }
         ensures says { IfOk result (λ found. IfSome found (λ v. SaysAsNodes
             (solver_over K.words K.is_whole K.shape nodes.now [] (M.matching matcher.now)) (view instance.now) node.0 v.valid)) }
@@ -119,8 +115,10 @@ impl Solver {
                     followed,
                 };
                 let mut context = SolverContext::new(alloc, PlacesOnDemand::of(instance));
-                let valid = solve_root(&engine, node, instance, &mut context)?;
-                return Ok(Some(SolvedVerdict { valid, context }));
+                if let Some(valid) = solve_root(&engine, node, instance, &mut context)? {
+                    return Ok(Some(SolvedVerdict { valid, context }));
+                }
+                return Ok(None);
             }
         }
         Ok(None)

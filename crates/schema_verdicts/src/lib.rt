@@ -1,5 +1,5 @@
-//! Verdicts of numbered nodes that a solver finds, and where it may find them. It may where every keyword says of itself that it is
-//! monotone, and the matcher finishes every match.
+//! Verdicts of numbered nodes that a solver finds, and where it may find them: where the matcher finishes every match. Where every keyword
+//! says of itself that it is monotone, it does not give up.
 #![tactic(auto)]
 
 pub mod eligible;

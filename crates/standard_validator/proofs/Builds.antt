@@ -17,7 +17,7 @@ use Rattle.schema_validator.specs.FirstCauses.{FirstOfBuild}
 use Rattle.schema_validator.specs.Greatest.{AcceptsAsSchema}
 use Rattle.schema_validator.specs.Handed.{Handed, Options, handed}
 use Rattle.schema_validator.specs.Program.{Program}
-use Rattle.schema_validator.specs.Solved.{SolvesWhereMonotone}
+use Rattle.schema_validator.specs.Solved.{HasSolver}
 use Rattle.bench_resolver.specs.BenchDocuments.{BenchDocument}
 use Rattle.standard_keywords.specs.declared.patterns.UnreadablePatterns.TheVariants as unreadable
 use Rattle.standard_keywords.specs.declared.table.StandardTable.{StandardTable}
@@ -41,7 +41,7 @@ module _ {State S C Maker Run K : Type 0} (resolvers : ResolverMembers BenchDocu
         → IfOk x (λ p. MeansPlainly (parts r table m) options schema p) → IfOk x (λ p. HasPlainUnits (parts r table m) options schema p)
         → IfOk x (λ p. PointsPlainly (parts r table m) options schema p) → IfOk x (λ p. UnitsPointPlainly (parts r table m) options schema p)
         → IfOk x (λ p. AcceptsAsSchema (parts r table m) options schema p) → IfOk x (λ p. IsCompiledFrom (parts r table m) options schema options.nested p)
-        → IfOk x (λ p. SolvesWhereMonotone (parts r table m) p) → IfOk x (λ _. SchemaBuilds (parts r table m) options schema)
+        → IfOk x (λ p. HasSolver p) → IfOk x (λ _. SchemaBuilds (parts r table m) options schema)
         → IfOk x (λ _. PassesCheck (resolvers.resolving r) refuses options schema)
         → IfOk x (λ p. IsBuilt resolvers tables keywords r patterns refuses options schema p)
     built_by (Ok p) made kept means units points units_point greatest program solver builds passed =
@@ -52,7 +52,7 @@ module _ {State S C Maker Run K : Type 0} (resolvers : ResolverMembers BenchDocu
           units_point = subst (λ h. UnitsPointPlainly h options schema p) same units_point;
           greatest = subst (λ h. AcceptsAsSchema h options schema p) same greatest;
           program = subst (λ h. IsCompiledFrom h options schema options.nested p) same program;
-          solver = subst (λ h. SolvesWhereMonotone h p) same solver;
+          solver = solver;
           builds = subst (λ h. SchemaBuilds h options schema) same builds;
           passed = passed;
         }

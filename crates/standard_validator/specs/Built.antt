@@ -17,7 +17,7 @@ use Rattle.schema_validator.specs.FirstCauses.{FirstOfBuild}
 use Rattle.schema_validator.specs.Greatest.{AcceptsAsSchema}
 use Rattle.schema_validator.specs.Handed.{Handed, Options}
 use Rattle.schema_validator.specs.Program.{Program}
-use Rattle.schema_validator.specs.Solved.{SolvesWhereMonotone}
+use Rattle.schema_validator.specs.Solved.{HasSolver}
 use Rattle.bench_resolver.specs.BenchDocuments.{BenchDocument}
 use Rattle.standard_keywords.specs.declared.table.StandardTable.{StandardTable}
 use Rattle.standard_meta.specs.DraftMeanings.{handed_by}
@@ -42,7 +42,7 @@ module _ {State S C Maker Run K : Type 0} (resolvers : ResolverMembers BenchDocu
       pub units_point : UnitsPointPlainly (parts_by r patterns) options schema p
       pub greatest : AcceptsAsSchema (parts_by r patterns) options schema p
       pub program : IsCompiledFrom (parts_by r patterns) options schema options.nested p
-      pub solver : SolvesWhereMonotone (parts_by r patterns) p
+      pub solver : HasSolver p
       pub builds : SchemaBuilds (parts_by r patterns) options schema
       pub passed : PassesCheck (resolvers.resolving r) refuses options schema
 

@@ -4,16 +4,16 @@ ghost use Rattle.schema_parts.specs.KeywordViews.{below_of};
 ghost use Rattle.schema_solver.specs.Asked.{solver_by};
 ghost use Rattle.schema_solver.specs.Solved.{MayAsk, Solves, a_pair, an_edge, the_child};
 
-use crate::question::{Asked, SolverEngine};
+use crate::question::{Asked, SolverEngine, Stopped};
 use crate::solve::entries::solve_node;
 use run_steps::spots::one_below;
 use schema_contexts::marks::child_edge;
 use schema_pairs::context::SolverContext;
 use schema_pairs::pair::SolverPair;
+use schema_pairs::said::Said;
 use schema_parts::keyword::{Below, Validate};
 use schema_parts::matcher::Matcher;
 use schema_parts::numbers::{Edge, SchemaNode};
-use schema_reports::location::OutOfMemory;
 
 // The verdict of a keyword's child, here or one step below; yes where its request got none.
 #[cycle(verdict)]
@@ -25,14 +25,17 @@ pub(crate) fn solve_child<'i, K: Validate, M: Matcher>(
     below: Below<'_>,
     question: &Asked<'_, 'i>,
     context: &mut SolverContext<'i>,
-) -> Result<bool, OutOfMemory>
+) -> Result<Said, Stopped>
     requires { MayAsk (solver_by K.Validate M.Matcher.own engine.now) question.now
         (the_child node.0 children.now child (below_of below)) context.old }
-    ensures { Solves (solver_by K.Validate M.Matcher.own engine.now) question.now
+    ensures { Solves (solver_by K.Validate M.Matcher.own engine.now) K.says_monotone question.now
         (the_child node.0 children.now child (below_of below.entry)) context.old context.new result }
 {
     match child_edge(children, child) {
-        None => Ok(true),
+        None => Ok(Said {
+            valid: true,
+            leans: false,
+        }),
         Some(edge) => match one_below(question.instance, below) {
             None => solve_edge(engine, edge, question, context),
             Some((inner, step)) => {
@@ -55,9 +58,9 @@ pub(crate) fn solve_edge<'i, K: Validate, M: Matcher>(
     edge: &Edge,
     question: &Asked<'_, 'i>,
     context: &mut SolverContext<'i>,
-) -> Result<bool, OutOfMemory>
+) -> Result<Said, Stopped>
     requires { MayAsk (solver_by K.Validate M.Matcher.own engine.now) question.now (an_edge (edge_of edge.now)) context.old }
-    ensures { Solves (solver_by K.Validate M.Matcher.own engine.now) question.now
+    ensures { Solves (solver_by K.Validate M.Matcher.own engine.now) K.says_monotone question.now
         (an_edge (edge_of edge.now)) context.old context.new result }
 {
     if edge.guarded || !engine.followed.is_followed(edge.node) {
@@ -66,9 +69,9 @@ pub(crate) fn solve_edge<'i, K: Validate, M: Matcher>(
     solve_node(engine, edge.node, question, context)
 }
 
-// The verdict of a pair: what is known of it, yes where it is in progress or assumed, and else what its node says, under which the pair is
-// in progress. A no is known for good, and what was assumed since is dropped; a yes is known for good, with all that was assumed since,
-// where no other pair is in progress at the place, and is assumed else.
+// What is said of a pair: what is known of it, a yes that leans where it is in progress or assumed, and else what its node says, under
+// which the pair is in progress. A no is known for good, and what was assumed since is dropped; a yes is known for good, with all that was
+// assumed since, where no other pair is in progress at the place, and alone where it leans on nothing; else it is assumed.
 #[cycle(verdict)]
 #[inline(never)]
 fn solve_pair<'i, K: Validate, M: Matcher>(
@@ -76,14 +79,14 @@ fn solve_pair<'i, K: Validate, M: Matcher>(
     node: SchemaNode,
     question: &Asked<'_, 'i>,
     context: &mut SolverContext<'i>,
-) -> Result<bool, OutOfMemory>
+) -> Result<Said, Stopped>
     requires { MayAsk (solver_by K.Validate M.Matcher.own engine.now) question.now (a_pair node.0) context.old }
-    ensures { Solves (solver_by K.Validate M.Matcher.own engine.now) question.now
+    ensures { Solves (solver_by K.Validate M.Matcher.own engine.now) K.says_monotone question.now
         (a_pair node.0) context.old context.new result }
 {
     let pair = SolverPair::new(context, node, question.place)?;
-    if let Some(valid) = pair.state(context) {
-        return Ok(valid);
+    if let Some(said) = pair.state(context) {
+        return Ok(said);
     }
     let mark = pair.enter(context)?;
     let place = pair.numbered_place();
@@ -91,8 +94,8 @@ fn solve_pair<'i, K: Validate, M: Matcher>(
         instance: question.instance,
         place: &place,
     };
-    let valid = solve_node(engine, node, &asked, context)?;
+    let said = solve_node(engine, node, &asked, context)?;
     pair.exit(context);
-    pair.keep_answer(context, mark, valid)?;
-    Ok(valid)
+    let kept = pair.keep_answer(context, mark, said)?;
+    Ok(kept)
 }

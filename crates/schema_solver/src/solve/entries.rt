@@ -2,16 +2,16 @@
 ghost use Rattle.schema_solver.specs.Asked.{solver_by};
 ghost use Rattle.schema_solver.specs.Solved.{MayAsk, Solves, a_node, the_entries, the_entry};
 
-use crate::question::{Asked, SolverEngine};
+use crate::question::{Asked, SolverEngine, Stopped};
 use crate::solve::edges::solve_edge;
 use crate::solve::turns::solver_answer;
 use node_table::node::{Entry, EntryForm, NodeForm};
 use run_steps::question::NamedKeyword;
 use schema_pairs::context::SolverContext;
+use schema_pairs::said::Said;
 use schema_parts::keyword::Validate;
 use schema_parts::matcher::Matcher;
 use schema_parts::numbers::SchemaNode;
-use schema_reports::location::OutOfMemory;
 
 // The verdict of a node at a place.
 #[cycle(verdict)]
@@ -20,16 +20,25 @@ pub(crate) fn solve_node<'i, K: Validate, M: Matcher>(
     node: SchemaNode,
     question: &Asked<'_, 'i>,
     context: &mut SolverContext<'i>,
-) -> Result<bool, OutOfMemory>
+) -> Result<Said, Stopped>
     requires { MayAsk (solver_by K.Validate M.Matcher.own engine.now) question.now (a_node node.0) context.old }
-    ensures { Solves (solver_by K.Validate M.Matcher.own engine.now) question.now
+    ensures { Solves (solver_by K.Validate M.Matcher.own engine.now) K.says_monotone question.now
         (a_node node.0) context.old context.new result }
 {
     match &engine.nodes.node(node).form {
-        None => Ok(true),
+        None => Ok(Said {
+            valid: true,
+            leans: false,
+        }),
         Some(form) => match form {
-            NodeForm::Always => Ok(true),
-            NodeForm::Never => Ok(false),
+            NodeForm::Always => Ok(Said {
+                valid: true,
+                leans: false,
+            }),
+            NodeForm::Never => Ok(Said {
+                valid: false,
+                leans: false,
+            }),
             NodeForm::Keywords(entries) => {
                 solve_entries(engine, node, entries.as_slice(), question, context)
             }
@@ -37,7 +46,7 @@ pub(crate) fn solve_node<'i, K: Validate, M: Matcher>(
     }
 }
 
-// The verdict of the entries, in their order; no more of them are asked after a no.
+// The verdict of the entries, in their order; no more of them are asked after a no. A yes leans where one of theirs does.
 #[cycle(verdict)]
 fn solve_entries<'i, K: Validate, M: Matcher>(
     engine: &SolverEngine<'_, K, M>,
@@ -45,18 +54,20 @@ fn solve_entries<'i, K: Validate, M: Matcher>(
     entries: &[Entry<K>],
     question: &Asked<'_, 'i>,
     context: &mut SolverContext<'i>,
-) -> Result<bool, OutOfMemory>
+) -> Result<Said, Stopped>
     requires { MayAsk (solver_by K.Validate M.Matcher.own engine.now) question.now (the_entries K.shape node.0 entries.now) context.old }
-    ensures { Solves (solver_by K.Validate M.Matcher.own engine.now) question.now
+    ensures { Solves (solver_by K.Validate M.Matcher.own engine.now) K.says_monotone question.now
         (the_entries K.shape node.0 entries.now) context.old context.new result }
 {
+    let mut leans = false;
     for entry in entries {
-        let valid = solve_form(engine, node, entry, question, context)?;
-        if !valid {
-            return Ok(false);
+        let said = solve_form(engine, node, entry, question, context)?;
+        if !said.valid {
+            return Ok(said);
         }
+        leans |= said.leans;
     }
-    Ok(true)
+    Ok(Said { valid: true, leans })
 }
 
 // The verdict of an entry's keyword, or of the node that its reference leads to. A keyword that tells it at once takes no run.
@@ -67,15 +78,18 @@ fn solve_form<'i, K: Validate, M: Matcher>(
     entry: &Entry<K>,
     question: &Asked<'_, 'i>,
     context: &mut SolverContext<'i>,
-) -> Result<bool, OutOfMemory>
+) -> Result<Said, Stopped>
     requires { MayAsk (solver_by K.Validate M.Matcher.own engine.now) question.now (the_entry K.shape node.0 entry.now) context.old }
-    ensures { Solves (solver_by K.Validate M.Matcher.own engine.now) question.now
+    ensures { Solves (solver_by K.Validate M.Matcher.own engine.now) K.says_monotone question.now
         (the_entry K.shape node.0 entry.now) context.old context.new result }
 {
     match &entry.form {
         EntryForm::Keyword(keyword, _) => {
             if let Some(valid) = keyword.is_valid_at_once(question.instance) {
-                return Ok(valid);
+                return Ok(Said {
+                    valid,
+                    leans: false,
+                });
             }
             solve_keyword(engine, node, entry, question, context)
         }
@@ -93,9 +107,9 @@ fn solve_keyword<'i, K: Validate, M: Matcher>(
     entry: &Entry<K>,
     question: &Asked<'_, 'i>,
     context: &mut SolverContext<'i>,
-) -> Result<bool, OutOfMemory>
+) -> Result<Said, Stopped>
     requires { MayAsk (solver_by K.Validate M.Matcher.own engine.now) question.now (the_entry K.shape node.0 entry.now) context.old }
-    ensures { Solves (solver_by K.Validate M.Matcher.own engine.now) question.now
+    ensures { Solves (solver_by K.Validate M.Matcher.own engine.now) K.says_monotone question.now
         (the_entry K.shape node.0 entry.now) context.old context.new result }
 {
     match &entry.form {

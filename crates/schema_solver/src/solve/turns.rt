@@ -1,5 +1,5 @@
 //! The turns of a keyword's run for its verdict, by a solver.
-ghost use Rattle.std.specs.Prelude.{◌≡◌, [], Bool, IfOk};
+ghost use Rattle.std.specs.Prelude.{◌≡◌, ◌&&◌, [], Bool, IfOk, OnErr, false, true};
 ghost use Rattle.schema_reports.specs.InstanceViews.{subject_of};
 ghost use Rattle.schema_definitions.specs.Keywords.{for_verdict};
 ghost use Rattle.schema_definitions.specs.Matching.{finished};
@@ -9,13 +9,14 @@ ghost use Rattle.schema_solver.specs.Asked.{solver_by};
 ghost use Rattle.schema_solver.specs.Solved.{MayAsk, Solves, Turns, the_keyword};
 ghost use Rattle.schema_solver.specs.TurningOn.{HasBegun};
 
-use crate::question::{Asked, SolverEngine};
+use crate::question::{Asked, SolverEngine, Stopped};
 use crate::solve::edges::solve_child;
 use run_steps::faults::begun;
 use run_steps::question::NamedKeyword;
 use run_steps::verdict_runs::{dropped, reply_with, verdict_of};
 use schema_matches::site::Match;
 use schema_pairs::context::SolverContext;
+use schema_pairs::said::Said;
 use schema_parts::keyword::{Answer, Mode, Step, Validate};
 use schema_parts::matcher::Matcher;
 use schema_parts::numbers::SchemaNode;
@@ -32,9 +33,9 @@ pub(crate) fn solver_answer<'i, K: Validate, M: Matcher>(
     keyword: &NamedKeyword<'_, K>,
     question: &Asked<'_, 'i>,
     context: &mut SolverContext<'i>,
-) -> Result<bool, OutOfMemory>
+) -> Result<Said, Stopped>
     requires { MayAsk (solver_by K.Validate M.Matcher.own engine.now) question.now (the_keyword K.shape node.0 keyword.now) context.old }
-    ensures { Solves (solver_by K.Validate M.Matcher.own engine.now) question.now
+    ensures { Solves (solver_by K.Validate M.Matcher.own engine.now) K.says_monotone question.now
         (the_keyword K.shape node.0 keyword.now) context.old context.new result }
 {
     let mut run = begun_run(engine.alloc, keyword.keyword, question.instance)?;
@@ -51,12 +52,28 @@ pub(crate) fn solver_answer<'i, K: Validate, M: Matcher>(
     );
     context.put_back(aside);
     match turned {
-        Ok(_) => Ok(verdict_of(answer)),
-        Err(refused) => {
+        Ok(leans) => said_of(keyword.keyword, verdict_of(answer), leans),
+        Err(stopped) => {
             dropped(answer);
-            Err(refused)
+            Err(stopped)
         }
     }
+}
+
+// What is said of a keyword whose run found this verdict. Where one of the yeses leaned that it was told, this is so of a keyword alone
+// that says that it is monotone.
+fn said_of<K: Validate>(keyword: &K, valid: bool, leans: bool) -> Result<Said, Stopped>
+    ensures said { IfOk result (λ s. (s ≡ record { valid = valid; leans = valid && leans })
+        × (leans ≡ true → K.says_monotone (K.shape keyword.now) ≡ true)) }
+    ensures stops { OnErr result (K.says_monotone (K.shape keyword.now) ≡ false) }
+{
+    if leans && !keyword.monotone() {
+        return Err(Stopped::Leans);
+    }
+    Ok(Said {
+        valid,
+        leans: valid && leans,
+    })
 }
 
 // A run for the verdict that has begun.
@@ -72,7 +89,7 @@ fn begun_run<K: Validate>(
     keyword.begin(alloc, instance, Mode::Verdict)
 }
 
-// The turns of a run that has begun, and its answer once they are done.
+// The turns of a run that has begun, and its answer once they are done: whether one of the yeses leaned that it was told.
 #[cycle(verdict)]
 fn solver_turns<'i, K: Validate, M: Matcher>(
     engine: &SolverEngine<'_, K, M>,
@@ -82,17 +99,18 @@ fn solver_turns<'i, K: Validate, M: Matcher>(
     run: &mut K::Run,
     answer: &mut Answer<'i>,
     context: &mut SolverContext<'i>,
-) -> Result<(), OutOfMemory>
+) -> Result<bool, Stopped>
     requires may_ask { MayAsk (solver_by K.Validate M.Matcher.own engine.now) question.now
         (the_keyword K.shape node.0 keyword.now) context.old }
     requires begun { HasBegun (solver_by K.Validate M.Matcher.own engine.now) (subject_of question.now.instance)
         (K.shape keyword.now.keyword.now) run.old answer.old }
     requires no_marks { context.old.marking ≡ [] }
-    ensures { Turns (solver_by K.Validate M.Matcher.own engine.now) question.now
-        (the_keyword K.shape node.0 keyword.now) context.old context.new result (λ texts. (answer_of texts answer.new).verdict) }
+    ensures { Turns (solver_by K.Validate M.Matcher.own engine.now) K.says_monotone question.now
+        K.shape keyword.now context.old context.new result (λ texts. (answer_of texts answer.new).verdict) }
 {
     let children = keyword.children;
     let mut told: Option<bool> = None;
+    let mut leans = false;
     'turns: loop {
         let reply = reply_with(told);
         let step = keyword
@@ -100,10 +118,11 @@ fn solver_turns<'i, K: Validate, M: Matcher>(
             .turn(engine.alloc, run, question.instance, reply, answer)?;
         match step {
             Step::Ask(child, below, wanted) => {
-                let valid = solve_child(engine, node, children, child, below, question, context)?;
-                told = Some(valid);
+                let said = solve_child(engine, node, children, child, below, question, context)?;
+                leans |= said.leans;
+                told = Some(said.valid);
             }
-            Step::Done => return Ok(()),
+            Step::Done => return Ok(leans),
             Step::Match(pattern, subject, located) => {
                 let matches = finished_match(engine, pattern, subject)?;
                 told = Some(matches);

@@ -10,7 +10,7 @@ ghost use Rattle.schema_validator.specs.Checked.{PassesCheck};
 ghost use Rattle.schema_validator.specs.FirstCauses.{FirstOfBuild};
 ghost use Rattle.schema_validator.specs.Greatest.{AcceptsAsSchema};
 ghost use Rattle.schema_validator.specs.Handed.{handed};
-ghost use Rattle.schema_validator.specs.Solved.{SolvesWhereMonotone};
+ghost use Rattle.schema_validator.specs.Solved.{HasSolver};
 
 use crate::compiled::of_compiled_within;
 use crate::options::ValidationOptions;
@@ -36,9 +36,9 @@ impl ValidationOptions {
     /// schema and parts, and has its units. Returns or none, each error that it gives points at a keyword of the schema and at a
     /// value inside the instance, and so does each unit that has an error. Where each keyword of what the root reaches is
     /// monotone, the nodes accept exactly where the greatest solution does, the largest set of targets and places each of which
-    /// accepts where exactly those of the set do; so does each call that decides. Where each keyword of its nodes says that it is
-    /// monotone, and nowhere else, the validator has a solver (`Validator::solve`). As many targets of references are compiled one
-    /// inside another as the options say, and for unfinished matches the validator's calls make as many runs at most as they say
+    /// accepts where exactly those of the set do; so does each call that decides. The validator has a solver, which does not give up where
+    /// each keyword of its nodes says that it is monotone (`Validator::solve`). As many targets of references are compiled one inside
+    /// another as the options say, and for unfinished matches the validator's calls make as many runs at most as they say
     /// (`with_run_limit`). Unless the options say otherwise, the meta validators check the schema before it is compiled.
     ///
     /// # Errors
@@ -74,9 +74,7 @@ impl ValidationOptions {
         ensures program { IfOk result (λ v. IsCompiledFrom
             (handed S.Resolver T.KeywordTable K.Validate M.Matcher.own resolver.now table.now matcher.now)
             self.now (view schema.now) self.now.nested v) }
-        ensures solver { IfOk result (λ v. SolvesWhereMonotone
-            (handed S.Resolver T.KeywordTable K.Validate M.Matcher.own resolver.now table.now matcher.now)
-            v) }
+        ensures solver { IfOk result HasSolver }
         ensures built { IfOk result (λ _. SchemaBuilds
             (handed S.Resolver T.KeywordTable K.Validate M.Matcher.own resolver.now table.now matcher.now)
             self.now (view schema.now)) }
@@ -142,9 +140,7 @@ impl ValidationOptions {
         ensures program { IfOk result (λ v. IsCompiledFrom
             (handed S.Resolver T.KeywordTable K.Validate M.Matcher.own resolver.now table.now matcher.now)
             self.now (view schema.now) nested v) }
-        ensures solver { IfOk result (λ v. SolvesWhereMonotone
-            (handed S.Resolver T.KeywordTable K.Validate M.Matcher.own resolver.now table.now matcher.now)
-            v) }
+        ensures solver { IfOk result HasSolver }
         ensures built { IfOk result (λ _. SchemaBuilds
             (handed S.Resolver T.KeywordTable K.Validate M.Matcher.own resolver.now table.now matcher.now)
             self.now (view schema.now)) }

@@ -10,7 +10,7 @@ ghost use Rattle.schema_validator.specs.Entries.{RefusesAlone, RefusesEntry, Ref
 ghost use Rattle.schema_validator.specs.FirstCauses.{FirstOfMap};
 ghost use Rattle.schema_validator.specs.Handed.{handed};
 ghost use Rattle.schema_validator.specs.Mapped.{EachAcceptsGreatest, EachHasPlainUnits, EachIsCompiledFrom, EachMeansPlainly};
-ghost use Rattle.schema_validator.specs.Mapped.{EachPointsPlainly, EachSolvesWhereMonotone, EachsUnitsPoint};
+ghost use Rattle.schema_validator.specs.Mapped.{EachPointsPlainly, EachHasSolver, EachsUnitsPoint};
 ghost use Rattle.schema_validator.specs.Mapped.{HoldsCompiled, HoldsEach, MapIsBuilt, MapRefused, name_of};
 ghost use Rattle.schema_validator.specs.Roots.{IsRootKey, root_parts};
 
@@ -75,7 +75,7 @@ impl ValidationOptions {
         ensures greatest { IfOk result (λ m. EachAcceptsGreatest
             (handed S.Resolver T.KeywordTable K.Validate M.Matcher.own resolver.now table.now matcher.now)
             self.now (view schema.now) m) }
-        ensures solver { IfOk result (λ m. EachSolvesWhereMonotone
+        ensures solver { IfOk result (λ m. EachHasSolver
             (handed S.Resolver T.KeywordTable K.Validate M.Matcher.own resolver.now table.now matcher.now)
             self.now (view schema.now) m) }
         ensures programs { IfOk result (λ m. EachIsCompiledFrom

@@ -19,24 +19,25 @@ use Rattle.node_table.specs.NodeViews.{entry_of, node_of, plan_of}
 use Rattle.node_table.specs.declared.node.Entry.{Entry}
 use Rattle.run_steps.specs.EvaluationPlaces.{CarriesItsNumber, steps_to}
 use Rattle.run_steps.proofs.NodeParts.{part_at, plan_is, reference_edge, keyword_children}
-use Rattle.schema_greatest.specs.Says.{EdgeSays, FormSays, parts_under}
-use Rattle.schema_greatest.proofs.Says.{child_some, edge_below, node_says_parts}
+use Rattle.schema_greatest.specs.Stages.{EdgeTells, FormTells, PartsTell, parts_by}
+use Rattle.schema_greatest.proofs.Says.{child_some, edge_below, edge_by_node, edge_by_pair, node_says_parts}
 use Rattle.schema_solver.specs.Asked.{is_followed_in, solver_by}
 use Rattle.schema_pairs.specs.Contexts.{found_of, has_pair, solver_places}
 use Rattle.schema_solver.specs.Needs.{SaysTheRest}
-use Rattle.schema_pairs.specs.Answering.{AssumesBeside, Begins, Refuses, SettlesAlone}
+use Rattle.schema_pairs.specs.Answering.{Accepts, Begins, Refuses}
+use Rattle.schema_pairs.specs.declared.said.Said.{Said}
 use Rattle.schema_solver.specs.Solving.{Goes, InEach, MaySolve, is_cut, solving_in}
 use Rattle.schema_pairs.specs.SolverPairs.{place_of}
 use Rattle.run_steps.specs.VerdictRuns.{told_reply}
 use Rattle.schema_solver.proofs.Asking.{edge_among, may_cross, may_go_below}
-use Rattle.schema_solver.proofs.Crossing.{apart_mark, at_pair, cut_guards, entry_accepts, entry_refuses, falls_across, falls_across_below, falls_entered, needs_of_cut, needs_of_free, pair_new, pair_ran, ran_goes, ran_says_pair, says_at_once, solvable_here}
+use Rattle.schema_solver.proofs.Crossing.{apart_mark, at_pair, cut_guards, entry_accepts, entry_refuses, falls_across, falls_across_below, falls_entered, needs_of_cut, needs_of_free, pair_new, pair_ran, ran_kept, says_at_once, solvable_here}
 use Rattle.schema_solver.proofs.Going.{goes_below, goes_none, goes_on, may_after}
 use Rattle.schema_solver.proofs.PairSteps.{begun_may}
 use Rattle.schema_solver.proofs.solve.+verdict.Goals.{edges::solve_edge-then-edge-via-then-edge, edges::solve_edge-then-edge-via-else-edge+then-not-is_followed}
 use Rattle.schema_definitions.specs.Matching.{Pair}
 use Rattle.run_steps.specs.NodeRuns.{form_at_work}
 use Rattle.run_steps.proofs.KeywordTurns.{asks_there, can_after, falls_turned, tells_nothing, ask_goes_on, match_goes_on, ecma_goes_on, mark_goes_on, unmark_goes_on}
-use Rattle.schema_solver.proofs.Turned.{asked_verdict, asks_begun, asks_on, begun_with, can_begun, carries_on, goes_marked, leads_asked, leads_begun, leads_ended, leads_marked, leads_matched, leads_told, leads_unmarked, says_after, stepped_by, turned_by}
+use Rattle.schema_solver.proofs.Turned.{asked_verdict, asks_begun, asks_on, begun_with, can_begun, carries_on, goes_marked, keyword_says, never_stops, leads_asked, leads_begun, leads_ended, leads_marked, leads_matched, leads_told, leads_unmarked, says_after, stepped_by, turned_by}
 use Rattle.schema_solver.proofs.solve.+verdict.Goals as goal
 
 -- ---- a call's measure falls
@@ -56,6 +57,16 @@ lower_free a c t l e = omega (arith, l, e)
 lower_entered : (a c t : ℕ) → c ≡ suc a → 20 * c ≡ t → 20 * a + 10 < t
 lower_entered a c t l e = omega (arith, l, e)
 
+-- ---- by a test
+
+no_of : (b : Bool) → not b ≡ true → b ≡ false
+no_of true is = sym is
+no_of false is = refl
+
+yes_of : (b : Bool) → not b ≡ false → b ≡ true
+yes_of true is = refl
+yes_of false is = sym is
+
 pub edges::solve_pair-returns-in-Some : goal.edges::solve_pair-returns-in-Some
 edges::solve_pair-returns-in-Some g t c = record {
   goes =
@@ -65,6 +76,7 @@ edges::solve_pair-returns-in-Some g t c = record {
       subst (Goes set p old) (sym c.in_ok-pair.ensures.unchanged) (goes_none set p old c.requires.may.sound);
   marking = search rules;
   says = search rules;
+  stops = search rules;
 }
 
 pub edges::solve_pair-solve_node-requires : goal.edges::solve_pair-solve_node-requires
@@ -99,55 +111,39 @@ edges::solve_pair-keep_answer-requires-clause-apart g t c =
     let same = c.in_ok-pair.ensures.unchanged in
     let none : c.state.result ≡ None = c.in_default.is in
     let laws : (texts : Bool) → EachKeeps (g.K.Validate.words texts) = λ texts m. (g.K.Validate.absorbed m, keeps_of_turns (g.K.Validate.words texts) m (g.K.Validate.absorbed m) (g.K.Validate.remaining m) (g.K.Validate.can_be texts m) (g.K.Validate.ends texts m) (g.K.Validate.fits texts m) (g.met.K.Validate.turn_laws texts m) (g.met.K.Validate.function_laws texts m)) in
-    let ran = pair_ran set old p c.args.node.0 c.in_ok-pair.pair.node.0 (place_of c.in_ok-pair.pair) (steps_to c.numbered_place-place.result) c.new.new.context c.enter.new.context c.solve_node.new.context c.exit.new.context c.in_ok-mark.mark c.in_ok-valid.valid
+    let ran = pair_ran set old p c.args.node.0 c.in_ok-pair.pair.node.0 (place_of c.in_ok-pair.pair) (steps_to c.numbered_place-place.result) c.new.new.context c.enter.new.context c.solve_node.new.context c.exit.new.context c.in_ok-mark.mark c.in_ok-said.said
     node place same c.numbered_place-place.ensures.same (c.state.ensures.unknown none) (c.state.ensures.idle none) (c.state.ensures.free none) c.in_ok-pair.pair.number c.in_ok-pair.ensures.numbered c.in_ok-pair.ensures.own c.requires.stands
-    c.in_ok-mark.ensures.begins c.in_ok-valid.ensures.goes c.in_ok-valid.ensures.says c.in_ok-mark.ensures.mark c.exit.ensures.left c.exit.ensures.root c.exit.ensures.assumed c.exit.ensures.verdicts c.exit.ensures.marking c.exit.ensures.begun in
-    apart_mark set old p c.args.node.0 c.enter.new.context c.solve_node.new.context c.exit.new.context c.in_ok-mark.mark c.in_ok-valid.valid ran
+    c.in_ok-mark.ensures.begins c.in_ok-said.ensures.goes c.in_ok-said.ensures.says c.in_ok-mark.ensures.mark c.exit.ensures.left c.exit.ensures.root c.exit.ensures.assumed c.exit.ensures.verdicts c.exit.ensures.marking c.exit.ensures.begun in
+    apart_mark set old p c.args.node.0 c.enter.new.context c.solve_node.new.context c.exit.new.context c.in_ok-mark.mark c.in_ok-said.said ran
 
 pub edges::solve_pair-returns : goal.edges::solve_pair-returns
-edges::solve_pair-returns g t c = record {
-  goes =
-      let set = solver_by g.K.Validate g.M.Matcher c.args.engine.now in
-      let p = steps_to c.args.question.now.place.now in
-      let s = subject_of c.args.question.now.instance in
-      let old = c.args.context.now in
-      let node : c.in_ok-pair.pair.node.0 ≡ c.args.node.0 = ap (λ (n : SchemaNode). n.0) c.in_ok-pair.ensures.node in
-      let place = c.in_ok-pair.ensures.place in
-      let same = c.in_ok-pair.ensures.unchanged in
-      let none : c.state.result ≡ None = c.in_default.is in
-      let laws : (texts : Bool) → EachKeeps (g.K.Validate.words texts) = λ texts m. (g.K.Validate.absorbed m, keeps_of_turns (g.K.Validate.words texts) m (g.K.Validate.absorbed m) (g.K.Validate.remaining m) (g.K.Validate.can_be texts m) (g.K.Validate.ends texts m) (g.K.Validate.fits texts m) (g.met.K.Validate.turn_laws texts m) (g.met.K.Validate.function_laws texts m)) in
-      let ran = pair_ran set old p c.args.node.0 c.in_ok-pair.pair.node.0 (place_of c.in_ok-pair.pair) (steps_to c.numbered_place-place.result) c.new.new.context c.enter.new.context c.solve_node.new.context c.exit.new.context c.in_ok-mark.mark c.in_ok-valid.valid
-      node place same c.numbered_place-place.ensures.same (c.state.ensures.unknown none) (c.state.ensures.idle none) (c.state.ensures.free none) c.in_ok-pair.pair.number c.in_ok-pair.ensures.numbered c.in_ok-pair.ensures.own c.requires.stands
-      c.in_ok-mark.ensures.begins c.in_ok-valid.ensures.goes c.in_ok-valid.ensures.says c.in_ok-mark.ensures.mark c.exit.ensures.left c.exit.ensures.root c.exit.ensures.assumed c.exit.ensures.verdicts c.exit.ensures.marking c.exit.ensures.begun in
-      let x = c.exit.new.context in
-      let n = c.keep_answer.new.context in
-      let mark = c.in_ok-mark.mark in
-      let valid = c.in_ok-valid.valid in
-      let as_no = at_pair (λ k z d. valid ≡ false → Refuses k z mark x n) node place same c.in_ok-keep_answer.ensures.refused in
-      let as_yes = at_pair (λ k z d. valid ≡ true → SettlesAlone k z mark x n ⊎ AssumesBeside k z x n) node place same c.in_ok-keep_answer.ensures.accepted in
-      ran_goes set laws old s p c.args.node.0 c.requires.may c.enter.new.context c.solve_node.new.context x mark valid ran n c.keep_answer.ensures.root c.keep_answer.ensures.in_progress c.keep_answer.ensures.marking c.keep_answer.ensures.begun as_no as_yes;
-  marking = search rules;
-  says =
-      let set = solver_by g.K.Validate g.M.Matcher c.args.engine.now in
-      let p = steps_to c.args.question.now.place.now in
-      let s = subject_of c.args.question.now.instance in
-      let old = c.args.context.now in
-      let node : c.in_ok-pair.pair.node.0 ≡ c.args.node.0 = ap (λ (n : SchemaNode). n.0) c.in_ok-pair.ensures.node in
-      let place = c.in_ok-pair.ensures.place in
-      let same = c.in_ok-pair.ensures.unchanged in
-      let none : c.state.result ≡ None = c.in_default.is in
-      let laws : (texts : Bool) → EachKeeps (g.K.Validate.words texts) = λ texts m. (g.K.Validate.absorbed m, keeps_of_turns (g.K.Validate.words texts) m (g.K.Validate.absorbed m) (g.K.Validate.remaining m) (g.K.Validate.can_be texts m) (g.K.Validate.ends texts m) (g.K.Validate.fits texts m) (g.met.K.Validate.turn_laws texts m) (g.met.K.Validate.function_laws texts m)) in
-      let ran = pair_ran set old p c.args.node.0 c.in_ok-pair.pair.node.0 (place_of c.in_ok-pair.pair) (steps_to c.numbered_place-place.result) c.new.new.context c.enter.new.context c.solve_node.new.context c.exit.new.context c.in_ok-mark.mark c.in_ok-valid.valid
-      node place same c.numbered_place-place.ensures.same (c.state.ensures.unknown none) (c.state.ensures.idle none) (c.state.ensures.free none) c.in_ok-pair.pair.number c.in_ok-pair.ensures.numbered c.in_ok-pair.ensures.own c.requires.stands
-      c.in_ok-mark.ensures.begins c.in_ok-valid.ensures.goes c.in_ok-valid.ensures.says c.in_ok-mark.ensures.mark c.exit.ensures.left c.exit.ensures.root c.exit.ensures.assumed c.exit.ensures.verdicts c.exit.ensures.marking c.exit.ensures.begun in
-      let x = c.exit.new.context in
-      let n = c.keep_answer.new.context in
-      let mark = c.in_ok-mark.mark in
-      let valid = c.in_ok-valid.valid in
-      let as_no = at_pair (λ k z d. valid ≡ false → Refuses k z mark x n) node place same c.in_ok-keep_answer.ensures.refused in
-      let as_yes = at_pair (λ k z d. valid ≡ true → SettlesAlone k z mark x n ⊎ AssumesBeside k z x n) node place same c.in_ok-keep_answer.ensures.accepted in
-      λ texts tells. ran_says_pair set laws old s p c.args.node.0 c.requires.may c.enter.new.context c.solve_node.new.context x mark valid ran n c.keep_answer.ensures.root c.keep_answer.ensures.in_progress c.keep_answer.ensures.marking c.keep_answer.ensures.begun as_no as_yes;
-}
+edges::solve_pair-returns g t c =
+    let set = solver_by g.K.Validate g.M.Matcher c.args.engine.now in
+    let p = steps_to c.args.question.now.place.now in
+    let s = subject_of c.args.question.now.instance in
+    let old = c.args.context.now in
+    let node : c.in_ok-pair.pair.node.0 ≡ c.args.node.0 = ap (λ (n : SchemaNode). n.0) c.in_ok-pair.ensures.node in
+    let place = c.in_ok-pair.ensures.place in
+    let same = c.in_ok-pair.ensures.unchanged in
+    let none : c.state.result ≡ None = c.in_default.is in
+    let laws : (texts : Bool) → EachKeeps (g.K.Validate.words texts) = λ texts m. (g.K.Validate.absorbed m, keeps_of_turns (g.K.Validate.words texts) m (g.K.Validate.absorbed m) (g.K.Validate.remaining m) (g.K.Validate.can_be texts m) (g.K.Validate.ends texts m) (g.K.Validate.fits texts m) (g.met.K.Validate.turn_laws texts m) (g.met.K.Validate.function_laws texts m)) in
+    let ran = pair_ran set old p c.args.node.0 c.in_ok-pair.pair.node.0 (place_of c.in_ok-pair.pair) (steps_to c.numbered_place-place.result) c.new.new.context c.enter.new.context c.solve_node.new.context c.exit.new.context c.in_ok-mark.mark c.in_ok-said.said
+    node place same c.numbered_place-place.ensures.same (c.state.ensures.unknown none) (c.state.ensures.idle none) (c.state.ensures.free none) c.in_ok-pair.pair.number c.in_ok-pair.ensures.numbered c.in_ok-pair.ensures.own c.requires.stands
+    c.in_ok-mark.ensures.begins c.in_ok-said.ensures.goes c.in_ok-said.ensures.says c.in_ok-mark.ensures.mark c.exit.ensures.left c.exit.ensures.root c.exit.ensures.assumed c.exit.ensures.verdicts c.exit.ensures.marking c.exit.ensures.begun in
+    let x = c.exit.new.context in
+    let n = c.keep_answer.new.context in
+    let mark = c.in_ok-mark.mark in
+    let said = c.in_ok-said.said in
+    let now = c.in_ok-kept.kept in
+    let as_no = at_pair (λ k z d. said.valid ≡ false → Refuses k z mark x n) node place same c.in_ok-kept.ensures.refused in
+    let as_yes = at_pair (λ k z d. said.valid ≡ true → Accepts k z mark said now x n) node place same c.in_ok-kept.ensures.accepted in
+    let kept = ran_kept set laws old s p c.args.node.0 c.requires.may c.enter.new.context c.solve_node.new.context x mark said ran n c.keep_answer.ensures.root c.keep_answer.ensures.in_progress c.keep_answer.ensures.marking c.keep_answer.ensures.begun now c.in_ok-kept.ensures.valid as_no as_yes in
+    record {
+      goes = kept.0;
+      marking = search rules;
+      says = λ texts tells. kept.1;
+      stops = λ each. tt;
+    }
 
 pub edges::solve_edge-solve_pair-requires : goal.edges::solve_edge-solve_pair-requires
 edges::solve_edge-solve_pair-requires g t c =
@@ -163,6 +159,38 @@ edges::solve_edge-solve_pair-requires g t c =
       | edges::solve_edge-then-edge-via-else-edge+then-not-is_followed w ↦ or_right e.guarded _ (ap not (sym w.is_followed.ensures.followed ∙ w.if-not-is_followed.true))
     ] in
     λ κs h. (lower_pair _ _ t (needs_of_cut ns count (is_cut (is_followed_in c.args.engine.now.followed.now)) e s (busy_at p old.in_progress) cut) c.decreases, (h.0, (h.1.0, (h.1.1.0, (h.1.1.1, record { may = c.requires.may; carries = c.requires.carries; stands = edge_among set e c.requires.stands cut })))))
+
+pub edges::solve_edge-returns-then-edge : goal.edges::solve_edge-returns-then-edge
+edges::solve_edge-returns-then-edge g t c =
+    let set = solver_by g.K.Validate g.M.Matcher c.args.engine.now in
+    let p = steps_to c.args.question.now.place.now in
+    let e = edge_of c.args.edge.now in
+    let cut : is_cut (is_followed_in c.args.engine.now.followed.now) e ≡ true = elim c.then-edge.branch [
+      | edges::solve_edge-then-edge-via-then-edge w ↦ or_left _ _ w.if-edge.true
+      | edges::solve_edge-then-edge-via-else-edge+then-not-is_followed w ↦ or_right e.guarded _ (ap not (sym w.is_followed.ensures.followed ∙ w.if-not-is_followed.true))
+    ] in
+    let new = c.solve_pair.new.context in
+    record {
+      goes = c.solve_pair.ensures.goes;
+      marking = c.solve_pair.ensures.marking;
+      says = if_ok_mono c.solve_pair.result _ _ (λ b says texts tells. edge_by_pair (solving_in set (view new.root) texts) (found_of new) p e here b.valid b.leans cut (says texts tells)) c.solve_pair.ensures.says;
+      stops = c.solve_pair.ensures.stops;
+    }
+
+pub edges::solve_edge-returns : goal.edges::solve_edge-returns
+edges::solve_edge-returns g t c =
+    let set = solver_by g.K.Validate g.M.Matcher c.args.engine.now in
+    let p = steps_to c.args.question.now.place.now in
+    let e = edge_of c.args.edge.now in
+    let settled = sym c.is_followed.ensures.followed in
+    let free : is_cut (is_followed_in c.args.engine.now.followed.now) e ≡ false = ap₂ (λ x y. x || not y) c.if-edge.false (settled ∙ c.if-not-is_followed.false) in
+    let new = c.solve_node.new.context in
+    record {
+      goes = c.solve_node.ensures.goes;
+      marking = c.solve_node.ensures.marking;
+      says = if_ok_mono c.solve_node.result _ _ (λ b says texts tells. edge_by_node (solving_in set (view new.root) texts) (found_of new) p e here b.valid b.leans free (says texts tells)) c.solve_node.ensures.says;
+      stops = c.solve_node.ensures.stops;
+    }
 
 pub edges::solve_edge-solve_node-requires : goal.edges::solve_edge-solve_node-requires
 edges::solve_edge-solve_node-requires g t c =
@@ -217,6 +245,7 @@ edges::solve_child-returns-in-None g t c = record {
       goes_none set (steps_to c.args.question.now.place.now) c.args.context.now c.requires.may.sound;
   marking = search rules;
   says = search rules;
+  stops = search rules;
 }
 
 pub edges::solve_child-returns-in-Some-one_below : goal.edges::solve_child-returns-in-Some-one_below
@@ -242,9 +271,10 @@ edges::solve_child-returns-in-Some-one_below g t c = record {
       let es = map (option_map edge_of) c.args.children.now in
       if_ok_mono c.solve_edge-in-Some-one_below.result _ _ (λ b says texts tells.
       let w = solving_in set (view new.root) texts in
-      let there : EdgeSays w (p ++ step ∷ []) (found_of new) e here b = subst (λ z. EdgeSays w z (found_of new) e here b) c.below-lower.ensures.below (says texts tells) in
-      let down_there : EdgeSays w p (found_of new) e (below_of c.args.below) b = subst (λ z. EdgeSays w p (found_of new) e z b) (sym c.in-Some-one_below.ensures.below.0) (edge_below w (found_of new) p e step b there) in
-      child_some w (found_of new) p es (record { child = c.args.child; below = below_of c.args.below }) e b (sym c.in-Some.ensures.edge) down_there) c.solve_edge-in-Some-one_below.ensures.says;
+      let there : EdgeTells w (p ++ step ∷ []) (found_of new) e here b.valid b.leans = subst (λ z. EdgeTells w z (found_of new) e here b.valid b.leans) c.below-lower.ensures.below (says texts tells) in
+      let down_there : EdgeTells w p (found_of new) e (below_of c.args.below) b.valid b.leans = subst (λ z. EdgeTells w p (found_of new) e z b.valid b.leans) (sym c.in-Some-one_below.ensures.below.0) (edge_below w (found_of new) p e step b.valid b.leans there) in
+      child_some w (found_of new) p es (record { child = c.args.child; below = below_of c.args.below }) e b.valid b.leans (sym c.in-Some.ensures.edge) down_there) c.solve_edge-in-Some-one_below.ensures.says;
+  stops = search rules;
 }
 
 pub entries::solve_entries-loop-entry-init : goal.entries::solve_entries-loop-entry-init
@@ -253,7 +283,7 @@ entries::solve_entries-loop-entry-init g t c =
     record {
       goes = goes_none set (steps_to c.args.question.now.place.now) c.args.context.now c.requires.may.sound;
       marking = refl;
-      leads = λ texts tells inside between. refl;
+      leads = λ texts tells. record { same = λ answers fits. refl; refuses = λ answers no. no };
     }
 
 pub entries::solve_entries-solve_form-requires : goal.entries::solve_entries-solve_form-requires
@@ -268,14 +298,14 @@ entries::solve_entries-solve_form-requires g t c =
     let here = part_at entry_of (shaped_part g.K.Validate.shape) c.args.entries.now c.loop-entry.entry-index c.entry-item.result c.loop-entry-test.true c.entry-item.is in
     λ κs h. (lower_same _ _ t 7 1 l c.decreases, (h.0, (h.1.0, (h.1.1.0, (h.1.1.1, record { may = may_after set p old c.loop-entry.context s c.args.node.0 c.requires.may went; carries = carries_on old c.loop-entry.context c.args.question.now.place.now went.root c.requires.carries; stands = (c.requires.stands.0, c.requires.stands.1, shaped_part g.K.Validate.shape (entry_of c.entry-item.result), c.requires.stands.2 _ here, refl) })))))
 
-pub entries::solve_entries-returns-then-not-valid : goal.entries::solve_entries-returns-then-not-valid
-entries::solve_entries-returns-then-not-valid g t c = record {
+pub entries::solve_entries-returns-then-not-said : goal.entries::solve_entries-returns-then-not-said
+entries::solve_entries-returns-then-not-said g t c = record {
   goes =
       let set = solver_by g.K.Validate g.M.Matcher c.args.engine.now in
       let p = steps_to c.args.question.now.place.now in
-      goes_on set p c.args.context.now c.loop-entry.context c.solve_form.new.context c.loop-entry.invariant.goes c.in_ok-valid.ensures.goes;
+      goes_on set p c.args.context.now c.loop-entry.context c.solve_form.new.context c.loop-entry.invariant.goes c.in_ok-said.ensures.goes;
   marking =
-      c.in_ok-valid.ensures.marking ∙ c.loop-entry.invariant.marking;
+      c.in_ok-said.ensures.marking ∙ c.loop-entry.invariant.marking;
   says =
       let set = solver_by g.K.Validate g.M.Matcher c.args.engine.now in
       let p = steps_to c.args.question.now.place.now in
@@ -285,8 +315,10 @@ entries::solve_entries-returns-then-not-valid g t c = record {
       let x = shaped_part g.K.Validate.shape (entry_of c.entry-item.result) in
       let rest = parts (drop (c.loop-entry.entry-index + 1) c.args.entries.now) in
       let split = ap parts (drop_at c.args.entries.now c.loop-entry.entry-index c.entry-item.result c.loop-entry-test.true c.entry-item.is) in
-      let so_far : InEach set (view here.root) (λ texts w. SaysTheRest w p (found_of here) (parts c.args.entries.now) (x ∷ rest)) = subst (λ left. InEach set (view here.root) (λ texts w. SaysTheRest w p (found_of here) (parts c.args.entries.now) left)) split c.loop-entry.invariant.leads in
-      entry_refuses set p here next c.in_ok-valid.ensures.goes (parts c.args.entries.now) x rest so_far (subst (λ b. InEach set (view next.root) (λ texts w. FormSays w p (found_of next) x.form b)) c.if-not-valid.true c.in_ok-valid.ensures.says);
+      let so_far : InEach set (view here.root) (λ texts w. SaysTheRest w p (found_of here) c.loop-entry.leans (parts c.args.entries.now) (x ∷ rest)) = subst (λ left. InEach set (view here.root) (λ texts w. SaysTheRest w p (found_of here) c.loop-entry.leans (parts c.args.entries.now) left)) split c.loop-entry.invariant.leads in
+      subst (λ b. InEach set (view next.root) (λ texts w. PartsTell w p (found_of next) (parts c.args.entries.now) b c.in_ok-said.said.leans)) (sym (no_of c.in_ok-said.said.valid c.if-not-said.true))
+      (entry_refuses set p here next c.in_ok-said.ensures.goes (parts c.args.entries.now) x rest c.loop-entry.leans so_far c.in_ok-said.said.leans (subst (λ b. InEach set (view next.root) (λ texts w. FormTells w p (found_of next) x.form b c.in_ok-said.said.leans)) (no_of c.in_ok-said.said.valid c.if-not-said.true) c.in_ok-said.ensures.says));
+  stops = search rules;
 }
 
 pub entries::solve_entries-loop-entry-preserved : goal.entries::solve_entries-loop-entry-preserved
@@ -299,11 +331,11 @@ entries::solve_entries-loop-entry-preserved g t c =
     let x = shaped_part g.K.Validate.shape (entry_of c.entry-item.result) in
     let rest = parts (drop (c.loop-entry.entry-index + 1) c.args.entries.now) in
     let split = ap parts (drop_at c.args.entries.now c.loop-entry.entry-index c.entry-item.result c.loop-entry-test.true c.entry-item.is) in
-    let so_far : InEach set (view here.root) (λ texts w. SaysTheRest w p (found_of here) (parts c.args.entries.now) (x ∷ rest)) = subst (λ left. InEach set (view here.root) (λ texts w. SaysTheRest w p (found_of here) (parts c.args.entries.now) left)) split c.loop-entry.invariant.leads in
+    let so_far : InEach set (view here.root) (λ texts w. SaysTheRest w p (found_of here) c.loop-entry.leans (parts c.args.entries.now) (x ∷ rest)) = subst (λ left. InEach set (view here.root) (λ texts w. SaysTheRest w p (found_of here) c.loop-entry.leans (parts c.args.entries.now) left)) split c.loop-entry.invariant.leads in
     record {
-      goes = goes_on set p c.args.context.now here next c.loop-entry.invariant.goes c.in_ok-valid.ensures.goes;
-      marking = c.in_ok-valid.ensures.marking ∙ c.loop-entry.invariant.marking;
-      leads = entry_accepts set p here next c.in_ok-valid.ensures.goes (parts c.args.entries.now) x rest so_far (subst (λ b. InEach set (view next.root) (λ texts w. FormSays w p (found_of next) x.form b)) c.if-not-valid.false c.in_ok-valid.ensures.says);
+      goes = goes_on set p c.args.context.now here next c.loop-entry.invariant.goes c.in_ok-said.ensures.goes;
+      marking = c.in_ok-said.ensures.marking ∙ c.loop-entry.invariant.marking;
+      leads = entry_accepts set p here next c.in_ok-said.ensures.goes (parts c.args.entries.now) x rest c.loop-entry.leans so_far c.in_ok-said.said.leans (subst (λ b. InEach set (view next.root) (λ texts w. FormTells w p (found_of next) x.form b c.in_ok-said.said.leans)) (yes_of c.in_ok-said.said.valid c.if-not-said.false) c.in_ok-said.ensures.says);
     }
 
 pub entries::solve_entries-returns : goal.entries::solve_entries-returns
@@ -317,7 +349,8 @@ entries::solve_entries-returns g t c = record {
       let p = steps_to c.args.question.now.place.now in
       let parts = λ (es : List (Entry g.row.K.Denot)). map (shaped_part g.K.Validate.shape) (map entry_of es) in
       let none = ap parts (drop_past c.args.entries.now c.loop-entry.entry-index c.loop-entry-test.false) in
-      λ texts tells inside between. c.loop-entry.invariant.leads texts tells inside between ∙ ap (parts_under (solving_in set (view c.loop-entry.context.root) texts) p inside) none;
+      λ texts tells answers fits. (c.loop-entry.invariant.leads texts tells).same answers fits ∙ ap (parts_by (solving_in set (view c.loop-entry.context.root) texts) p answers) none;
+  stops = search rules;
 }
 
 pub entries::solve_form-returns-in-Some : goal.entries::solve_form-returns-in-Some
@@ -336,6 +369,7 @@ entries::solve_form-returns-in-Some g t c = record {
       let es = map (option_map edge_of) c.in-Keyword.field-1.items in
       let form = rw c.in-Keyword.is at c.requires.stands in
       rw c.in-Keyword.is (says_at_once set laws old s p c.args.node.0 c.requires.may m es form (g.K.Validate.absorbed m) (g.K.Validate.remaining m) (λ texts. g.K.Validate.can_be texts m) (λ texts. g.K.Validate.ends texts m) (λ texts. g.K.Validate.fits texts m) (λ texts. g.met.K.Validate.turn_laws texts m) c.in-Some.valid c.in-Some.ensures.at_once);
+  stops = search rules;
 }
 
 pub entries::solve_form-solve_keyword-requires : goal.entries::solve_form-solve_keyword-requires
@@ -365,6 +399,7 @@ entries::solve_keyword-returns-in-Keyword g t c = record {
   goes = search rules;
   marking = search rules;
   says = rw (c.in-Keyword.is, ← c.as_slice.ensures.value) c.solver_answer.ensures.says;
+  stops = search rules;
 }
 
 pub entries::solve_keyword-solve_edge-requires : goal.entries::solve_keyword-solve_edge-requires
@@ -393,6 +428,7 @@ entries::solve_node-returns-in-None g t c = record {
       goes_none set (steps_to c.args.question.now.place.now) c.args.context.now c.requires.may.sound;
   marking = search rules;
   says = search rules;
+  stops = search rules;
 }
 
 pub entries::solve_node-returns-in-Always : goal.entries::solve_node-returns-in-Always
@@ -402,6 +438,7 @@ entries::solve_node-returns-in-Always g t c = record {
       goes_none set (steps_to c.args.question.now.place.now) c.args.context.now c.requires.may.sound;
   marking = search rules;
   says = search rules;
+  stops = search rules;
 }
 
 pub entries::solve_node-returns-in-Never : goal.entries::solve_node-returns-in-Never
@@ -411,6 +448,7 @@ entries::solve_node-returns-in-Never g t c = record {
       goes_none set (steps_to c.args.question.now.place.now) c.args.context.now c.requires.may.sound;
   marking = search rules;
   says = search rules;
+  stops = search rules;
 }
 
 pub entries::solve_node-returns-in-Keywords : goal.entries::solve_node-returns-in-Keywords
@@ -425,8 +463,9 @@ entries::solve_node-returns-in-Keywords g t c = record {
       let laws : (texts : Bool) → EachKeeps (g.K.Validate.words texts) = λ texts m. (g.K.Validate.absorbed m, keeps_of_turns (g.K.Validate.words texts) m (g.K.Validate.absorbed m) (g.K.Validate.remaining m) (g.K.Validate.can_be texts m) (g.K.Validate.ends texts m) (g.K.Validate.fits texts m) (g.met.K.Validate.turn_laws texts m) (g.met.K.Validate.function_laws texts m)) in
       let plan = plan_is g.K.Validate.shape c.args.engine.now.nodes.now c.args.node.0 (node_of c.node.result.now) _ c.node.ensures.found (ap (option_map plan_of) c.in-Some.is ∙ ap (λ f. Some (plan_of f)) c.in-Keywords.is) in
       let new = c.solve_entries.new.context in
-      if_ok_mono c.solve_entries.result _ _ (λ b says texts tells. node_says_parts (solving_in set (view new.root) texts) (found_of new) p (solvable_here set laws old s p c.args.node.0 c.requires.may (view new.root) texts) c.args.node.0 c.requires.may.known _ b plan (says texts tells))
+      if_ok_mono c.solve_entries.result _ _ (λ b says texts tells. node_says_parts (solving_in set (view new.root) texts) (found_of new) p (solvable_here set laws old s p c.args.node.0 c.requires.may (view new.root) texts) c.args.node.0 c.requires.may.known _ b.valid b.leans plan (says texts tells))
       (rw c.as_slice.ensures.value at c.solve_entries.ensures.says);
+  stops = search rules;
 }
 
 -- ---- the turns of a keyword's run
@@ -455,7 +494,7 @@ turns::solver_answer-returns-in-Ok g t c = record {
       let turns : Goes set p aside end = rw c.in-Ok.is at c.solver_turns-turned.ensures.goes in
       let before = goes_marked set p c.args.context.now aside c.requires.may.sound e.root e.in_progress e.assumed e.verdicts e.begun in
       let after = goes_marked set p end c.put_back.new.self turns.sound b.root b.in_progress b.assumed b.verdicts b.begun in
-      goes_on set p c.args.context.now end c.put_back.new.self (goes_on set p c.args.context.now aside end before turns) after;
+      if_ok_mono c.said_of.result _ _ (λ s is. goes_on set p c.args.context.now end c.put_back.new.self (goes_on set p c.args.context.now aside end before turns) after) c.said_of.ensures.said;
   marking = search rules;
   says =
       let set = solver_by g.K.Validate g.M.Matcher c.args.engine.now in
@@ -465,7 +504,15 @@ turns::solver_answer-returns-in-Ok g t c = record {
       let b = c.put_back.ensures in
       let turns : Goes set p aside end = rw c.in-Ok.is at c.solver_turns-turned.ensures.goes in
       let after = goes_marked set p end c.put_back.new.self turns.sound b.root b.in_progress b.assumed b.verdicts b.begun in
-      says_after set p end c.put_back.new.self after p (form_at_work g.K.Validate.shape c.args.keyword.now) _ (λ texts. (answer_of texts c.solver_turns-turned.new.answer).verdict) c.verdict_of.ensures.verdict (rw c.in-Ok.is at c.solver_turns-turned.ensures.says);
+      let m = g.K.Validate.shape c.args.keyword.now.keyword.now in
+      let l = c.in-Ok.leans in
+      let found = λ (texts : Bool). (answer_of texts c.solver_turns-turned.new.answer).verdict in
+      let said = rw c.in-Ok.is at c.solver_turns-turned.ensures.says in
+      if_ok_mono c.said_of.result _ _ (λ s (is, monotone).
+      subst (λ (s : Said). InEach set (view c.put_back.new.self.root) (λ texts w. FormTells w p (found_of c.put_back.new.self) (form_at_work g.K.Validate.shape c.args.keyword.now) s.valid s.leans)) (sym is)
+      (says_after set p end c.put_back.new.self after p (form_at_work g.K.Validate.shape c.args.keyword.now) c.verdict_of.result l found c.verdict_of.ensures.verdict
+      (λ texts tells. said texts tells (λ leans. g.met.K.Validate.grows texts m (monotone leans))))) c.said_of.ensures.said;
+  stops = λ each. never_stops c.said_of.result _ c.said_of.ensures.stops (keyword_says (solver_by g.K.Validate g.M.Matcher c.args.engine.now) g.K.Validate.says_monotone c.args.node.0 _ _ each c.requires.may.known c.requires.stands);
 }
 
 pub turns::solver_turns-turns-init : goal.turns::solver_turns-turns-init
@@ -518,9 +565,10 @@ turns::solver_turns-returns-in-Done g t c = record {
       let keeps : (texts : Bool) → EachKeeps (g.K.Validate.words texts) = (λ texts k. (g.K.Validate.absorbed k, keeps_of_turns (g.K.Validate.words texts) k (g.K.Validate.absorbed k) (g.K.Validate.remaining k) (g.K.Validate.can_be texts k) (g.K.Validate.ends texts k) (g.K.Validate.fits texts k) (g.met.K.Validate.turn_laws texts k) (g.met.K.Validate.function_laws texts k))) in
       let turned = turned_by set s m (λ texts. (c.turns.run, answer_of texts c.turns.answer)) (λ texts. (c.turn.new.run, answer_of texts c.turn.new.answer)) (λ texts. reply_of texts c.reply_with-reply.result) (λ texts. told_reply c.turns.told) c.reply_with-reply.ensures.told c.in_ok-step.ensures.turns in
       let stepped = stepped_by set s m (λ texts. (c.turns.run, answer_of texts c.turns.answer)) (λ texts. reply_of texts c.reply_with-reply.result) (λ texts. told_reply c.turns.told) (turn_of c.in_ok-step.step) (done) c.reply_with-reply.ensures.told (ap turn_of c.in-Done.is) c.in_ok-step.ensures.steps in
-      leads_ended set m (g.K.Validate.absorbed m) (g.K.Validate.remaining m) (λ texts. g.K.Validate.can_be texts m) (λ texts. g.K.Validate.ends texts m) (λ texts. g.K.Validate.fits texts m) (λ texts. g.met.K.Validate.turn_laws texts m) s keeps c.args.context.now p c.args.node.0 c.requires.may_ask.may es c.requires.may_ask.stands c.turns.context c.turns.invariant.goes.root c.turns.context.marking (λ texts. (c.turns.run, answer_of texts c.turns.answer)) (λ texts. (c.turn.new.run, answer_of texts c.turn.new.answer)) (λ texts. told_reply c.turns.told)
+      leads_ended set m (g.K.Validate.absorbed m) (g.K.Validate.remaining m) (λ texts. g.K.Validate.can_be texts m) (λ texts. g.K.Validate.ends texts m) (λ texts. g.K.Validate.fits texts m) (λ texts. g.met.K.Validate.turn_laws texts m) s keeps c.args.context.now p c.args.node.0 c.requires.may_ask.may es c.requires.may_ask.stands c.turns.context c.turns.invariant.goes.root c.turns.invariant.goes.sound c.turns.leans c.turns.context.marking (λ texts. (c.turns.run, answer_of texts c.turns.answer)) (λ texts. (c.turn.new.run, answer_of texts c.turn.new.answer)) (λ texts. told_reply c.turns.told)
       (λ texts. (answer_of texts c.turn.new.answer).verdict) turned stepped
       (λ texts. ap (λ (a : Answer). a.verdict) (g.met.K.Validate.answers texts c.turn.new.run (answer_of texts c.turn.new.answer))) c.turns.invariant.leads;
+  stops = search rules;
 }
 
 pub turns::solver_turns-turns-smaller-in-Ask : goal.turns::solver_turns-turns-smaller-in-Ask
@@ -554,11 +602,11 @@ turns::solver_turns-turns-preserved-in-Ask g t c =
     let wanted = asked_verdict set m (g.K.Validate.absorbed m) (g.K.Validate.remaining m) (λ texts. g.K.Validate.can_be texts m) (λ texts. g.K.Validate.ends texts m) (λ texts. g.K.Validate.fits texts m) (λ texts. g.met.K.Validate.turn_laws texts m) s (c.turns.run, answer_of false c.turns.answer) told q (mode_of c.in-Ask.wanted) step c.turns.invariant.asks in
     let next = c.solve_child.new.context in
     record {
-      goes = goes_on set p c.args.context.now c.turns.context next went c.in_ok-valid-in-Ask.ensures.goes;
+      goes = goes_on set p c.args.context.now c.turns.context next went c.in_ok-said-in-Ask.ensures.goes;
       can = can_after (g.K.Validate.words false) m (g.K.Validate.absorbed m) (g.K.Validate.remaining m) (g.K.Validate.can_be false m) (g.K.Validate.ends false m) (g.K.Validate.fits false m) (g.met.K.Validate.turn_laws false m) s (c.turns.run, answer_of false c.turns.answer) (c.turn.new.run, answer_of false c.turn.new.answer) told c.turns.invariant.can turn;
-      asks = asks_on set m (g.K.Validate.absorbed m) (g.K.Validate.remaining m) (λ texts. g.K.Validate.can_be texts m) (λ texts. g.K.Validate.ends texts m) (λ texts. g.K.Validate.fits texts m) (λ texts. g.met.K.Validate.turn_laws texts m) s (c.turns.run, answer_of false c.turns.answer) (c.turn.new.run, answer_of false c.turn.new.answer) told (truth c.in_ok-valid-in-Ask.valid) (ask q (mode_of c.in-Ask.wanted)) c.turns.invariant.can turn step (ask_goes_on q (mode_of c.in-Ask.wanted)) c.turns.invariant.asks;
-      leads = leads_asked set m (g.K.Validate.absorbed m) (g.K.Validate.remaining m) (λ texts. g.K.Validate.can_be texts m) (λ texts. g.K.Validate.ends texts m) (λ texts. g.K.Validate.fits texts m) (λ texts. g.met.K.Validate.turn_laws texts m) s keeps c.args.context.now p c.args.node.0 c.requires.may_ask.may es c.requires.may_ask.stands c.turns.context next c.in_ok-valid-in-Ask.ensures.goes went.root c.turns.context.marking next.marking c.in_ok-valid-in-Ask.ensures.marking
-          (λ texts. (c.turns.run, answer_of texts c.turns.answer)) (λ texts. (c.turn.new.run, answer_of texts c.turn.new.answer)) (λ texts. told_reply c.turns.told) q (mode_of c.in-Ask.wanted) c.in_ok-valid-in-Ask.valid turned stepped wanted c.in_ok-valid-in-Ask.ensures.says c.turns.invariant.leads;
+      asks = asks_on set m (g.K.Validate.absorbed m) (g.K.Validate.remaining m) (λ texts. g.K.Validate.can_be texts m) (λ texts. g.K.Validate.ends texts m) (λ texts. g.K.Validate.fits texts m) (λ texts. g.met.K.Validate.turn_laws texts m) s (c.turns.run, answer_of false c.turns.answer) (c.turn.new.run, answer_of false c.turn.new.answer) told (truth c.in_ok-said-in-Ask.said.valid) (ask q (mode_of c.in-Ask.wanted)) c.turns.invariant.can turn step (ask_goes_on q (mode_of c.in-Ask.wanted)) c.turns.invariant.asks;
+      leads = leads_asked set m (g.K.Validate.absorbed m) (g.K.Validate.remaining m) (λ texts. g.K.Validate.can_be texts m) (λ texts. g.K.Validate.ends texts m) (λ texts. g.K.Validate.fits texts m) (λ texts. g.met.K.Validate.turn_laws texts m) s keeps c.args.context.now p c.args.node.0 c.requires.may_ask.may es c.requires.may_ask.stands c.turns.context next c.in_ok-said-in-Ask.ensures.goes went.root c.turns.leans c.in_ok-said-in-Ask.said.leans c.turns.context.marking next.marking c.in_ok-said-in-Ask.ensures.marking
+          (λ texts. (c.turns.run, answer_of texts c.turns.answer)) (λ texts. (c.turn.new.run, answer_of texts c.turn.new.answer)) (λ texts. told_reply c.turns.told) q (mode_of c.in-Ask.wanted) c.in_ok-said-in-Ask.said.valid turned stepped wanted c.in_ok-said-in-Ask.ensures.says c.turns.invariant.leads;
     }
 
 pub turns::solver_turns-turns-smaller-in-Match : goal.turns::solver_turns-turns-smaller-in-Match
@@ -595,7 +643,7 @@ turns::solver_turns-turns-preserved-in-Match g t c =
       goes = went;
       can = can_after (g.K.Validate.words false) m (g.K.Validate.absorbed m) (g.K.Validate.remaining m) (g.K.Validate.can_be false m) (g.K.Validate.ends false m) (g.K.Validate.fits false m) (g.met.K.Validate.turn_laws false m) s (c.turns.run, answer_of false c.turns.answer) (c.turn.new.run, answer_of false c.turn.new.answer) told c.turns.invariant.can turn;
       asks = asks_on set m (g.K.Validate.absorbed m) (g.K.Validate.remaining m) (λ texts. g.K.Validate.can_be texts m) (λ texts. g.K.Validate.ends texts m) (λ texts. g.K.Validate.fits texts m) (λ texts. g.met.K.Validate.turn_laws texts m) s (c.turns.run, answer_of false c.turns.answer) (c.turn.new.run, answer_of false c.turn.new.answer) told (truth c.in_ok-matches-in-Match.matches) (match_text a point) c.turns.invariant.can turn step (match_goes_on a point) c.turns.invariant.asks;
-      leads = leads_matched set m (g.K.Validate.absorbed m) (g.K.Validate.remaining m) (λ texts. g.K.Validate.can_be texts m) (λ texts. g.K.Validate.ends texts m) (λ texts. g.K.Validate.fits texts m) (λ texts. g.met.K.Validate.turn_laws texts m) s keeps c.args.context.now p c.args.node.0 c.requires.may_ask.may es c.requires.may_ask.stands c.turns.context c.turns.context.marking
+      leads = leads_matched set m (g.K.Validate.absorbed m) (g.K.Validate.remaining m) (λ texts. g.K.Validate.can_be texts m) (λ texts. g.K.Validate.ends texts m) (λ texts. g.K.Validate.fits texts m) (λ texts. g.met.K.Validate.turn_laws texts m) s keeps c.args.context.now p c.args.node.0 c.requires.may_ask.may es c.requires.may_ask.stands c.turns.context c.turns.leans c.turns.context.marking
           (λ texts. (c.turns.run, answer_of texts c.turns.answer)) (λ texts. (c.turn.new.run, answer_of texts c.turn.new.answer)) (λ texts. told_reply c.turns.told) a point c.in_ok-matches-in-Match.matches turned stepped c.in_ok-matches-in-Match.ensures.answer c.turns.invariant.leads;
     }
 
@@ -634,7 +682,7 @@ turns::solver_turns-turns-preserved-in-MatchAt g t c =
       goes = went;
       can = can_after (g.K.Validate.words false) m (g.K.Validate.absorbed m) (g.K.Validate.remaining m) (g.K.Validate.can_be false m) (g.K.Validate.ends false m) (g.K.Validate.fits false m) (g.met.K.Validate.turn_laws false m) s (c.turns.run, answer_of false c.turns.answer) (c.turn.new.run, answer_of false c.turn.new.answer) told c.turns.invariant.can turn;
       asks = asks_on set m (g.K.Validate.absorbed m) (g.K.Validate.remaining m) (λ texts. g.K.Validate.can_be texts m) (λ texts. g.K.Validate.ends texts m) (λ texts. g.K.Validate.fits texts m) (λ texts. g.met.K.Validate.turn_laws texts m) s (c.turns.run, answer_of false c.turns.answer) (c.turn.new.run, answer_of false c.turn.new.answer) told (truth c.in_ok-matches-in-MatchAt.matches) (match_text a point) c.turns.invariant.can turn step (match_goes_on a point) c.turns.invariant.asks;
-      leads = leads_matched set m (g.K.Validate.absorbed m) (g.K.Validate.remaining m) (λ texts. g.K.Validate.can_be texts m) (λ texts. g.K.Validate.ends texts m) (λ texts. g.K.Validate.fits texts m) (λ texts. g.met.K.Validate.turn_laws texts m) s keeps c.args.context.now p c.args.node.0 c.requires.may_ask.may es c.requires.may_ask.stands c.turns.context c.turns.context.marking
+      leads = leads_matched set m (g.K.Validate.absorbed m) (g.K.Validate.remaining m) (λ texts. g.K.Validate.can_be texts m) (λ texts. g.K.Validate.ends texts m) (λ texts. g.K.Validate.fits texts m) (λ texts. g.met.K.Validate.turn_laws texts m) s keeps c.args.context.now p c.args.node.0 c.requires.may_ask.may es c.requires.may_ask.stands c.turns.context c.turns.leans c.turns.context.marking
           (λ texts. (c.turns.run, answer_of texts c.turns.answer)) (λ texts. (c.turn.new.run, answer_of texts c.turn.new.answer)) (λ texts. told_reply c.turns.told) a point c.in_ok-matches-in-MatchAt.matches turned stepped matched c.turns.invariant.leads;
     }
 
@@ -670,7 +718,7 @@ turns::solver_turns-turns-preserved-in-Ecma g t c =
       goes = went;
       can = can_after (g.K.Validate.words false) m (g.K.Validate.absorbed m) (g.K.Validate.remaining m) (g.K.Validate.can_be false m) (g.K.Validate.ends false m) (g.K.Validate.fits false m) (g.met.K.Validate.turn_laws false m) s (c.turns.run, answer_of false c.turns.answer) (c.turn.new.run, answer_of false c.turn.new.answer) told c.turns.invariant.can turn;
       asks = asks_on set m (g.K.Validate.absorbed m) (g.K.Validate.remaining m) (λ texts. g.K.Validate.can_be texts m) (λ texts. g.K.Validate.ends texts m) (λ texts. g.K.Validate.fits texts m) (λ texts. g.met.K.Validate.turn_laws texts m) s (c.turns.run, answer_of false c.turns.answer) (c.turn.new.run, answer_of false c.turn.new.answer) told (truth c.in_ok-valid-in-Ecma.valid) (ecma text) c.turns.invariant.can turn step (ecma_goes_on text) c.turns.invariant.asks;
-      leads = leads_told set m (g.K.Validate.absorbed m) (g.K.Validate.remaining m) (λ texts. g.K.Validate.can_be texts m) (λ texts. g.K.Validate.ends texts m) (λ texts. g.K.Validate.fits texts m) (λ texts. g.met.K.Validate.turn_laws texts m) s keeps c.args.context.now p c.args.node.0 c.requires.may_ask.may es c.requires.may_ask.stands c.turns.context c.turns.context.marking
+      leads = leads_told set m (g.K.Validate.absorbed m) (g.K.Validate.remaining m) (λ texts. g.K.Validate.can_be texts m) (λ texts. g.K.Validate.ends texts m) (λ texts. g.K.Validate.fits texts m) (λ texts. g.met.K.Validate.turn_laws texts m) s keeps c.args.context.now p c.args.node.0 c.requires.may_ask.may es c.requires.may_ask.stands c.turns.context c.turns.leans c.turns.context.marking
           (λ texts. (c.turns.run, answer_of texts c.turns.answer)) (λ texts. (c.turn.new.run, answer_of texts c.turn.new.answer)) (λ texts. told_reply c.turns.told) text c.in_ok-valid-in-Ecma.valid turned stepped c.in_ok-valid-in-Ecma.ensures.valid c.turns.invariant.leads;
     }
 
@@ -709,7 +757,7 @@ turns::solver_turns-turns-preserved-in-Mark g t c =
       goes = goes_on set p c.args.context.now c.turns.context next went stays;
       can = can_after (g.K.Validate.words false) m (g.K.Validate.absorbed m) (g.K.Validate.remaining m) (g.K.Validate.can_be false m) (g.K.Validate.ends false m) (g.K.Validate.fits false m) (g.met.K.Validate.turn_laws false m) s (c.turns.run, answer_of false c.turns.answer) (c.turn.new.run, answer_of false c.turn.new.answer) told c.turns.invariant.can turn;
       asks = asks_on set m (g.K.Validate.absorbed m) (g.K.Validate.remaining m) (λ texts. g.K.Validate.can_be texts m) (λ texts. g.K.Validate.ends texts m) (λ texts. g.K.Validate.fits texts m) (λ texts. g.met.K.Validate.turn_laws texts m) s (c.turns.run, answer_of false c.turns.answer) (c.turn.new.run, answer_of false c.turn.new.answer) told (truth c.in_ok-held-in-Mark.held) (mark k) c.turns.invariant.can turn step (mark_goes_on k) c.turns.invariant.asks;
-      leads = leads_marked set m (g.K.Validate.absorbed m) (g.K.Validate.remaining m) (λ texts. g.K.Validate.can_be texts m) (λ texts. g.K.Validate.ends texts m) (λ texts. g.K.Validate.fits texts m) (λ texts. g.met.K.Validate.turn_laws texts m) s keeps c.args.context.now p c.args.node.0 c.requires.may_ask.may es c.requires.may_ask.stands c.turns.context next stays c.turns.context.marking next.marking
+      leads = leads_marked set m (g.K.Validate.absorbed m) (g.K.Validate.remaining m) (λ texts. g.K.Validate.can_be texts m) (λ texts. g.K.Validate.ends texts m) (λ texts. g.K.Validate.fits texts m) (λ texts. g.met.K.Validate.turn_laws texts m) s keeps c.args.context.now p c.args.node.0 c.requires.may_ask.may es c.requires.may_ask.stands c.turns.context next stays c.turns.leans c.turns.context.marking next.marking
           (λ texts. (c.turns.run, answer_of texts c.turns.answer)) (λ texts. (c.turn.new.run, answer_of texts c.turn.new.answer)) (λ texts. told_reply c.turns.told) k c.in_ok-held-in-Mark.held turned stepped c.in_ok-held-in-Mark.ensures.marks c.in_ok-held-in-Mark.ensures.held c.turns.invariant.leads;
     }
 
@@ -746,6 +794,6 @@ turns::solver_turns-turns-preserved g t c =
       goes = goes_on set p c.args.context.now c.turns.context next went stays;
       can = can_after (g.K.Validate.words false) m (g.K.Validate.absorbed m) (g.K.Validate.remaining m) (g.K.Validate.can_be false m) (g.K.Validate.ends false m) (g.K.Validate.fits false m) (g.met.K.Validate.turn_laws false m) s (c.turns.run, answer_of false c.turns.answer) (c.turn.new.run, answer_of false c.turn.new.answer) told c.turns.invariant.can turn;
       asks = asks_on set m (g.K.Validate.absorbed m) (g.K.Validate.remaining m) (λ texts. g.K.Validate.can_be texts m) (λ texts. g.K.Validate.ends texts m) (λ texts. g.K.Validate.fits texts m) (λ texts. g.met.K.Validate.turn_laws texts m) s (c.turns.run, answer_of false c.turns.answer) (c.turn.new.run, answer_of false c.turn.new.answer) told no_reply (unmark) c.turns.invariant.can turn step (unmark_goes_on) c.turns.invariant.asks;
-      leads = leads_unmarked set m (g.K.Validate.absorbed m) (g.K.Validate.remaining m) (λ texts. g.K.Validate.can_be texts m) (λ texts. g.K.Validate.ends texts m) (λ texts. g.K.Validate.fits texts m) (λ texts. g.met.K.Validate.turn_laws texts m) s keeps c.args.context.now p c.args.node.0 c.requires.may_ask.may es c.requires.may_ask.stands c.turns.context next stays c.turns.context.marking next.marking
+      leads = leads_unmarked set m (g.K.Validate.absorbed m) (g.K.Validate.remaining m) (λ texts. g.K.Validate.can_be texts m) (λ texts. g.K.Validate.ends texts m) (λ texts. g.K.Validate.fits texts m) (λ texts. g.met.K.Validate.turn_laws texts m) s keeps c.args.context.now p c.args.node.0 c.requires.may_ask.may es c.requires.may_ask.stands c.turns.context next stays c.turns.leans c.turns.context.marking next.marking
           (λ texts. (c.turns.run, answer_of texts c.turns.answer)) (λ texts. (c.turn.new.run, answer_of texts c.turn.new.answer)) (λ texts. told_reply c.turns.told) turned stepped e.left c.turns.invariant.leads;
     }

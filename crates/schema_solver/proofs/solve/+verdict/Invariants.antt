@@ -51,7 +51,7 @@ invariant-entries::solve_entries-loop-entry g l =
     record {
       goes : Goes set p l.initial.context l.context;
       marking : l.context.marking ≡ l.initial.context.marking;
-      leads : InEach set (view l.context.root) (λ texts w. SaysTheRest w p (found_of l.context) (map (shaped_part g.K.Validate.shape) (map entry_of l.entries)) (map (shaped_part g.K.Validate.shape) (map entry_of (drop l.entry-index l.entries))));
+      leads : InEach set (view l.context.root) (λ texts w. SaysTheRest w p (found_of l.context) l.leans (map (shaped_part g.K.Validate.shape) (map entry_of l.entries)) (map (shaped_part g.K.Validate.shape) (map entry_of (drop l.entry-index l.entries))));
     }
 
 abbrev pub invariant-turns::solver_turns-turns : goal.invariant-turns::solver_turns-turns
@@ -65,7 +65,7 @@ invariant-turns::solver_turns-turns g l =
       goes : Goes set p l.initial.context l.context;
       can : g.K.Validate.can_be false m s (l.run, answer_of false l.answer);
       asks : AsksOn set m s (g.K.Validate.remaining m s (l.run, answer_of false l.answer)) (l.run, answer_of false l.answer) (told_reply l.told);
-      leads : TurnsOn set m (view l.initial.context.root) p (λ texts. g.K.Validate.ends texts m) (λ texts. g.K.Validate.fits texts m) es l.context l.context.marking (λ texts. (l.run, answer_of texts l.answer)) (λ texts. told_reply l.told);
+      leads : TurnsOn set m (view l.initial.context.root) p (λ texts. g.K.Validate.ends texts m) (λ texts. g.K.Validate.fits texts m) es l.context l.leans l.context.marking (λ texts. (l.run, answer_of texts l.answer)) (λ texts. told_reply l.told);
     }
 
 abbrev pub decreases-turns::solver_turns-turns : goal.decreases-turns::solver_turns-turns

@@ -1,8 +1,8 @@
 use Rattle.std.proofs.Common.{◌≡◌, false, subst, true}
-use Rattle.std.specs.Prelude.{OnOk, ◌⊎◌}
+use Rattle.std.specs.Prelude.{IfOk}
 use Rattle.schema_definitions.specs.Instance.{Place}
 use Rattle.schema_places.proofs.Closing.{stands}
-use Rattle.schema_pairs.specs.Answering.{AssumesBeside, Refuses, SettlesAlone}
+use Rattle.schema_pairs.specs.Answering.{Accepts, Refuses}
 use Rattle.schema_pairs.specs.Contexts.{solver_places}
 use Rattle.schema_pairs.specs.SolverPairs.{place_of}
 use Rattle.schema_pairs.proofs.pair.SolverPair.keep_answer.Goals as goal
@@ -16,7 +16,7 @@ returns-clause-refused c =
     let x = c.args.context.now in
     let m = c.args.mark in
     let at = (stands (place_of c.args.self.now) (solver_places c.args.context.now) c.args.self.now.number c.requires.numbered).1 in
-    subst (λ (p : Place). OnOk c.keep_answer.result (c.args.valid ≡ false → Refuses n p m x c.keep_answer.new.self)) at c.keep_answer.ensures.refused
+    subst (λ (p : Place). IfOk c.keep_answer.result (λ now. c.args.said.valid ≡ false → Refuses n p m x c.keep_answer.new.self)) at c.keep_answer.ensures.refused
 
 pub returns-clause-accepted : goal.returns-clause-accepted
 returns-clause-accepted c =
@@ -24,4 +24,4 @@ returns-clause-accepted c =
     let x = c.args.context.now in
     let m = c.args.mark in
     let at = (stands (place_of c.args.self.now) (solver_places c.args.context.now) c.args.self.now.number c.requires.numbered).1 in
-    subst (λ (p : Place). OnOk c.keep_answer.result (c.args.valid ≡ true → SettlesAlone n p m x c.keep_answer.new.self ⊎ AssumesBeside n p x c.keep_answer.new.self)) at c.keep_answer.ensures.accepted
+    subst (λ (p : Place). IfOk c.keep_answer.result (λ now. c.args.said.valid ≡ true → Accepts n p m c.args.said now x c.keep_answer.new.self)) at c.keep_answer.ensures.accepted

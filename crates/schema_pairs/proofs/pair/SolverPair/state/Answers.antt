@@ -1,9 +1,10 @@
-use Rattle.std.proofs.Common.{◌≡◌, ◌||◌, false, subst, true}
-use Rattle.std.specs.Prelude.{IfSome, None, Some, ◌⊎◌}
+use Rattle.std.proofs.Common.{◌≡◌, false, subst}
+use Rattle.std.specs.Prelude.{IfSome, None}
 use Rattle.schema_definitions.specs.Instance.{Place}
 use Rattle.schema_places.proofs.Closing.{stands}
 use Rattle.schema_contexts.specs.Verdicts.{verdict_of}
 use Rattle.schema_pairs.specs.Contexts.{has_pair, solver_places}
+use Rattle.schema_pairs.specs.Answering.{IsFound}
 use Rattle.schema_pairs.specs.SolverPairs.{place_of}
 use Rattle.schema_pairs.proofs.pair.SolverPair.state.Goals as goal
 
@@ -15,7 +16,7 @@ returns-clause-known c =
     let n = c.args.self.now.node.0 in
     let x = c.args.context.now in
     let at = (stands (place_of c.args.self.now) (solver_places c.args.context.now) c.args.self.now.number c.requires.numbered).1 in
-    subst (λ (p : Place). IfSome c.state.result (λ b. (verdict_of n p x.verdicts ≡ Some b) ⊎ ((b ≡ true) × ((has_pair x.in_progress n p || has_pair x.assumed n p) ≡ true)))) at c.state.ensures.known
+    subst (λ (p : Place). IfSome c.state.result (IsFound n p x)) at c.state.ensures.known
 
 pub returns-clause-unknown : goal.returns-clause-unknown
 returns-clause-unknown c =

@@ -32,7 +32,7 @@ of_compiled_within-requires g c =
     let done = c.in_ok-compiled.ensures.compiled (g.M.Matcher.matching c.args.matcher.now) (g.K.Validate.words true) (option_map draft_of inside.draft) (option_map string_bytes inside.base) in
     let same = done.lengths in
     let within = slice_get_within _ 0 _ done.first in
-    record { inside = omega arith; limit = omega arith; solves = c.in_ok-finder.ensures.solves }
+    record { inside = omega arith; limit = omega arith }
 
 pub returns-in_err-compiled-clause-refused : goal.returns-in_err-compiled-clause-refused
 returns-in_err-compiled-clause-refused g c =
@@ -161,7 +161,7 @@ returns-clause-units_point g c =
 pub returns-clause-solver : goal.returns-clause-solver
 returns-clause-solver g c =
     let h = handed g.S.Resolver g.T.KeywordTable g.K.Validate g.M.Matcher c.args.resolver.now c.args.table.now c.args.matcher.now in
-    solves_made h c.in_ok-compiled.compiled.nodes c.in_ok-finder.finder c.in_ok-validator.validator c.in_ok-validator.ensures.made.0 c.in_ok-validator.ensures.solver c.in_ok-finder.ensures.exactly c.in_ok-finder.ensures.follows
+    solves_made c.in_ok-compiled.compiled.nodes c.in_ok-finder.finder c.in_ok-validator.validator c.in_ok-validator.ensures.made.0 c.in_ok-validator.ensures.solver c.in_ok-finder.ensures.made c.in_ok-finder.ensures.follows
 
 pub returns-clause-built : goal.returns-clause-built
 returns-clause-built g c = λ texts.

@@ -1,24 +1,15 @@
 use Rattle.std.proofs.Common.{◌∙◌, ◌<◌, ℕ, ap, length, subst, sym}
-use Rattle.std.proofs.lemmas.Option.{IfSome_then}
-use Rattle.schema_definitions.specs.Guarded.{Nodes}
-use Rattle.schema_greatest.specs.NodesSay.{AreMonotone}
 use Rattle.node_table.specs.NodeTable.{numbered}
-use Rattle.schema_verdicts.specs.Finding.{SolvesFor}
 use Rattle.schema_validator.specs.Program.{Program}
 use Rattle.schema_validator.proofs.ClonedValidators.{answer_same, say_same}
 use Rattle.schema_validator.proofs.validator.Validator.clone.Goals as goal
 
 pub invariant_of-result : goal.invariant_of-result
 invariant_of-result g c =
-    let w = g.K.Validate in
-    let shaped = c.in_ok-clone.ensures.numbered in
     let count = c.in_ok-clone.ensures.count in
     let held = c.self.invariant in (
       subst (λ (n : ℕ). c.self.inside.root.0 < n) (sym count) held.0,
       held.1,
-      IfSome_then c.in_ok-clone-3.field-0 (subst (SolvesFor w.words (numbered w.shape c.self.inside.nodes) (length c.self.inside.nodes)) (sym c.in_ok-clone-3.ensures.same) held.2)
-          (λ x said texts. subst (λ (ns : Nodes g.row.K-Shape.Denot). AreMonotone (w.words texts) ns (length c.in_ok-clone.field-0)) (sym shaped)
-          (subst (λ (n : ℕ). AreMonotone (w.words texts) (numbered w.shape c.self.inside.nodes) n) (sym count) (said texts))),
     )
 
 pub returns-clause-solver : goal.returns-clause-solver

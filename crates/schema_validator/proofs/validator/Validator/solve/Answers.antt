@@ -1,4 +1,4 @@
-use Rattle.std.proofs.Common.{◌∙◌, Bool}
+use Rattle.std.proofs.Common.{◌∙◌, Bool, sym}
 use Rattle.std.proofs.Math.Bool.{and-true}
 use Rattle.std.proofs.lemmas.Option.{IfSome_then}
 use Rattle.std.specs.Prelude.{is_some}
@@ -10,7 +10,10 @@ use Rattle.schema_validator.proofs.Greatest.{decides_accepted}
 use Rattle.schema_validator.proofs.validator.Validator.solve.Goals as goal
 
 pub returns-clause-exactly : goal.returns-clause-exactly
-returns-clause-exactly g c = if_ok_mono c.solved.result _ _ (λ found is. is ∙ and-true (is_some c.args.self.now.followed)) c.solved.ensures.exactly
+returns-clause-exactly g c = λ each. if_ok_mono c.solved.result _ _ (λ found is. is ∙ and-true (is_some c.args.self.now.followed)) (c.solved.ensures.exactly each)
+
+pub returns-clause-only : goal.returns-clause-only
+returns-clause-only g c = if_ok_mono c.solved.result _ _ (λ found only is. sym (and-true (is_some c.args.self.now.followed)) ∙ only is) c.solved.ensures.only
 
 pub returns-clause-greatest : goal.returns-clause-greatest
 returns-clause-greatest g c =

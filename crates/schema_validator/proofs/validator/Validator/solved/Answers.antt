@@ -12,6 +12,7 @@ use Rattle.schema_parts.specs.MatcherViews.{FinishesEach}
 use Rattle.schema_solver.specs.Asked.{solver_over}
 use Rattle.schema_solver.specs.Solving.{BeginsFew, SaysAsNodes}
 use Rattle.schema_verdicts.specs.Finding.{IsFoundAt}
+use Rattle.schema_verdicts.specs.Saying.{EachSays}
 use Rattle.schema_verdicts.specs.declared.eligible.SolvedVerdict.{SolvedVerdict}
 use Rattle.schema_validator.specs.Program.{Program}
 use Rattle.schema_calls.proofs.ErrorSearches.{verdict_at_once}
@@ -24,7 +25,11 @@ verdict-requires-clause-finishes g c = subst (λ (p : Program g.row.K.Denot g.ro
 
 pub returns-clause-exactly : goal.returns-clause-exactly
 returns-clause-exactly g c =
-    subst (λ (p : Program g.row.K.Denot g.row.M.Denot). IfOk c.verdict.result (λ (found : Option SolvedVerdict). is_some found ≡ (is_some p.followed && c.args.finishes))) c.self.view_is c.verdict.ensures.exactly
+    subst (λ (p : Program g.row.K.Denot g.row.M.Denot). EachSays g.K.Validate.says_monotone (numbered g.K.Validate.shape p.nodes) (length p.nodes) → IfOk c.verdict.result (λ (found : Option SolvedVerdict). is_some found ≡ (is_some p.followed && c.args.finishes))) c.self.view_is c.verdict.ensures.exactly
+
+pub returns-clause-only : goal.returns-clause-only
+returns-clause-only g c =
+    subst (λ (p : Program g.row.K.Denot g.row.M.Denot). IfOk c.verdict.result (λ (found : Option SolvedVerdict). is_some found ≡ true → (is_some p.followed && c.args.finishes) ≡ true)) c.self.view_is c.verdict.ensures.only
 
 pub returns-clause-says : goal.returns-clause-says
 returns-clause-says g c = if_ok_mono c.verdict.result _ _ (λ found says.

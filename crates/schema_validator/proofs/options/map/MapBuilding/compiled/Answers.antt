@@ -25,7 +25,7 @@ of_compiled_within-requires g c =
     let done = c.in_ok-compiled.ensures.compiled (g.M.Matcher.matching c.args.self.now.matcher.now) (g.K.Validate.words true) (option_map draft_of inside.draft) (option_map string_bytes inside.base) in
     let same = done.lengths in
     let within = slice_get_within _ 0 _ done.first in
-    record { inside = omega arith; limit = omega arith; solves = c.in_ok-finder.ensures.solves }
+    record { inside = omega arith; limit = omega arith }
 
 pub returns-in_err-compiled-clause-refused : goal.returns-in_err-compiled-clause-refused
 returns-in_err-compiled-clause-refused g c =
@@ -76,7 +76,7 @@ returns-clause-compiled g c =
       points = points_from_key r (table_of owns builtin_in script) m k.words options schema k.shape g.M.Matcher.matching c.in_ok-validator.validator k.absorbed k.is_whole each (g.met.T.KeywordTable.right self.table.now) key program;
       units_point = units_point_from_key r (table_of owns builtin_in script) m k.words options schema k.shape g.M.Matcher.matching c.in_ok-validator.validator k.absorbed k.is_whole each (g.met.T.KeywordTable.right self.table.now) g.met.K.Validate.hands_units_on key program;
       greatest = accepts_as_key h keeps (g.met.S.Resolver.same self.resolver.now) options schema c.in_ok-validator.validator key program;
-      solver = solves_made h nodes c.in_ok-finder.finder c.in_ok-validator.validator made.0 c.in_ok-validator.ensures.solver c.in_ok-finder.ensures.exactly c.in_ok-finder.ensures.follows;
+      solver = solves_made nodes c.in_ok-finder.finder c.in_ok-validator.validator made.0 c.in_ok-validator.ensures.solver c.in_ok-finder.ensures.made c.in_ok-finder.ensures.follows;
       program = program;
       within = subst (λ (ns : List (NodeEntry g.row.K.Denot)). length ns ≤ options.limit) (sym made.0) within;
       compiles = λ texts. alone_in r owns script m (k.words texts) options k.shape options.limit options.nested key keys nodes (done texts);
