@@ -3,7 +3,7 @@
 
 Without words it lists the names and the sizes that are counted. With a name and a size it prints the schema, the instance and, where
 there is one, the fourth word of engine_bench, a line each. The cases of STANDARD_CASES are for check_rows: their keywords are the
-standard's, which engine_bench has not.
+standard's, which engine_bench has not. Those of REAL_CASES are written from what people validate, and for the command.
 """
 
 import json
@@ -37,8 +37,8 @@ class Case:
         return any(len(word.encode()) > LONGEST_WORD for word in self.words())
 
 
-def records_under_one_schema(size, value):
-    """An array of records, with the member `v` that `value` gives for a record's number."""
+def records_under_one_schema(size, value, beside={}):
+    """An array of records, with the member `v` that `value` gives for a record's number; `beside` are more keywords of the array's schema."""
     entry = {
         "type": "object",
         "required": ["id", "name", "tags"],
@@ -49,7 +49,7 @@ def records_under_one_schema(size, value):
             "v": {"anyOf": [{"type": "string"}, {"type": "integer"}]},
         },
     }
-    schema = {"type": "array", "items": {"$ref": "#/$defs/e"}, "$defs": {"e": entry}}
+    schema = {"type": "array", "items": {"$ref": "#/$defs/e"}, **beside, "$defs": {"e": entry}}
     instance = [{"id": k, "name": f"n{k}", "tags": ["a", "b"], "v": value(k)} for k in range(size)]
     return Case(schema, instance, [])
 
@@ -57,6 +57,11 @@ def records_under_one_schema(size, value):
 def objects(size):
     """Records under one schema that is referred to, all accepted."""
     return records_under_one_schema(size, lambda k: k if k % 2 else "x")
+
+
+def objects_one(size):
+    """The same, with one keyword in the schema that is not monotone."""
+    return records_under_one_schema(size, lambda k: k if k % 2 else "x", {"oneOf": [{"minItems": 1}, {"type": "object"}]})
 
 
 def objects_refused(size):
@@ -182,6 +187,16 @@ def ladder(size):
     return Case(schema, "x", "", apart=("errors", *ONE_VERDICT, "allocations"))
 
 
+def ladder_one(size):
+    """The same, each by a keyword that is not monotone."""
+    rungs = {}
+    for k in range(size):
+        following = {"$ref": f"#/$defs/d{k + 1}"}
+        rungs[f"d{k}"] = {"oneOf": [following, {"allOf": [following, False]}]}
+    schema = {"$ref": "#/$defs/d0", "$defs": {**rungs, f"d{size}": {"type": "string"}}}
+    return Case(schema, "x", "", apart=("errors", *ONE_VERDICT, "allocations"))
+
+
 def enumeration(size):
     """So many texts, each among a hundred."""
     texts = [f"t{k}" for k in range(100)]
@@ -217,9 +232,248 @@ def patterns(size):
     return Case(schema, {f"{'abc'[k % 3]}{k}": k for k in range(size)}, {})
 
 
+# what a team that keeps a cloud in files writes of a resource: forty members, no others, names and values by lists and patterns
+TAG = {"type": "string", "pattern": "^[a-z][a-z0-9-]*$", "maxLength": 63}
+SIZES = {"enum": ["small", "medium", "large", "huge"]}
+
+
+def cloud_schema():
+    """A resource of forty members, with no others, three levels deep."""
+    rule = {
+        "type": "object",
+        "required": ["protocol", "from"],
+        "properties": {
+            "protocol": {"enum": ["tcp", "udp", "icmp"]},
+            "from": {"type": "integer", "minimum": 0, "maximum": 65535},
+            "to": {"type": "integer", "minimum": 0, "maximum": 65535},
+            "sources": {"type": "array", "items": {"type": "string", "pattern": "^[0-9.]+/[0-9]+$"}},
+        },
+        "additionalProperties": False,
+    }
+    network = {
+        "type": "object",
+        "required": ["subnet"],
+        "properties": {
+            "subnet": {"type": "string", "minLength": 1},
+            "public": {"type": "boolean"},
+            "rules": {"type": "array", "items": rule},
+        },
+        "additionalProperties": False,
+    }
+    properties = {
+        "name": TAG,
+        "region": {"enum": ["north-1", "north-2", "south-1", "west-1", "west-2"]},
+        "size": SIZES,
+        "network": network,
+        "labels": {"type": "object", "additionalProperties": {"type": "string"}},
+        "replicas": {"type": "integer", "minimum": 1, "maximum": 64},
+    }
+    for k in range(12):
+        properties[f"flag_{k:02}"] = {"type": "boolean"}
+        properties[f"limit_{k:02}"] = {"type": "integer", "minimum": 0}
+    for k in range(10):
+        properties[f"note_{k:02}"] = {"type": "string", "maxLength": 80}
+    resource = {
+        "type": "object",
+        "required": ["name", "region", "size"],
+        "properties": properties,
+        "additionalProperties": False,
+    }
+    return {"type": "array", "items": resource}
+
+
+def cloud_resource(k):
+    """One that it accepts: with twenty of the members."""
+    rules = [{"protocol": "tcp", "from": port, "to": port, "sources": ["10.0.0.0/8"]} for port in (80, 443)]
+    resource = {
+        "name": f"web-{k}",
+        "region": "north-2",
+        "size": "large",
+        "network": {"subnet": f"net-{k % 7}", "public": k % 2 == 0, "rules": rules},
+        "labels": {"team": "shop", "stage": "live"},
+        "replicas": 1 + k % 8,
+    }
+    for j in range(5):
+        resource[f"flag_{j:02}"] = True
+        resource[f"limit_{j:02}"] = 10 * j
+    for j in range(4):
+        resource[f"note_{j:02}"] = "kept by the night shift"
+    return resource
+
+
+def cloud(size):
+    """So many resources of a cloud."""
+    return Case(cloud_schema(), [cloud_resource(k) for k in range(size)], [])
+
+
+def cloud_refused(size):
+    """The same, the last with a member that is not allowed."""
+    resources = [cloud_resource(k) for k in range(size)]
+    resources[-1]["unknown"] = 1
+    return Case(cloud_schema(), resources, [])
+
+
+def api_schema():
+    """A description of an interface: what is sent is described by a schema that refers to itself; where a parameter stands is told by
+    a member that each alternative has another value for."""
+    model = {
+        "type": "object",
+        "properties": {
+            "type": {"enum": ["object", "array", "string", "number", "integer", "boolean"]},
+            "properties": {"type": "object", "additionalProperties": {"$ref": "#/definitions/model"}},
+            "items": {"$ref": "#/definitions/model"},
+            "description": {"type": "string"},
+        },
+        "additionalProperties": False,
+    }
+
+    def parameter(place, more):
+        properties = {"in": {"const": place}, "name": {"type": "string"}, "schema": {"$ref": "#/definitions/model"}, **more}
+        return {"required": ["in", "name"], "properties": properties}
+
+    flag = {"type": "boolean"}
+    alternatives = [
+        parameter("path", {"required": {"const": True}}),
+        parameter("query", {"allowEmpty": flag}),
+        parameter("header", {"deprecated": flag}),
+    ]
+    operation = {
+        "type": "object",
+        "required": ["responses"],
+        "properties": {
+            "summary": {"type": "string"},
+            "parameters": {"type": "array", "items": {"oneOf": alternatives}},
+            "body": {"$ref": "#/definitions/model"},
+            "responses": {"type": "object", "additionalProperties": {"$ref": "#/definitions/model"}},
+        },
+    }
+    methods = {name: {"$ref": "#/definitions/operation"} for name in ("get", "put", "post", "delete")}
+    path = {"type": "object", "properties": methods, "additionalProperties": False}
+    return {
+        "type": "object",
+        "required": ["title", "paths"],
+        "properties": {"title": {"type": "string"}, "paths": {"type": "object", "additionalProperties": path}},
+        "definitions": {"model": model, "operation": operation},
+    }
+
+
+def api_instance(size):
+    """One that it accepts, of so many paths."""
+    line = {"type": "object", "properties": {"sku": {"type": "string"}, "count": {"type": "integer"}}}
+    order = {"type": "object", "properties": {"id": {"type": "string"}, "lines": {"type": "array", "items": line}}}
+    place = {"in": "path", "name": "id", "required": True, "schema": {"type": "string"}}
+    page = {"in": "query", "name": "page", "schema": {"type": "integer"}}
+    trace = {"in": "header", "name": "trace", "schema": {"type": "string"}}
+    get = {"summary": "one of them", "parameters": [place, page, trace], "responses": {"200": order, "404": {"type": "string"}}}
+    put = {"summary": "keeps one", "parameters": [place], "body": order, "responses": {"204": {}}}
+    return {"title": "orders", "paths": {f"/orders/{k:04}": {"get": get, "put": put} for k in range(size)}}
+
+
+def api(size):
+    """A description of an interface of so many paths."""
+    return Case(api_schema(), api_instance(size), {"title": "orders", "paths": {}})
+
+
+def api_refused(size):
+    """The same, the last with a parameter that stands nowhere."""
+    instance = json.loads(text_of(api_instance(size)))
+    instance["paths"][f"/orders/{size - 1:04}"]["put"]["parameters"][0]["in"] = "cookie"
+    return Case(api_schema(), instance, {"title": "orders", "paths": {}})
+
+
+def build_schema():
+    """A file that says how programs are built: targets by their names, and each in a short form or a long one."""
+    words = {"type": "array", "items": {"type": "string", "minLength": 1}}
+    command = {"anyOf": [{"type": "string"}, words]}
+    target = {
+        "type": "object",
+        "required": ["run"],
+        "properties": {
+            "run": {"anyOf": [command, {"type": "array", "items": command}]},
+            "needs": words,
+            "sources": words,
+            "cache": {"type": "boolean"},
+        },
+        "patternProperties": {"^env_": {"type": ["string", "number"]}, "^on_": command},
+        "additionalProperties": False,
+    }
+    return {
+        "type": "object",
+        "required": ["version"],
+        "properties": {"version": {"enum": [1, 2]}},
+        "patternProperties": {"^[a-z][a-z0-9_-]*:": {"anyOf": [{"type": "string"}, target]}},
+    }
+
+
+def build_instance(size):
+    """One that it accepts, of so many targets."""
+    long = {
+        "run": [["cc", "-c", "main.c"], "ld main.o"],
+        "needs": ["setup:", "lint:"],
+        "sources": ["main.c", "main.h"],
+        "cache": True,
+        "env_MODE": "fast",
+        "env_JOBS": 4,
+        "on_failure": "tell",
+    }
+    targets = {f"part{k:04}:": f"make {k}" if k % 4 == 0 else long for k in range(size)}
+    return {"version": 2, **targets}
+
+
+def build_file(size):
+    """A build of so many targets."""
+    return Case(build_schema(), build_instance(size), {"version": 2})
+
+
+def build_file_refused(size):
+    """The same, the last with a number among its words."""
+    instance = json.loads(text_of(build_instance(size)))
+    instance["zero:"] = {"run": "cc", "needs": ["setup:", 1]}
+    return Case(build_schema(), instance, {"version": 2})
+
+
+def measures_schema():
+    """Records of numbers, each within its limits."""
+    properties = {
+        "at": {"type": "integer", "minimum": 0},
+        "celsius": {"type": "number", "minimum": -90, "maximum": 60},
+        "humidity": {"type": "number", "minimum": 0, "maximum": 100},
+        "pressure": {"type": "number", "exclusiveMinimum": 300, "exclusiveMaximum": 1200},
+        "step": {"type": "integer", "multipleOf": 5},
+        "wind": {"type": "array", "minItems": 2, "maxItems": 2, "items": {"type": "number", "minimum": 0, "maximum": 400}},
+    }
+    record = {"type": "object", "required": list(properties), "properties": properties}
+    return {"type": "array", "items": record}
+
+
+def measure(k):
+    """A record that they accept."""
+    return {
+        "at": 1600000000 + 60 * k,
+        "celsius": k % 40 - 10.5,
+        "humidity": k % 100,
+        "pressure": 980.25 + k % 50,
+        "step": 5 * (k % 12),
+        "wind": [k % 30, k % 360],
+    }
+
+
+def measures(size):
+    """So many records of numbers with limits."""
+    return Case(measures_schema(), [measure(k) for k in range(size)], [])
+
+
+def measures_refused(size):
+    """The same, the last with a number that is too great."""
+    records = [measure(k) for k in range(size)]
+    records[-1]["humidity"] = 101
+    return Case(measures_schema(), records, [])
+
+
 # what makes a case of a size, and the sizes that are counted
 CASES = {
     "objects": (objects, (500, 1000, 2000)),
+    "objects-one": (objects_one, (500, 1000, 2000)),
     "objects-refused": (objects_refused, (500, 1000, 2000)),
     "wide": (wide, (250, 500, 1000)),
     "names": (names, (500, 1000, 2000)),
@@ -237,6 +491,7 @@ CASES = {
     "cycles-any": (cycles_any, (8, 16, 32)),
     "cycles-any-typed": (cycles_any_typed, (8, 16, 32)),
     "ladder": (ladder, (8, 16, 32)),
+    "ladder-one": (ladder_one, (8, 16, 32)),
 }
 # the same, for the standard's keywords
 STANDARD_CASES = {
@@ -247,7 +502,18 @@ STANDARD_CASES = {
     "additional": (additional, (1000, 2000)),
     "patterns": (patterns, (1000, 2000)),
 }
-ALL_CASES = {**CASES, **STANDARD_CASES}
+# what people validate, with regular expressions; for the command
+REAL_CASES = {
+    "cloud": (cloud, (100, 200, 400)),
+    "cloud-refused": (cloud_refused, (100, 200, 400)),
+    "api": (api, (100, 200, 400)),
+    "api-refused": (api_refused, (100, 200, 400)),
+    "build-file": (build_file, (250, 500, 1000)),
+    "build-file-refused": (build_file_refused, (250, 500, 1000)),
+    "measures": (measures, (1000, 2000, 4000)),
+    "measures-refused": (measures_refused, (1000, 2000, 4000)),
+}
+ALL_CASES = {**CASES, **STANDARD_CASES, **REAL_CASES}
 
 
 def case_of(name, size):

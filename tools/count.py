@@ -1,5 +1,5 @@
 #!/usr/bin/env python3
-"""Counts what the engine takes: python3 tools/count.py PROGRAM [BEFORE] [--standard] [--only NAME] [--mode MODE]
+"""Counts what the engine takes: python3 tools/count.py PROGRAM [BEFORE] [--standard | --command] [--only NAME] [--mode MODE]
 
 PROGRAM is the built engine_bench. Every case of CASES in cases.py is counted in each of its sizes, and a line is printed for each mode,
 `name size mode count`:
@@ -14,6 +14,9 @@ the reading and the building of the schema are counted. A mode that a case is no
 
 With --standard PROGRAM is the built check_rows, and the cases are those of STANDARD_CASES, whose keywords engine_bench has not. Each is a
 file of one row with the table `standard`, which has to be accepted; the mode list is not counted then.
+
+With --command PROGRAM is the built jsonschema, and the cases are those of REAL_CASES, whose patterns are regular expressions. The schema
+is not checked by its meta-schema; valid, errors and list are its outputs flag, text and list. Requests for memory are not counted then.
 
 BEFORE is what an earlier run printed; the ratio to it is noted. Notes go to standard error: the ratio to the size before and to BEFORE.
 The program ends with 1 where `objects` of 1,000 and of 2,000 records make different numbers of requests for memory. --only and --mode may
@@ -31,13 +34,15 @@ import subprocess
 import sys
 import tempfile
 
-from cases import ALL_CASES, CASES, LONGEST_WORD, STANDARD_CASES, case_of
+from cases import ALL_CASES, CASES, LONGEST_WORD, REAL_CASES, STANDARD_CASES, case_of
 
 INSTRUCTIONS = ("valid", "errors", "list")
 REQUESTS = ("allocations", "run-allocations")
 MODES = INSTRUCTIONS + REQUESTS
 # what a row asks in a mode, and what it wants where the instance is accepted
 ROW_CALLS = {"valid": ("valid", True), "errors": ("iter_errors", [])}
+# what the command is told to print in a mode
+OUTPUTS = {"valid": "flag", "errors": "text", "list": "list"}
 # what a program is started with beside its words moves them in memory, and a copy of a text that starts elsewhere may take a few
 # instructions more; so it is started with nothing but what valgrind may need to find its own parts, and always in the same folder
 ENVIRONMENT = {name: os.environ[name] for name in ("VALGRIND_LIB",) if name in os.environ}
@@ -107,6 +112,32 @@ class RowCounter(Counter):
             return counted(self.program, [file.name], (0,))
 
 
+class CommandCounter(Counter):
+    """The same by the command, from files."""
+
+    def taken(self, counted, mode, schema, instance):
+        with tempfile.TemporaryDirectory() as folder:
+            files = {"schema": schema, "instance": instance}
+            for name, text in files.items():
+                with open(os.path.join(folder, name), "w", encoding="utf-8") as file:
+                    file.write(text)
+            schema_file, instance_file = (os.path.join(folder, name) for name in files)
+            words = ["--no-check", "--output", OUTPUTS[mode], schema_file, "-i", instance_file]
+            return counted(self.program, words, (0, 1))
+
+
+def counter_of(given, case):
+    """What counts a case."""
+    kind = RowCounter if given.standard else CommandCounter if given.command else Counter
+    return kind(given.program, case)
+
+
+def modes_of(given, case):
+    """The modes that a case is counted in."""
+    can = ROW_CALLS.keys() | REQUESTS if given.standard else OUTPUTS if given.command else MODES
+    return [mode for mode in given.mode or MODES if mode in can and mode not in case.apart]
+
+
 def counts_of(path):
     """What an earlier run printed, by `name size mode`."""
     with open(path, encoding="utf-8") as file:
@@ -124,9 +155,11 @@ def note(count, other, what):
 
 def arguments():
     parser = argparse.ArgumentParser(description=__doc__, formatter_class=argparse.RawDescriptionHelpFormatter)
-    parser.add_argument("program", help="the built engine_bench, or with --standard the built check_rows")
+    parser.add_argument("program", help="the built engine_bench, or with --standard check_rows, or with --command jsonschema")
     parser.add_argument("before", nargs="?", help="what an earlier run printed")
-    parser.add_argument("--standard", action="store_true", help="count the standard's keywords, by check_rows")
+    kinds = parser.add_mutually_exclusive_group()
+    kinds.add_argument("--standard", action="store_true", help="count the standard's keywords, by check_rows")
+    kinds.add_argument("--command", action="store_true", help="count what people validate, by jsonschema")
     parser.add_argument("--only", action="append", choices=sorted(ALL_CASES), metavar="NAME", help="count this case alone")
     parser.add_argument("--mode", action="append", choices=MODES, metavar="MODE", help="count in this mode alone")
     return parser.parse_args()
@@ -143,18 +176,17 @@ def main():
     before = counts_of(given.before) if given.before else {}
     counts = {}
     more_stack()
-    for name, (_, sizes) in (STANDARD_CASES if given.standard else CASES).items():
+    cases = STANDARD_CASES if given.standard else REAL_CASES if given.command else CASES
+    for name, (_, sizes) in cases.items():
         if given.only and name not in given.only:
             continue
         smaller = {}
         for size in sizes:
             case = case_of(name, size)
-            if case.too_long() and not given.standard:
+            if case.too_long() and cases is CASES:
                 sys.exit(f"{name} {size}: a word of more than {LONGEST_WORD} bytes")
-            counter = (RowCounter if given.standard else Counter)(given.program, case)
-            for mode in given.mode or MODES:
-                if mode in case.apart or (given.standard and mode in INSTRUCTIONS and mode not in ROW_CALLS):
-                    continue
+            counter = counter_of(given, case)
+            for mode in modes_of(given, case):
                 count = counter.count(mode)
                 key = f"{name} {size} {mode}"
                 print(key, count, flush=True)

@@ -1,9 +1,10 @@
 #!/usr/bin/env python3
 """Measures the time per instance of this engine and of its peers, side by side: python3 tools/peers/run.py --ours COMMAND
 
-The instance is the case `objects` of 2,000 records (tools/cases.py); it is read once and validated many times. A line is printed for
-each: name, version, and the milliseconds that an instance takes, as the median of the rounds, the lowest and the highest, with tabs
-between. Lines that begin with # say what ran beside, and which peers were not found.
+The instance is the case `objects` of 2,000 records (tools/cases.py), or that of --case NAME SIZE; it is read once and validated many
+times. A line is printed for each: name, version, and the milliseconds that an instance takes, as the median of the rounds, the lowest and
+the highest, with tabs between. Lines that begin with # say what ran beside, and which peers were not found. With --instructions one more
+line is printed for each of the C++ peers, with the instructions that an instance takes, by valgrind.
 
 COMMAND is the built engine_bench, or a command among whose words are {repeats}, and {schema} and {instance} for the texts or {schema_file}
 and {instance_file}. A command with {repeats} validates so often, and ends with 0 where the instance is accepted and with 1 where it is
@@ -12,8 +13,12 @@ reading of the instance is set aside, and the reading and the building of the sc
 
 The peers:
 - valijson, in C++, with rapidjson (Debian: libvalijson-dev, rapidjson-dev); it is built by `g++ -O2 -DNDEBUG` in a temporary folder.
+- rapidjson's own validator, built likewise. It knows draft 4, and no `const`.
+- ajv, in JavaScript (Debian: node-ajv), which makes code of a schema.
 - fastjsonschema, in Python (Debian: python3-fastjsonschema, or pip).
 - python-jsonschema, in Python (Debian: python3-jsonschema, or jsonschema of pip).
+
+Schemas have their definitions under `definitions`, which every draft knows.
 
 A time is processor time, of the process with many repeats less that of the same with one, by the number of repeats between. Rounds go
 over all peers in turn. --python may be given several times: the first interpreter that has a module runs it.
@@ -23,6 +28,7 @@ import argparse
 import os
 import pathlib
 import platform
+import re
 import shlex
 import statistics
 import subprocess
@@ -32,11 +38,12 @@ import tempfile
 HERE = pathlib.Path(__file__).resolve().parent
 sys.path.insert(0, str(HERE.parent))
 
-from cases import case_of  # noqa: E402
+from cases import ALL_CASES, case_of  # noqa: E402
 
-NAME, SIZE = "objects", 2000
-# what a peer has to refuse, so that a peer that looks at nothing is seen
-REFUSED = "objects-refused"
+# what is measured unless another case is asked for
+NAME, SIZE = "objects", "2000"
+# a peer has to refuse the case of this name, where there is one, so that a peer that looks at nothing is seen
+REFUSED = "{}-refused"
 # the processor time, in seconds, that a measurement takes at least where a process can repeat
 ENOUGH = 0.6
 # how often a process that validates once is run in a round
@@ -62,9 +69,9 @@ def ended(command):
 class Texts:
     """A case's schema and instance, as texts and as files."""
 
-    def __init__(self, folder, name):
-        case = case_of(name, SIZE)
-        self.schema, self.instance = case.schema, case.instance
+    def __init__(self, folder, name, size):
+        case = case_of(name, size)
+        self.schema, self.instance = case.schema.replace("$defs", "definitions"), case.instance
         self.schema_file, self.instance_file = folder / f"{name}.schema.json", folder / f"{name}.instance.json"
         self.schema_file.write_text(self.schema, encoding="utf-8")
         self.instance_file.write_text(self.instance, encoding="utf-8")
@@ -107,6 +114,19 @@ class Repeating:
         return 1000 * self.seconds(texts) / self.repeats
 
 
+class Counted(Repeating):
+    """A peer in C++, whose instructions can be counted."""
+
+    def instructions(self, texts):
+        """The instructions that an instance takes: half of those that two more repeats take."""
+        counts = []
+        for repeats in (1, 3):
+            command = ["valgrind", "--tool=callgrind", "--callgrind-out-file=/dev/null", *texts.fill(self.words, repeats)]
+            said = subprocess.run(command, stdout=subprocess.DEVNULL, stderr=subprocess.PIPE).stderr.decode(errors="replace")
+            counts.append(int(re.search(r"Collected : (\d+)", said).group(1)))
+        return (counts[1] - counts[0]) // 2
+
+
 class Once:
     """engine_bench, whose process validates once."""
 
@@ -147,19 +167,36 @@ def ours(given, folder):
     return (Repeating if "{repeats}" in words else Once)("ours", version, words)
 
 
-def valijson(given, folder):
-    program = folder / "valijson_peer"
-    command = ["g++", "-O2", "-DNDEBUG", "-o", str(program), str(HERE / "valijson_peer.cpp")]
-    try:
-        built = subprocess.run(command, stdout=subprocess.DEVNULL, stderr=subprocess.PIPE)
-    except OSError:
-        raise NotFound("no g++")
-    if built.returncode != 0:
-        said = [line for line in built.stderr.decode(errors="replace").splitlines() if "error" in line]
-        raise NotFound("it does not build: " + (said[0].split("error: ")[-1] if said else f"status {built.returncode}"))
-    own, reader = (output(["dpkg-query", "-W", "-f", "${Version}", name]) or "-" for name in ("libvalijson-dev", "rapidjson-dev"))
-    version = f"{own}, rapidjson {reader}, g++ {output(['g++', '-dumpfullversion'])}"
-    return Repeating("valijson", version, [str(program), "{schema_file}", "{instance_file}", "{repeats}"])
+def package(name):
+    """The version of a package of the system."""
+    return output(["dpkg-query", "-W", "-f", "${Version}", name]) or "-"
+
+
+def in_cpp(name, *packages):
+    def peer(given, folder):
+        program = folder / f"{name}_peer"
+        command = ["g++", "-O2", "-DNDEBUG", "-o", str(program), str(HERE / f"{name}_peer.cpp")]
+        try:
+            built = subprocess.run(command, stdout=subprocess.DEVNULL, stderr=subprocess.PIPE)
+        except OSError:
+            raise NotFound("no g++")
+        if built.returncode != 0:
+            said = [line for line in built.stderr.decode(errors="replace").splitlines() if "error" in line]
+            raise NotFound("it does not build: " + (said[0].split("error: ")[-1] if said else f"status {built.returncode}"))
+        versions = ", ".join(f"{one} {package(one)}" for one in packages)
+        version = f"{versions}, g++ {output(['g++', '-dumpfullversion'])}"
+        return Counted(name, version, [str(program), "{schema_file}", "{instance_file}", "{repeats}"])
+
+    return peer
+
+
+def ajv(given, folder):
+    os.environ.setdefault("NODE_PATH", "/usr/share/nodejs")
+    words = ["node", str(HERE / "ajv_peer.js")]
+    version = output(words)
+    if not version:
+        raise NotFound("no node that has the module")
+    return Repeating("ajv", version, [*words, "{schema_file}", "{instance_file}", "{repeats}"])
 
 
 def in_python(name, module):
@@ -176,7 +213,9 @@ def in_python(name, module):
 
 PEERS = {
     "ours": ours,
-    "valijson": valijson,
+    "valijson": in_cpp("valijson", "libvalijson-dev", "rapidjson-dev"),
+    "rapidjson": in_cpp("rapidjson", "rapidjson-dev"),
+    "ajv": ajv,
     "fastjsonschema": in_python("fastjsonschema", "fastjsonschema"),
     "python-jsonschema": in_python("python-jsonschema", "jsonschema"),
 }
@@ -190,7 +229,7 @@ def found(given, folder, texts, refused):
             continue
         try:
             peer = make(given, folder)
-            if not peer.accepts(texts) or peer.accepts(refused):
+            if not peer.accepts(texts) or (refused and peer.accepts(refused)):
                 raise NotFound("it does not answer as it should")
             peer.prepare(texts)
             peers.append(peer)
@@ -219,16 +258,20 @@ def arguments():
     parser.add_argument("--ours", metavar="COMMAND", help="the built engine_bench, or a command with {repeats}")
     parser.add_argument("--ours-version", metavar="TEXT", help="what to call its version; else the commit that is checked out")
     parser.add_argument("--python", action="append", default=[], metavar="INTERPRETER", help="an interpreter to look for modules in")
+    parser.add_argument("--case", nargs=2, default=(NAME, SIZE), metavar=("NAME", "SIZE"), help="what is measured")
+    parser.add_argument("--instructions", action="store_true", help="count the instructions of the C++ peers too")
     parser.add_argument("--rounds", type=int, default=7, help="how often each is measured")
     return parser.parse_args()
 
 
 def main():
     given = arguments()
+    case, size = given.case[0], int(given.case[1])
     with tempfile.TemporaryDirectory() as name:
         folder = pathlib.Path(name)
-        texts, refused = Texts(folder, NAME), Texts(folder, REFUSED)
-        about = f"{NAME} of {SIZE:,} records, {len(texts.instance):,} bytes"
+        texts = Texts(folder, case, size)
+        refused = Texts(folder, REFUSED.format(case), size) if REFUSED.format(case) in ALL_CASES else None
+        about = f"{case} of {size:,}, {len(texts.instance):,} bytes"
         print(f"# the case {about}; one thread of {processor()}, {os.cpu_count()} processors")
         print(f"# load of the last one, five and fifteen minutes before: {load()}", flush=True)
         peers = found(given, folder, texts, refused)
@@ -240,6 +283,9 @@ def main():
         for peer in peers:
             row = times[peer.name]
             print(peer.name, peer.version, *(f"{number:.3f}" for number in (statistics.median(row), min(row), max(row))), sep="\t")
+        for peer in peers:
+            if given.instructions and isinstance(peer, Counted):
+                print(f"# {peer.name}: {peer.instructions(texts):,} instructions")
 
 
 if __name__ == "__main__":
