@@ -78,6 +78,7 @@ impl<'q, 'i> GuardedPair<'q, 'i> {
         ensures marking { context.new.marking ≡ context.old.marking }
         ensures verdicts { context.new.verdicts ≡ context.old.verdicts }
         ensures visits { context.new.visits ≡ context.old.visits }
+        ensures work { context.new.work ≡ context.old.work }
     {
         let _was_there = context.enter(self.node, self.number)?;
         Ok(())
@@ -93,6 +94,7 @@ impl<'q, 'i> GuardedPair<'q, 'i> {
         ensures marking { context.new.marking ≡ context.old.marking }
         ensures verdicts { context.new.verdicts ≡ context.old.verdicts }
         ensures visits { context.new.visits ≡ context.old.visits }
+        ensures work { context.new.work ≡ context.old.work }
     {
         context.exit(self.node, self.number);
     }

@@ -58,6 +58,7 @@ fn asked_match<'i, K, M: Matcher>(
     ensures marking { context.new.marking ≡ context.old.marking }
     ensures verdicts { context.new.verdicts ≡ context.old.verdicts }
     ensures visits { context.new.visits ≡ context.old.visits }
+    ensures work { context.new.work ≡ context.old.work }
     ensures root { context.new.root ≡ context.old.root }
 {
     match engine.matcher.is_match(engine.alloc, pattern, subject)? {
@@ -99,6 +100,7 @@ pub fn step_match<'i, K, M: Matcher>(
     ensures marking { context.new.marking ≡ context.old.marking }
     ensures verdicts { context.new.verdicts ≡ context.old.verdicts }
     ensures visits { context.new.visits ≡ context.old.visits }
+    ensures work { context.new.work ≡ context.old.work }
     ensures root { context.new.root ≡ context.old.root }
 {
     match step {

@@ -38,7 +38,7 @@ use Rattle.schema_meaning.proofs.SitesInside.{MetInside, sites_inside}
 use Rattle.schema_contexts.specs.Matches.{MeetsEach}
 use Rattle.schema_calls.specs.Spoken.{ErrorsAnswered, FirstAnswered, IsGiven}
 use Rattle.schema_calls.proofs.Remembers.{remembers_of}
-use Rattle.schema_calls.proofs.Searches.{follows, from_start, outcome, run_with, search_runs, sense}
+use Rattle.schema_calls.proofs.Searches.{follows, outcome, reached_has, run_with, search_runs, sense}
 
 -- ---- errors and no errors
 
@@ -222,27 +222,28 @@ module _ {K R : Type 0} (keywords : Keywords K R) (each : EachKeeps keywords) (m
       go None h k = absurd (cc h)
       go (Some f) h k = absurd (cc k)
 
-  -- ---- a search, by a closure that stays as it is
+  -- ---- a search, by a closure whose states have what the first one has
 
-  module _ {S : Type 0} (Step : S → Remembered → Remembered → Vec ValidationError → S → Type 0) (start : S) (stays : (given r : Remembered) (es : Vec ValidationError) (end : S) → Step start given r es end → end ≡ start) (first : Remembered) (none : first.assumptions ≡ []) where
-    -- each step from the start is the run for all errors
+  module _ {S : Type 0} (Step : S → Remembered → Remembered → Vec ValidationError → S → Type 0) (start : S) (Has : S → Type 0) (begins : Has start)
+      (keeps : (s : S) (given r : Remembered) (es : Vec ValidationError) (end : S) → Has s → Step s given r es end → Has end) (first : Remembered) (none : first.assumptions ≡ []) where
+    -- each step from such a state is the run for all errors
     abbrev pub AreRuns : Bool → Type 0
-    AreRuns texts = (as' : Assumptions) (r : Remembered) (es : Vec ValidationError) (end : S) → Step start (starting as') r es end → Extends (completion_of as') as'
+    AreRuns texts = (s : S) (as' : Assumptions) (r : Remembered) (es : Vec ValidationError) (end : S) → Has s → Step s (starting as') r es end → Extends (completion_of as') as'
         → (map (error_of texts) es.items ≡ ((run_under as').outcome tt).errors) × MeetsEach matcher (starting as') ((run_under as').met for_all) r
 
-    -- what each step from the start gives, each error of a run has
-    of_run : (call : Call) (P : ValidationError → Type 0) → ((as' : Assumptions) (r : Remembered) (es : Vec ValidationError) (end : S) → Step start (starting as') r es end → Extends (completion_of as') as' → All P es.items)
+    -- what each step from such a state gives, each error of a run has
+    of_run : (call : Call) (P : ValidationError → Type 0) → ((s : S) (as' : Assumptions) (r : Remembered) (es : Vec ValidationError) (end : S) → Has s → Step s (starting as') r es end → Extends (completion_of as') as' → All P es.items)
         → (e : ValidationError) → OfRun v call Step start e → P e
-    of_run call P h e o = All-contains P o.errors.items e (h o.assumptions o.remembered o.errors o.after (from_start keywords each matcher nodes instance root n Step start stays o.before (starting o.assumptions) o.remembered o.errors o.after o.reaches o.is_step) (pairs_differ v call o.runs).1) o.gives
+    of_run call P h e o = All-contains P o.errors.items e (h o.before o.assumptions o.remembered o.errors o.after (reached_has keywords each matcher nodes instance root n Step start Has begins keeps o.before o.reaches) o.is_step (pairs_differ v call o.runs).1) o.gives
 
     module _ (call : Call) (later : WantsAllLater call) (met : MeetsEach matcher (starting []) ((run_under []).met (mode_of call [])) first) where
       spoken_runs : AreRuns true → IsRunOf v call Step first start errors_in (errors_of v)
-      spoken_runs runs = search_runs keywords each matcher nodes instance root n Step start stays call for_all later errors_in (errors_of v) first none met
-          (λ as' r es end step once. let h = runs as' r es end step once in (told as' _ h.0, h.1))
+      spoken_runs runs = search_runs keywords each matcher nodes instance root n Step start Has begins keeps call for_all later errors_in (errors_of v) first none met
+          (λ s as' r es end has step once. let h = runs s as' r es end has step once in (told as' _ h.0, h.1))
 
       none_runs : (texts : Bool) → AreRuns texts → IsRunOf v call Step first start none_in (λ m. is_nil (errors_of v m))
-      none_runs texts runs = search_runs keywords each matcher nodes instance root n Step start stays call for_all later none_in (λ m. is_nil (errors_of v m)) first none met
-          (λ as' r es end step once. let h = runs as' r es end step once in (nil_told texts es.items ∙ ap is_nil (told as' _ h.0), h.1))
+      none_runs texts runs = search_runs keywords each matcher nodes instance root n Step start Has begins keeps call for_all later none_in (λ m. is_nil (errors_of v m)) first none met
+          (λ s as' r es end has step once. let h = runs s as' r es end has step once in (nil_told texts es.items ∙ ap is_nil (told as' _ h.0), h.1))
 
       some_branch : is_some first.unassumed ≡ true → branch_at v call [] ≡ None → ⊥
       some_branch some e = go first.unassumed some ((remembers_of matcher v call [] first refl met).first ∙ e)
@@ -252,13 +253,13 @@ module _ {K R : Type 0} (keywords : Keywords K R) (each : EachKeeps keywords) (m
           go (Some f) h k = absurd (cc k)
 
       each_given : AreRuns false → (e : ValidationError) → OfRun v call Step start e → IsGiven v false e
-      each_given runs = of_run call (IsGiven v false) (λ as' r es end step once. given_of v false es.items (completion_of as') (told as' _ (runs as' r es end step once).0))
+      each_given runs = of_run call (IsGiven v false) (λ s as' r es end has step once. given_of v false es.items (completion_of as') (told as' _ (runs s as' r es end has step once).0))
 
       -- every error given borrows what stands at its place, if each run's errors do
-      pub borrowed : (texts : Bool) → AreRuns texts → ((as' : Assumptions) (r : Remembered) (es : Vec ValidationError) (end : S) → Step start (starting as') r es end → All (BorrowsItsPlace instance) es.items)
+      pub borrowed : (texts : Bool) → AreRuns texts → ((s : S) (as' : Assumptions) (r : Remembered) (es : Vec ValidationError) (end : S) → Has s → Step s (starting as') r es end → All (BorrowsItsPlace instance) es.items)
           → (es : List ValidationError) → ((u : Sense) (call' : Call) → IsRunOf u call' Step first start none_in (λ m. is_nil (errors_of u m)) → GivesErrors u call' most Step start instance es) → All (BorrowsItsPlace instance) es
       borrowed texts runs borrows es gives = elim (gives v call (none_runs texts runs)).each [
-        | inl all ↦ All-weaker (OfRun v call Step start) (BorrowsItsPlace instance) (of_run call (BorrowsItsPlace instance) (λ as' r es' end step once. borrows as' r es' end step)) es all
+        | inl all ↦ All-weaker (OfRun v call Step start) (BorrowsItsPlace instance) (of_run call (BorrowsItsPlace instance) (λ s as' r es' end has step once. borrows s as' r es' end has step)) es all
         | inr f ↦ subst (All (BorrowsItsPlace instance)) (sym f.alone) (All-cons (BorrowsItsPlace instance) f.error [] (at_failure f.error f.is f.instance) (All-nil (BorrowsItsPlace instance)))
       ]
         where
@@ -314,7 +315,7 @@ module _ {K R : Type 0} (keywords : Keywords K R) (each : EachKeeps keywords) (m
             errors = es.items;
             made = made;
             given = elim given.each [
-              | inl all ↦ inl (All-weaker (OfRun v evaluate Step start) (IsGiven v texts) (of_run evaluate (IsGiven v texts) (λ as' r es end step once. given_of v texts es.items (completion_of as') (told as' _ (runs as' r es end step once).0))) es.items all)
+              | inl all ↦ inl (All-weaker (OfRun v evaluate Step start) (IsGiven v texts) (of_run evaluate (IsGiven v texts) (λ s as' r es end has step once. given_of v texts es.items (completion_of as') (told as' _ (runs s as' r es end has step once).0))) es.items all)
               | inr f ↦ inr (failure_of evaluate es.items f)
             ];
             undecided = λ not. failure_of evaluate es.items (given.undecided not);

@@ -48,34 +48,31 @@ module _ {K R : Type 0} (keywords : Keywords K R) (each : EachKeeps keywords) (m
       and_true true = refl
       and_true false = refl
 
-  -- the runs of a search, by a closure that stays as it is
-  module _ {S T : Type 0} (Step : S → Remembered → Remembered → T → S → Type 0) (start : S) (stays : (given r : Remembered) (result : T) (end : S) → Step start given r result end → end ≡ start) where
-    at_start : (s : S) → Reaches Step start s → s ≡ start
-    at_start _ here = refl
-    at_start _ (next s given r result end at step) = stays given r result end (subst (λ z. Step z given r result end) (at_start s at) step)
-
-    -- each step is one from the start
-    pub from_start : (s : S) (given r : Remembered) (result : T) (end : S) → Reaches Step start s → Step s given r result end → Step start given r result end
-    from_start s given r result end at step = subst (λ z. Step z given r result end) (at_start s at) step
+  -- the runs of a search, by a closure whose states have what the first one has
+  module _ {S T : Type 0} (Step : S → Remembered → Remembered → T → S → Type 0) (start : S) (Has : S → Type 0) (begins : Has start)
+      (keeps : (s : S) (given r : Remembered) (result : T) (end : S) → Has s → Step s given r result end → Has end) where
+    pub reached_has : (s : S) → Reaches Step start s → Has s
+    reached_has _ here = begins
+    reached_has _ (next s given r result end at step) = keeps s given r result end (reached_has s at) step
 
     -- the first run has the call's own mode, the further ones may have another one
     pub search_runs : (call : Call) (mode : Mode) → ((as' : Assumptions) → ¬ (as' ≡ []) → mode_of call as' ≡ mode) → {V : Type 0} (view : T → V) (says : Assumptions → V) (first : Remembered) → first.assumptions ≡ []
         → MeetsEach matcher (starting []) ((run_with []).met (mode_of call [])) first
-        → ((as' : Assumptions) (r : Remembered) (result : T) (end : S) → Step start (starting as') r result end → Extends (completion_of as') as' → (view result ≡ says as') × MeetsEach matcher (starting as') ((run_with as').met mode) r)
+        → ((s : S) (as' : Assumptions) (r : Remembered) (result : T) (end : S) → Has s → Step s (starting as') r result end → Extends (completion_of as') as' → (view result ≡ says as') × MeetsEach matcher (starting as') ((run_with as').met mode) r)
         → IsRunOf sense call Step first start view says
     search_runs call mode later view says first none met h = record {
       assumes_none = none;
       remembers_first = remembers_of matcher sense call [] first refl met;
       remembers = λ s as' r result end at run some step. remembers_of matcher sense call as' r refl
-          (subst (λ z. MeetsEach matcher (starting as') ((run_with as').met z) r) (sym (later as' some)) (h as' r result end (from_start s (starting as') r result end at step) (pairs_differ sense call run).1).1);
-      gives = λ s as' r result end at run some step all. (h as' r result end (from_start s (starting as') r result end at step) (pairs_differ sense call run).1).0;
+          (subst (λ z. MeetsEach matcher (starting as') ((run_with as').met z) r) (sym (later as' some)) (h s as' r result end (reached_has s at) step (pairs_differ sense call run).1).1);
+      gives = λ s as' r result end at run some step all. (h s as' r result end (reached_has s at) step (pairs_differ sense call run).1).0;
     }
 
     pub verdict_runs : (view : T → Bool) (first : Remembered) → first.assumptions ≡ [] → MeetsEach matcher (starting []) ((run_with []).met for_verdict) first
-        → ((as' : Assumptions) (r : Remembered) (b : T) (end : S) → Step start (starting as') r b end → Extends (completion_of as') as' → (view b ≡ ((run_with as').outcome tt).verdict) × MeetsEach matcher (starting as') ((run_with as').met for_verdict) r)
+        → ((s : S) (as' : Assumptions) (r : Remembered) (b : T) (end : S) → Has s → Step s (starting as') r b end → Extends (completion_of as') as' → (view b ≡ ((run_with as').outcome tt).verdict) × MeetsEach matcher (starting as') ((run_with as').met for_verdict) r)
         → IsRunOf sense is_valid Step first start view (verdict_of sense)
     verdict_runs view first none met h = search_runs is_valid for_verdict (λ as' some. refl) view (verdict_of sense) first none met
-        (λ as' r b end step once. let told = h as' r b end step once in (told.0 ∙ ap (λ (o : Outcome). o.verdict) (outcome as'), told.1))
+        (λ s as' r b end has step once. let told = h s as' r b end has step once in (told.0 ∙ ap (λ (o : Outcome). o.verdict) (outcome as'), told.1))
 
 -- ---- a matcher that leaves no match unfinished finishes each
 

@@ -15,3 +15,4 @@ pub mod ProgressViews
 pub mod EvaluationPaths
 pub mod KeptPaths
 pub mod Lending
+pub mod Works

@@ -6,6 +6,7 @@ use Rattle.serde_json.specs.declared.value.Value.{Value}
 use Rattle.schema_definitions.specs.Instance.{Place, places, same_place}
 use Rattle.schema_definitions.specs.Keywords.{Marked}
 use Rattle.schema_definitions.specs.Unfinished.{Remembered}
+use Rattle.schema_contexts.specs.Works.{Budget, unlimited}
 
 abbrev pub Pairs : Type 0
 Pairs = List (ℕ × Place)
@@ -38,8 +39,8 @@ Verdicts = List ((ℕ × Place) × Bool)
 
 -- what a run holds: the instance whose places it speaks of, the pairs in progress, what it assumes of unfinished matches and remembers
 -- of those that it met, the marks of the keyword's run that is at work, the last one first, the verdicts that it remembers, how many
--- guarded visits it counted, the node numbers that were entered, and those that a verdict is remembered for, and how many words of 64
--- bits its rows take
+-- guarded visits it counted, the node numbers that were entered, and those that a verdict is remembered for, how many words of 64
+-- bits its rows take, and how many nodes it may still ask
 pub record Context : Type 0 where
   pub root : Value
   pub in_progress : Pairs
@@ -50,6 +51,7 @@ pub record Context : Type 0 where
   pub entered : List ℕ
   pub kept : List ℕ
   pub words : ℕ
+  pub work : Budget
 
 -- the places of an instance in the order of their numbers
 abbrev pub root_places : Value → List Place
@@ -58,9 +60,9 @@ root_places v = places (view v)
 abbrev pub places_in : Context → List Place
 places_in c = root_places c.root
 
--- a run that has begun on this instance, with what it remembers of matches
+-- a run that has begun on this instance, with what it remembers of matches; it may ask any number of nodes
 abbrev pub begun : Value → Remembered → Context
-begun v r = record { root = v; in_progress = []; remembered = r; marking = []; verdicts = []; visits = 0; entered = []; kept = []; words = 0 }
+begun v r = record { root = v; in_progress = []; remembered = r; marking = []; verdicts = []; visits = 0; entered = []; kept = []; words = 0; work = unlimited }
 
 -- a node's number is among some
 abbrev pub has_number : ℕ → List ℕ → Bool

@@ -7,3 +7,4 @@ pub mod kept_paths;
 pub mod marks;
 pub mod numbered_pairs;
 pub mod validation;
+pub mod work;

@@ -1,6 +1,6 @@
 //! What a run has in progress, what it assumes and remembers of unfinished matches, and what it marks.
 ghost use Rattle.std.specs.Prelude.{◌≡◌, ◌<◌, ◌≤◌, ◌++◌, ◌∷◌, [], IfOk, IfErr, IfSome, OnErr, OnOk, is_some, length, map};
-ghost use Rattle.std.specs.Prelude.{◌==◌, option_map};
+ghost use Rattle.std.specs.Prelude.{◌==◌, option_map, true};
 ghost use Rattle.std.specs.Borrow.{sem};
 ghost use Rattle.std.specs.List.{list_any};
 ghost use Rattle.schema_definitions.specs.Guarded.{same_edge};
@@ -18,6 +18,7 @@ ghost use Rattle.serde_json.specs.View.{view};
 ghost use Rattle.schema_places.specs.Numbers.{NumbersAll, place_at};
 ghost use Rattle.schema_contexts.specs.Progress.{Adds, Distinct, Enters, EndsWith, FewRows, IsWide, begun, busy_at, guard_words, places_in};
 ghost use Rattle.schema_contexts.specs.Verdicts.{MayKeep, Remembers, is_alone, is_container, one_more, read_verdict, verdict_of};
+ghost use Rattle.schema_contexts.specs.Works.{Asks, IsSpent};
 ghost use Rattle.schema_reports.specs.InstanceViews.{subject_of};
 
 use crate::bit_rows::{Rows, row_words};
@@ -25,6 +26,7 @@ use crate::evaluation_path::EvaluationPath;
 use crate::kept_paths::KeptPaths;
 use crate::marks::Marks;
 use crate::numbered_pairs::{NumberedPair, count_at, make_counts, push_within};
+use crate::work::Work;
 use schema_matches::assumptions::MatchAssumptions;
 use schema_matches::site::{Match, MatchSite, Reason};
 use schema_parts::keyword::Marked;
@@ -43,7 +45,8 @@ const MEMO_MIN_VISITS: u64 = 16;
 
 /// The pairs of a node and a place that are in progress, the last entered last, and no pair twice; what the run assumes of
 /// unfinished matches, and remembers of those that it met; the marks of the keyword's run that is at work; and the verdicts that
-/// the run remembers of guarded questions and of shared nodes, with how many of the guarded ones it visited. A context is one run's.
+/// the run remembers of guarded questions and of shared nodes, with how many of the guarded ones it visited; and how many nodes it
+/// may still ask. A context is one run's.
 /// Contracts do not see the paths that it keeps.
 ///
 /// Places go by their numbers, which are given when the first is asked for. What is in progress is a row of bits for each node that
@@ -60,6 +63,7 @@ pub struct ValidationContext<'i> {
     matches: MatchAssumptions<'i>,
     marking: Marks,
     visits: u64,
+    work: Work,
     kept_paths: KeptPaths,
 }
 
@@ -95,6 +99,7 @@ impl<'i> Model for ValidationContext<'i> {
       entered = row_numbers c.guard;
       kept = row_numbers c.known;
       words = words_in c.guard + words_in c.known;
+      work = c.work;
     } };
 
     ghost invariant = { λ c. Holds (root_places c.places) (map (pair_of (root_places c.places)) c.pairs.items)
@@ -131,8 +136,34 @@ impl<'i> ValidationContext<'i> {
             matches,
             marking: Marks::new(alloc),
             visits: 0,
+            work: Work::unlimited(),
             kept_paths: KeptPaths::new(alloc),
         }
+    }
+
+    /// Lets the run ask so many nodes from now on. It allocates nothing.
+    pub fn allow(&mut self, work: Work)
+        ensures allowed { self.new ≡ record self.old { work = work } }
+    {
+        self.work = work;
+    }
+
+    /// Returns how many nodes the run may still ask. It allocates nothing.
+    pub fn work(&self) -> Work
+        ensures work { result ≡ self.now.work }
+    {
+        self.work
+    }
+
+    /// Counts a node that is asked. Fails where no more nodes may be asked, and only there. It allocates nothing.
+    #[inline(always)]
+    pub fn step(&mut self) -> Result<(), OutOfMemory>
+        ensures asks { OnOk result (Asks self.old.work self.new.work) }
+        ensures stops { OnErr result (IsSpent self.old.work) }
+        ensures stopped { OnErr result (self.new.work ≡ record self.old.work { stopped = true }) }
+        ensures frame { self.new ≡ record self.old { work = self.new.work } }
+    {
+        self.work.step()
     }
 
     /// Returns what was assumed, and what is remembered of the unfinished matches that were met. It allocates nothing.
@@ -193,6 +224,7 @@ impl<'i> ValidationContext<'i> {
         ensures visits { self.new.visits ≡ self.old.visits }
         ensures root { self.new.root ≡ self.old.root }
         ensures kept { self.new.kept ≡ self.old.kept }
+        ensures work { self.new.work ≡ self.old.work }
     {
         if self.guard.has_bit(node.0, place) {
             return Ok(true);
@@ -221,6 +253,7 @@ impl<'i> ValidationContext<'i> {
         ensures entered { self.new.entered ≡ self.old.entered }
         ensures kept { self.new.kept ≡ self.old.kept }
         ensures words { self.new.words ≡ self.old.words }
+        ensures work { self.new.work ≡ self.old.work }
     {
         self.pairs.pop();
         self.guard.put_bit(node.0, 0, place, false);
@@ -249,6 +282,7 @@ impl<'i> ValidationContext<'i> {
         ensures entered { self.new.entered ≡ self.old.entered }
         ensures kept { self.new.kept ≡ self.old.kept }
         ensures words { self.new.words ≡ self.old.words }
+        ensures work { self.new.work ≡ self.old.work }
     {
         self.marking.enter(children, marked)
     }
@@ -264,6 +298,7 @@ impl<'i> ValidationContext<'i> {
         ensures entered { self.new.entered ≡ self.old.entered }
         ensures kept { self.new.kept ≡ self.old.kept }
         ensures words { self.new.words ≡ self.old.words }
+        ensures work { self.new.work ≡ self.old.work }
     {
         self.marking.exit();
     }
@@ -280,6 +315,7 @@ impl<'i> ValidationContext<'i> {
         ensures entered { self.new.entered ≡ self.old.entered }
         ensures kept { self.new.kept ≡ self.old.kept }
         ensures words { self.new.words ≡ self.old.words }
+        ensures work { self.new.work ≡ self.old.work }
     {
         mem::replace(&mut self.marking, Marks::new(alloc))
     }
@@ -295,6 +331,7 @@ impl<'i> ValidationContext<'i> {
         ensures entered { self.new.entered ≡ self.old.entered }
         ensures kept { self.new.kept ≡ self.old.kept }
         ensures words { self.new.words ≡ self.old.words }
+        ensures work { self.new.work ≡ self.old.work }
     {
         self.marking = aside;
     }
@@ -323,6 +360,7 @@ impl<'i> ValidationContext<'i> {
         ensures entered { self.new.entered ≡ self.old.entered }
         ensures kept { self.new.kept ≡ self.old.kept }
         ensures words { self.new.words ≡ self.old.words }
+        ensures work { self.new.work ≡ self.old.work }
         ensures unchanged { OnErr result (self.new ≡ self.old) }
     {
         match matcher.is_match(alloc, pattern, subject)? {
@@ -369,6 +407,7 @@ impl<'i> ValidationContext<'i> {
         ensures entered { self.new.entered ≡ self.old.entered }
         ensures kept { self.new.kept ≡ self.old.kept }
         ensures words { self.new.words ≡ self.old.words }
+        ensures work { self.new.work ≡ self.old.work }
         ensures unchanged { OnErr result (self.new ≡ self.old) }
     {
         Ok(self.matches.resolve(pattern, subject, reason, site)?)

@@ -24,6 +24,10 @@ use Rattle.schema_node.proofs.NodeMeets.{meets_entered}
 use Rattle.run_steps.proofs.NodeRuns.{edge_entered}
 use Rattle.schema_contexts.proofs.Pairs.{busy-pushed, snoc_first}
 
+-- nothing has changed, so nothing but the work
+but_for_work : (c c' : Context) → c' ≡ c → c' ≡ record c { work = c'.work }
+but_for_work c c' e = subst (λ (z : Context). z ≡ record c { work = z.work }) (sym e) refl
+
 module _ {K R : Type 0} (g : Setting K R) (layout : Layout) where
   -- nothing that matters has changed
   pub right_same : (c c' : Context) → c'.remembered ≡ c.remembered → c'.verdicts ≡ c.verdicts → RemembersRightly g layout c → RemembersRightly g layout c'
@@ -158,7 +162,7 @@ module _ {K R : Type 0} (g : Setting K R) (q : Asking) (e : NodeEdge) (c : Conte
       read_remembers same mode guarded' free' = record {
         verdict = v;
         told = λ texts. refl;
-        read = λ v' h. (some_same v' v (sym h ∙ read_now), same);
+        read = λ v' h. (some_same v' v (sym h ∙ read_now), but_for_work c c5 same);
         counted = λ none. absurd (cc (sym none ∙ read_now));
         kept = λ none may. absurd (cc (sym none ∙ read_now));
       }

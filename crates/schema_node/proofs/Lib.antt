@@ -12,3 +12,6 @@ mod Verdicts
 pub mod VerdictTurns
 mod Measures
 mod Shared
+pub mod Spending
+mod Counted
+mod FreeEdges

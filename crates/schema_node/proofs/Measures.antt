@@ -15,10 +15,10 @@ lower_across a b c t d n l e = omega (arith, n, l, e)
 pub lower_reference : (a b c t d : ℕ) → a ≡ b → b ≤ c → 20 * c + suc (suc (suc d)) ≡ t → 20 * a + 2 < t
 lower_reference a b c t d n l e = omega (arith, n, l, e)
 
-pub lower_entered : (a b c t : ℕ) → a ≡ b → c ≡ suc b → 20 * c ≡ t → 20 * a + 10 < t
+pub lower_entered : (a b c t : ℕ) → a ≡ b → c ≡ suc b → 20 * c ≡ t → 20 * a + 11 < t
 lower_entered a b c t l n e = omega (arith, l, n, e)
 
-pub lower_shared : (a b t : ℕ) → b ≡ suc a → 20 * b + 1 ≡ t → 20 * a + 11 < t
+pub lower_shared : (a b t : ℕ) → b ≡ suc a → 20 * b + 1 ≡ t → 20 * a + 12 < t
 lower_shared a b t n e = omega (arith, n, e)
 
 pub no_deeper : (depth : ℕ) → depth ≤ depth

@@ -160,11 +160,12 @@ forgotten c = record c { verdicts = []; visits = 0; kept = []; words = guard_wor
 -- ---- a verdict that is read, and one that is kept
 
 -- where a guarded edge is asked across for the verdict, and its pair is not in progress: the reply is a verdict, the one that is
--- read, and nothing changes; where none is read, the visit is counted, and the verdict is kept wherever it may be
+-- read, and nothing changes but for how many nodes may be asked; where none is read, the visit is counted, and the verdict is kept
+-- wherever it may be
 pub record ReadsOrKeeps (q : Asking) (c c' : Context) (i : ℕ) (r : code.Reply) : Type 0 where
   pub verdict : Bool
   pub told : (texts : Bool) → reply_of texts r ≡ truth verdict
-  pub read : (v : Bool) → read_verdict i q.place c ≡ Some v → (v ≡ verdict) × (c' ≡ c)
+  pub read : (v : Bool) → read_verdict i q.place c ≡ Some v → (v ≡ verdict) × (c' ≡ record c { work = c'.work })
   pub counted : read_verdict i q.place c ≡ None → one_more c.visits ≤ c'.visits
   pub kept : read_verdict i q.place c ≡ None → MayKeep i q.place q.subject c.visits c' → verdict_of i q.place c'.verdicts ≡ Some verdict
 

@@ -7,3 +7,4 @@ mod SearchedFailure
 mod SearchedSays
 mod SearchedErrors
 pub mod KeysIndexed
+mod Reached

@@ -10,7 +10,7 @@ ghost use Rattle.run_steps.specs.NodeRuns.{HasForm, HasParts, HasChildren, form_
 ghost use Rattle.schema_contexts.specs.Progress.{places_in};
 ghost use Rattle.run_steps.specs.Askings.{asking};
 ghost use Rattle.run_steps.specs.EvaluationPlaces.{CarriesItsNumber};
-ghost use Rattle.schema_node.specs.Answered.{ChildGiven, EdgeGiven, FormGiven, NodeGiven, PartsGiven, setting_by};
+ghost use Rattle.schema_node.specs.Answered.{ChildGiven, EdgeGiven, FormGiven, NodeGiven, PartsGiven, PlanGiven, setting_by};
 ghost use Rattle.schema_node.specs.RunStates.{setting};
 ghost use Rattle.schema_node.specs.RunStates.{Keeps, StaysRight};
 ghost use Rattle.schema_node.specs.RunStates.{MeetsChild, MeetsEdge, MeetsForm, MeetsNode, MeetsParts};
@@ -34,7 +34,7 @@ use schema_parts::numbers::{Edge, SchemaNode};
 use schema_reports::evaluation::{ChildList, EvaluationNode};
 use schema_reports::location::OutOfMemory;
 
-// The unit of a node at a place.
+// The unit of a node at a place. It is one more that is asked.
 #[cycle(run)]
 pub(crate) fn evaluate_node<'i, K: Validate, M: Matcher>(
     engine: &Engine<'_, K, M>,
@@ -46,6 +46,25 @@ pub(crate) fn evaluate_node<'i, K: Validate, M: Matcher>(
         context.old node.0 }
     requires carries { CarriesItsNumber (places_in context.old) question.now.place.now }
     ensures { NodeGiven (setting_by K.Validate M.Matcher.own engine.now) question.now
+        node.0 context.old context.new result }
+{
+    context.step()?;
+    evaluate_plan(engine, node, question, context)
+}
+
+// That of its plan, once the node is counted.
+#[cycle(run)]
+#[inline(always)]
+fn evaluate_plan<'i, K: Validate, M: Matcher>(
+    engine: &Engine<'_, K, M>,
+    node: SchemaNode,
+    question: &Question<'_, 'i>,
+    context: &mut ValidationContext<'i>,
+) -> Result<EvaluationNode, OutOfMemory>
+    requires may { MayEvaluate (setting_by K.Validate M.Matcher.own engine.now) (asking question.now)
+        context.old node.0 }
+    requires carries { CarriesItsNumber (places_in context.old) question.now.place.now }
+    ensures { PlanGiven (setting_by K.Validate M.Matcher.own engine.now) question.now
         node.0 context.old context.new result }
 {
     let found = engine.nodes.node(node);

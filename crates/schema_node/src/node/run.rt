@@ -10,9 +10,10 @@ ghost use Rattle.schema_parts.specs.EdgeViews.{edge_of};
 ghost use Rattle.node_table.specs.NodeViews.{entry_of, form_of};
 ghost use Rattle.run_steps.specs.NodeRuns.{HasForm, HasParts, HasChildren, form_at_work};
 ghost use Rattle.schema_contexts.specs.Progress.{places_in};
+ghost use Rattle.schema_contexts.specs.Works.{Asks};
 ghost use Rattle.run_steps.specs.Askings.{asking};
 ghost use Rattle.run_steps.specs.EvaluationPlaces.{CarriesItsNumber};
-ghost use Rattle.schema_node.specs.Answered.{ChildReplied, EdgeReplied, EntryReplied, FormReplied, NodeReplied, PartsReplied, setting_by};
+ghost use Rattle.schema_node.specs.Answered.{ChildReplied, EdgeReplied, EntryReplied, FormReplied, NodeReplied, PartsReplied, PlanReplied, setting_by};
 ghost use Rattle.schema_node.specs.RunStates.{setting};
 ghost use Rattle.schema_node.specs.RunStates.{Keeps, MayRun};
 ghost use Rattle.schema_node.specs.RunStates.{ChildSays, EdgeSays, FormSays, NodeSays, PartsSay};
@@ -59,6 +60,7 @@ pub(crate) fn node_reply<'i, K: Validate, M: Matcher>(
         (setting_by K.Validate M.Matcher.own engine.now) (asking question.now) context.old context.new) }
     ensures remembers { IfOk result (λ r. NodeRemembers (asking question.now) context.old context.new
         (numbered K.shape engine.now.nodes.now) node.0 r) }
+    ensures works { IfOk result (λ _. Asks context.old.work context.new.work) }
 {
     match question.mode {
         Mode::Verdict => {
@@ -69,7 +71,7 @@ pub(crate) fn node_reply<'i, K: Validate, M: Matcher>(
     }
 }
 
-// The reply of a node at a place, where errors are wanted.
+// The reply of a node at a place, where errors are wanted. It is one more that is asked.
 #[cycle(run)]
 fn run_node<'i, K: Validate, M: Matcher>(
     engine: &Engine<'_, K, M>,
@@ -82,6 +84,26 @@ fn run_node<'i, K: Validate, M: Matcher>(
     requires carries { CarriesItsNumber (places_in context.old) question.now.place.now }
     requires more { ¬ (mode_of question.now.mode ≡ for_verdict) }
     ensures { NodeReplied (setting_by K.Validate M.Matcher.own engine.now) question.now
+        node.0 context.old context.new result }
+{
+    context.step()?;
+    run_plan(engine, node, question, context)
+}
+
+// That of its plan, once the node is counted.
+#[cycle(run)]
+#[inline(always)]
+fn run_plan<'i, K: Validate, M: Matcher>(
+    engine: &Engine<'_, K, M>,
+    node: SchemaNode,
+    question: &Question<'_, 'i>,
+    context: &mut ValidationContext<'i>,
+) -> Result<Reply<'i>, OutOfMemory>
+    requires may { MayRun (setting_by K.Validate M.Matcher.own engine.now) (asking question.now)
+        context.old node.0 }
+    requires carries { CarriesItsNumber (places_in context.old) question.now.place.now }
+    requires more { ¬ (mode_of question.now.mode ≡ for_verdict) }
+    ensures { PlanReplied (setting_by K.Validate M.Matcher.own engine.now) question.now
         node.0 context.old context.new result }
 {
     let found = engine.nodes.node(node);

@@ -6,6 +6,7 @@ ghost use Rattle.schema_parts.specs.KeywordViews.{mode_of};
 ghost use Rattle.node_table.specs.NodeTable.{NodeEntry, numbered};
 ghost use Rattle.serde_json.specs.View.{view};
 ghost use Rattle.schema_contexts.specs.Progress.{NoDeeper};
+ghost use Rattle.schema_contexts.specs.Works.{Asks};
 ghost use Rattle.run_steps.specs.Askings.{IsAskedOf};
 ghost use Rattle.schema_node.specs.RunStates.{asking_first, setting_over};
 ghost use Rattle.schema_node.specs.RunStates.{RunBorrows, RunMeets, RunRemembers, RunReplies, RunSpeaks};
@@ -63,6 +64,7 @@ pub trait RunNodes<K: Validate> {
         ensures kept { IfOk result (λ _. context.new.in_progress ≡ context.old.in_progress) }
         ensures assumes { IfOk result (λ _. context.new.remembered.assumptions ≡ context.old.remembered.assumptions) }
         ensures marking { IfOk result (λ _. context.new.marking ≡ context.old.marking) }
+        ensures works { IfOk result (λ _. Asks context.old.work context.new.work) }
         ensures replies { IfOk result (λ r. RunReplies
             (setting_over K.words K.is_whole K.shape (table self.now) (M.matching matcher.now)) (asking_first question.now)
             context.old node.0 r) }
@@ -81,7 +83,8 @@ pub trait RunNodes<K: Validate> {
 
     /// Runs a node as a part of a run that has begun: as `run` does, but verdicts that the run remembers are read, and stay
     /// remembered. For the verdict a node whose one entry is a guarded reference, its target's pair not in progress, gives the
-    /// verdict that `get_cached_result` reads, where it reads one, and leaves the context as it was; else the visit is counted,
+    /// verdict that `get_cached_result` reads, where it reads one, and leaves the context as it was, but for the node that is
+    /// counted; else the visit is counted,
     /// and the verdict is remembered where it took enough visits, on an array or an object, with no other node in progress at
     /// the place. Visits never become fewer.
     fn run_further<'i, M: Matcher>(
@@ -101,6 +104,7 @@ pub trait RunNodes<K: Validate> {
         ensures kept { IfOk result (λ _. context.new.in_progress ≡ context.old.in_progress) }
         ensures assumes { IfOk result (λ _. context.new.remembered.assumptions ≡ context.old.remembered.assumptions) }
         ensures marking { IfOk result (λ _. context.new.marking ≡ context.old.marking) }
+        ensures works { IfOk result (λ _. Asks context.old.work context.new.work) }
         ensures counts { IfOk result (λ _. context.old.visits ≤ context.new.visits) }
         ensures replies { IfOk result (λ r. RunReplies
             (setting_over K.words K.is_whole K.shape (table self.now) (M.matching matcher.now)) (asking_first question.now)
@@ -139,6 +143,7 @@ pub trait RunNodes<K: Validate> {
         ensures kept { IfOk result (λ _. context.new.in_progress ≡ context.old.in_progress) }
         ensures assumes { IfOk result (λ _. context.new.remembered.assumptions ≡ context.old.remembered.assumptions) }
         ensures marking { IfOk result (λ _. context.new.marking ≡ context.old.marking) }
+        ensures works { IfOk result (λ _. Asks context.old.work context.new.work) }
         ensures gives { IfOk result (λ u. RunGives
             (setting_over K.words K.is_whole K.shape (table self.now) (M.matching matcher.now))
             (evaluating (subject_of instance.entry) place.now path.now) context.old node.0 u) }

@@ -8,6 +8,7 @@ ghost use Rattle.node_table.specs.NodeTable.{numbered};
 ghost use Rattle.schema_parts.specs.EdgeViews.{edge_of};
 ghost use Rattle.run_steps.specs.NodeRuns.{HasForm, HasChildren, form_at_work};
 ghost use Rattle.schema_contexts.specs.Progress.{places_in};
+ghost use Rattle.schema_contexts.specs.Works.{Spends};
 ghost use Rattle.run_steps.specs.Askings.{asking};
 ghost use Rattle.run_steps.specs.EvaluationPlaces.{CarriesItsNumber};
 ghost use Rattle.schema_node.specs.RunStates.{setting};
@@ -44,6 +45,7 @@ pub(crate) fn keyword_answer<'i, K: Validate, M: Matcher>(
     requires form { HasForm (numbered K.shape engine.now.nodes.now) node.0 (form_at_work K.shape keyword.now) }
     ensures keeps { IfOk result (λ _. Keeps context.old context.new) }
     ensures counts { IfOk result (λ _. context.old.visits ≤ context.new.visits) }
+    ensures works { IfOk result (λ _. Spends context.old.work context.new.work) }
     ensures quiet { IfOk result (λ _. LeadsNowhere (map (option_map edge_of) keyword.now.children.now)
         → context.new.visits ≡ context.old.visits) }
     ensures right { IfOk result (λ a. FindsRightly
@@ -97,6 +99,7 @@ fn run_turns<'i, K: Validate, M: Matcher>(
     ensures kept { IfOk result (λ _. context.new.in_progress ≡ context.old.in_progress) }
     ensures assumes { IfOk result (λ _. context.new.remembered.assumptions ≡ context.old.remembered.assumptions) }
     ensures counts { IfOk result (λ _. context.old.visits ≤ context.new.visits) }
+    ensures works { IfOk result (λ _. Spends context.old.work context.new.work) }
     ensures quiet { IfOk result (λ _. LeadsNowhere (map (option_map edge_of) keyword.now.children.now)
         → context.new.visits ≡ context.old.visits) }
     ensures right { IfOk result (λ _. FindsRightly
@@ -165,6 +168,7 @@ fn ask_child<'i, K: Validate, M: Matcher>(
     requires present { IsPresent (subject_of question.now.instance) (steps_below (below_of below)) }
     ensures keeps { IfOk result (λ _. Keeps context.old context.new) }
     ensures counts { IfOk result (λ _. context.old.visits ≤ context.new.visits) }
+    ensures works { IfOk result (λ _. Spends context.old.work context.new.work) }
     ensures quiet { IfOk result (λ _. LeadsNowhere (map (option_map edge_of) children.now) → context.new.visits ≡ context.old.visits) }
     ensures gives { IfOk result (λ u. ChildTells (setting K.words K.is_whole K.shape M.matching engine.now) (asking question.now)
         context.old node.0 (map (option_map edge_of) children.now) (record { child = child; below = below_of below.entry }) u) }
@@ -204,6 +208,7 @@ fn ask_unit<'i, K: Validate, M: Matcher>(
     requires present { IsPresent (subject_of question.now.instance) (steps_below (below_of below)) }
     ensures keeps { IfOk result (λ _. Keeps context.old context.new) }
     ensures counts { IfOk result (λ _. context.old.visits ≤ context.new.visits) }
+    ensures works { IfOk result (λ _. Spends context.old.work context.new.work) }
     ensures quiet { IfOk result (λ _. LeadsNowhere (map (option_map edge_of) children.now) → context.new.visits ≡ context.old.visits) }
     ensures gives { IfOk result (λ u. ChildTells (setting K.words K.is_whole K.shape M.matching engine.now) (asking question.now)
         context.old node.0 (map (option_map edge_of) children.now) (record { child = child; below = below_of below.entry }) u) }

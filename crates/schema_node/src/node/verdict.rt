@@ -1,7 +1,7 @@
 //! Runs of nodes for the verdict alone. A level of an instance takes little room on the stack: no reply is moved, only a yes or a no.
 ghost use Rattle.schema_parts.specs.KeywordViews.{below_of};
 ghost use Rattle.schema_parts.specs.EdgeViews.{edge_of};
-ghost use Rattle.schema_node.specs.Answered.{Answers, IsAsked, a_guarded, a_node, a_shared, an_edge, setting_by};
+ghost use Rattle.schema_node.specs.Answered.{Answers, IsAsked, a_guarded, a_node, a_plan, a_shared, an_edge, setting_by};
 ghost use Rattle.schema_node.specs.Answered.{the_child, the_entries, the_entry};
 
 use crate::node::verdict_turns::keyword_verdict;
@@ -16,7 +16,7 @@ use schema_parts::matcher::Matcher;
 use schema_parts::numbers::{Edge, SchemaNode};
 use schema_reports::location::OutOfMemory;
 
-// The verdict of a node at a place.
+// The verdict of a node at a place. It is one more that is asked.
 #[cycle(verdict)]
 pub(crate) fn verdict_node<'i, K: Validate, M: Matcher>(
     engine: &Engine<'_, K, M>,
@@ -27,6 +27,23 @@ pub(crate) fn verdict_node<'i, K: Validate, M: Matcher>(
     requires { IsAsked (setting_by K.Validate M.Matcher.own engine.now) question.now (a_node node.0) context.old }
     ensures { Answers (setting_by K.Validate M.Matcher.own engine.now) question.now
         (a_node node.0) context.old context.new result }
+{
+    context.step()?;
+    verdict_plan(engine, node, question, context)
+}
+
+// That of its plan, once the node is counted.
+#[cycle(verdict)]
+#[inline(always)]
+fn verdict_plan<'i, K: Validate, M: Matcher>(
+    engine: &Engine<'_, K, M>,
+    node: SchemaNode,
+    question: &Question<'_, 'i>,
+    context: &mut ValidationContext<'i>,
+) -> Result<bool, OutOfMemory>
+    requires { IsAsked (setting_by K.Validate M.Matcher.own engine.now) question.now (a_plan node.0) context.old }
+    ensures { Answers (setting_by K.Validate M.Matcher.own engine.now) question.now
+        (a_plan node.0) context.old context.new result }
 {
     match &engine.nodes.node(node).form {
         None => Ok(true),

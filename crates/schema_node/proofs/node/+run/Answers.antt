@@ -55,6 +55,10 @@ use Rattle.schema_meaning.proofs.TurnsGiveRuns.{keeps_of_turns}
 use Rattle.schema_node.specs.UnitStates.{child_unit, parts_units}
 use Rattle.schema_node.proofs.NodeUnits.{entered_meets, finds_moved, finds_units, form_moved, gives_always, gives_below, gives_busy, gives_entered, gives_here, gives_keyword, gives_never, gives_reference, gives_these, placed_last, placed_next, tells_moved}
 use Rattle.schema_node.proofs.UnitsAsked.{answer_is, child_valid, told_is}
+use Rattle.schema_contexts.specs.Works.{Spends}
+use Rattle.schema_node.proofs.FreeEdges.{free_meets}
+use Rattle.schema_node.proofs.Counted.{carried, given, may_evaluate, may_run, replied}
+use Rattle.schema_node.proofs.Spending.{asks_spends, spends_between, spends_none, spends_on, spends_same}
 use Rattle.schema_node.proofs.Measures.{lower_same, lower_edge, lower_entered, no_deeper, as_many, no_fewer}
 use Rattle.schema_node.proofs.node.+run.Goals as goal
 
@@ -86,6 +90,7 @@ pub run::run_child-returns-in-None-one_below : goal.run::run_child-returns-in-No
 run::run_child-returns-in-None-one_below g t c = record {
   keeps = first_of (search rules, grind (arith, common_steps));
   counts = first_of (search rules, grind (arith, common_steps));
+  works = first_of (search rules, grind (arith, common_steps));
   quiet = if_ok_always c.run_edge.result _ (λ none. absurd (none c.args.child (edge_of c.in-Some.edge.now) (sym c.in-Some.ensures.edge)));
   says =
       let ns = numbered g.K.Validate.shape c.args.engine.now.nodes.now in
@@ -111,6 +116,7 @@ pub run::run_child-returns-in-Some-one_below : goal.run::run_child-returns-in-So
 run::run_child-returns-in-Some-one_below g t c = record {
   keeps = first_of (search rules, grind (arith, common_steps));
   counts = first_of (search rules, grind (arith, common_steps));
+  works = first_of (search rules, grind (arith, common_steps));
   quiet = if_ok_always c.run_edge-in-Some-one_below.result _ (λ none. absurd (none c.args.child (edge_of c.in-Some.edge.now) (sym c.in-Some.ensures.edge)));
   says =
       let ns = numbered g.K.Validate.shape c.args.engine.now.nodes.now in
@@ -160,6 +166,7 @@ pub run::run_form-returns-in-Keyword : goal.run::run_form-returns-in-Keyword
 run::run_form-returns-in-Keyword g t c = record {
   keeps = first_of (search rules, grind (arith, common_steps));
   counts = first_of (search rules, grind (arith, common_steps));
+  works = first_of (search rules, grind (arith, common_steps));
   says = rw (c.in-Keyword.is, ← c.as_slice.ensures.value) c.run_keyword.ensures.says;
   meets = rw (c.in-Keyword.is, ← c.as_slice.ensures.value) c.run_keyword.ensures.meets;
   stays = first_of (search rules, grind (arith, common_steps));
@@ -169,6 +176,7 @@ pub run::run_form-returns-in_ok-reply-in-Reference : goal.run::run_form-returns-
 run::run_form-returns-in_ok-reply-in-Reference g t c = record {
   keeps = first_of (search rules, grind (arith, common_steps));
   counts = first_of (search rules, grind (arith, common_steps));
+  works = first_of (search rules, grind (arith, common_steps));
   says =
       let ns = numbered g.K.Validate.shape c.args.engine.now.nodes.now in
       let e = edge_of c.in-Reference.edge in
@@ -191,15 +199,28 @@ run::run_form-returns-in_ok-reply-in-Reference g t c = record {
   stays = first_of (search rules, grind (arith, common_steps));
 }
 
-pub run::run_node-run_entries-requires : goal.run::run_node-run_entries-requires
-run::run_node-run_entries-requires g t c =
+pub run::run_node-run_plan-requires : goal.run::run_node-run_plan-requires
+run::run_node-run_plan-requires g t c =
+    let set = setting g.K.Validate.words g.K.Validate.is_whole g.K.Validate.shape g.M.Matcher.matching c.args.engine.now in
+    let ns = numbered g.K.Validate.shape c.args.engine.now.nodes.now in
+    let l = ap (λ (z : Context). left ns (length c.args.engine.now.nodes.now) c.args.node.0 (subject_of c.args.question.now.instance) (busy_at (steps_to c.args.question.now.place.now) z.in_progress)) c.step.ensures.frame in
+    λ κs h. (lower_same _ _ t 10 0 l c.decreases, (h.0, (h.1.0, (h.1.1.0, (h.1.1.1, (may_run set c.args.question.now c.args.node.0 c.args.context.now c.step.new.self c.step.ensures.frame c.requires.may, (carried set c.args.question.now c.args.node.0 c.args.context.now c.step.new.self c.step.ensures.frame c.requires.carries, c.requires.more)))))))
+
+pub run::run_node-returns : goal.run::run_node-returns
+run::run_node-returns g t c =
+    let set = setting g.K.Validate.words g.K.Validate.is_whole g.K.Validate.shape g.M.Matcher.matching c.args.engine.now in
+    replied set c.args.question.now c.args.node.0 c.args.context.now c.step.new.self c.step.ensures.frame c.in_ok-step.ensures.asks c.run_plan.new.context c.run_plan.result c.run_plan.ensures
+
+pub run::run_plan-run_entries-requires : goal.run::run_plan-run_entries-requires
+run::run_plan-run_entries-requires g t c =
     let plan = plan_is g.K.Validate.shape c.args.engine.now.nodes.now c.args.node.0 (node_of c.node-found.result.now) _ c.node-found.ensures.found (ap (option_map plan_of) c.in-Some.is ∙ ap (λ f. Some (plan_of f)) c.in-Keywords.is) in
     λ κs h. (lower_same _ _ t 9 0 refl c.decreases, (h.0, (h.1.0, (h.1.1.0, (h.1.1.1, (c.requires.may, (c.requires.carries, (c.requires.more, rw c.as_slice.ensures.value (_, plan, λ y k. k)))))))))
 
-pub run::run_node-returns-in-Never : goal.run::run_node-returns-in-Never
-run::run_node-returns-in-Never g t c = record {
+pub run::run_plan-returns-in-Never : goal.run::run_plan-returns-in-Never
+run::run_plan-returns-in-Never g t c = record {
   keeps = first_of (search rules, grind (arith, common_steps));
   counts = first_of (search rules, grind (arith, common_steps));
+  works = first_of (search rules, grind (arith, common_steps));
   says =
       let ns = numbered g.K.Validate.shape c.args.engine.now.nodes.now in
       let n = node_of c.node-found.result.now in
@@ -220,10 +241,11 @@ run::run_node-returns-in-Never g t c = record {
   stays = first_of (search rules, grind (arith, common_steps));
 }
 
-pub run::run_node-returns-in-Keywords : goal.run::run_node-returns-in-Keywords
-run::run_node-returns-in-Keywords g t c = record {
+pub run::run_plan-returns-in-Keywords : goal.run::run_plan-returns-in-Keywords
+run::run_plan-returns-in-Keywords g t c = record {
   keeps = first_of (search rules, grind (arith, common_steps));
   counts = first_of (search rules, grind (arith, common_steps));
+  works = first_of (search rules, grind (arith, common_steps));
   says =
       let ns = numbered g.K.Validate.shape c.args.engine.now.nodes.now in
       let p = steps_to c.args.question.now.place.now in
@@ -252,6 +274,7 @@ run::run_entries-loop-entry-init g t c = record {
   met = λ texts root depth reads l. ([], refl, refl);
   so_far = λ x reads l. start_entries g.K.Validate.words g.K.Validate.is_whole (numbered g.K.Validate.shape c.args.engine.now.nodes.now) (length c.args.engine.now.nodes.now) (settling (g.M.Matcher.matching c.args.engine.now.matcher.now) c.args.context.now.remembered.assumptions) (mode_of c.args.question.now.mode) x c.accepted-found.result _ c.accepted-found.ensures.accepts c.accepted-found.ensures.no_errors;
   counted = as_many c.args.context.now.visits c.args.context.now.visits refl;
+  worked = spends_none c.args.context.now.work;
 }
 
 pub run::run_entries-run_entry-requires : goal.run::run_entries-run_entry-requires
@@ -271,6 +294,7 @@ run::run_entries-loop-entry-preserved g t c = record {
   assumes = c.in_ok-more.ensures.keeps.assumptions ∙ c.loop-entry.invariant.assumes;
   marking = c.in_ok-more.ensures.keeps.marking ∙ c.loop-entry.invariant.marking;
   counted = no_fewer c.args.context.now.visits c.loop-entry.context.visits c.run_entry.new.context.visits c.loop-entry.invariant.counted c.in_ok-more.ensures.counts;
+  worked = spends_on _ _ _ c.loop-entry.invariant.worked c.in_ok-more.ensures.works;
   unsettled = λ texts. sym (c.is_settled.ensures.settled texts) ∙ c.if-is_settled.false;
   met = λ texts root depth reads l.
       let ns = numbered g.K.Validate.shape c.args.engine.now.nodes.now in
@@ -302,6 +326,7 @@ pub run::run_entries-returns-then-is_settled : goal.run::run_entries-returns-the
 run::run_entries-returns-then-is_settled g t c = record {
   keeps = first_of (search rules, grind (arith, common_steps));
   counts = no_fewer c.args.context.now.visits c.loop-entry.context.visits c.run_entry.new.context.visits c.loop-entry.invariant.counted c.in_ok-more.ensures.counts;
+  works = spends_on _ _ _ c.loop-entry.invariant.worked c.in_ok-more.ensures.works;
   says = λ x reads l.
       let ns = numbered g.K.Validate.shape c.args.engine.now.nodes.now in
       let p = steps_to c.args.question.now.place.now in
@@ -343,6 +368,7 @@ pub run::run_entry-returns-then-valid : goal.run::run_entry-returns-then-valid
 run::run_entry-returns-then-valid g t c = record {
   keeps = first_of (search rules, grind (arith, common_steps));
   counts = first_of (search rules, grind (arith, common_steps));
+  works = first_of (search rules, grind (arith, common_steps));
   says = λ x reads l.
       leaf_accepts g.K.Validate.words (numbered g.K.Validate.shape c.args.engine.now.nodes.now) (λ texts m s completion matcher a h. (g.met.K.Validate.function_laws texts m).agree s (matching matcher completion) a h) x (mode_of c.args.question.now.mode) c.args.node.0 (path_of c.args.question.now.path.now) (steps_to c.args.question.now.place.now)
       (busy_at (steps_to c.args.question.now.place.now) c.args.context.now.in_progress) (string_bytes c.args.entry.now.name) _ (told.Truth c.in_ok-valid.valid) c.accepted.result c.if-valid.true (c.in_ok-valid.ensures.says x reads l) c.accepted.ensures.accepts c.accepted.ensures.no_errors;
@@ -363,6 +389,7 @@ pub run::run_entry-returns-then-entry : goal.run::run_entry-returns-then-entry
 run::run_entry-returns-then-entry g t c = record {
   keeps = first_of (search rules, grind (arith, common_steps));
   counts = if_ok_mono c.run_form.result _ _ (λ r more. no_fewer c.args.context.now.visits c.verdict_form.new.context.visits c.run_form.new.context.visits c.in_ok-valid.ensures.counts more) c.run_form.ensures.counts;
+  works = if_ok_mono c.run_form.result _ _ (λ r more. spends_on _ _ _ c.in_ok-valid.ensures.works more) c.run_form.ensures.works;
   says = rw (c.in_ok-valid.ensures.keeps.in_progress, c.in_ok-valid.ensures.keeps.assumptions) at c.run_form.ensures.says;
   meets = if_ok_mono c.run_form.result _ _ (λ r met texts root depth reads l.
       let ns = numbered g.K.Validate.shape c.args.engine.now.nodes.now in
@@ -408,6 +435,9 @@ turns::keyword_answer-returns-clause-stays g t c = λ layout laid right.
     let right1 = right_same set layout c.args.context.now c.set_aside-aside.new.self c.set_aside-aside.ensures.remembered c.set_aside-aside.ensures.verdicts right in
     right_same set layout c.run_turns.new.context c.put_back.new.self c.put_back.ensures.remembered c.put_back.ensures.verdicts (c.in_ok-run_turns.ensures.stays layout laid right1)
 
+pub turns::keyword_answer-returns-clause-works : goal.turns::keyword_answer-returns-clause-works
+turns::keyword_answer-returns-clause-works g t c = rw (c.set_aside-aside.ensures.work, ← c.put_back.ensures.work) at c.in_ok-run_turns.ensures.works
+
 pub turns::keyword_answer-returns-clause-counts : goal.turns::keyword_answer-returns-clause-counts
 turns::keyword_answer-returns-clause-counts g t c = rw (c.set_aside-aside.ensures.visits, ← c.put_back.ensures.visits) at c.in_ok-run_turns.ensures.counts
 
@@ -415,6 +445,7 @@ pub run::run_keyword-returns : goal.run::run_keyword-returns
 run::run_keyword-returns g t c = record {
   keeps = first_of (search rules, grind (arith, common_steps));
   counts = if_ok_always c.finished.result _ (rw (← c.finished.ensures.stays) at c.in_ok-answer.ensures.counts);
+  works = if_ok_always c.finished.result _ (rw (← c.finished.ensures.stays) at c.in_ok-answer.ensures.works);
   says =
       let ns = numbered g.K.Validate.shape c.args.engine.now.nodes.now in
       let p = steps_to c.args.question.now.place.now in
@@ -445,6 +476,7 @@ pub run::run_entry-returns : goal.run::run_entry-returns
 run::run_entry-returns g t c = record {
   keeps = first_of (search rules, grind (arith, common_steps));
   counts = first_of (search rules, grind (arith, common_steps));
+  works = first_of (search rules, grind (arith, common_steps));
   says = first_of (search rules, grind (arith, common_steps));
   meets = if_ok_mono c.run_form-2.result _ _ (λ r met texts root depth reads l.
       let ns = numbered g.K.Validate.shape c.args.engine.now.nodes.now in
@@ -460,6 +492,7 @@ pub run::run_entries-returns : goal.run::run_entries-returns
 run::run_entries-returns g t c = record {
   keeps = first_of (search rules, grind (arith, common_steps));
   counts = first_of (search rules, grind (arith, common_steps));
+  works = first_of (search rules, grind (arith, common_steps));
   says = first_of (search rules, grind (arith, common_steps));
   meets = λ texts root depth reads l.
       let ns = numbered g.K.Validate.shape c.args.engine.now.nodes.now in
@@ -489,6 +522,7 @@ turns::run_turns-turns-init g t c =
       can = subst (g.K.Validate.can_be false m s) (c.requires.begun false) ((g.met.K.Validate.turn_laws false m).starts s (mode_of c.args.question.now.mode));
       quiet = λ none. refl;
       counted = as_many c.args.context.now.visits c.args.context.now.visits refl;
+      worked = spends_none c.args.context.now.work;
       borrows = λ root at_place. (All-nil (BorrowsItsPlace root), subst (All (PassesBorrowed root)) (sym c.requires.no_faults) (All-nil (PassesBorrowed root)));
       leads = λ x reads l. begins_on (g.K.Validate.words x.texts) m (g.K.Validate.absorbed m) (g.K.Validate.remaining m) (g.K.Validate.can_be x.texts m) (g.K.Validate.ends x.texts m) (g.K.Validate.fits x.texts m) (g.met.K.Validate.turn_laws x.texts m) s x (mode_of c.args.question.now.mode) (child_says g.K.Validate.words ns x (path_of c.args.question.now.path.now) p busy es) (child_unit g.K.Validate.words ns x (path_of c.args.question.now.path.now) p busy es) (same_edge es) c.args.context.now.marking (c.args.run.now, answer_of x.texts c.args.answer.now) c.requires.no_marks
           (agrees_answers g.K.Validate.words ns (λ texts m s completion matcher a h. (g.met.K.Validate.function_laws texts m).agree s (matching matcher completion) a h) x (path_of c.args.question.now.path.now) p busy es)
@@ -569,6 +603,7 @@ turns::run_turns-turns-preserved-in-Ask g t c =
       stays = λ layout laid right. c.in_ok-reply-in-Ask.ensures.stays layout laid (c.turns.invariant.stays layout laid right);
       can = can_after (g.K.Validate.words false) m (g.K.Validate.absorbed m) (g.K.Validate.remaining m) (g.K.Validate.can_be false m) (g.K.Validate.ends false m) (g.K.Validate.fits false m) (g.met.K.Validate.turn_laws false m) s (c.turns.run, answer_of false c.turns.answer) (c.turn.new.run, answer_of false c.turn.new.answer) told c.turns.invariant.can turn;
       counted = no_fewer c.args.context.now.visits c.turns.context.visits c.ask_child.new.context.visits c.turns.invariant.counted c.in_ok-reply-in-Ask.ensures.counts;
+      worked = spends_on _ _ _ c.turns.invariant.worked c.in_ok-reply-in-Ask.ensures.works;
       quiet = λ none. c.in_ok-reply-in-Ask.ensures.quiet none ∙ c.turns.invariant.quiet none;
       borrows = λ root at_place.
           let i = c.turns.invariant.borrows root at_place in
@@ -661,6 +696,7 @@ turns::run_turns-turns-preserved-in-Match g t c =
       stays = λ layout laid right. right_matched (setting g.K.Validate.words g.K.Validate.is_whole g.K.Validate.shape g.M.Matcher.matching c.args.engine.now) layout c.turns.context c.step_match.new.context _ answer refl c.step_match.ensures.verdicts met (c.turns.invariant.stays layout laid right);
       can = can_after (g.K.Validate.words false) m (g.K.Validate.absorbed m) (g.K.Validate.remaining m) (g.K.Validate.can_be false m) (g.K.Validate.ends false m) (g.K.Validate.fits false m) (g.met.K.Validate.turn_laws false m) s (c.turns.run, answer_of false c.turns.answer) (c.turn.new.run, answer_of false c.turn.new.answer) told c.turns.invariant.can turn;
       counted = no_fewer c.args.context.now.visits c.turns.context.visits c.step_match.new.context.visits c.turns.invariant.counted (as_many _ _ c.step_match.ensures.visits);
+      worked = subst (Spends c.args.context.now.work) (sym c.step_match.ensures.work) c.turns.invariant.worked;
       quiet = λ none. c.step_match.ensures.visits ∙ c.turns.invariant.quiet none;
       borrows = λ root at_place.
           let i = c.turns.invariant.borrows root at_place in
@@ -703,6 +739,7 @@ turns::run_turns-turns-preserved-in-Ecma g t c =
       can = can_after (g.K.Validate.words false) m (g.K.Validate.absorbed m) (g.K.Validate.remaining m) (g.K.Validate.can_be false m) (g.K.Validate.ends false m) (g.K.Validate.fits false m) (g.met.K.Validate.turn_laws false m) s (c.turns.run, answer_of false c.turns.answer) (c.turn.new.run, answer_of false c.turn.new.answer) told c.turns.invariant.can turn;
       quiet = c.turns.invariant.quiet;
       counted = c.turns.invariant.counted;
+      worked = c.turns.invariant.worked;
       borrows = λ root at_place.
           let i = c.turns.invariant.borrows root at_place in
           (All-nil (BorrowsItsPlace root), c.in_ok-step.ensures.borrows root i.0 i.1);
@@ -764,6 +801,7 @@ turns::run_turns-turns-preserved-in-Mark g t c =
       stays = λ layout laid right. right_same (setting g.K.Validate.words g.K.Validate.is_whole g.K.Validate.shape g.M.Matcher.matching c.args.engine.now) layout c.turns.context c.enter_marking.new.self c.enter_marking.ensures.remembered c.enter_marking.ensures.verdicts (c.turns.invariant.stays layout laid right);
       can = can_after (g.K.Validate.words false) m (g.K.Validate.absorbed m) (g.K.Validate.remaining m) (g.K.Validate.can_be false m) (g.K.Validate.ends false m) (g.K.Validate.fits false m) (g.met.K.Validate.turn_laws false m) s (c.turns.run, answer_of false c.turns.answer) (c.turn.new.run, answer_of false c.turn.new.answer) told c.turns.invariant.can turn;
       counted = no_fewer c.args.context.now.visits c.turns.context.visits c.enter_marking.new.self.visits c.turns.invariant.counted (as_many _ _ c.enter_marking.ensures.visits);
+      worked = subst (Spends c.args.context.now.work) (sym c.enter_marking.ensures.work) c.turns.invariant.worked;
       quiet = λ none. c.enter_marking.ensures.visits ∙ c.turns.invariant.quiet none;
       borrows = λ root at_place.
           let i = c.turns.invariant.borrows root at_place in
@@ -809,6 +847,7 @@ turns::run_turns-turns-preserved g t c =
       stays = λ layout laid right. right_same (setting g.K.Validate.words g.K.Validate.is_whole g.K.Validate.shape g.M.Matcher.matching c.args.engine.now) layout c.turns.context c.exit_marking.new.self c.exit_marking.ensures.remembered c.exit_marking.ensures.verdicts (c.turns.invariant.stays layout laid right);
       can = can_after (g.K.Validate.words false) m (g.K.Validate.absorbed m) (g.K.Validate.remaining m) (g.K.Validate.can_be false m) (g.K.Validate.ends false m) (g.K.Validate.fits false m) (g.met.K.Validate.turn_laws false m) s (c.turns.run, answer_of false c.turns.answer) (c.turn.new.run, answer_of false c.turn.new.answer) told c.turns.invariant.can turn;
       counted = no_fewer c.args.context.now.visits c.turns.context.visits c.exit_marking.new.self.visits c.turns.invariant.counted (as_many _ _ c.exit_marking.ensures.visits);
+      worked = subst (Spends c.args.context.now.work) (sym c.exit_marking.ensures.work) c.turns.invariant.worked;
       quiet = λ none. c.exit_marking.ensures.visits ∙ c.turns.invariant.quiet none;
       borrows = λ root at_place.
           let i = c.turns.invariant.borrows root at_place in
@@ -881,6 +920,7 @@ pub evaluate::evaluate_child-returns-in-None-one_below : goal.evaluate::evaluate
 evaluate::evaluate_child-returns-in-None-one_below g t c = record {
   keeps = first_of (search rules, grind (arith, common_steps));
   counts = first_of (search rules, grind (arith, common_steps));
+  works = first_of (search rules, grind (arith, common_steps));
   quiet = if_ok_always c.evaluate_edge.result _ (λ none. absurd (none c.args.child (edge_of c.in-Some.edge.now) (sym c.in-Some.ensures.edge)));
   says =
       let ns = numbered g.K.Validate.shape c.args.engine.now.nodes.now in
@@ -913,6 +953,7 @@ pub evaluate::evaluate_child-returns-in-Some-one_below : goal.evaluate::evaluate
 evaluate::evaluate_child-returns-in-Some-one_below g t c = record {
   keeps = first_of (search rules, grind (arith, common_steps));
   counts = first_of (search rules, grind (arith, common_steps));
+  works = first_of (search rules, grind (arith, common_steps));
   quiet = if_ok_always c.evaluate_edge-in-Some-one_below.result _ (λ none. absurd (none c.args.child (edge_of c.in-Some.edge.now) (sym c.in-Some.ensures.edge)));
   says =
       let ns = numbered g.K.Validate.shape c.args.engine.now.nodes.now in
@@ -960,6 +1001,7 @@ evaluate::evaluate_entries-loop-entry-init g t c =
       assumes = refl;
       marking = refl;
       counted = as_many c.args.context.now.visits c.args.context.now.visits refl;
+      worked = spends_none c.args.context.now.work;
       stays = λ layout laid right. right;
       met = λ texts root depth reads l. ([], refl, refl);
       so_far = λ x reads l. ap (λ placed. each_placed placed (parts_units g.K.Validate.words (numbered g.K.Validate.shape c.args.engine.now.nodes.now) x c.args.node.0 (path_of c.args.question.now.path.now) (steps_to c.args.question.now.place.now) (busy_at (steps_to c.args.question.now.place.now) c.args.context.now.in_progress) (map (shaped_part g.K.Validate.shape) (map entry_of c.args.entries.now)))) (c.new-units.ensures.empty x.texts);
@@ -994,6 +1036,7 @@ evaluate::evaluate_entries-loop-entry-preserved g t c =
       assumes = c.in_ok-given.ensures.keeps.assumptions ∙ c.loop-entry.invariant.assumes;
       marking = c.in_ok-given.ensures.keeps.marking ∙ c.loop-entry.invariant.marking;
       counted = no_fewer c.args.context.now.visits c.loop-entry.context.visits c.evaluate_entry.new.context.visits c.loop-entry.invariant.counted c.in_ok-given.ensures.counts;
+      worked = spends_on _ _ _ c.loop-entry.invariant.worked c.in_ok-given.ensures.works;
       so_far = λ x reads l.
           let parts = λ (es : List (Entry g.row.K.Denot)). parts_units g.K.Validate.words ns x c.args.node.0 (path_of c.args.question.now.path.now) p busy (map (shaped_part g.K.Validate.shape) (map entry_of es)) in
           let gives = form_moved set q c.args.context.now c.loop-entry.context c.loop-entry.invariant.kept c.loop-entry.invariant.assumes c.args.node.0 part.name part.form c.in_ok-given.given c.in_ok-given.ensures.says x reads l in
@@ -1012,6 +1055,7 @@ pub evaluate::evaluate_entries-returns : goal.evaluate::evaluate_entries-returns
 evaluate::evaluate_entries-returns g t c = record {
   keeps = first_of (search rules, grind (arith, common_steps));
   counts = if_ok_always c.into_children.result _ c.loop-entry.invariant.counted;
+  works = if_ok_always c.into_children.result _ c.loop-entry.invariant.worked;
   says =
       let ns = numbered g.K.Validate.shape c.args.engine.now.nodes.now in
       let p = steps_to c.args.question.now.place.now in
@@ -1047,6 +1091,7 @@ pub evaluate::evaluate_entry-returns-in-Keyword : goal.evaluate::evaluate_entry-
 evaluate::evaluate_entry-returns-in-Keyword g t c = record {
   keeps = first_of (search rules, grind (arith, common_steps));
   counts = first_of (search rules, grind (arith, common_steps));
+  works = first_of (search rules, grind (arith, common_steps));
   says = first_of (search rules, grind (arith, common_steps));
   meets =
       rw (c.in-Keyword.is, ← c.as_slice.ensures.value) c.evaluate_keyword.ensures.meets;
@@ -1057,6 +1102,7 @@ pub evaluate::evaluate_entry-returns-in_ok-unit-in-Reference : goal.evaluate::ev
 evaluate::evaluate_entry-returns-in_ok-unit-in-Reference g t c = record {
   keeps = first_of (search rules, grind (arith, common_steps));
   counts = if_ok_always c.units_of_reference.result _ (rw (← c.units_of_reference.ensures.stays) at c.in_ok-unit-in-Reference.ensures.counts);
+  works = if_ok_always c.units_of_reference.result _ (rw (← c.units_of_reference.ensures.stays) at c.in_ok-unit-in-Reference.ensures.works);
   says =
       let ns = numbered g.K.Validate.shape c.args.engine.now.nodes.now in
       let set = setting g.K.Validate.words g.K.Validate.is_whole g.K.Validate.shape g.M.Matcher.matching c.args.engine.now in
@@ -1095,6 +1141,7 @@ pub evaluate::evaluate_keyword-returns : goal.evaluate::evaluate_keyword-returns
 evaluate::evaluate_keyword-returns g t c = record {
   keeps = first_of (search rules, grind (arith, common_steps));
   counts = if_ok_always c.units_of_keyword.result _ (rw (← c.units_of_keyword.ensures.stays) at c.in_ok-answer.ensures.counts);
+  works = if_ok_always c.units_of_keyword.result _ (rw (← c.units_of_keyword.ensures.stays) at c.in_ok-answer.ensures.works);
   says =
       let ns = numbered g.K.Validate.shape c.args.engine.now.nodes.now in
       let set = setting g.K.Validate.words g.K.Validate.is_whole g.K.Validate.shape g.M.Matcher.matching c.args.engine.now in
@@ -1114,16 +1161,29 @@ evaluate::evaluate_keyword-returns g t c = record {
       subst (RemembersRightly set layout) (sym c.units_of_keyword.ensures.stays) (c.in_ok-answer.ensures.stays layout laid right));
 }
 
-pub evaluate::evaluate_node-evaluate_entries-requires : goal.evaluate::evaluate_node-evaluate_entries-requires
-evaluate::evaluate_node-evaluate_entries-requires g t c =
+pub evaluate::evaluate_node-evaluate_plan-requires : goal.evaluate::evaluate_node-evaluate_plan-requires
+evaluate::evaluate_node-evaluate_plan-requires g t c =
+    let set = setting g.K.Validate.words g.K.Validate.is_whole g.K.Validate.shape g.M.Matcher.matching c.args.engine.now in
+    let ns = numbered g.K.Validate.shape c.args.engine.now.nodes.now in
+    let l = ap (λ (z : Context). left ns (length c.args.engine.now.nodes.now) c.args.node.0 (subject_of c.args.question.now.instance) (busy_at (steps_to c.args.question.now.place.now) z.in_progress)) c.step.ensures.frame in
+    λ κs h. (lower_same _ _ t 10 0 l c.decreases, (h.0, (h.1.0, (h.1.1.0, (h.1.1.1, (may_evaluate set c.args.question.now c.args.node.0 c.args.context.now c.step.new.self c.step.ensures.frame c.requires.may, carried set c.args.question.now c.args.node.0 c.args.context.now c.step.new.self c.step.ensures.frame c.requires.carries))))))
+
+pub evaluate::evaluate_node-returns : goal.evaluate::evaluate_node-returns
+evaluate::evaluate_node-returns g t c =
+    let set = setting g.K.Validate.words g.K.Validate.is_whole g.K.Validate.shape g.M.Matcher.matching c.args.engine.now in
+    given set c.args.question.now c.args.node.0 c.args.context.now c.step.new.self c.step.ensures.frame c.in_ok-step.ensures.asks c.evaluate_plan.new.context c.evaluate_plan.result c.evaluate_plan.ensures
+
+pub evaluate::evaluate_plan-evaluate_entries-requires : goal.evaluate::evaluate_plan-evaluate_entries-requires
+evaluate::evaluate_plan-evaluate_entries-requires g t c =
     let n = node_of c.node-found.result.now in
     let plan = plan_is g.K.Validate.shape c.args.engine.now.nodes.now c.args.node.0 n _ c.node-found.ensures.found (ap (option_map plan_of) c.in-Some.is ∙ ap (λ f. Some (plan_of f)) c.in-Keywords.is) in
     λ κs h. (lower_same _ _ t 9 0 refl c.decreases, (h.0, (h.1.0, (h.1.1.0, (h.1.1.1, (c.requires.may, (c.requires.carries, rw c.as_slice.ensures.value (_, plan, λ y k. k))))))))
 
-pub evaluate::evaluate_node-returns-in-None : goal.evaluate::evaluate_node-returns-in-None
-evaluate::evaluate_node-returns-in-None g t c = record {
+pub evaluate::evaluate_plan-returns-in-None : goal.evaluate::evaluate_plan-returns-in-None
+evaluate::evaluate_plan-returns-in-None g t c = record {
   keeps = first_of (search rules, grind (arith, common_steps));
   counts = first_of (search rules, grind (arith, common_steps));
+  works = first_of (search rules, grind (arith, common_steps));
   says =
       let set = setting g.K.Validate.words g.K.Validate.is_whole g.K.Validate.shape g.M.Matcher.matching c.args.engine.now in
       let q = asking c.args.question.now in
@@ -1143,10 +1203,11 @@ evaluate::evaluate_node-returns-in-None g t c = record {
   stays = first_of (search rules, grind (arith, common_steps));
 }
 
-pub evaluate::evaluate_node-returns-in-Always : goal.evaluate::evaluate_node-returns-in-Always
-evaluate::evaluate_node-returns-in-Always g t c = record {
+pub evaluate::evaluate_plan-returns-in-Always : goal.evaluate::evaluate_plan-returns-in-Always
+evaluate::evaluate_plan-returns-in-Always g t c = record {
   keeps = first_of (search rules, grind (arith, common_steps));
   counts = first_of (search rules, grind (arith, common_steps));
+  works = first_of (search rules, grind (arith, common_steps));
   says =
       let set = setting g.K.Validate.words g.K.Validate.is_whole g.K.Validate.shape g.M.Matcher.matching c.args.engine.now in
       let q = asking c.args.question.now in
@@ -1166,10 +1227,11 @@ evaluate::evaluate_node-returns-in-Always g t c = record {
   stays = first_of (search rules, grind (arith, common_steps));
 }
 
-pub evaluate::evaluate_node-returns-in-Never : goal.evaluate::evaluate_node-returns-in-Never
-evaluate::evaluate_node-returns-in-Never g t c = record {
+pub evaluate::evaluate_plan-returns-in-Never : goal.evaluate::evaluate_plan-returns-in-Never
+evaluate::evaluate_plan-returns-in-Never g t c = record {
   keeps = first_of (search rules, grind (arith, common_steps));
   counts = first_of (search rules, grind (arith, common_steps));
+  works = first_of (search rules, grind (arith, common_steps));
   says =
       let ns = numbered g.K.Validate.shape c.args.engine.now.nodes.now in
       let set = setting g.K.Validate.words g.K.Validate.is_whole g.K.Validate.shape g.M.Matcher.matching c.args.engine.now in
@@ -1192,10 +1254,11 @@ evaluate::evaluate_node-returns-in-Never g t c = record {
   stays = first_of (search rules, grind (arith, common_steps));
 }
 
-pub evaluate::evaluate_node-returns-in_ok-children-in-Keywords : goal.evaluate::evaluate_node-returns-in_ok-children-in-Keywords
-evaluate::evaluate_node-returns-in_ok-children-in-Keywords g t c = record {
+pub evaluate::evaluate_plan-returns-in_ok-children-in-Keywords : goal.evaluate::evaluate_plan-returns-in_ok-children-in-Keywords
+evaluate::evaluate_plan-returns-in_ok-children-in-Keywords g t c = record {
   keeps = first_of (search rules, grind (arith, common_steps));
   counts = first_of (search rules, grind (arith, common_steps));
+  works = first_of (search rules, grind (arith, common_steps));
   says =
       let set = setting g.K.Validate.words g.K.Validate.is_whole g.K.Validate.shape g.M.Matcher.matching c.args.engine.now in
       let q = asking c.args.question.now in
@@ -1220,10 +1283,27 @@ evaluate::evaluate_node-returns-in_ok-children-in-Keywords g t c = record {
 pub turns::keyword_answer-returns-clause-quiet : goal.turns::keyword_answer-returns-clause-quiet
 turns::keyword_answer-returns-clause-quiet g t c = λ none. c.put_back.ensures.visits ∙ c.in_ok-run_turns.ensures.quiet none ∙ c.set_aside-aside.ensures.visits
 
+pub run::run_edge-returns-then-not-edge : goal.run::run_edge-returns-then-not-edge
+run::run_edge-returns-then-not-edge g t c = record {
+  keeps = first_of (search rules, grind (arith, common_steps));
+  counts = first_of (search rules, grind (arith, common_steps));
+  says = first_of (search rules, grind (arith, common_steps));
+  meets =
+      let set = setting g.K.Validate.words g.K.Validate.is_whole g.K.Validate.shape g.M.Matcher.matching c.args.engine.now in
+      let q = asking c.args.question.now in
+      let e = edge_of c.args.edge.now in
+      let asked : Asking = record { subject = q.subject; place = q.place; path = path_of c.across-whole.result; mode = q.mode } in
+      let is : asked ≡ record q { path = q.path ++ e.path } = λ i. record { subject = q.subject; place = q.place; path = c.across-whole.ensures.appended i; mode = q.mode } in
+      if_ok_mono c.run_node.result _ _ (λ r met. free_meets set q c.args.context.now c.run_node.new.context e c.if-not-edge.true asked is met) c.run_node.ensures.meets;
+  stays = first_of (search rules, grind (arith, common_steps));
+  works = if_ok_mono c.run_node.result _ _ (λ r asks. asks_spends _ _ asks) c.run_node.ensures.works;
+}
+
 pub run::run_edge-returns-then-is_in_progress : goal.run::run_edge-returns-then-is_in_progress
 run::run_edge-returns-then-is_in_progress g t c = record {
   keeps = first_of (search rules, grind (arith, common_steps));
   counts = first_of (search rules, grind (arith, common_steps));
+  works = first_of (search rules, grind (arith, common_steps));
   says =
       let p = steps_to c.args.question.now.place.now in
       let e = edge_of c.args.edge.now in
@@ -1270,6 +1350,7 @@ pub run::run_edge-returns : goal.run::run_edge-returns
 run::run_edge-returns g t c = record {
   keeps = first_of (search rules, grind (arith, common_steps));
   counts = rw ((c.enter.ensures.visits ∙ ap (λ (z : Context). z.visits) c.in_ok-pair.ensures.unchanged), ← c.exit.ensures.visits) at c.in_ok-reply.ensures.counts;
+  works = spends_between c.args.context.now.work c.enter.new.context.work c.run_node-2.new.context.work c.exit.new.context.work (c.enter.ensures.work ∙ ap (λ (z : Context). z.work) c.in_ok-pair.ensures.unchanged) c.exit.ensures.work (asks_spends _ _ c.in_ok-reply.ensures.works);
   says =
       let set = setting g.K.Validate.words g.K.Validate.is_whole g.K.Validate.shape g.M.Matcher.matching c.args.engine.now in
       let q = asking c.args.question.now in
@@ -1316,10 +1397,27 @@ run::run_edge-returns g t c = record {
       computed_stays set q e c.args.context.now c.if-not-edge.false entered.0 c1 entered.1 (c.enter.ensures.remembered ∙ ap (λ (z : Context). z.remembered) c.in_ok-pair.ensures.unchanged) c3 c.exit.new.context (c.enter.ensures.verdicts ∙ ap (λ (z : Context). z.verdicts) c.in_ok-pair.ensures.unchanged) (subst (λ z. StaysRight set z c1 c3) at_asked c.in_ok-reply.ensures.stays) c.exit.ensures.remembered c.exit.ensures.verdicts;
 }
 
+pub evaluate::evaluate_edge-returns-then-not-edge : goal.evaluate::evaluate_edge-returns-then-not-edge
+evaluate::evaluate_edge-returns-then-not-edge g t c = record {
+  keeps = first_of (search rules, grind (arith, common_steps));
+  counts = first_of (search rules, grind (arith, common_steps));
+  says = first_of (search rules, grind (arith, common_steps));
+  meets =
+      let set = setting g.K.Validate.words g.K.Validate.is_whole g.K.Validate.shape g.M.Matcher.matching c.args.engine.now in
+      let q = asking c.args.question.now in
+      let e = edge_of c.args.edge.now in
+      let asked : Asking = record { subject = q.subject; place = q.place; path = path_of c.across-whole.result; mode = q.mode } in
+      let is : asked ≡ record q { path = q.path ++ e.path } = λ i. record { subject = q.subject; place = q.place; path = c.across-whole.ensures.appended i; mode = q.mode } in
+      if_ok_mono c.evaluate_node.result _ _ (λ r met. free_meets set q c.args.context.now c.evaluate_node.new.context e c.if-not-edge.true asked is met) c.evaluate_node.ensures.meets;
+  stays = first_of (search rules, grind (arith, common_steps));
+  works = if_ok_mono c.evaluate_node.result _ _ (λ r asks. asks_spends _ _ asks) c.evaluate_node.ensures.works;
+}
+
 pub evaluate::evaluate_edge-returns-then-is_in_progress : goal.evaluate::evaluate_edge-returns-then-is_in_progress
 evaluate::evaluate_edge-returns-then-is_in_progress g t c = record {
   keeps = first_of (search rules, grind (arith, common_steps));
   counts = if_ok_always c.accepting_unit.result _ (as_many _ _ (ap (λ (z : Context). z.visits) c.in_ok-pair.ensures.unchanged));
+  works = if_ok_always c.accepting_unit.result _ (spends_same _ _ (ap (λ (z : Context). z.work) c.in_ok-pair.ensures.unchanged));
   says =
       let set = setting g.K.Validate.words g.K.Validate.is_whole g.K.Validate.shape g.M.Matcher.matching c.args.engine.now in
       let q = asking c.args.question.now in
@@ -1374,6 +1472,7 @@ pub evaluate::evaluate_edge-returns : goal.evaluate::evaluate_edge-returns
 evaluate::evaluate_edge-returns g t c = record {
   keeps = first_of (search rules, grind (arith, common_steps));
   counts = rw ((c.enter.ensures.visits ∙ ap (λ (z : Context). z.visits) c.in_ok-pair.ensures.unchanged), ← c.exit.ensures.visits) at c.in_ok-unit.ensures.counts;
+  works = spends_between c.args.context.now.work c.enter.new.context.work c.evaluate_node-2.new.context.work c.exit.new.context.work (c.enter.ensures.work ∙ ap (λ (z : Context). z.work) c.in_ok-pair.ensures.unchanged) c.exit.ensures.work (asks_spends _ _ c.in_ok-unit.ensures.works);
   says =
       let set = setting g.K.Validate.words g.K.Validate.is_whole g.K.Validate.shape g.M.Matcher.matching c.args.engine.now in
       let q = asking c.args.question.now in

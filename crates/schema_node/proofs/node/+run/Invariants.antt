@@ -25,6 +25,7 @@ use Rattle.schema_node.specs.RunStates.{StaysRight, setting}
 use Rattle.schema_node.specs.Visits.{LeadsNowhere}
 use Rattle.schema_node.proofs.KeywordMeets.{MeetsSoFar}
 use Rattle.schema_contexts.specs.Progress.{busy_at}
+use Rattle.schema_contexts.specs.Works.{Spends}
 use Rattle.run_steps.specs.Turning.{EvaluatesOn}
 use Rattle.run_steps.specs.EntryUnits.{placed_of}
 use Rattle.schema_definitions.specs.UnitOrder.{each_placed, nothing_placed}
@@ -50,7 +51,10 @@ abbrev pub decreases-run::run_keyword : goal.decreases-run::run_keyword
 decreases-run::run_keyword g l = 20 * left (numbered g.K.Validate.shape l.engine.now.nodes.now) (length l.engine.now.nodes.now) l.node.0 (subject_of l.question.now.instance) (busy_at (steps_to l.question.now.place.now) l.context.now.in_progress) + 6
 
 abbrev pub decreases-run::run_node : goal.decreases-run::run_node
-decreases-run::run_node g l = 20 * left (numbered g.K.Validate.shape l.engine.now.nodes.now) (length l.engine.now.nodes.now) l.node.0 (subject_of l.question.now.instance) (busy_at (steps_to l.question.now.place.now) l.context.now.in_progress) + 10
+decreases-run::run_node g l = 20 * left (numbered g.K.Validate.shape l.engine.now.nodes.now) (length l.engine.now.nodes.now) l.node.0 (subject_of l.question.now.instance) (busy_at (steps_to l.question.now.place.now) l.context.now.in_progress) + 11
+
+abbrev pub decreases-run::run_plan : goal.decreases-run::run_plan
+decreases-run::run_plan g l = 20 * left (numbered g.K.Validate.shape l.engine.now.nodes.now) (length l.engine.now.nodes.now) l.node.0 (subject_of l.question.now.instance) (busy_at (steps_to l.question.now.place.now) l.context.now.in_progress) + 10
 
 abbrev pub decreases-turns::keyword_answer : goal.decreases-turns::keyword_answer
 decreases-turns::keyword_answer g l = 20 * left (numbered g.K.Validate.shape l.engine.now.nodes.now) (length l.engine.now.nodes.now) l.node.0 (subject_of l.question.now.instance) (busy_at (steps_to l.question.now.place.now) l.context.now.in_progress) + 5
@@ -70,6 +74,7 @@ invariant-run::run_entries-loop-entry g l =
       assumes : l.context.remembered.assumptions ≡ l.initial.context.remembered.assumptions;
       marking : l.context.marking ≡ l.initial.context.marking;
       counted : l.initial.context.visits ≤ l.context.visits;
+      worked : Spends l.initial.context.work l.context.work;
       so_far : (x : Reading) → Reads g.K.Validate.is_whole ns (length l.engine.nodes.now) w (steps_to l.question.place.now) s x → left ns (length l.engine.nodes.now) l.node.0 s busy ≤ x.depth
           → (o : Outcome) × Replies x (mode_of l.question.mode) l.found o
           × (both o (parts_say g.K.Validate.words ns x l.node.0 (path_of l.question.path.now) (steps_to l.question.place.now) busy (map (shaped_part g.K.Validate.shape) (map entry_of (drop l.entry-index l.entries))))
@@ -95,6 +100,7 @@ invariant-turns::run_turns-turns g l =
       kept : l.context.in_progress ≡ l.initial.context.in_progress;
       assumes : l.context.remembered.assumptions ≡ l.initial.context.remembered.assumptions;
       counted : l.initial.context.visits ≤ l.context.visits;
+      worked : Spends l.initial.context.work l.context.work;
       quiet : LeadsNowhere es → l.context.visits ≡ l.initial.context.visits;
       stays : StaysRight (setting g.K.Validate.words g.K.Validate.is_whole g.K.Validate.shape g.M.Matcher.matching l.engine) (asking l.question) l.initial.context l.context;
       can : g.K.Validate.can_be false m s (l.run, answer_of false l.answer);
@@ -112,7 +118,10 @@ abbrev pub decreases-turns::run_turns-turns : goal.decreases-turns::run_turns-tu
 decreases-turns::run_turns-turns g l = g.K.Validate.remaining (g.K.Validate.shape l.keyword.keyword.now) (subject_of l.question.instance) (l.run, answer_of false l.answer)
 
 abbrev pub decreases-evaluate::evaluate_node : goal.decreases-evaluate::evaluate_node
-decreases-evaluate::evaluate_node g l = 20 * left (numbered g.K.Validate.shape l.engine.now.nodes.now) (length l.engine.now.nodes.now) l.node.0 (subject_of l.question.now.instance) (busy_at (steps_to l.question.now.place.now) l.context.now.in_progress) + 10
+decreases-evaluate::evaluate_node g l = 20 * left (numbered g.K.Validate.shape l.engine.now.nodes.now) (length l.engine.now.nodes.now) l.node.0 (subject_of l.question.now.instance) (busy_at (steps_to l.question.now.place.now) l.context.now.in_progress) + 11
+
+abbrev pub decreases-evaluate::evaluate_plan : goal.decreases-evaluate::evaluate_plan
+decreases-evaluate::evaluate_plan g l = 20 * left (numbered g.K.Validate.shape l.engine.now.nodes.now) (length l.engine.now.nodes.now) l.node.0 (subject_of l.question.now.instance) (busy_at (steps_to l.question.now.place.now) l.context.now.in_progress) + 10
 
 abbrev pub decreases-evaluate::evaluate_entries : goal.decreases-evaluate::evaluate_entries
 decreases-evaluate::evaluate_entries g l = 20 * left (numbered g.K.Validate.shape l.engine.now.nodes.now) (length l.engine.now.nodes.now) l.node.0 (subject_of l.question.now.instance) (busy_at (steps_to l.question.now.place.now) l.context.now.in_progress) + 9
@@ -144,6 +153,7 @@ invariant-evaluate::evaluate_entries-loop-entry g l =
       assumes : l.context.remembered.assumptions ≡ l.initial.context.remembered.assumptions;
       marking : l.context.marking ≡ l.initial.context.marking;
       counted : l.initial.context.visits ≤ l.context.visits;
+      worked : Spends l.initial.context.work l.context.work;
       so_far : (x : Reading) → Reads g.K.Validate.is_whole ns (length l.engine.nodes.now) w (steps_to l.question.place.now) s x → left ns (length l.engine.nodes.now) l.node.0 s busy ≤ x.depth
           → each_placed (placed_of x.texts l.units) (parts_units g.K.Validate.words ns x l.node.0 (path_of l.question.path.now) (steps_to l.question.place.now) busy (map (shaped_part g.K.Validate.shape) (map entry_of (drop l.entry-index l.entries))))
           ≡ each_placed nothing_placed (parts_units g.K.Validate.words ns x l.node.0 (path_of l.question.path.now) (steps_to l.question.place.now) busy (map (shaped_part g.K.Validate.shape) (map entry_of l.entries)));

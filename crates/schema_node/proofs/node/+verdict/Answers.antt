@@ -54,6 +54,9 @@ use Rattle.run_steps.specs.VerdictRuns.{told_reply}
 use Rattle.schema_node.proofs.VerdictTurns.{asked_verdict, asks_begun, asks_on, stepped_by, turned_by, verdict_told}
 use Rattle.schema_node.proofs.Verdicts.{joins_verdict, keyword_replies, stamps_verdict, verdict_replies, yes_says}
 use Rattle.schema_node.proofs.Measures.{lower_same, lower_across, lower_reference, lower_entered, lower_shared, as_many, no_fewer}
+use Rattle.schema_contexts.specs.Works.{Spends}
+use Rattle.schema_node.proofs.Counted.{answers, is_asked}
+use Rattle.schema_node.proofs.Spending.{asks_spends, spends_between, spends_none, spends_on}
 use Rattle.schema_node.proofs.Shared.{meets_again, read_again, shared_counts, stays_kept}
 use Rattle.node_table.proofs.ClosedNumbers.{reaches_numbered}
 use Rattle.schema_definitions.specs.Laws.{EachKeeps}
@@ -87,6 +90,7 @@ pub verdict::verdict_child-returns-in-None-one_below : goal.verdict::verdict_chi
 verdict::verdict_child-returns-in-None-one_below g t c = record {
   keeps = search rules;
   counts = search rules;
+  works = search rules;
   visits = if_ok_always c.verdict_edge.result _ (λ none. absurd (none c.args.child (edge_of c.in-Some.edge.now) (sym c.in-Some.ensures.edge)));
   says =
       let ns = numbered g.K.Validate.shape c.args.engine.now.nodes.now in
@@ -113,6 +117,7 @@ pub verdict::verdict_child-returns-in-Some-one_below : goal.verdict::verdict_chi
 verdict::verdict_child-returns-in-Some-one_below g t c = record {
   keeps = search rules;
   counts = search rules;
+  works = search rules;
   visits = if_ok_always c.verdict_edge-in-Some-one_below.result _ (λ none. absurd (none c.args.child (edge_of c.in-Some.edge.now) (sym c.in-Some.ensures.edge)));
   says =
       let ns = numbered g.K.Validate.shape c.args.engine.now.nodes.now in
@@ -155,6 +160,7 @@ pub verdict::verdict_form-returns-in-Some : goal.verdict::verdict_form-returns-i
 verdict::verdict_form-returns-in-Some g t c = record {
   keeps = search rules;
   counts = search rules;
+  works = search rules;
   visits = rw c.in-Keyword.is (keyword_counts (numbered g.K.Validate.shape c.args.engine.now.nodes.now) (asking c.args.question.now) c.args.context.now c.args.context.now (g.K.Validate.shape c.in-Keyword.keyword) (map (option_map edge_of) c.in-Keyword.field-1.items) (λ none. refl));
   says =
       let ns = numbered g.K.Validate.shape c.args.engine.now.nodes.now in
@@ -207,6 +213,7 @@ pub verdict::verdict_form-returns-in-Reference : goal.verdict::verdict_form-retu
 verdict::verdict_form-returns-in-Reference g t c = record {
   keeps = search rules;
   counts = search rules;
+  works = search rules;
   visits = rw c.in-Reference.is c.verdict_reference.ensures.visits;
   says =
       let ns = numbered g.K.Validate.shape c.args.engine.now.nodes.now in
@@ -255,6 +262,7 @@ pub verdict::verdict_keyword-returns-in-Reference : goal.verdict::verdict_keywor
 verdict::verdict_keyword-returns-in-Reference g t c = record {
   keeps = search rules;
   counts = search rules;
+  works = search rules;
   visits = rw c.in-Reference.is c.verdict_reference.ensures.visits;
   says =
       let ns = numbered g.K.Validate.shape c.args.engine.now.nodes.now in
@@ -302,6 +310,7 @@ pub verdict::verdict_reference-returns : goal.verdict::verdict_reference-returns
 verdict::verdict_reference-returns g t c = record {
   keeps = search rules;
   counts = search rules;
+  works = search rules;
   visits = search rules;
   says = search rules;
   meets =
@@ -318,15 +327,28 @@ verdict::verdict_reference-returns g t c = record {
   remembers = search rules;
 }
 
-pub verdict::verdict_node-verdict_entries-requires : goal.verdict::verdict_node-verdict_entries-requires
-verdict::verdict_node-verdict_entries-requires g t c =
+pub verdict::verdict_node-verdict_plan-requires : goal.verdict::verdict_node-verdict_plan-requires
+verdict::verdict_node-verdict_plan-requires g t c =
+    let set = setting g.K.Validate.words g.K.Validate.is_whole g.K.Validate.shape g.M.Matcher.matching c.args.engine.now in
+    let ns = numbered g.K.Validate.shape c.args.engine.now.nodes.now in
+    let l = ap (λ (z : Context). left ns (length c.args.engine.now.nodes.now) c.args.node.0 (subject_of c.args.question.now.instance) (busy_at (steps_to c.args.question.now.place.now) z.in_progress)) c.step.ensures.frame in
+    λ κs h. (lower_same _ _ t 10 0 l c.decreases, (h.0, (h.1.0, (h.1.1.0, (h.1.1.1, is_asked set c.args.question.now c.args.node.0 c.args.context.now c.step.new.self c.step.ensures.frame c.requires)))))
+
+pub verdict::verdict_node-returns : goal.verdict::verdict_node-returns
+verdict::verdict_node-returns g t c =
+    let set = setting g.K.Validate.words g.K.Validate.is_whole g.K.Validate.shape g.M.Matcher.matching c.args.engine.now in
+    answers set c.args.question.now c.args.node.0 c.args.context.now c.step.new.self c.step.ensures.frame c.in_ok-step.ensures.asks c.verdict_plan.new.context c.verdict_plan.result c.verdict_plan.ensures
+
+pub verdict::verdict_plan-verdict_entries-requires : goal.verdict::verdict_plan-verdict_entries-requires
+verdict::verdict_plan-verdict_entries-requires g t c =
     let plan = plan_is g.K.Validate.shape c.args.engine.now.nodes.now c.args.node.0 (node_of c.node.result.now) _ c.node.ensures.found (ap (option_map plan_of) c.in-Some.is ∙ ap (λ f. Some (plan_of f)) c.in-Keywords.is) in
     λ κs h. (lower_same _ _ t 9 0 refl c.decreases, (h.0, (h.1.0, (h.1.1.0, (h.1.1.1, record { may = c.requires.may; carries = c.requires.carries; verdict = c.requires.verdict; stands = rw c.as_slice.ensures.value (_, plan, λ y k. k) })))))
 
-pub verdict::verdict_node-returns-in-None : goal.verdict::verdict_node-returns-in-None
-verdict::verdict_node-returns-in-None g t c = record {
+pub verdict::verdict_plan-returns-in-None : goal.verdict::verdict_plan-returns-in-None
+verdict::verdict_plan-returns-in-None g t c = record {
   keeps = search rules;
   counts = search rules;
+  works = search rules;
   visits =
       let plan = plan_none g.K.Validate.shape c.args.engine.now.nodes.now c.args.node.0 (node_of c.node.result.now) c.node.ensures.found (ap (option_map plan_of) c.in-None.is) in
       always_counts (numbered g.K.Validate.shape c.args.engine.now.nodes.now) (asking c.args.question.now) c.args.context.now c.args.context.now c.args.node.0 plan refl;
@@ -354,10 +376,11 @@ verdict::verdict_node-returns-in-None g t c = record {
   remembers = search rules;
 }
 
-pub verdict::verdict_node-returns-in-Always : goal.verdict::verdict_node-returns-in-Always
-verdict::verdict_node-returns-in-Always g t c = record {
+pub verdict::verdict_plan-returns-in-Always : goal.verdict::verdict_plan-returns-in-Always
+verdict::verdict_plan-returns-in-Always g t c = record {
   keeps = search rules;
   counts = search rules;
+  works = search rules;
   visits =
       let plan = plan_is g.K.Validate.shape c.args.engine.now.nodes.now c.args.node.0 (node_of c.node.result.now) _ c.node.ensures.found (ap (option_map plan_of) c.in-Some.is ∙ ap (λ f. Some (plan_of f)) c.in-Always.is) in
       always_counts (numbered g.K.Validate.shape c.args.engine.now.nodes.now) (asking c.args.question.now) c.args.context.now c.args.context.now c.args.node.0 plan refl;
@@ -385,10 +408,11 @@ verdict::verdict_node-returns-in-Always g t c = record {
   remembers = search rules;
 }
 
-pub verdict::verdict_node-returns-in-Never : goal.verdict::verdict_node-returns-in-Never
-verdict::verdict_node-returns-in-Never g t c = record {
+pub verdict::verdict_plan-returns-in-Never : goal.verdict::verdict_plan-returns-in-Never
+verdict::verdict_plan-returns-in-Never g t c = record {
   keeps = search rules;
   counts = search rules;
+  works = search rules;
   visits =
       let plan = plan_is g.K.Validate.shape c.args.engine.now.nodes.now c.args.node.0 (node_of c.node.result.now) _ c.node.ensures.found (ap (option_map plan_of) c.in-Some.is ∙ ap (λ f. Some (plan_of f)) c.in-Never.is) in
       never_counts (numbered g.K.Validate.shape c.args.engine.now.nodes.now) (asking c.args.question.now) c.args.context.now c.args.context.now c.args.node.0 plan refl;
@@ -416,10 +440,11 @@ verdict::verdict_node-returns-in-Never g t c = record {
   remembers = search rules;
 }
 
-pub verdict::verdict_node-returns-in-Keywords : goal.verdict::verdict_node-returns-in-Keywords
-verdict::verdict_node-returns-in-Keywords g t c = record {
+pub verdict::verdict_plan-returns-in-Keywords : goal.verdict::verdict_plan-returns-in-Keywords
+verdict::verdict_plan-returns-in-Keywords g t c = record {
   keeps = search rules;
   counts = search rules;
+  works = search rules;
   visits =
       let plan = plan_is g.K.Validate.shape c.args.engine.now.nodes.now c.args.node.0 (node_of c.node.result.now) _ c.node.ensures.found (ap (option_map plan_of) c.in-Some.is ∙ ap (λ f. Some (plan_of f)) c.in-Keywords.is) in
       if_ok_mono c.verdict_entries.result _ _ (λ b counts. planned_counts (numbered g.K.Validate.shape c.args.engine.now.nodes.now) (asking c.args.question.now) c.args.context.now c.verdict_entries.new.context c.args.node.0 _ plan counts) (rw c.as_slice.ensures.value at c.verdict_entries.ensures.visits);
@@ -456,6 +481,7 @@ verdict::verdict_entries-loop-entry-init g t c = record {
   met = λ texts root depth reads l. ([], refl, refl);
   so_far = λ x reads l. start_entries g.K.Validate.words g.K.Validate.is_whole (numbered g.K.Validate.shape c.args.engine.now.nodes.now) (length c.args.engine.now.nodes.now) (settling (g.M.Matcher.matching c.args.engine.now.matcher.now) c.args.context.now.remembered.assumptions) (mode_of c.args.question.now.mode) x (told.Truth true) _ (yes_says (mode_of c.args.question.now.mode) c.requires.verdict) refl;
   counted = as_many c.args.context.now.visits c.args.context.now.visits refl;
+  worked = spends_none c.args.context.now.work;
 }
 
 pub verdict::verdict_entries-verdict_form-requires : goal.verdict::verdict_entries-verdict_form-requires
@@ -478,6 +504,7 @@ verdict::verdict_entries-loop-entry-preserved g t c = record {
   assumes = c.in_ok-valid.ensures.keeps.assumptions ∙ c.loop-entry.invariant.assumes;
   marking = c.in_ok-valid.ensures.keeps.marking ∙ c.loop-entry.invariant.marking;
   counted = no_fewer c.args.context.now.visits c.loop-entry.context.visits c.verdict_form.new.context.visits c.loop-entry.invariant.counted c.in_ok-valid.ensures.counts;
+  worked = spends_on _ _ _ c.loop-entry.invariant.worked c.in_ok-valid.ensures.works;
   met = λ texts root depth reads l.
       let ns = numbered g.K.Validate.shape c.args.engine.now.nodes.now in
       let w = settling (g.M.Matcher.matching c.args.engine.now.matcher.now) c.args.context.now.remembered.assumptions in
@@ -508,6 +535,7 @@ pub verdict::verdict_entries-returns-then-not-valid : goal.verdict::verdict_entr
 verdict::verdict_entries-returns-then-not-valid g t c = record {
   keeps = search rules;
   counts = no_fewer c.args.context.now.visits c.loop-entry.context.visits c.verdict_form.new.context.visits c.loop-entry.invariant.counted c.in_ok-valid.ensures.counts;
+  works = spends_on _ _ _ c.loop-entry.invariant.worked c.in_ok-valid.ensures.works;
   visits =
       next_counts (numbered g.K.Validate.shape c.args.engine.now.nodes.now) (asking c.args.question.now) entry_of (shaped_part g.K.Validate.shape) c.args.entries.now c.loop-entry.entry-index c.entry-item.result c.loop-entry-test.true c.entry-item.is c.args.context.now c.loop-entry.context c.verdict_form.new.context c.loop-entry.invariant.first c.loop-entry.invariant.visited c.in_ok-valid.ensures.visits;
   says = λ x reads l.
@@ -544,6 +572,7 @@ pub verdict::verdict_entries-returns : goal.verdict::verdict_entries-returns
 verdict::verdict_entries-returns g t c = record {
   keeps = search rules;
   counts = search rules;
+  works = search rules;
   visits =
       ended_counts (numbered g.K.Validate.shape c.args.engine.now.nodes.now) (asking c.args.question.now) entry_of (shaped_part g.K.Validate.shape) c.args.entries.now c.loop-entry.entry-index c.loop-entry-test.false c.args.context.now c.loop-entry.context c.loop-entry.invariant.first c.loop-entry.invariant.visited;
   says = grind (arith, common_steps);
@@ -574,6 +603,7 @@ pub verdict::verdict_edge-returns-then-is_shared : goal.verdict::verdict_edge-re
 verdict::verdict_edge-returns-then-is_shared g t c = record {
   keeps = search rules;
   counts = search rules;
+  works = search rules;
   visits = if_ok_mono c.shared_verdict.result _ _ (λ b counts. free_counts (numbered g.K.Validate.shape c.args.engine.now.nodes.now) (asking c.args.question.now) c.args.context.now (edge_of c.args.edge.now) c.shared_verdict.new.context c.if-edge.false counts) c.shared_verdict.ensures.visits;
   says = search rules;
   meets = search rules;
@@ -585,6 +615,7 @@ pub verdict::verdict_edge-returns : goal.verdict::verdict_edge-returns
 verdict::verdict_edge-returns g t c = record {
   keeps = search rules;
   counts = search rules;
+  works = if_ok_mono c.verdict_node.result _ _ (λ b asks. asks_spends _ _ asks) c.verdict_node.ensures.works;
   visits = if_ok_mono c.verdict_node.result _ _ (λ b counts. free_counts (numbered g.K.Validate.shape c.args.engine.now.nodes.now) (asking c.args.question.now) c.args.context.now (edge_of c.args.edge.now) c.verdict_node.new.context c.if-edge.false counts) c.verdict_node.ensures.visits;
   says = search rules;
   meets = search rules;
@@ -612,7 +643,7 @@ verdict::shared_verdict-verdict_node-requires g t c =
     let right' = right_same set layout c0 c1 (ap (λ (z : Context). z.remembered) same) (ap (λ (z : Context). z.verdicts) same) right in
     let root = ap (λ (z : Context). z.root) same in
     let carries = carries_on c0.root c1.root c.numbered_place-place.result root (c.numbered_place-place.ensures.carries c0 c.in_ok-pair.ensures.numbered) in
-    λ κs h. (lower_same _ _ t 10 0 l c.decreases, (h.0, (h.1.0, (h.1.1.0, (h.1.1.1, record { may = record { known = c.requires.may.known; ranked = c.requires.may.ranked; above = deeper; wanted = c.requires.may.wanted; stands = stands_at c0.root _ q _ root there c.requires.may.stands; goes_on = (layout, laid', right') }; carries = carries; verdict = c.requires.verdict; stands = tt })))))
+    λ κs h. (lower_same _ _ t 11 0 l c.decreases, (h.0, (h.1.0, (h.1.1.0, (h.1.1.1, record { may = record { known = c.requires.may.known; ranked = c.requires.may.ranked; above = deeper; wanted = c.requires.may.wanted; stands = stands_at c0.root _ q _ root there c.requires.may.stands; goes_on = (layout, laid', right') }; carries = carries; verdict = c.requires.verdict; stands = tt })))))
 
 pub verdict::shared_verdict-returns-in-Some : goal.verdict::shared_verdict-returns-in-Some
 verdict::shared_verdict-returns-in-Some g t c =
@@ -629,6 +660,7 @@ verdict::shared_verdict-returns-in-Some g t c =
     record {
       keeps = search rules;
       counts = search rules;
+      works = search rules;
       visits = shared_counts ns q c0 c1 i c.requires.stands (ap (λ (z : Context). z.visits) same);
       says = read_again set laws q c.requires.verdict c0 i c.requires.may.known c.requires.may.ranked c.requires.stands c.requires.may.goes_on c.in-Some.valid found;
       meets = meets_again set laws q c.requires.verdict c0 i c.requires.may.known c.requires.may.ranked c.requires.stands c.requires.may.goes_on c.in-Some.valid found c1 (ap (λ (z : Context). z.remembered) same);
@@ -664,6 +696,7 @@ verdict::shared_verdict-returns g t c =
     record {
       keeps = record { root = ap (λ (z : Context). z.root) frame ∙ keeps.root; in_progress = ap (λ (z : Context). z.in_progress) frame ∙ keeps.in_progress; assumptions = ap (λ (z : Context). z.remembered.assumptions) frame ∙ keeps.assumptions; marking = ap (λ (z : Context). z.marking) frame ∙ keeps.marking };
       counts = subst (λ z. z ≤ c3.visits) (ap (λ (z : Context). z.visits) same) (subst (λ z. c1.visits ≤ z) (sym visits) c.in_ok-valid.ensures.counts);
+      works = spends_between c0.work c1.work c2.work c3.work (ap (λ (z : Context). z.work) same) (ap (λ (z : Context). z.work) frame) (asks_spends _ _ c.in_ok-valid.ensures.works);
       visits = λ mode depth n takes. visits ∙ counts mode depth n takes;
       says = says;
       meets = subst (λ (r : Remembered). NodeMeets set.words set.is_whole set.nodes set.count (settling set.matcher c0.remembered.assumptions) q.mode q.path q.place (busy_at q.place c0.in_progress) q.subject c0.remembered r i) (sym met) meets;
@@ -675,6 +708,7 @@ pub verdict::guarded_verdict-returns-in-Some : goal.verdict::guarded_verdict-ret
 verdict::guarded_verdict-returns-in-Some g t c = record {
   keeps = search rules;
   counts = search rules;
+  works = search rules;
   visits =
       let ns = numbered g.K.Validate.shape c.args.engine.now.nodes.now in
       let q = asking c.args.question.now in
@@ -733,6 +767,10 @@ verdict::guarded_verdict-returns g t c = record {
       let before = subst (λ z. z ≤ c.start_ref_visit-mark.new.self.visits) (c.enter.ensures.visits ∙ ap (λ (z : Context). z.visits) c.in_ok-pair.ensures.unchanged) c.start_ref_visit-mark.ensures.more in
       let after = subst (λ z. c.start_ref_visit-mark.new.self.visits ≤ z) (sym visits) c.in_ok-valid.ensures.counts in
       no_fewer c.args.context.now.visits c.start_ref_visit-mark.new.self.visits c.exit.new.context.visits before after;
+  works =
+      let before = ap (λ (z : Context). z.work) c.start_ref_visit-mark.ensures.counted ∙ (c.enter.ensures.work ∙ ap (λ (z : Context). z.work) c.in_ok-pair.ensures.unchanged) in
+      let after = c.exit.ensures.work ∙ ap (λ (z : Context). z.work) c.keep_verdict.ensures.frame in
+      spends_between c.args.context.now.work c.start_ref_visit-mark.new.self.work c.verdict_node.new.context.work c.exit.new.context.work before after (asks_spends _ _ c.in_ok-valid.ensures.works);
   visits =
       let ns = (numbered g.K.Validate.shape c.args.engine.now.nodes.now) in
       let q = asking c.args.question.now in
@@ -894,6 +932,7 @@ pub verdict_turns::keyword_verdict-returns-in-Ok : goal.verdict_turns::keyword_v
 verdict_turns::keyword_verdict-returns-in-Ok g t c = record {
   keeps = search rules;
   counts = rw (c.set_aside-aside.ensures.visits, ← c.put_back.ensures.visits) at (rw c.in-Ok.is at c.take_turns-turned.ensures.counts);
+  works = rw (c.set_aside-aside.ensures.work, ← c.put_back.ensures.work) at (rw c.in-Ok.is at c.take_turns-turned.ensures.works);
   visits = keyword_counts (numbered g.K.Validate.shape c.args.engine.now.nodes.now) (asking c.args.question.now) c.args.context.now c.put_back.new.self (g.K.Validate.shape c.args.keyword.now.keyword.now) (map (option_map edge_of) c.args.keyword.now.children.now) (λ none.
       let quiet = rw c.in-Ok.is at c.take_turns-turned.ensures.quiet in
       c.put_back.ensures.visits ∙ quiet none ∙ c.set_aside-aside.ensures.visits);
@@ -942,6 +981,7 @@ verdict_turns::take_turns-turns-init g t c =
       asks = asks_begun (g.K.Validate.words false) m (g.K.Validate.absorbed m) (g.K.Validate.remaining m) (g.K.Validate.can_be false m) (g.K.Validate.ends false m) (g.K.Validate.fits false m) (g.met.K.Validate.turn_laws false m) s (g.met.K.Validate.asks_verdicts false) (mode_of c.args.question.now.mode) c.requires.asked.verdict (c.args.run.now, answer_of false c.args.answer.now) (c.requires.begun false);
       quiet = λ none. refl;
       counted = as_many c.args.context.now.visits c.args.context.now.visits refl;
+      worked = spends_none c.args.context.now.work;
       leads = λ x reads l. begins_on (g.K.Validate.words x.texts) m (g.K.Validate.absorbed m) (g.K.Validate.remaining m) (g.K.Validate.can_be x.texts m) (g.K.Validate.ends x.texts m) (g.K.Validate.fits x.texts m) (g.met.K.Validate.turn_laws x.texts m) s x (mode_of c.args.question.now.mode) (child_says g.K.Validate.words ns x (path_of c.args.question.now.path.now) p busy es) (child_unit g.K.Validate.words ns x (path_of c.args.question.now.path.now) p busy es) (same_edge es) c.args.context.now.marking (c.args.run.now, answer_of x.texts c.args.answer.now) c.requires.no_marks
           (agrees_answers g.K.Validate.words ns (λ texts m s completion matcher a h. (g.met.K.Validate.function_laws texts m).agree s (matching matcher completion) a h) x (path_of c.args.question.now.path.now) p busy es)
           (child_valid g.K.Validate.words g.K.Validate.absorbed (λ texts m. keeps_of_turns (g.K.Validate.words texts) m (g.K.Validate.absorbed m) (g.K.Validate.remaining m) (g.K.Validate.can_be texts m) (g.K.Validate.ends texts m) (g.K.Validate.fits texts m) (g.met.K.Validate.turn_laws texts m) (g.met.K.Validate.function_laws texts m)) ns x (path_of c.args.question.now.path.now) p busy es)
@@ -977,6 +1017,7 @@ verdict_turns::take_turns-returns-in-Done g t c = record {
   kept = search rules;
   assumes = search rules;
   counts = search rules;
+  works = search rules;
   quiet = search rules;
   right = λ x reads l.
       let ns = numbered g.K.Validate.shape c.args.engine.now.nodes.now in
@@ -1063,6 +1104,7 @@ verdict_turns::take_turns-turns-preserved-in-Ask g t c =
       can = can_after (g.K.Validate.words false) m (g.K.Validate.absorbed m) (g.K.Validate.remaining m) (g.K.Validate.can_be false m) (g.K.Validate.ends false m) (g.K.Validate.fits false m) (g.met.K.Validate.turn_laws false m) s (c.turns.run, answer_of false c.turns.answer) (c.turn.new.run, answer_of false c.turn.new.answer) told_now c.turns.invariant.can turn;
       asks = asks_on (g.K.Validate.words false) m (g.K.Validate.absorbed m) (g.K.Validate.remaining m) (g.K.Validate.can_be false m) (g.K.Validate.ends false m) (g.K.Validate.fits false m) (g.met.K.Validate.turn_laws false m) s (c.turns.run, answer_of false c.turns.answer) (c.turn.new.run, answer_of false c.turn.new.answer) told_now (truth c.in_ok-valid-in-Ask.valid) (ask q (mode_of c.in-Ask.wanted)) c.turns.invariant.can turn step (ask_goes_on q (mode_of c.in-Ask.wanted)) c.turns.invariant.asks;
       counted = no_fewer c.args.context.now.visits c.turns.context.visits c.verdict_child.new.context.visits c.turns.invariant.counted c.in_ok-valid-in-Ask.ensures.counts;
+      worked = spends_on _ _ _ c.turns.invariant.worked c.in_ok-valid-in-Ask.ensures.works;
       quiet = λ none. c.in_ok-valid-in-Ask.ensures.visits none ∙ c.turns.invariant.quiet none;
       leads = λ x reads l.
           let tells = tells_keyword g.K.Validate.is_whole ns (length c.args.engine.now.nodes.now) (settling (g.M.Matcher.matching c.args.engine.now.matcher.now) c.args.context.now.remembered.assumptions) p s x c.args.node.0 m es c.requires.asked.may.known reads c.requires.asked.stands in
@@ -1170,6 +1212,7 @@ verdict_turns::take_turns-turns-preserved-in-Match g t c =
       can = can_after (g.K.Validate.words false) m (g.K.Validate.absorbed m) (g.K.Validate.remaining m) (g.K.Validate.can_be false m) (g.K.Validate.ends false m) (g.K.Validate.fits false m) (g.met.K.Validate.turn_laws false m) s (c.turns.run, answer_of false c.turns.answer) (c.turn.new.run, answer_of false c.turn.new.answer) told c.turns.invariant.can turn;
       asks = asks_on (g.K.Validate.words false) m (g.K.Validate.absorbed m) (g.K.Validate.remaining m) (g.K.Validate.can_be false m) (g.K.Validate.ends false m) (g.K.Validate.fits false m) (g.met.K.Validate.turn_laws false m) s (c.turns.run, answer_of false c.turns.answer) (c.turn.new.run, answer_of false c.turn.new.answer) told (truth c.in_ok-matches-in-Match.matches) (match_text a point) c.turns.invariant.can turn step (match_goes_on a point) c.turns.invariant.asks;
       counted = no_fewer c.args.context.now.visits c.turns.context.visits c.step_match.new.context.visits c.turns.invariant.counted (as_many _ _ c.step_match.ensures.visits);
+      worked = subst (Spends c.args.context.now.work) (sym c.step_match.ensures.work) c.turns.invariant.worked;
       quiet = λ none. c.step_match.ensures.visits ∙ c.turns.invariant.quiet none;
       leads = λ x reads l.
           let tells = tells_keyword g.K.Validate.is_whole ns (length c.args.engine.now.nodes.now) w p s x c.args.node.0 m es c.requires.asked.may.known reads c.requires.asked.stands in
@@ -1214,6 +1257,7 @@ verdict_turns::take_turns-turns-preserved-in-Ecma g t c =
       asks = asks_on (g.K.Validate.words false) m (g.K.Validate.absorbed m) (g.K.Validate.remaining m) (g.K.Validate.can_be false m) (g.K.Validate.ends false m) (g.K.Validate.fits false m) (g.met.K.Validate.turn_laws false m) s (c.turns.run, answer_of false c.turns.answer) (c.turn.new.run, answer_of false c.turn.new.answer) told (truth c.in_ok-valid-in-Ecma.valid) (ecma text) c.turns.invariant.can turn step (ecma_goes_on text) c.turns.invariant.asks;
       quiet = c.turns.invariant.quiet;
       counted = c.turns.invariant.counted;
+      worked = c.turns.invariant.worked;
       leads = λ x reads l.
           let tells = tells_keyword g.K.Validate.is_whole ns (length c.args.engine.now.nodes.now) w p s x c.args.node.0 m es c.requires.asked.may.known reads c.requires.asked.stands in
           let is = ap truth (c.in_ok-valid-in-Ecma.ensures.valid ∙ ap (λ (o : Matcher). o.is_ecma text) (sym reads.matcher)) in
@@ -1265,6 +1309,7 @@ verdict_turns::take_turns-turns-preserved-in-Mark g t c =
       can = can_after (g.K.Validate.words false) m (g.K.Validate.absorbed m) (g.K.Validate.remaining m) (g.K.Validate.can_be false m) (g.K.Validate.ends false m) (g.K.Validate.fits false m) (g.met.K.Validate.turn_laws false m) s (c.turns.run, answer_of false c.turns.answer) (c.turn.new.run, answer_of false c.turn.new.answer) told c.turns.invariant.can turn;
       asks = asks_on (g.K.Validate.words false) m (g.K.Validate.absorbed m) (g.K.Validate.remaining m) (g.K.Validate.can_be false m) (g.K.Validate.ends false m) (g.K.Validate.fits false m) (g.met.K.Validate.turn_laws false m) s (c.turns.run, answer_of false c.turns.answer) (c.turn.new.run, answer_of false c.turn.new.answer) told (truth c.in_ok-held-in-Mark.held) (mark (marked_of c.in-Mark.marked)) c.turns.invariant.can turn step (mark_goes_on (marked_of c.in-Mark.marked)) c.turns.invariant.asks;
       counted = no_fewer c.args.context.now.visits c.turns.context.visits c.enter_marking.new.self.visits c.turns.invariant.counted (as_many _ _ c.enter_marking.ensures.visits);
+      worked = subst (Spends c.args.context.now.work) (sym c.enter_marking.ensures.work) c.turns.invariant.worked;
       quiet = λ none. c.enter_marking.ensures.visits ∙ c.turns.invariant.quiet none;
       leads = λ x reads l.
           let tells = tells_keyword g.K.Validate.is_whole ns (length c.args.engine.now.nodes.now) w p s x c.args.node.0 m es c.requires.asked.may.known reads c.requires.asked.stands in
@@ -1316,6 +1361,7 @@ verdict_turns::take_turns-turns-preserved g t c =
       can = can_after (g.K.Validate.words false) m (g.K.Validate.absorbed m) (g.K.Validate.remaining m) (g.K.Validate.can_be false m) (g.K.Validate.ends false m) (g.K.Validate.fits false m) (g.met.K.Validate.turn_laws false m) s (c.turns.run, answer_of false c.turns.answer) (c.turn.new.run, answer_of false c.turn.new.answer) told c.turns.invariant.can turn;
       asks = asks_on (g.K.Validate.words false) m (g.K.Validate.absorbed m) (g.K.Validate.remaining m) (g.K.Validate.can_be false m) (g.K.Validate.ends false m) (g.K.Validate.fits false m) (g.met.K.Validate.turn_laws false m) s (c.turns.run, answer_of false c.turns.answer) (c.turn.new.run, answer_of false c.turn.new.answer) told no_reply unmark c.turns.invariant.can turn step unmark_goes_on c.turns.invariant.asks;
       counted = no_fewer c.args.context.now.visits c.turns.context.visits c.exit_marking.new.self.visits c.turns.invariant.counted (as_many _ _ c.exit_marking.ensures.visits);
+      worked = subst (Spends c.args.context.now.work) (sym c.exit_marking.ensures.work) c.turns.invariant.worked;
       quiet = λ none. c.exit_marking.ensures.visits ∙ c.turns.invariant.quiet none;
       leads = λ x reads l.
           let tells = tells_keyword g.K.Validate.is_whole ns (length c.args.engine.now.nodes.now) w p s x c.args.node.0 m es c.requires.asked.may.known reads c.requires.asked.stands in

@@ -22,13 +22,17 @@ use Rattle.schema_node.specs.VerdictTurns.{AsksVerdictsOn}
 use Rattle.schema_node.specs.Visits.{LeadsNowhere, PartsCount}
 use Rattle.schema_node.proofs.KeywordMeets.{MeetsSoFar}
 use Rattle.schema_contexts.specs.Progress.{busy_at}
+use Rattle.schema_contexts.specs.Works.{Spends}
 use Rattle.run_steps.specs.Turning.{EvaluatesOn}
 use Rattle.schema_node.specs.UnitStates.{child_unit}
 use Rattle.schema_parts.specs.declared.keyword.Reply.TheVariants as told
 use Rattle.schema_node.proofs.node.+verdict.Given as goal
 
 abbrev pub decreases-verdict::verdict_node : goal.decreases-verdict::verdict_node
-decreases-verdict::verdict_node g l = 20 * left (numbered g.K.Validate.shape l.engine.now.nodes.now) (length l.engine.now.nodes.now) l.node.0 (subject_of l.question.now.instance) (busy_at (steps_to l.question.now.place.now) l.context.now.in_progress) + 10
+decreases-verdict::verdict_node g l = 20 * left (numbered g.K.Validate.shape l.engine.now.nodes.now) (length l.engine.now.nodes.now) l.node.0 (subject_of l.question.now.instance) (busy_at (steps_to l.question.now.place.now) l.context.now.in_progress) + 11
+
+abbrev pub decreases-verdict::verdict_plan : goal.decreases-verdict::verdict_plan
+decreases-verdict::verdict_plan g l = 20 * left (numbered g.K.Validate.shape l.engine.now.nodes.now) (length l.engine.now.nodes.now) l.node.0 (subject_of l.question.now.instance) (busy_at (steps_to l.question.now.place.now) l.context.now.in_progress) + 10
 
 abbrev pub decreases-verdict::verdict_entries : goal.decreases-verdict::verdict_entries
 decreases-verdict::verdict_entries g l = 20 * left (numbered g.K.Validate.shape l.engine.now.nodes.now) (length l.engine.now.nodes.now) l.node.0 (subject_of l.question.now.instance) (busy_at (steps_to l.question.now.place.now) l.context.now.in_progress) + 9
@@ -49,7 +53,7 @@ abbrev pub decreases-verdict::verdict_edge : goal.decreases-verdict::verdict_edg
 decreases-verdict::verdict_edge g l = 20 * edge_needs (numbered g.K.Validate.shape l.engine.now.nodes.now) (length l.engine.now.nodes.now) (edge_of l.edge.now) (subject_of l.question.now.instance) (busy_at (steps_to l.question.now.place.now) l.context.now.in_progress) + 1
 
 abbrev pub decreases-verdict::shared_verdict : goal.decreases-verdict::shared_verdict
-decreases-verdict::shared_verdict g l = 20 * left (numbered g.K.Validate.shape l.engine.now.nodes.now) (length l.engine.now.nodes.now) l.node.0 (subject_of l.question.now.instance) (busy_at (steps_to l.question.now.place.now) l.context.now.in_progress) + 11
+decreases-verdict::shared_verdict g l = 20 * left (numbered g.K.Validate.shape l.engine.now.nodes.now) (length l.engine.now.nodes.now) l.node.0 (subject_of l.question.now.instance) (busy_at (steps_to l.question.now.place.now) l.context.now.in_progress) + 12
 
 abbrev pub decreases-verdict::guarded_verdict : goal.decreases-verdict::guarded_verdict
 decreases-verdict::guarded_verdict g l = 20 * edge_needs (numbered g.K.Validate.shape l.engine.now.nodes.now) (length l.engine.now.nodes.now) (edge_of l.edge.now) (subject_of l.question.now.instance) (busy_at (steps_to l.question.now.place.now) l.context.now.in_progress)
@@ -66,6 +70,7 @@ invariant-verdict::verdict_entries-loop-entry g l =
       assumes : l.context.remembered.assumptions ≡ l.initial.context.remembered.assumptions;
       marking : l.context.marking ≡ l.initial.context.marking;
       counted : l.initial.context.visits ≤ l.context.visits;
+      worked : Spends l.initial.context.work l.context.work;
       so_far : (x : Reading) → Reads g.K.Validate.is_whole ns (length l.engine.nodes.now) w (steps_to l.question.place.now) s x → left ns (length l.engine.nodes.now) l.node.0 s busy ≤ x.depth
           → (o : Outcome) × Replies x (mode_of l.question.mode) (told.Truth true) o
           × (both o (parts_say g.K.Validate.words ns x l.node.0 (path_of l.question.path.now) (steps_to l.question.place.now) busy (map (shaped_part g.K.Validate.shape) (map entry_of (drop l.entry-index l.entries))))
@@ -99,6 +104,7 @@ invariant-verdict_turns::take_turns-turns g l =
       kept : l.context.in_progress ≡ l.initial.context.in_progress;
       assumes : l.context.remembered.assumptions ≡ l.initial.context.remembered.assumptions;
       counted : l.initial.context.visits ≤ l.context.visits;
+      worked : Spends l.initial.context.work l.context.work;
       quiet : LeadsNowhere es → l.context.visits ≡ l.initial.context.visits;
       stays : StaysRight (setting g.K.Validate.words g.K.Validate.is_whole g.K.Validate.shape g.M.Matcher.matching l.engine) (asking l.question) l.initial.context l.context;
       can : g.K.Validate.can_be false m s (l.run, answer_of false l.answer);

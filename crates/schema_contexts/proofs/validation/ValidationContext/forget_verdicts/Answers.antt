@@ -35,6 +35,7 @@ returns-clause-forgotten c =
       entered = row_numbers i.guard;
       kept = row_numbers c.clear.new.self;
       words = words_in i.guard + words_in c.clear.new.self;
+      work = i.work;
     } in
     subst (λ (x : Context). now ≡ record x { verdicts = []; visits = 0; kept = []; words = guard_words x }) c.self.view_is
     (λ j. record {
@@ -47,4 +48,5 @@ returns-clause-forgotten c =
       entered = row_numbers i.guard;
       kept = row_numbers (none j);
       words = width j;
+      work = i.work;
     })

@@ -41,6 +41,9 @@ returns-clause-assumes g c = if_ok_mono c.evaluate_node.result _ _ (λ u keeps. 
 pub returns-clause-marking : goal.returns-clause-marking
 returns-clause-marking g c = if_ok_mono c.evaluate_node.result _ _ (λ u keeps. keeps.marking ∙ ap (λ (z : Context). z.marking) c.forget_verdicts.ensures.forgotten) c.evaluate_node.ensures.keeps
 
+pub returns-clause-works : goal.returns-clause-works
+returns-clause-works g c = rw (ap (λ (z : Context). z.work) c.forget_verdicts.ensures.forgotten) at c.evaluate_node.ensures.works
+
 pub returns-clause-gives : goal.returns-clause-gives
 returns-clause-gives g c =
     let as' = c.args.context.now.remembered.assumptions in

@@ -32,6 +32,9 @@ returns-clause-assumes g c = if_ok_mono c.run_further.result _ _ (λ r e. e ∙ 
 pub returns-clause-marking : goal.returns-clause-marking
 returns-clause-marking g c = if_ok_mono c.run_further.result _ _ (λ r e. e ∙ ap (λ (z : Context). z.marking) c.forget_verdicts.ensures.forgotten) c.run_further.ensures.marking
 
+pub returns-clause-works : goal.returns-clause-works
+returns-clause-works g c = rw (ap (λ (z : Context). z.work) c.forget_verdicts.ensures.forgotten) at c.run_further.ensures.works
+
 pub returns-clause-replies : goal.returns-clause-replies
 returns-clause-replies g c = rw c.forget_verdicts.ensures.forgotten at c.run_further.ensures.replies
 
