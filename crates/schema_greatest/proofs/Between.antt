@@ -1,15 +1,14 @@
 -- The answers that fit what is found; and how what is said is kept as more is found.
-use Rattle.std.proofs.Common.{◌≡◌, ◌∙◌, ℕ, ◌<◌, ◌++◌, ◌||◌, ◌&&◌, not, Bool, true, false, refl, sym, subst, ap, append_assoc, true≢false, inl, inr}
+use Rattle.std.proofs.Common.{◌≡◌, ◌∙◌, ℕ, ◌++◌, ◌||◌, not, Bool, true, false, refl, sym, subst, ap, append_assoc, true≢false, inl, inr}
 use Rattle.std.specs.Prelude.{None, Option, Some}
 use Rattle.std.proofs.lemmas.Bool.{false_from_ne_true, or_left, or_right}
 use Rattle.schema_definitions.specs.Instance.{Place}
 use Rattle.schema_definitions.specs.Keywords.{Below}
-use Rattle.schema_definitions.specs.Guarded.{NodeEdge}
 use Rattle.schema_definitions.specs.Meaning.{place_below}
 use Rattle.schema_definitions.proofs.Products.{in_either}
-use Rattle.schema_greatest.specs.Under.{EdgeAnswers, PairSet, Solving, by_set}
+use Rattle.schema_greatest.specs.Under.{EdgeAnswers, Solving, by_set}
 use Rattle.schema_greatest.specs.Found.{Found, Grows, accepted_now, refused, settled}
-use Rattle.schema_greatest.specs.Stages.{Fits, IsStaged, PairTells, Tells, for_now}
+use Rattle.schema_greatest.specs.Stages.{Fits, IsStaged, PairTells, for_now}
 use Rattle.schema_greatest.proofs.Under.{below_begins}
 
 -- ---- what is known

@@ -1,5 +1,5 @@
 -- How what the functions of a solver say follows from what those say that they call.
-use Rattle.std.proofs.Common.{◌≡◌, ◌∙◌, ℕ, ◌<◌, ◌&&◌, ◌||◌, Bool, true, false, List, [], ◌∷◌, refl, sym, subst, ap, ap₂, true≢false}
+use Rattle.std.proofs.Common.{◌≡◌, ◌∙◌, ℕ, ◌<◌, ◌&&◌, ◌||◌, Bool, true, false, List, [], refl, ap, ap₂}
 use Rattle.std.specs.Prelude.{None, Option, Some}
 use Rattle.std.proofs.lemmas.Bool.{or_right}
 use Rattle.schema_definitions.specs.Instance.{Place, Step}
@@ -10,7 +10,7 @@ use Rattle.schema_greatest.specs.Under.{EdgeAnswers, Solving, IsSolvable, by_set
 use Rattle.schema_greatest.specs.Found.{Found, Grows, accepted_now}
 use Rattle.schema_greatest.specs.Stages.{ChildTells, Consistent, EdgeTells, Fits, FormTells, IsStaged, PairTells, PartsTell, Tells, edges_by, parts_by}
 use Rattle.schema_greatest.proofs.Under.{under_is}
-use Rattle.schema_greatest.proofs.Between.{accepted_fits, grows_fits, grows_none, lean_less, lean_none}
+use Rattle.schema_greatest.proofs.Between.{accepted_fits, grows_fits, grows_none, lean_none}
 
 module _ {K R : Type 0} (w : Solving K R) (f : Found) (p : Place) where
   by_cut : (c x y b : Bool) → (c ≡ true → x ≡ b) → (c ≡ false → y ≡ b) → ◌≡◌ {A = Bool} (elim c [ true ↦ x | false ↦ y ]) b

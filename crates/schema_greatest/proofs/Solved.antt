@@ -1,17 +1,15 @@
 -- With no pair in progress, a solver says what numbered nodes say under guards; where each keyword is monotone, the greatest solution.
 use Rattle.std.proofs.Common.{◌≡◌, ◌∙◌, ℕ, zero, suc, ◌<◌, ◌||◌, ◌&&◌, Bool, true, false, [], refl, sym, subst, ap, arith, true≢false}
 use Rattle.std.specs.Prelude.{None, Option, Some}
-use Rattle.std.proofs.lemmas.Bool.{or_left, or_right}
+use Rattle.std.proofs.lemmas.Bool.{or_left}
 use Rattle.schema_definitions.specs.Instance.{Place}
-use Rattle.schema_definitions.specs.Guarded.{NodeEdge}
-use Rattle.schema_definitions.proofs.Products.{in_either}
 use Rattle.schema_meaning.specs.Numbered.{left, subject_in}
 use Rattle.schema_greatest.proofs.NodesSay.{nodes_say_greatest}
-use Rattle.schema_greatest.specs.Under.{EachMonotone, EdgeAnswers, PairSet, Solving, IsSolvable, FailsUnderEach, Stands, by_set, under, under_by}
-use Rattle.schema_greatest.specs.Found.{Between, Found, IsSound, SaysUnder, accepted_now, refused, settled}
-use Rattle.schema_greatest.specs.Stages.{Fits, FitsStage, IsStaged, Stages, Tells, for_now}
+use Rattle.schema_greatest.specs.Under.{EachMonotone, EdgeAnswers, PairSet, Solving, IsSolvable, FailsUnderEach, Stands, by_set, under}
+use Rattle.schema_greatest.specs.Found.{Found, IsSound, accepted_now, settled}
+use Rattle.schema_greatest.specs.Stages.{Fits, FitsStage, IsStaged}
 use Rattle.schema_greatest.specs.Solved.{IsIdle, SolverSaysGreatest, SolverSaysGuarded, StagedIsSound, TellsUnderSets, nothing_found}
-use Rattle.schema_greatest.proofs.Under.{same_bool, under_more}
+use Rattle.schema_greatest.proofs.Under.{under_more}
 use Rattle.schema_greatest.proofs.Between.{accepted_fits, by_assumed, by_busy, by_settled, is_refused, is_settled, lean_less, now_cases, refused_by, settled_by}
 use Rattle.schema_greatest.proofs.Staged.{told_guarded}
 

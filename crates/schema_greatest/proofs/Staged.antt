@@ -13,8 +13,7 @@ use Rattle.schema_meaning.specs.Numbered.{left, subject_in}
 use Rattle.schema_meaning.proofs.Alike.{verdict_by_any_path}
 use Rattle.schema_meaning.proofs.Reading.{reads_of}
 use Rattle.schema_meaning.proofs.Settles.{NodeAsks, free_falls, guarded_falls, node_local, settles}
-use Rattle.schema_greatest.specs.NodesSay.{node_holds}
-use Rattle.schema_greatest.specs.Under.{EdgeAnswers, Solving, IsSolvable, across_by, by_within, under_by}
+use Rattle.schema_greatest.specs.Under.{EdgeAnswers, Solving, IsSolvable, by_within, under_by}
 use Rattle.schema_greatest.specs.Stages.{FitsStage, Stages}
 use Rattle.schema_greatest.proofs.NodesSay.{node_verdict}
 use Rattle.schema_greatest.proofs.Pairs.{place_equal, same_place-self}

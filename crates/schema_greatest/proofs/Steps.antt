@@ -11,7 +11,7 @@ use Rattle.schema_greatest.specs.Found.{Found, Grows, NoneAt, NoneDeeper, after_
 use Rattle.schema_greatest.specs.Stages.{Fits, FitsStage, IsStaged, PairTells, Stages, Tells, for_now}
 use Rattle.schema_greatest.proofs.Under.{under_same}
 use Rattle.schema_greatest.proofs.Pairs.{no_longer, of_this, this_place, this_self, with_cases, with_others, with_self}
-use Rattle.schema_greatest.proofs.Between.{assumed_unknown, busy_unknown, lean_less, lean_none, now_assumed, now_busy, now_cases, tells_known, tells_now, with_now, with_now_fits}
+use Rattle.schema_greatest.proofs.Between.{assumed_unknown, busy_unknown, lean_less, now_assumed, now_busy, now_cases, tells_known, tells_now, with_now, with_now_fits}
 
 -- ---- by a test
 

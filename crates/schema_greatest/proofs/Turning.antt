@@ -3,17 +3,16 @@ use Rattle.std.proofs.Common.{◌≡◌, ◌∙◌, ℕ, ◌&&◌, ◌||◌, Boo
 use Rattle.std.specs.Prelude.{None, Option, Some}
 use Rattle.schema_definitions.specs.Instance.{Place, Subject, Text}
 use Rattle.schema_definitions.specs.Reports.{Outcome, accepted}
-use Rattle.schema_definitions.specs.Keywords.{Answer, Below, Marked, Question, Reply, Turn, ask, done, for_verdict, no_reply, truth}
-use Rattle.schema_definitions.specs.Meaning.{place_below}
+use Rattle.schema_definitions.specs.Keywords.{Answer, Below, Marked, Question, Reply, Turn, done, for_verdict, no_reply}
 use Rattle.schema_definitions.specs.Laws.{Agrees, AnsweredAlike, IsRight}
 use Rattle.schema_definitions.specs.Turns.{Standing, TurnLaws, marks_after, next, reply_to}
 use Rattle.schema_definitions.specs.Guarded.{Children, NodeEdge, node_child, node_keyword, same_edge}
 use Rattle.schema_meaning.specs.Numbered.{subject_in}
 use Rattle.schema_meaning.proofs.Alike.{EdgesAlike, children_alike}
 use Rattle.schema_meaning.specs.Greatest.{IsMonotone}
-use Rattle.schema_greatest.specs.Under.{EdgeAnswers, Solving, IsSolvable, under_by}
+use Rattle.schema_greatest.specs.Under.{EdgeAnswers, Solving, IsSolvable}
 use Rattle.schema_greatest.specs.Found.{Found, Grows}
-use Rattle.schema_greatest.specs.Stages.{ChildTells, Consistent, EdgeTells, Fits as FitsFound, FormTells, IsStaged, child_by, edges_by}
+use Rattle.schema_greatest.specs.Stages.{Consistent, Fits as FitsFound, FormTells, IsStaged, child_by, edges_by}
 use Rattle.schema_greatest.specs.Turning.{EndsBy, Given, TurnsBy, answers_by, matches_here, outcome_with, stands_by, subject_here, units_by}
 use Rattle.schema_greatest.proofs.Between.{lean_none}
 use Rattle.schema_greatest.proofs.Says.{consistent_grows, consistent_with, fits_consistent, with_now_consistent}

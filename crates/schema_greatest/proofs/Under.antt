@@ -5,7 +5,7 @@ use Rattle.schema_definitions.specs.Instance.{Place}
 use Rattle.schema_definitions.specs.Keywords.{Below, here, down}
 use Rattle.schema_definitions.specs.Meaning.{place_below}
 use Rattle.schema_definitions.specs.Reports.{Outcome}
-use Rattle.schema_definitions.specs.Guarded.{NodeEdge, node_outcome}
+use Rattle.schema_definitions.specs.Guarded.{NodeEdge}
 use Rattle.schema_meaning.specs.Numbered.{left, subject_in}
 use Rattle.schema_meaning.proofs.Reading.{Reads, reads_of}
 use Rattle.schema_meaning.proofs.Settles.{NodeAsks, free_falls, node_local}

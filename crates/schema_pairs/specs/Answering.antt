@@ -4,14 +4,14 @@ use Rattle.serde_json.specs.declared.value.Value.{Value}
 use Rattle.schema_definitions.specs.Instance.{Place}
 use Rattle.schema_contexts.specs.Verdicts.{Remembers, one_more, verdict_of}
 use Rattle.schema_pairs.specs.Contexts.{SettlesAll, Solver, has_pair}
-use Rattle.schema_pairs.specs.declared.said.Said.{Said}
+use Rattle.schema_pairs.specs.Saying.{WhatIsSaid}
 
 -- nothing is in progress, assumed, known or marked, and no pair was begun
 abbrev pub fresh : Value → Solver
 fresh v = record { root = v; in_progress = []; assumed = []; verdicts = []; marking = []; begun = 0 }
 
 -- what is found of a pair: its verdict, which leans on nothing, where that is known, or a yes that leans, where it is in progress or assumed
-abbrev pub IsFound : ℕ → Place → Solver → Said → Type 0
+abbrev pub IsFound : ℕ → Place → Solver → WhatIsSaid → Type 0
 IsFound i p c s = ((verdict_of i p c.verdicts ≡ Some s.valid) × (s.leans ≡ false))
     ⊎ ((s.valid ≡ true) × (s.leans ≡ true) × ((has_pair c.in_progress i p || has_pair c.assumed i p) ≡ true))
 
@@ -51,7 +51,7 @@ abbrev pub SettlesBeside : ℕ → Place → Solver → Solver → Type 0
 SettlesBeside i p old new = IsBeside p old × (new.assumed ≡ old.assumed) × Remembers i p true old.verdicts new.verdicts
 
 -- so a yes is kept, and the pair is answered a yes then that leans where it is assumed
-abbrev pub Accepts : ℕ → Place → ℕ → Said → Said → Solver → Solver → Type 0
+abbrev pub Accepts : ℕ → Place → ℕ → WhatIsSaid → WhatIsSaid → Solver → Solver → Type 0
 Accepts i p mark said now old new = (SettlesAlone i p mark old new × (now.leans ≡ false))
     ⊎ ((AssumesBeside i p old new × (now.leans ≡ true))
     ⊎ (SettlesBeside i p old new × (said.leans ≡ false) × (now.leans ≡ false)))

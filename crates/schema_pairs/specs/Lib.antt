@@ -1,5 +1,6 @@
 pub mod Contexts
 pub mod ContextViews
+pub mod Saying
 pub mod Answering
 pub mod Lending
 pub mod SolverPairs

@@ -88,10 +88,7 @@ fn room_after(pairs: usize) -> usize
 fn for_now() -> Said
     ensures yes { result ≡ record { valid = true; leans = true } }
 {
-    Said {
-        valid: true,
-        leans: true,
-    }
+    Said::of(true, true)
 }
 
 // Remembers the verdict of a pair; there are so many places. Fails only if memory cannot be allocated, and then nothing has changed.
@@ -192,10 +189,7 @@ impl<'i> SolverContext<'i> {
         ensures free { result ≡ None → has_pair self.now.assumed node.0 (place_at (solver_places self.now) place) ≡ false }
     {
         if let Some(verdict) = self.known.verdict_in(node.0, place) {
-            return Some(Said {
-                valid: verdict,
-                leans: false,
-            });
+            return Some(Said::settled(verdict));
         }
         if self.guard.has_bit(node.0, place) {
             return Some(for_now());
@@ -352,7 +346,7 @@ impl<'i> SolverContext<'i> {
         ensures marking { self.new.marking ≡ self.old.marking }
         ensures begun { self.new.begun ≡ self.old.begun }
     {
-        if !said.valid {
+        if !said.valid() {
             self.remember(node, place, false)?;
         } else if self.is_idle(place) {
             self.settle(node, place, mark)?;
@@ -360,10 +354,7 @@ impl<'i> SolverContext<'i> {
             return self.keep_beside(node, place, said);
         }
         self.drop_since(mark);
-        Ok(Said {
-            valid: said.valid,
-            leans: false,
-        })
+        Ok(Said::settled(said.valid()))
     }
 
     // Keeps a yes beside another pair in progress at the place: for good where it leans on nothing, and else it is assumed. On `Err`
@@ -388,7 +379,7 @@ impl<'i> SolverContext<'i> {
         ensures marking { self.new.marking ≡ self.old.marking }
         ensures begun { self.new.begun ≡ self.old.begun }
     {
-        if said.leans {
+        if said.leans() {
             self.assume(node, place)?;
         } else {
             self.remember(node, place, true)?;

@@ -1,6 +1,6 @@
 -- What falls with each question of a solver, and what the functions of edges and of pairs are asked and say.
 use Rattle.std.proofs.Common.{◌≡◌, ◌∙◌, ℕ, suc, ◌<◌, ◌≤◌, ◌==◌, ◌++◌, ◌||◌, ◌&&◌, not, Bool, true, false, inl, inr, List, [], ◌∷◌, length, refl, sym, subst, ap, arith, true≢false}
-use Rattle.std.specs.Prelude.{Contains, None, Some, drop, take, ◌⊎◌}
+use Rattle.std.specs.Prelude.{Contains, None, Some, drop, take}
 use Rattle.std.specs.List.{list_any}
 use Rattle.std.proofs.lemmas.Bool.{false_from_ne_true, or_left}
 use Rattle.std.proofs.lemmas.List.{drop_at, take_at}
@@ -11,7 +11,6 @@ use Rattle.schema_definitions.specs.Guarded.{Children, NodeEdge, NodePart, Nodes
 use Rattle.schema_definitions.specs.Keywords.{Answer}
 use Rattle.schema_definitions.specs.Turns.{Standing, TurnLaws}
 use Rattle.schema_definitions.specs.Laws.{EachKeeps}
-use Rattle.schema_definitions.proofs.Products.{in_either}
 use Rattle.schema_meaning.specs.Numbered.{Ranked, left, subject_in}
 use Rattle.schema_meaning.proofs.Falls.{left_below, left_entered, left_lower, step_falls}
 use Rattle.schema_places.specs.Numbers.{OwnNumbers, number_of}
@@ -29,8 +28,8 @@ use Rattle.schema_greatest.proofs.Between.{grows_fits, lean_less, tells_known, t
 use Rattle.schema_greatest.proofs.Turning.{at_once_by}
 use Rattle.schema_pairs.specs.Contexts.{SettlesAll, Solver, found_of, has_pair, solver_places}
 use Rattle.schema_pairs.specs.Answering.{Accepts, Begins, IsFound, Refuses}
-use Rattle.schema_pairs.specs.declared.said.Said.{Said}
-use Rattle.schema_solver.specs.Solving.{Goes, HasEachCut, InEach, IsNew, Leaves, MaySolve, Setting, is_cut, solving_in}
+use Rattle.schema_pairs.specs.Saying.{WhatIsSaid}
+use Rattle.schema_solver.specs.Solving.{Goes, HasEachCut, HasRoom, InEach, IsNew, Leaves, MaySolve, Setting, is_cut, solving_in}
 use Rattle.schema_solver.specs.Needs.{PairRan, SaysTheRest, edge_needs, pair_needs}
 use Rattle.schema_solver.proofs.PairSteps.{assumed_goes, assumed_says, freed_goes, freed_says, refused_goes, refused_says, settled_goes, settled_says}
 use Rattle.schema_solver.proofs.PlacesOnce.{once_from_own, there_from_number}
@@ -109,7 +108,7 @@ at_pair {m = m} {i = i} {q = q} {p = p} {d = d} {c = c} F node place same h = su
 
 module _ {K R : Type 0} (g : Setting K R) (old : Solver) (s : Subject) (p : Place) (i : ℕ) (may : MaySolve g old s p i) where
   -- what is found of a pair is what it says
-  pub found_says : (said : Said) → IsFound i p old said → PairTells (found_of old) i p said.valid said.leans
+  pub found_says : (said : WhatIsSaid) → IsFound i p old said → PairTells (found_of old) i p said.valid said.leans
   found_says said found = elim found [
     | inl (known, free) ↦ tells_known (found_of old) i p said.valid said.leans known
     | inr (is, leans, held) ↦ subst (λ b. PairTells (found_of old) i p b said.leans) (sym is) (subst (PairTells (found_of old) i p true) (sym leans) (tells_now (found_of old) i p held))
@@ -137,14 +136,15 @@ module _ {K R : Type 0} (g : Setting K R) (old : Solver) (p : Place) (i : ℕ) w
     once = once_from_own (solver_places old) own;
   }
 
-  pub pair_ran : (m : ℕ) (q r : Place) (c b e x : Solver) (mark : ℕ) (v : Said) → m ≡ i → q ≡ p → c ≡ old → r ≡ q
+  pub pair_ran : (m : ℕ) (q r : Place) (c b e x : Solver) (mark : ℕ) (v : WhatIsSaid) → m ≡ i → q ≡ p → c ≡ old → r ≡ q
       → verdict_of m q c.verdicts ≡ None → has_pair c.in_progress m q ≡ false → has_pair c.assumed m q ≡ false
       → (n : ℕ) → number_of q (solver_places old) ≡ Some n → OwnNumbers (solver_places old) → ((ns : List ℕ) → HasEachCut g ns → list_any (λ k. i == k) ns ≡ true)
-      → Begins m q c b → Goes g r b e → InEach g (view e.root) (λ texts w. Tells w (found_of e) i r v.valid v.leans) → mark ≡ length c.assumed
+      → HasRoom g c → Begins m q c b → Goes g r b e → InEach g (view e.root) (λ texts w. Tells w (found_of e) i r v.valid v.leans) → mark ≡ length c.assumed
       → e.in_progress ≡ x.in_progress ++ (m, q) ∷ [] → x.root ≡ e.root → x.assumed ≡ e.assumed → x.verdicts ≡ e.verdicts → x.marking ≡ e.marking → x.begun ≡ e.begun
       → PairRan g old b e x p i mark v
-  pair_ran m q r c b e x mark v node place same at_q unknown idle free n numbered own among begins went says at_mark left root assumed verdicts marking begun = record {
+  pair_ran m q r c b e x mark v node place same at_q unknown idle free n numbered own among room begins went says at_mark left root assumed verdicts marking begun = record {
     is_new = pair_new m q c node place same unknown idle free n numbered own among;
+    room = at_pair (λ k z c. HasRoom g c) node place same room;
     begins = at_pair (λ k z c. Begins k z c b) node place same begins;
     went = subst (λ z. Goes g z b e) (at_q ∙ place) went;
     says = subst (λ z. InEach g (view e.root) (λ texts w. Tells w (found_of e) i z v.valid v.leans)) (at_q ∙ place) says;
@@ -157,7 +157,7 @@ module _ {K R : Type 0} (g : Setting K R) (old : Solver) (p : Place) (i : ℕ) w
     begun_still = begun;
   }
 
-  module _ (b e x : Solver) (mark : ℕ) (v : Said) (ran : PairRan g old b e x p i mark v) where
+  module _ (b e x : Solver) (mark : ℕ) (v : WhatIsSaid) (ran : PairRan g old b e x p i mark v) where
     in_progress_then : e.in_progress ≡ old.in_progress ++ (i, p) ∷ []
     in_progress_then = ran.went.in_progress ∙ ran.begins.in_progress
 
@@ -185,7 +185,7 @@ module _ {K R : Type 0} (g : Setting K R) (old : Solver) (p : Place) (i : ℕ) w
       ran_settles settles = subst (λ es. SettlesAll ((i, p) ∷ es) e.verdicts n.verdicts) since_mark (subst (λ vs. SettlesAll ((i, p) ∷ drop mark x.assumed) vs n.verdicts) ran.verdicts settles)
 
 module _ {K R : Type 0} (g : Setting K R) (laws : (texts : Bool) → EachKeeps (g.words texts)) (old : Solver) (s : Subject) (p : Place) (i : ℕ) (may : MaySolve g old s p i)
-    (b e x : Solver) (mark : ℕ) (v : Said) (ran : PairRan g old b e x p i mark v)
+    (b e x : Solver) (mark : ℕ) (v : WhatIsSaid) (ran : PairRan g old b e x p i mark v)
     (n : Solver) (root : n.root ≡ x.root) (still : n.in_progress ≡ x.in_progress) (marking : n.marking ≡ x.marking) (begun : n.begun ≡ x.begun) where
   leaves : Leaves old e n
   leaves = ran_leaves g old p i b e x mark v ran n root still marking begun
@@ -194,18 +194,18 @@ module _ {K R : Type 0} (g : Setting K R) (laws : (texts : Bool) → EachKeeps (
   ran_says c l is leans = subst (λ l. InEach g (view e.root) (λ texts w. Tells w (found_of e) i p c l)) leans (subst (λ c. InEach g (view e.root) (λ texts w. Tells w (found_of e) i p c v.leans)) is ran.says)
 
   -- what is left and said of the pair: it goes on, and the pair says this
-  abbrev Kept : Said → Type 0
+  abbrev Kept : WhatIsSaid → Type 0
   Kept now = Goes g p old n × PairTells (found_of n) i p now.valid now.leans
 
-  kept_as : (now : Said) (c l : Bool) → now.valid ≡ c → now.leans ≡ l → PairTells (found_of n) i p c l → PairTells (found_of n) i p now.valid now.leans
+  kept_as : (now : WhatIsSaid) (c l : Bool) → now.valid ≡ c → now.leans ≡ l → PairTells (found_of n) i p c l → PairTells (found_of n) i p now.valid now.leans
   kept_as now c l is leans tells = subst (λ c. PairTells (found_of n) i p c now.leans) (sym is) (subst (PairTells (found_of n) i p c) (sym leans) tells)
 
   module _ (is_no : v.valid ≡ false) (dropped : n.assumed ≡ take mark x.assumed) (refused : Remembers i p false x.verdicts n.verdicts) where
-    ran_refused : (now : Said) → now.valid ≡ false → Kept now
+    ran_refused : (now : WhatIsSaid) → now.valid ≡ false → Kept now
     ran_refused now is = (
-      refused_goes g laws old b s p i may ran.is_new ran.begins e n ran.went leaves v.leans (ran_says false v.leans is_no refl)
+      refused_goes g laws old b s p i may ran.is_new ran.begins ran.room e n ran.went leaves v.leans (ran_says false v.leans is_no refl)
           (dropped ∙ before_mark g old p i b e x mark v ran) (subst (λ vs. Remembers i p false vs n.verdicts) ran.verdicts refused),
-      kept_as now false now.leans is refl (refused_says g laws old b s p i may ran.is_new ran.begins e n ran.went leaves v.leans (ran_says false v.leans is_no refl)
+      kept_as now false now.leans is refl (refused_says g laws old b s p i may ran.is_new ran.begins ran.room e n ran.went leaves v.leans (ran_says false v.leans is_no refl)
           (dropped ∙ before_mark g old p i b e x mark v ran) (subst (λ vs. Remembers i p false vs n.verdicts) ran.verdicts refused) now.leans),
     )
 
@@ -213,34 +213,34 @@ module _ {K R : Type 0} (g : Setting K R) (laws : (texts : Bool) → EachKeeps (
     beside_old : (k : ℕ) → has_pair x.in_progress k p ≡ true → has_pair old.in_progress k p ≡ true
     beside_old k beside = ap (λ es. has_pair es k p) (sym (sym still ∙ leaves.in_progress)) ∙ beside
 
-    ran_assumed : (k : ℕ) → has_pair x.in_progress k p ≡ true → n.assumed ≡ x.assumed ++ (i, p) ∷ [] → n.verdicts ≡ x.verdicts → (now : Said) → now.valid ≡ true → now.leans ≡ true → Kept now
+    ran_assumed : (k : ℕ) → has_pair x.in_progress k p ≡ true → n.assumed ≡ x.assumed ++ (i, p) ∷ [] → n.verdicts ≡ x.verdicts → (now : WhatIsSaid) → now.valid ≡ true → now.leans ≡ true → Kept now
     ran_assumed k beside pushed verdicts now is yes_leans = (
-      assumed_goes g laws old b s p i may ran.is_new ran.begins e n ran.went leaves v.leans (ran_says true v.leans is_yes refl) k (beside_old k beside)
+      assumed_goes g laws old b s p i may ran.is_new ran.begins ran.room e n ran.went leaves v.leans (ran_says true v.leans is_yes refl) k (beside_old k beside)
           (pushed ∙ ap (λ es. es ++ (i, p) ∷ []) ran.assumed) (verdicts ∙ ran.verdicts),
-      kept_as now true true is yes_leans (assumed_says g laws old b s p i may ran.is_new ran.begins e n ran.went leaves v.leans (ran_says true v.leans is_yes refl) k (beside_old k beside)
+      kept_as now true true is yes_leans (assumed_says g laws old b s p i may ran.is_new ran.begins ran.room e n ran.went leaves v.leans (ran_says true v.leans is_yes refl) k (beside_old k beside)
           (pushed ∙ ap (λ es. es ++ (i, p) ∷ []) ran.assumed) (verdicts ∙ ran.verdicts)),
     )
 
-    ran_freed : v.leans ≡ false → (k : ℕ) → has_pair x.in_progress k p ≡ true → n.assumed ≡ x.assumed → Remembers i p true x.verdicts n.verdicts → (now : Said) → now.valid ≡ true → Kept now
+    ran_freed : v.leans ≡ false → (k : ℕ) → has_pair x.in_progress k p ≡ true → n.assumed ≡ x.assumed → Remembers i p true x.verdicts n.verdicts → (now : WhatIsSaid) → now.valid ≡ true → Kept now
     ran_freed free k beside same kept now is = (
-      freed_goes g laws old b s p i may ran.is_new ran.begins e n ran.went leaves (ran_says true false is_yes free) k (beside_old k beside)
+      freed_goes g laws old b s p i may ran.is_new ran.begins ran.room e n ran.went leaves (ran_says true false is_yes free) k (beside_old k beside)
           (same ∙ ran.assumed) (subst (λ vs. Remembers i p true vs n.verdicts) ran.verdicts kept),
-      kept_as now true now.leans is refl (freed_says g laws old b s p i may ran.is_new ran.begins e n ran.went leaves (ran_says true false is_yes free) k (beside_old k beside)
+      kept_as now true now.leans is refl (freed_says g laws old b s p i may ran.is_new ran.begins ran.room e n ran.went leaves (ran_says true false is_yes free) k (beside_old k beside)
           (same ∙ ran.assumed) (subst (λ vs. Remembers i p true vs n.verdicts) ran.verdicts kept) now.leans),
     )
 
     none_old : ((k : ℕ) → has_pair x.in_progress k p ≡ false) → NoneAt p (found_of old)
     none_old none k = ap (λ es. has_pair es k p) (sym (sym still ∙ leaves.in_progress)) ∙ none k
 
-    ran_settled : ((k : ℕ) → has_pair x.in_progress k p ≡ false) → n.assumed ≡ take mark x.assumed → SettlesAll ((i, p) ∷ drop mark x.assumed) x.verdicts n.verdicts → (now : Said) → now.valid ≡ true → Kept now
+    ran_settled : ((k : ℕ) → has_pair x.in_progress k p ≡ false) → n.assumed ≡ take mark x.assumed → SettlesAll ((i, p) ∷ drop mark x.assumed) x.verdicts n.verdicts → (now : WhatIsSaid) → now.valid ≡ true → Kept now
     ran_settled none dropped settles now is = (
-      settled_goes g laws old b s p i may ran.is_new ran.begins e n ran.went leaves v.leans (ran_says true v.leans is_yes refl) (none_old none)
+      settled_goes g laws old b s p i may ran.is_new ran.begins ran.room e n ran.went leaves v.leans (ran_says true v.leans is_yes refl) (none_old none)
           (dropped ∙ before_mark g old p i b e x mark v ran) (ran_settles g old p i b e x mark v ran n root still marking begun settles),
-      kept_as now true now.leans is refl (settled_says g laws old b s p i may ran.is_new ran.begins e n ran.went leaves v.leans (ran_says true v.leans is_yes refl) (none_old none)
+      kept_as now true now.leans is refl (settled_says g laws old b s p i may ran.is_new ran.begins ran.room e n ran.went leaves v.leans (ran_says true v.leans is_yes refl) (none_old none)
           (dropped ∙ before_mark g old p i b e x mark v ran) (ran_settles g old p i b e x mark v ran n root still marking begun settles) now.leans),
     )
 
-    ran_accepted : (now : Said) → now.valid ≡ true → Accepts i p mark v now x n → Kept now
+    ran_accepted : (now : WhatIsSaid) → now.valid ≡ true → Accepts i p mark v now x n → Kept now
     ran_accepted now is accepts = elim accepts [
       | inl ((none, dropped, settles), free) ↦ ran_settled none dropped settles now is
       | inr other ↦ elim other [
@@ -253,7 +253,7 @@ module _ {K R : Type 0} (g : Setting K R) (laws : (texts : Bool) → EachKeeps (
   either_way false f h = f refl
   either_way true f h = h refl
 
-  pub ran_kept : (now : Said) → now.valid ≡ v.valid → (v.valid ≡ false → Refuses i p mark x n) → (v.valid ≡ true → Accepts i p mark v now x n) → Goes g p old n × PairTells (found_of n) i p now.valid now.leans
+  pub ran_kept : (now : WhatIsSaid) → now.valid ≡ v.valid → (v.valid ≡ false → Refuses i p mark x n) → (v.valid ≡ true → Accepts i p mark v now x n) → Goes g p old n × PairTells (found_of n) i p now.valid now.leans
   ran_kept now same as_no as_yes = either_way v.valid
       (λ is. let (dropped, refused) = as_no is in ran_refused is dropped refused now (same ∙ is))
       (λ is. ran_accepted is now (same ∙ is) (as_yes is))

@@ -1,6 +1,6 @@
 -- Steps of a solver one after another, how it begins, and what it says at the end.
-use Rattle.std.proofs.Common.{◌≡◌, ◌∙◌, ℕ, ◌++◌, ◌<◌, ◌≤◌, ◌||◌, not, Bool, true, false, [], length, refl, sym, subst, ap, ap₂, append_assoc, arith, true≢false}
-use Rattle.std.specs.Prelude.{Some}
+use Rattle.std.proofs.Common.{◌≡◌, ◌∙◌, ℕ, ◌++◌, ◌<◌, ◌≤◌, ◌||◌, not, Bool, true, false, [], length, refl, sym, subst, ap, ap₂, append_assoc, arith, true≢false, suc}
+use Rattle.std.specs.Prelude.{IfSome, None, Option, Some}
 use Rattle.std.proofs.lemmas.Bool.{false_from_ne_true, or_left}
 use Rattle.std.proofs.lemmas.List.{append-nil}
 use Rattle.std.proofs.lemmas.List.Elements.{All-nil}
@@ -19,15 +19,15 @@ use Rattle.schema_contexts.specs.Verdicts.{verdict_of}
 use Rattle.schema_meaning.specs.Numbered.{Ranked, left, subject_in}
 use Rattle.schema_greatest.specs.Under.{Solving, IsSolvable}
 use Rattle.schema_greatest.specs.Found.{Found, IsSound}
-use Rattle.schema_greatest.specs.Stages.{Fits, IsStaged, Tells}
-use Rattle.schema_greatest.specs.Work.{IsCounted, pairs_of}
+use Rattle.schema_greatest.specs.Stages.{IsStaged, Tells}
+use Rattle.schema_greatest.specs.Work.{IsBoundedBy, IsCounted, pairs_of}
 use Rattle.schema_greatest.proofs.Between.{grows_below, grows_none, grows_on, lean_less}
 use Rattle.schema_greatest.proofs.Solved.{nothing_staged, solver_says_guarded, staged_is_sound, tells_under_sets}
 use Rattle.schema_greatest.proofs.Staged.{told_guarded}
 use Rattle.schema_greatest.proofs.Bounds.{bounded_by}
 use Rattle.schema_pairs.specs.Contexts.{Solver, found_of, has_pair}
 use Rattle.schema_pairs.specs.Answering.{fresh}
-use Rattle.schema_solver.specs.Solving.{BeginsFew, Goes, HoldsAsNodes, InEach, IsSoundIn, IsStagedIn, MaySolve, RestsOnFound, SaysAsNodes, Setting, StaysCounted, solving_in}
+use Rattle.schema_solver.specs.Solving.{BeginsFew, Goes, HoldsAsNodes, InEach, IsLate, IsSoundIn, IsStagedIn, LimitWithinBound, MaySolve, RestsOnFound, SaysAsNodes, Setting, StaysCounted, StaysWithin, solving_in}
 use Rattle.schema_pairs.proofs.FoundOf.{has_append}
 
 module _ {K R : Type 0} (g : Setting K R) where
@@ -46,6 +46,7 @@ module _ {K R : Type 0} (g : Setting K R) where
     grew = grows_none p (found_of c);
     sound = sound;
     counted = λ ns each counted. counted;
+    within = λ most limit few. few;
   }
 
   pub goes_on : (p : Place) (a b c : Solver) → Goes g p a b → Goes g p b c → Goes g p a c
@@ -62,6 +63,7 @@ module _ {K R : Type 0} (g : Setting K R) where
     grew = grows_on p (found_of a) (found_of b) (found_of c) first.grew second.grew;
     sound = second.sound;
     counted = counted_on a b c first.root first.counted second.counted;
+    within = λ most limit few. second.within most limit (first.within most limit few);
   }
 
   -- a step at a place below is one of what is asked there
@@ -75,6 +77,7 @@ module _ {K R : Type 0} (g : Setting K R) where
     grew = grows_below p b (found_of c) (found_of c') went.grew;
     sound = went.sound;
     counted = went.counted;
+    within = went.within;
   }
 
   -- what may be asked may be asked after a step
@@ -86,6 +89,17 @@ module _ {K R : Type 0} (g : Setting K R) where
     above = subst (NoDeeper p) (sym went.in_progress) may.above;
     stands = ap (λ v. subject_at (view v) p) went.root ∙ may.stands;
     sound = went.sound;
+  }
+
+  -- ---- where it stops
+
+  -- a limit that is met after a step
+  pub late_on : (p : Place) (a b : Solver) → Goes g p a b → IsLate g b → IsLate g a
+  late_on p a b went late = record {
+    most = late.most;
+    limit = late.limit;
+    within_bound = λ ns each counted. subst (λ v. IsCounted (pairs_of ns (root_places v)) (length ns) (found_of b) b.begun → IsBoundedBy ns (root_places v) (suc late.most)) went.root
+        (late.within_bound ns each) (went.counted ns each counted);
   }
 
   -- ---- as it begins
@@ -103,6 +117,17 @@ module _ {K R : Type 0} (g : Setting K R) where
     stands = refl;
     sound = fresh_staged v;
   }
+
+  -- where it goes on it stays within the limit, and a limit that is met is below the bound
+  pub root_within : (v : Value) (c : Solver) → StaysWithin g (fresh v) c → IfSome g.most (λ most. c.begun ≤ most)
+  root_within v c within = if_some g.most (λ most limit. within most limit (omega arith))
+    where
+      if_some : (limit : Option ℕ) → ((most : ℕ) → limit ≡ Some most → c.begun ≤ most) → IfSome limit (λ most. c.begun ≤ most)
+      if_some None few = tt
+      if_some (Some most) few = few most refl
+
+  pub root_late : (v : Value) → IsLate g (fresh v) → IfSome g.most (LimitWithinBound g v)
+  root_late v late = subst (λ limit. IfSome limit (LimitWithinBound g v)) (sym late.limit) (λ ns each. late.within_bound ns each (omega arith))
 
   -- ---- at the end
 
@@ -151,6 +176,9 @@ module _ {K R : Type 0} (g : Setting K R) where
             let stages = (staged texts tells).stages in
             told_guarded (solving_in g (view v) texts) (solvable texts) (found_of c).known stages j path p [] (stages.stage j p) b (stages.inside j p b known) (stages.rests j p b known) (λ k there. absurd (true≢false (sym there))) n low
 
-    -- and few pairs were begun
+    -- and few pairs were begun, no more than may be
     pub end_few : BeginsFew g v c.begun
     end_few ns each = bounded_by ns (root_places v) (found_of c) c.begun (went.counted ns each (omega arith))
+
+    pub end_within : IfSome g.most (λ most. c.begun ≤ most)
+    end_within = root_within v c went.within

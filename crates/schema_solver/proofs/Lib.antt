@@ -4,3 +4,4 @@ pub mod PlacesOnce
 pub mod Asking
 pub mod Crossing
 pub mod Turned
+pub mod Stopping

@@ -1,5 +1,6 @@
 -- What a pair's function does and says, by what the run of its node does and says.
-use Rattle.std.proofs.Common.{◌+◌, ◌≡◌, ◌∙◌, ℕ, ◌++◌, ◌≤◌, ◌||◌, not, Bool, true, false, List, [], ◌∷◌, length, sym, subst, ap, ap₂, append_assoc, arith, true≢false}
+use Rattle.std.proofs.Common.{suc, ◌+◌, ◌<◌, ◌≡◌, ◌∙◌, ℕ, ◌++◌, ◌≤◌, ◌||◌, not, Bool, true, false, List, [], ◌∷◌, length, sym, subst, ap, ap₂, append_assoc, arith, true≢false}
+use Rattle.std.specs.Prelude.{Some}
 use Rattle.std.proofs.Math.Nat.{min-le_left}
 use Rattle.std.proofs.lemmas.Bool.{or_left}
 use Rattle.std.proofs.lemmas.List.{append-nil}
@@ -16,14 +17,14 @@ use Rattle.run_steps.specs.NodeRuns.{TellsAll}
 use Rattle.schema_greatest.specs.Under.{Solving, IsSolvable}
 use Rattle.schema_greatest.specs.Found.{Grows, NoneAt, NoneDeeper, after_no, after_yes, after_yes_alone, after_yes_free, entered, is_this}
 use Rattle.schema_greatest.specs.Stages.{IsStaged, PairTells, Tells, for_now}
-use Rattle.schema_greatest.specs.Work.{IsCounted, Pairs as AllPairs, pairs_of}
+use Rattle.schema_greatest.specs.Work.{IsBoundedBy, IsCounted, Pairs as AllPairs, pairs_of}
 use Rattle.schema_greatest.proofs.Pairs.{of_this, this_place}
 use Rattle.schema_greatest.proofs.Steps.{alone_grows, alone_says, alone_sound, assumes_grows, assumes_says, assumes_sound, entered_sound, free_grows, free_says, free_sound, no_grows, no_says, no_sound}
 use Rattle.schema_greatest.proofs.Work.{assumed_counts, entered_counts, freed_counts, refused_counts, settled_counts}
-use Rattle.schema_greatest.proofs.Bounds.{pairs_among, pairs_few}
+use Rattle.schema_greatest.proofs.Bounds.{bounded_by, pairs_among, pairs_few}
 use Rattle.schema_pairs.specs.Contexts.{SettlesAll, Solver, found_of, has_pair, solver_places}
 use Rattle.schema_pairs.specs.Answering.{Begins}
-use Rattle.schema_solver.specs.Solving.{Goes, HasEachCut, InEach, IsNew, Leaves, MaySolve, Setting, solving_in}
+use Rattle.schema_solver.specs.Solving.{Goes, HasEachCut, HasRoom, InEach, IsLate, IsNew, Leaves, MaySolve, Setting, StaysWithin, solving_in}
 use Rattle.schema_pairs.proofs.FoundOf.{has_pushed, found_assumed, found_entered, found_freed, found_refused, found_settled}
 
 -- what no pair in progress lies deeper than is so of what is found
@@ -38,6 +39,49 @@ pushed_apart : (i : ℕ) (p : Place) (old more : Pairs) → has_pair old i p ≡
     → (j : ℕ) (q : Place) → has_pair (more ++ (i, p) ∷ []) j q ≡ true → has_pair old j q ≡ false
 pushed_apart i p old more free apart j q is = in_either (is_this i p j q) (has_pair more j q)
     (λ this. of_this (λ m r. has_pair old m r ≡ false) i p j q this free) (apart j q) (sym (has_pushed more i p j q) ∙ is)
+
+-- ---- as a pair is begun
+
+module _ {K R : Type 0} (g : Setting K R) (old : Solver) (p : Place) (i : ℕ) where
+  -- no more pairs are begun than may be
+  pub within_begun : (b : Solver) → Begins i p old b → HasRoom g old → StaysWithin g old b
+  within_begun b begins room most limit few =
+      let capped = min-le_left (old.begun + 1) 18446744073709551615 in
+      let fewer : old.begun < most = room most limit in
+      omega (arith, begins.begun, capped, fewer)
+
+  module _ (is_new : IsNew g old p i) where
+    abbrev AllOf : List ℕ → AllPairs
+    AllOf ns = pairs_of ns (solver_places old)
+
+    -- one pair more is counted
+    counted_more : (ns : List ℕ) → HasEachCut g ns → IsCounted (AllOf ns) (length ns) (found_of old) old.begun → IsCounted (AllOf ns) (length ns) (entered (found_of old) i p) (old.begun + 1)
+    counted_more ns each counted = entered_counts (AllOf ns) (length ns) (found_of old) i p old.begun (pairs_among ns (solver_places old) i p (is_new.among ns each) is_new.there) is_new.unknown is_new.idle is_new.free counted
+
+    pub counted_begun : (b : Solver) → Begins i p old b → (ns : List ℕ) → HasEachCut g ns → IsCounted (AllOf ns) (length ns) (found_of old) old.begun → IsCounted (AllOf ns) (length ns) (found_of b) b.begun
+    counted_begun b begins ns each counted = subst (λ f. IsCounted (AllOf ns) (length ns) f b.begun) (sym (found_entered i p old b begins.in_progress begins.assumed begins.verdicts))
+        (let more = counted_more ns each counted in
+        let few = min-le_left (old.begun + 1) 18446744073709551615 in
+        omega (arith, begins.begun, few, more))
+
+    -- so where no more may be begun, the limit is below the bound
+    pub late_here : (most : ℕ) → g.most ≡ Some most → most ≤ old.begun → IsLate g old
+    late_here most limit full = record {
+      most = most;
+      limit = limit;
+      within_bound = λ ns each counted.
+          let bound : IsBoundedBy ns (solver_places old) (old.begun + 1) = bounded_by ns (solver_places old) (entered (found_of old) i p) (old.begun + 1) (counted_more ns each counted) in
+          omega (arith, bound, full);
+    }
+
+    -- and where a limit is met once it is begun
+    pub late_begun : (b : Solver) → Begins i p old b → IsLate g b → IsLate g old
+    late_begun b begins late = record {
+      most = late.most;
+      limit = late.limit;
+      within_bound = λ ns each counted. subst (λ v. IsCounted (pairs_of ns (root_places v)) (length ns) (found_of b) b.begun → IsBoundedBy ns (root_places v) (suc late.most)) begins.root
+          (late.within_bound ns each) (counted_begun b begins ns each counted);
+    }
 
 module _ {K R : Type 0} (g : Setting K R) (laws : (texts : Bool) → EachKeeps (g.words texts)) where
   -- a fact in each reading of a root value
@@ -69,7 +113,7 @@ module _ {K R : Type 0} (g : Setting K R) (laws : (texts : Bool) → EachKeeps (
           (entered_sound (solving_in g (view old.root) texts) (solvable (view old.root) texts) (found_of old) i p (may.sound texts tells) is_new.unknown is_new.free));
     }
 
-    module _ (e n : Solver) (went : Goes g p b e) (leaves : Leaves old e n) where
+    module _ (room : HasRoom g old) (e n : Solver) (went : Goes g p b e) (leaves : Leaves old e n) where
       root_e : e.root ≡ old.root
       root_e = went.root ∙ begins.root
 
@@ -116,15 +160,12 @@ module _ {K R : Type 0} (g : Setting K R) (laws : (texts : Bool) → EachKeeps (
       abbrev All_ : List ℕ → AllPairs
       All_ ns = pairs_of ns (solver_places old)
 
-      counted_b : (ns : List ℕ) → HasEachCut g ns → IsCounted (All_ ns) (length ns) (found_of old) old.begun → IsCounted (All_ ns) (length ns) (found_of b) b.begun
-      counted_b ns each counted = subst (λ f. IsCounted (All_ ns) (length ns) f b.begun) (sym found_b)
-          (let more = entered_counts (All_ ns) (length ns) (found_of old) i p old.begun (pairs_among ns (solver_places old) i p (is_new.among ns each) is_new.there) is_new.unknown is_new.idle is_new.free counted in
-          let few = min-le_left (old.begun + 1) 18446744073709551615 in
-          omega (arith, begins.begun, few, more))
-
       counted_e : (ns : List ℕ) → HasEachCut g ns → IsCounted (All_ ns) (length ns) (found_of old) old.begun → IsCounted (All_ ns) (length ns) (found_of e) n.begun
       counted_e ns each counted = subst (λ k. IsCounted (All_ ns) (length ns) (found_of e) k) (sym leaves.begun)
-          (subst (λ v. IsCounted (pairs_of ns (root_places v)) (length ns) (found_of b) b.begun → IsCounted (pairs_of ns (root_places v)) (length ns) (found_of e) e.begun) begins.root (went.counted ns each) (counted_b ns each counted))
+          (subst (λ v. IsCounted (pairs_of ns (root_places v)) (length ns) (found_of b) b.begun → IsCounted (pairs_of ns (root_places v)) (length ns) (found_of e) e.begun) begins.root (went.counted ns each) (counted_begun g old p i is_new b begins ns each counted))
+
+      within_n : StaysWithin g old n
+      within_n most limit few = subst (λ k. k ≤ most) (sym leaves.begun) (went.within most limit (within_begun g old p i b begins room most limit few))
 
       -- ---- after a no
 
@@ -145,6 +186,7 @@ module _ {K R : Type 0} (g : Setting K R) (laws : (texts : Bool) → EachKeeps (
           counted = λ ns each counted. subst (λ f. IsCounted (All_ ns) (length ns) f n.begun) (sym found_no)
               (refused_counts (In false) silent_w (found_of old) (found_of e) i p may.known (may.sound false silent) (sound_e false silent) grew_e (All_ ns) (length ns) n.begun
               (pairs_among ns (solver_places old) i p (is_new.among ns each) is_new.there) (pairs_few ns (solver_places old) is_new.once) none_deeper (counted_e ns each counted));
+          within = within_n;
         }
 
         pub refused_says : (k : Bool) → PairTells (found_of n) i p false k
@@ -171,6 +213,7 @@ module _ {K R : Type 0} (g : Setting K R) (laws : (texts : Bool) → EachKeeps (
               (assumes_sound (In texts) (solvable (view old.root) texts) (found_of old) (found_of e) i p may.known (may.sound texts tells) (sound_e texts tells) grew_e was_not leans (says_old true leans says texts tells) k beside));
           counted = λ ns each counted. subst (λ f. IsCounted (All_ ns) (length ns) f n.begun) (sym found_assumes)
               (assumed_counts (In false) silent_w (found_of old) (found_of e) i p may.known (may.sound false silent) (sound_e false silent) grew_e (All_ ns) (length ns) n.begun (counted_e ns each counted));
+          within = within_n;
         }
 
       -- ---- after a yes that leans on nothing, beside another
@@ -194,6 +237,7 @@ module _ {K R : Type 0} (g : Setting K R) (laws : (texts : Bool) → EachKeeps (
               (free_sound (In texts) (solvable (view old.root) texts) (found_of old) (found_of e) i p may.known (may.sound texts tells) (sound_e texts tells) grew_e was_not k beside (says_old true false says texts tells)));
           counted = λ ns each counted. subst (λ f. IsCounted (All_ ns) (length ns) f n.begun) (sym found_free)
               (freed_counts (In false) silent_w (found_of old) (found_of e) i p may.known (may.sound false silent) (sound_e false silent) grew_e (All_ ns) (length ns) n.begun (counted_e ns each counted));
+          within = within_n;
         }
 
       -- ---- after a yes of the only pair in progress at its place
@@ -217,4 +261,5 @@ module _ {K R : Type 0} (g : Setting K R) (laws : (texts : Bool) → EachKeeps (
               (alone_sound (In texts) (solvable (view old.root) texts) (found_of old) (found_of e) i p may.known (may.sound texts tells) (sound_e texts tells) grew_e none_at none_deeper leans (says_old true leans says texts tells)));
           counted = λ ns each counted. subst (λ f. IsCounted (All_ ns) (length ns) f n.begun) (sym found_alone)
               (settled_counts (In false) silent_w (found_of old) (found_of e) i p may.known (may.sound false silent) (sound_e false silent) grew_e (All_ ns) (length ns) n.begun (counted_e ns each counted));
+          within = within_n;
         }

@@ -1,6 +1,5 @@
 -- A keyword's run for its verdict that a solver answers, in each reading of texts: how it begins, goes on after each turn, and ends.
 use Rattle.std.proofs.Common.{◌≡◌, ◌∙◌, ℕ, zero, suc, ◌<◌, ◌||◌, ◌&&◌, not, Bool, true, false, List, [], refl, sym, subst, ap, ap₂, arith, true≢false}
-use Rattle.std.specs.Prelude.{Err, IfErr, Ok, OnErr, Result}
 use Rattle.std.specs.List.{list_any}
 use Rattle.std.proofs.lemmas.List.Elements.{All-contains}
 use Rattle.std.proofs.lemmas.Bool.{or_left}
@@ -16,9 +15,6 @@ use Rattle.schema_definitions.specs.Turns.{Standing, TurnLaws, marks_after, repl
 use Rattle.schema_definitions.specs.Guarded.{Children, NodeForm, node_keyword, same_edge}
 use Rattle.schema_meaning.specs.Fractions.{node_words}
 use Rattle.schema_meaning.specs.Numbered.{Ranked, subject_in}
-use Rattle.schema_pairs.specs.declared.said.Said.{Said}
-use Rattle.schema_solver.specs.declared.question.Stopped.{Stopped}
-use Rattle.schema_solver.specs.declared.question.Stopped.TheVariants.{OutOfMemory}
 use Rattle.schema_meaning.specs.Greatest.{IsMonotone}
 use Rattle.schema_parts.specs.KeywordViews.{Tells, answer_of, fresh}
 use Rattle.schema_parts.specs.declared.keyword.Answer as code_answer
@@ -52,13 +48,8 @@ pub begun_with : {K R : Type 0} (g : Setting K (R × Answer)) (s : Subject) (m :
     → ((texts : Bool) → (g.words texts).begin m s for_verdict ≡ (run, fresh for_verdict)) → ((texts : Bool) → answer_of texts a ≡ fresh for_verdict) → HasBegun g s m run a
 begun_with g s m run a begins is texts = begins texts ∙ ap (λ b. (run, b)) (sym (is texts))
 
--- what is said of a keyword stops for want of memory alone, where it says that it is monotone
-pub never_stops : (result : Result Said Stopped) (b : Bool) → OnErr result (b ≡ false) → b ≡ true → IfErr result (λ e. e ≡ OutOfMemory)
-never_stops (Ok s) b stops is = tt
-never_stops (Err e) b stops is = absurd (true≢false (sym is ∙ stops))
-
 -- so does one of a number, where each does
-pub keyword_says : {K R : Type 0} (g : Setting K R) (says : K → Bool) (i : ℕ) (m : K) (es : Children) → EachSays g says → i < g.count → HasForm g.nodes i (node_keyword m es) → says m ≡ true
+pub keyword_says : {K R : Type 0} (g : Setting K R) (says : K → Bool) (i : ℕ) (m : K) (es : Children) → EachSays says g.nodes g.count → i < g.count → HasForm g.nodes i (node_keyword m es) → says m ≡ true
 keyword_says g says i m es each l form = All-contains (λ m. says m ≡ true) (node_words (g.nodes.entries i)) m (each i l) (keyword_in g.nodes i m es form)
 
 module _ {K R : Type 0} (g : Setting K R) where
@@ -83,6 +74,7 @@ module _ {K R : Type 0} (g : Setting K R) where
     grew = went.grew;
     sound = went.sound;
     counted = went.counted;
+    within = went.within;
   }
 
   pub goes_marked : (p : Place) (c c' : Solver) → IsStagedIn g c → c'.root ≡ c.root → c'.in_progress ≡ c.in_progress → c'.assumed ≡ c.assumed → c'.verdicts ≡ c.verdicts → c'.begun ≡ c.begun → Goes g p c c'

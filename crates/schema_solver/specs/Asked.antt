@@ -1,5 +1,5 @@
 -- What a solver is made with and asked, as data.
-use Rattle.std.specs.Prelude.{Bool, List, false, length, slice_index_or, ℕ}
+use Rattle.std.specs.Prelude.{Bool, List, None, false, length, slice_index_or, ℕ}
 use Rattle.schema_definitions.specs.Keywords.{Answer, Keywords}
 use Rattle.schema_definitions.specs.Matching.{Matcher}
 use Rattle.schema_parts.specs.declared.keyword.Validate as keyword
@@ -12,6 +12,7 @@ use Rattle.schema_solver.specs.Solving.{Setting}
 abbrev pub is_followed_in : List Bool → ℕ → Bool
 is_followed_in followed i = slice_index_or followed i false
 
+-- with no limit
 abbrev pub solver_over : {K R C : Type 0} → (Bool → Keywords K R) → (K → Bool) → (C → K) → List (NodeEntry C) → List Bool → Matcher → Setting K R
 solver_over words is_whole shape ns followed matcher = record {
   words = words;
@@ -20,10 +21,12 @@ solver_over words is_whole shape ns followed matcher = record {
   count = length ns;
   is_followed = is_followed_in followed;
   matcher = matcher;
+  most = None;
 }
 
+-- with the limit of an engine
 abbrev pub solver_of : {K R C M : Type 0} → (Bool → Keywords K R) → (K → Bool) → (C → K) → (M → Matcher) → SolverEngine C M → Setting K R
-solver_of words is_whole shape matching e = solver_over words is_whole shape e.nodes.now e.followed.now (matching e.matcher.now)
+solver_of words is_whole shape matching e = record (solver_over words is_whole shape e.nodes.now e.followed.now (matching e.matcher.now)) { most = e.most }
 
 -- the same by all that a keyword's type and a matcher's say of themselves
 abbrev pub solver_by : {C R K M : Type 0} → keyword.Ghosts C R K → matcher.Ghosts M → SolverEngine C M → Setting K (R × Answer)

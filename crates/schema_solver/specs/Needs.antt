@@ -10,8 +10,8 @@ use Rattle.schema_greatest.specs.Found.{Found}
 use Rattle.schema_greatest.specs.Stages.{Fits, Tells, parts_by}
 use Rattle.schema_pairs.specs.Contexts.{Solver, found_of}
 use Rattle.schema_pairs.specs.Answering.{Begins}
-use Rattle.schema_pairs.specs.declared.said.Said.{Said}
-use Rattle.schema_solver.specs.Solving.{Goes, InEach, IsNew, Setting}
+use Rattle.schema_pairs.specs.Saying.{WhatIsSaid}
+use Rattle.schema_solver.specs.Solving.{Goes, HasRoom, InEach, IsNew, Setting}
 
 -- for a pair: none where it is in progress
 abbrev pub pair_needs : {K : Type 0} → Nodes K → ℕ → ℕ → Subject → List ℕ → ℕ
@@ -26,9 +26,10 @@ pub record SaysTheRest {K R : Type 0} (w : Solving K R) (p : Place) (f : Found) 
   pub same : (answers : EdgeAnswers) → Fits f leans answers → parts_by w p answers all ≡ parts_by w p answers rest
   pub refuses : (answers : EdgeAnswers) → parts_by w p answers rest ≡ false → parts_by w p answers all ≡ false
 
--- a pair that was new was begun, its node was run and said this, and the pair was left
-pub record PairRan {K R : Type 0} (g : Setting K R) (old begun end left : Solver) (p : Place) (i mark : ℕ) (s : Said) : Type 0 where
+-- a pair that was new was begun, as one more might be, its node was run and said this, and the pair was left
+pub record PairRan {K R : Type 0} (g : Setting K R) (old begun end left : Solver) (p : Place) (i mark : ℕ) (s : WhatIsSaid) : Type 0 where
   pub is_new : IsNew g old p i
+  pub room : HasRoom g old
   pub begins : Begins i p old begun
   pub went : Goes g p begun end
   pub says : InEach g (view end.root) (λ texts w. Tells w (found_of end) i p s.valid s.leans)

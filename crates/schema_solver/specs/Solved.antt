@@ -1,6 +1,6 @@
 -- What the functions of a solver's cycle are asked, and what they leave and say: one record for each.
 use Rattle.std.specs.List.{list_any}
-use Rattle.std.specs.Prelude.{Bool, IfErr, IfOk, List, Option, Result, map, option_map, true, ℕ, ◌==◌, ◌≡◌}
+use Rattle.std.specs.Prelude.{Bool, IfErr, IfOk, List, Option, Result, map, option_map, true, ℕ, ◌==◌, ◌≡◌, ◌⊎◌}
 use Rattle.serde_json.specs.View.{view}
 use Rattle.schema_definitions.specs.Instance.{Place, Subject}
 use Rattle.schema_definitions.specs.Guarded.{Children, NodeEdge, NodeForm, NodePart}
@@ -20,11 +20,11 @@ use Rattle.schema_meaning.specs.Greatest.{IsMonotone}
 use Rattle.schema_greatest.specs.Found.{Found}
 use Rattle.schema_greatest.specs.Stages.{ChildTells, EdgeTells, FormTells, PairTells, PartsTell, Tells}
 use Rattle.schema_pairs.specs.Contexts.{Solver, found_of, solver_places}
-use Rattle.schema_pairs.specs.declared.said.Said.{Said}
+use Rattle.schema_pairs.specs.Saying.{WhatIsSaid}
 use Rattle.schema_solver.specs.declared.question.Asked.{Asked}
 use Rattle.schema_solver.specs.declared.question.Stopped.{Stopped}
-use Rattle.schema_solver.specs.declared.question.Stopped.TheVariants.{OutOfMemory}
-use Rattle.schema_solver.specs.Solving.{EachSays, Goes, HasEachCut, InEach, IsEdge, MaySolve, Setting}
+use Rattle.schema_solver.specs.declared.question.Stopped.TheVariants.{Limit, OutOfMemory}
+use Rattle.schema_solver.specs.Solving.{EachSays, Goes, HasEachCut, InEach, IsEdge, IsLate, MaySolve, Setting, StaysWithin}
 
 -- what is asked at a place: a number, and as a pair; entries of one, the form of an entry, a keyword's child; and what an edge leads to
 pub data Wanted (K : Type 0) : Type 0 where
@@ -53,7 +53,7 @@ StandsIn g s (a_child i es q) = HasChildren g.nodes i es × IsPresent s (steps_b
 StandsIn g s (an_edge e) = IsEdge g e
 
 -- what is said of it
-abbrev pub says_of : {K R : Type 0} → Wanted K → Solving K R → Place → Found → Said → Type 0
+abbrev pub says_of : {K R : Type 0} → Wanted K → Solving K R → Place → Found → WhatIsSaid → Type 0
 says_of (a_node i) w p f s = Tells w f i p s.valid s.leans
 says_of (a_pair i) w p f s = PairTells f i p s.valid s.leans
 says_of (some_parts i xs) w p f s = PartsTell w p f xs s.valid s.leans
@@ -67,22 +67,28 @@ pub record MayAsk {K R : Type 0} (g : Setting K R) (q : Asked) (a : Wanted K) (c
   pub carries : CarriesItsNumber (solver_places c) q.place.now
   pub stands : StandsIn g (subject_of q.instance) a
 
--- what a result leaves and says: what it does to the context, where the marks stay, what is true of it in each reading, and that it stops for
--- want of memory alone, where each keyword says that it is monotone
+-- why it stops, and what it leaves: for want of memory or at the limit alone, where each keyword says that it is monotone; no more begun than
+-- may be; and it stops at a limit alone that is less than what may be begun at most
+pub record Stops {K R : Type 0} (g : Setting K R) (says_monotone : K → Bool) (c c' : Solver) (e : Stopped) : Type 0 where
+  pub reason : EachSays says_monotone g.nodes g.count → (e ≡ OutOfMemory) ⊎ (e ≡ Limit)
+  pub within : StaysWithin g c c'
+  pub late : e ≡ Limit → IsLate g c
+
+-- what a result leaves and says: what it does to the context, where the marks stay, what is true of it in each reading, and why it stops
 pub record Solved {K R T : Type 0} (g : Setting K R) (says_monotone : K → Bool) (p : Place) (c c' : Solver) (result : Result T Stopped) (says_this : T → Solving K R → Found → Type 0) : Type 0 where
   pub goes : IfOk result (λ _. Goes g p c c')
   pub marking : IfOk result (λ _. c'.marking ≡ c.marking)
   pub says : IfOk result (λ b. InEach g (view c'.root) (λ texts w. says_this b w (found_of c')))
-  pub stops : EachSays g says_monotone → IfErr result (λ e. e ≡ OutOfMemory)
+  pub stops : IfErr result (Stops g says_monotone c c')
 
 -- and of turns, which leave marks; their answer may differ by the reading, and is said where it leans of a monotone keyword alone
 pub record Turned {K R : Type 0} (g : Setting K R) (says_monotone : K → Bool) (p : Place) (c c' : Solver) (result : Result Bool Stopped) (m : K) (says_this : Bool → Bool → Solving K R → Found → Type 0) : Type 0 where
   pub goes : IfOk result (λ _. Goes g p c c')
   pub says : IfOk result (λ leans. InEach g (view c'.root) (λ texts w. (leans ≡ true → IsMonotone w.keywords m) → says_this texts leans w (found_of c')))
-  pub stops : EachSays g says_monotone → IfErr result (λ e. e ≡ OutOfMemory)
+  pub stops : IfErr result (Stops g says_monotone c c')
 
 -- what was asked is answered
-abbrev pub Solves : {K R : Type 0} → Setting K R → (K → Bool) → Asked → Wanted K → Solver → Solver → Result Said Stopped → Type 0
+abbrev pub Solves : {K R : Type 0} → Setting K R → (K → Bool) → Asked → Wanted K → Solver → Solver → Result WhatIsSaid Stopped → Type 0
 Solves g says_monotone q a c c' result = Solved g says_monotone (steps_to q.place.now) c c' result (λ s w f. says_of a w (steps_to q.place.now) f s)
 
 abbrev pub Turns : {C K R : Type 0} → Setting K R → (K → Bool) → Asked → (C → K) → NamedKeyword C → Solver → Solver → Result Bool Stopped → (Bool → Bool) → Type 0

@@ -1,6 +1,6 @@
 -- What each function of a solver's cycle is asked, what it does to the context, and what it says.
 use Rattle.std.specs.List.{list_any}
-use Rattle.std.specs.Prelude.{All, Bool, Contains, List, None, Some, [], false, length, not, true, ℕ, ◌++◌, ◌+◌, ◌<◌, ◌==◌, ◌||◌, ◌≡◌}
+use Rattle.std.specs.Prelude.{All, Bool, Contains, List, None, Option, Some, [], false, length, not, suc, true, ℕ, ◌++◌, ◌<◌, ◌==◌, ◌||◌, ◌≡◌, ◌≤◌}
 use Rattle.serde_json.specs.Data.{Data}
 use Rattle.serde_json.specs.View.{view}
 use Rattle.serde_json.specs.declared.value.Value.{Value}
@@ -21,8 +21,8 @@ use Rattle.schema_greatest.specs.Stages.{IsStaged}
 use Rattle.schema_greatest.specs.Work.{EachOnce, IsBoundedBy, IsCounted, pairs_of}
 use Rattle.schema_pairs.specs.Contexts.{Solver, found_of, has_pair, solver_places}
 
--- what a solver is made with: the keywords as they are read, the numbered nodes, how many there are, which of them are followed, and the
--- matcher
+-- what a solver is made with: the keywords as they are read, the numbered nodes, how many there are, which of them are followed, the
+-- matcher, and how many pairs it may begin, where there is a limit
 pub record Setting (K R : Type 0) : Type 0 where
   pub words : Bool → Keywords K R
   pub is_whole : K → Bool
@@ -30,10 +30,15 @@ pub record Setting (K R : Type 0) : Type 0 where
   pub count : ℕ
   pub is_followed : ℕ → Bool
   pub matcher : Matcher
+  pub most : Option ℕ
 
 -- an edge whose pair is answered by what is found: a guarded one, and one that leads to a number that is not followed
 abbrev pub is_cut : (ℕ → Bool) → NodeEdge → Bool
 is_cut is_followed e = e.guarded || not (is_followed e.node)
+
+-- each keyword of these numbers says of itself that it is monotone
+abbrev pub EachSays : {S : Type 0} → (S → Bool) → Nodes S → ℕ → Type 0
+EachSays says nodes count = (i : ℕ) → i < count → All (λ m. says m ≡ true) (node_words (nodes.entries i))
 
 module _ {K R : Type 0} (g : Setting K R) where
   -- what is solved in a reading of texts; no match stays unfinished, so one completion is as good as another
@@ -60,10 +65,6 @@ module _ {K R : Type 0} (g : Setting K R) where
   abbrev pub IsSoundIn : Solver → Type 0
   IsSoundIn c = ((texts : Bool) → AreMonotone (g.words texts) g.nodes g.count) → InEach (view c.root) (λ texts w. IsSound w (found_of c))
 
-  -- each keyword of the nodes says of itself that it is monotone
-  abbrev pub EachSays : (K → Bool) → Type 0
-  EachSays says = (i : ℕ) → i < g.count → All (λ m. says m ≡ true) (node_words (g.nodes.entries i))
-
   -- each number that an edge leads to whose pair is answered by what is found
   abbrev pub HasEachCut : List ℕ → Type 0
   HasEachCut ns = (i : ℕ) → i < g.count → All (λ e. is_cut g.is_followed e ≡ true → list_any (λ n. e.node == n) ns ≡ true) (node_edges (g.nodes.entries i))
@@ -72,6 +73,20 @@ module _ {K R : Type 0} (g : Setting K R) where
   abbrev pub StaysCounted : Solver → Solver → Type 0
   StaysCounted c c' = (ns : List ℕ) → HasEachCut ns → IsCounted (pairs_of ns (solver_places c)) (length ns) (found_of c) c.begun
       → IsCounted (pairs_of ns (solver_places c)) (length ns) (found_of c') c'.begun
+
+  -- fewer pairs were begun than may be, where there is a limit
+  abbrev pub HasRoom : Solver → Type 0
+  HasRoom c = (most : ℕ) → g.most ≡ Some most → c.begun < most
+
+  -- no more pairs are begun than may be, where no more were before
+  abbrev pub StaysWithin : Solver → Solver → Type 0
+  StaysWithin c c' = (most : ℕ) → g.most ≡ Some most → c.begun ≤ most → c'.begun ≤ most
+
+  -- a limit is met that is less than what may be begun at most: where the count is right, even one pair more than it is no more than that
+  pub record IsLate (c : Solver) : Type 0 where
+    pub most : ℕ
+    pub limit : g.most ≡ Some most
+    pub within_bound : (ns : List ℕ) → HasEachCut ns → IsCounted (pairs_of ns (solver_places c)) (length ns) (found_of c) c.begun → IsBoundedBy ns (solver_places c) (suc most)
 
   -- a number of the table may be asked of a subject at a place
   pub record MaySolve (c : Solver) (s : Subject) (p : Place) (i : ℕ) : Type 0 where
@@ -82,8 +97,8 @@ module _ {K R : Type 0} (g : Setting K R) where
     pub stands : subject_at (view c.root) p ≡ Some s
     pub sound : IsStagedIn c
 
-  -- what is in progress stays, more is assumed that was not, what is known stays known, what is found is told by stages still, and the
-  -- count right
+  -- what is in progress stays, more is assumed that was not, what is known stays known, what is found is told by stages still, the count
+  -- right, and within the limit
   pub record Goes (p : Place) (c c' : Solver) : Type 0 where
     pub root : c'.root ≡ c.root
     pub in_progress : c'.in_progress ≡ c.in_progress
@@ -93,6 +108,7 @@ module _ {K R : Type 0} (g : Setting K R) where
     pub grew : Grows p (found_of c) (found_of c')
     pub sound : IsStagedIn c'
     pub counted : StaysCounted c c'
+    pub within : StaysWithin c c'
 
 -- ---- the steps of a pair
 
@@ -134,6 +150,10 @@ RestsOnFound g c i b = InEach g (view c.root) (λ texts w. SaysUnder w (found_of
 -- so many pairs are begun at most: of the numbers that an edge leads to whose pair is answered by what is found, and of the places
 abbrev pub BeginsFew : {K R : Type 0} → Setting K R → Value → ℕ → Type 0
 BeginsFew g v begun = (ns : List ℕ) → HasEachCut g ns → IsBoundedBy ns (root_places v) begun
+
+-- a limit is less than what may be begun at most: even one pair more than it is no more than that
+abbrev pub LimitWithinBound : {K R : Type 0} → Setting K R → Value → ℕ → Type 0
+LimitWithinBound g v limit = BeginsFew g v (suc limit)
 
 -- the edge is one of a number of the table
 abbrev pub IsEdge : {K R : Type 0} → Setting K R → NodeEdge → Type 0

@@ -14,6 +14,8 @@ pub struct SolverEngine<'r, K, M> {
     pub alloc: Global,
     pub matcher: &'r M,
     pub followed: &'r Followed,
+    /// How many pairs it may begin, where there is a limit.
+    pub most: Option<u64>,
 }
 
 /// What is asked, and where. A verdict shows no path.
@@ -23,11 +25,13 @@ pub struct Asked<'q, 'i> {
     pub place: &'q EvaluationPlace<'q, 'i>,
 }
 
-/// Why a solver says nothing: memory could not be allocated, or a keyword that does not say that it is monotone was told a yes that leans.
+/// Why a solver says nothing: memory could not be allocated; a keyword that does not say that it is monotone was told a yes that leans; or
+/// one more pair was to be begun than it may.
 #[derive(Clone, Copy)]
 pub enum Stopped {
     OutOfMemory,
     Leans,
+    Limit,
 }
 
 impl From<AllocError> for Stopped {

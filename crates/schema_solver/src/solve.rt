@@ -1,10 +1,11 @@
 //! The verdict of a node by a solver.
-ghost use Rattle.std.specs.Prelude.{◌<◌, ◌≡◌, [], IfOk, IfSome, is_some, length, true};
+ghost use Rattle.std.specs.Prelude.{◌<◌, ◌≡◌, ◌≤◌, ◌⊎◌, [], IfErr, IfOk, IfSome, is_some, length, true};
 ghost use Rattle.serde_json.specs.View.{view};
+ghost use Rattle.node_table.specs.NodeTable.{numbered};
 ghost use Rattle.schema_parts.specs.MatcherViews.{FinishesEach};
 ghost use Rattle.schema_solver.specs.Asked.{solver_of};
 ghost use Rattle.schema_pairs.specs.Answering.{fresh};
-ghost use Rattle.schema_solver.specs.Solving.{BeginsFew, EachSays, HoldsAsNodes, IsSoundIn, RestsOnFound, SaysAsNodes};
+ghost use Rattle.schema_solver.specs.Solving.{BeginsFew, EachSays, HoldsAsNodes, IsSoundIn, LimitWithinBound, RestsOnFound, SaysAsNodes};
 
 mod edges;
 mod entries;
@@ -18,9 +19,7 @@ use schema_parts::keyword::Validate;
 use schema_parts::matcher::Matcher;
 use schema_parts::numbers::SchemaNode;
 use schema_reports::instance::{Instance, Place};
-use schema_reports::location::OutOfMemory;
 use serde_json::Value;
-use std::alloc::AllocError;
 
 /// Returns the verdict of a node of an instance, at the root place: what the nodes say where a guarded pair that is in progress is
 /// answered yes; so the greatest solution, where each keyword is monotone. The matcher has to finish every match. `None` says that the
@@ -28,18 +27,19 @@ use std::alloc::AllocError;
 /// each says so, it does not give up. Nothing may have been found before: what a run found of another instance, or by other nodes, says
 /// nothing of this one. With a verdict the context keeps what was found, on which it rests: each verdict that it holds is what the nodes
 /// say; and how many pairs were begun: with g numbers that a guarded edge leads to or that are not followed, and p places, at most
-/// g * p * g pairs of such a number and a place. Fails only if memory cannot be allocated. Without a verdict pairs may be left in progress,
-/// and the context is of no more use.
+/// g * p * g pairs of such a number and a place. Where the engine has a limit, no more pairs are begun than that. Fails only with
+/// `OutOfMemory`, where memory cannot be allocated, and with `Limit`, where one more pair was to be begun than the limit allows: so only
+/// where the limit is less than g * p * g. Without a verdict pairs may be left in progress, and the context is of no more use.
 pub fn solve_root<'i, K: Validate, M: Matcher>(
     engine: &SolverEngine<'_, K, M>,
     node: SchemaNode,
     instance: &'i Value,
     context: &mut SolverContext<'i>,
-) -> Result<Option<bool>, OutOfMemory>
+) -> Result<Option<bool>, Stopped>
     requires known { node.0 < length engine.now.nodes.now }
     requires finishes { FinishesEach (M.matching engine.now.matcher.now) }
     requires fresh { context.old ≡ fresh instance.now }
-    ensures exactly { EachSays (solver_of K.words K.is_whole K.shape M.matching engine.now) K.says_monotone
+    ensures exactly { EachSays K.says_monotone (numbered K.shape engine.now.nodes.now) (length engine.now.nodes.now)
         → IfOk result (λ found. is_some found ≡ true) }
     ensures says { IfOk result (λ found. IfSome found (λ valid. SaysAsNodes
         (solver_of K.words K.is_whole K.shape M.matching engine.now) (view instance.now) node.0 valid)) }
@@ -53,6 +53,11 @@ pub fn solve_root<'i, K: Validate, M: Matcher>(
         (solver_of K.words K.is_whole K.shape M.matching engine.now) context.new node.0 valid)) }
     ensures few { IfOk result (λ found. IfSome found (λ _. BeginsFew
         (solver_of K.words K.is_whole K.shape M.matching engine.now) instance.now context.new.begun)) }
+    ensures within { IfOk result (λ _. IfSome engine.now.most (λ most. context.new.begun ≤ most)) }
+    ensures stops { IfErr result (λ e. (e ≡ Stopped.OutOfMemory) ⊎ (e ≡ Stopped.Limit)) }
+    ensures limited { IfErr result (λ e. e ≡ Stopped.Limit → is_some engine.now.most ≡ true) }
+    ensures late { IfErr result (λ e. e ≡ Stopped.Limit → IfSome engine.now.most (λ most. LimitWithinBound
+        (solver_of K.words K.is_whole K.shape M.matching engine.now) instance.now most)) }
 {
     // (the call says that the table is ordered)
     let count = engine.nodes.len();
@@ -64,10 +69,11 @@ pub fn solve_root<'i, K: Validate, M: Matcher>(
         place: &place,
     };
     match solve_node(engine, node, &asked, context) {
-        Ok(said) => Ok(Some(said.valid)),
+        Ok(said) => Ok(Some(said.valid())),
         Err(stopped) => match stopped {
             Stopped::Leans => Ok(None),
-            Stopped::OutOfMemory => Err(AllocError),
+            Stopped::OutOfMemory => Err(Stopped::OutOfMemory),
+            Stopped::Limit => Err(Stopped::Limit),
         },
     }
 }

@@ -1,4 +1,5 @@
 //! The verdict of what an edge leads to, and of a pair that is answered by what is found, by a solver.
+ghost use Rattle.std.specs.Prelude.{◌≡◌, ◌<◌, ◌≤◌, ℕ, IfErr, OnOk, Some};
 ghost use Rattle.schema_parts.specs.EdgeViews.{edge_of};
 ghost use Rattle.schema_parts.specs.KeywordViews.{below_of};
 ghost use Rattle.schema_solver.specs.Asked.{solver_by};
@@ -32,10 +33,7 @@ pub(crate) fn solve_child<'i, K: Validate, M: Matcher>(
         (the_child node.0 children.now child (below_of below.entry)) context.old context.new result }
 {
     match child_edge(children, child) {
-        None => Ok(Said {
-            valid: true,
-            leans: false,
-        }),
+        None => Ok(Said::settled(true)),
         Some(edge) => match one_below(question.instance, below) {
             None => solve_edge(engine, edge, question, context),
             Some((inner, step)) => {
@@ -69,9 +67,28 @@ pub(crate) fn solve_edge<'i, K: Validate, M: Matcher>(
     solve_node(engine, edge.node, question, context)
 }
 
+// Lets one more pair be begun, or stops, where as many were begun as may be.
+#[inline(always)]
+fn may_begin<K, M>(
+    engine: &SolverEngine<'_, K, M>,
+    context: &SolverContext<'_>,
+) -> Result<(), Stopped>
+    ensures room { OnOk result ((most : ℕ) → engine.now.most ≡ Some most → context.now.begun < most) }
+    ensures stops { IfErr result (λ e. (e ≡ Stopped.Limit)
+        × ((most : ℕ) × (engine.now.most ≡ Some most) × (most ≤ context.now.begun))) }
+{
+    if let Some(most) = engine.most {
+        if context.begun() >= most {
+            return Err(Stopped::Limit);
+        }
+    }
+    Ok(())
+}
+
 // What is said of a pair: what is known of it, a yes that leans where it is in progress or assumed, and else what its node says, under
-// which the pair is in progress. A no is known for good, and what was assumed since is dropped; a yes is known for good, with all that was
-// assumed since, where no other pair is in progress at the place, and alone where it leans on nothing; else it is assumed.
+// which the pair is in progress; it stops where no more pairs may be begun. A no is known for good, and what was assumed since is dropped;
+// a yes is known for good, with all that was assumed since, where no other pair is in progress at the place, and alone where it leans on
+// nothing; else it is assumed.
 #[cycle(verdict)]
 #[inline(never)]
 fn solve_pair<'i, K: Validate, M: Matcher>(
@@ -88,6 +105,7 @@ fn solve_pair<'i, K: Validate, M: Matcher>(
     if let Some(said) = pair.state(context) {
         return Ok(said);
     }
+    may_begin(engine, context)?;
     let mark = pair.enter(context)?;
     let place = pair.numbered_place();
     let asked = Asked {

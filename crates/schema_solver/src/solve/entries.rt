@@ -26,19 +26,10 @@ pub(crate) fn solve_node<'i, K: Validate, M: Matcher>(
         (a_node node.0) context.old context.new result }
 {
     match &engine.nodes.node(node).form {
-        None => Ok(Said {
-            valid: true,
-            leans: false,
-        }),
+        None => Ok(Said::settled(true)),
         Some(form) => match form {
-            NodeForm::Always => Ok(Said {
-                valid: true,
-                leans: false,
-            }),
-            NodeForm::Never => Ok(Said {
-                valid: false,
-                leans: false,
-            }),
+            NodeForm::Always => Ok(Said::settled(true)),
+            NodeForm::Never => Ok(Said::settled(false)),
             NodeForm::Keywords(entries) => {
                 solve_entries(engine, node, entries.as_slice(), question, context)
             }
@@ -62,12 +53,12 @@ fn solve_entries<'i, K: Validate, M: Matcher>(
     let mut leans = false;
     for entry in entries {
         let said = solve_form(engine, node, entry, question, context)?;
-        if !said.valid {
+        if !said.valid() {
             return Ok(said);
         }
-        leans |= said.leans;
+        leans |= said.leans();
     }
-    Ok(Said { valid: true, leans })
+    Ok(Said::of(true, leans))
 }
 
 // The verdict of an entry's keyword, or of the node that its reference leads to. A keyword that tells it at once takes no run.
@@ -86,10 +77,7 @@ fn solve_form<'i, K: Validate, M: Matcher>(
     match &entry.form {
         EntryForm::Keyword(keyword, _) => {
             if let Some(valid) = keyword.is_valid_at_once(question.instance) {
-                return Ok(Said {
-                    valid,
-                    leans: false,
-                });
+                return Ok(Said::settled(valid));
             }
             solve_keyword(engine, node, entry, question, context)
         }

@@ -1,5 +1,5 @@
 //! The turns of a keyword's run for its verdict, by a solver.
-ghost use Rattle.std.specs.Prelude.{◌≡◌, ◌&&◌, [], Bool, IfOk, OnErr, false, true};
+ghost use Rattle.std.specs.Prelude.{◌≡◌, ◌&&◌, [], Bool, IfErr, IfOk, false, true};
 ghost use Rattle.schema_reports.specs.InstanceViews.{subject_of};
 ghost use Rattle.schema_definitions.specs.Keywords.{for_verdict};
 ghost use Rattle.schema_definitions.specs.Matching.{finished};
@@ -61,19 +61,16 @@ pub(crate) fn solver_answer<'i, K: Validate, M: Matcher>(
 }
 
 // What is said of a keyword whose run found this verdict. Where one of the yeses leaned that it was told, this is so of a keyword alone
-// that says that it is monotone.
+// that says that it is monotone; of another it stops.
 fn said_of<K: Validate>(keyword: &K, valid: bool, leans: bool) -> Result<Said, Stopped>
     ensures said { IfOk result (λ s. (s ≡ record { valid = valid; leans = valid && leans })
         × (leans ≡ true → K.says_monotone (K.shape keyword.now) ≡ true)) }
-    ensures stops { OnErr result (K.says_monotone (K.shape keyword.now) ≡ false) }
+    ensures stops { IfErr result (λ e. (e ≡ Stopped.Leans) × (leans ≡ true) × (K.says_monotone (K.shape keyword.now) ≡ false)) }
 {
     if leans && !keyword.monotone() {
         return Err(Stopped::Leans);
     }
-    Ok(Said {
-        valid,
-        leans: valid && leans,
-    })
+    Ok(Said::of(valid, leans))
 }
 
 // A run for the verdict that has begun.
@@ -119,8 +116,8 @@ fn solver_turns<'i, K: Validate, M: Matcher>(
         match step {
             Step::Ask(child, below, wanted) => {
                 let said = solve_child(engine, node, children, child, below, question, context)?;
-                leans |= said.leans;
-                told = Some(said.valid);
+                leans |= said.leans();
+                told = Some(said.valid());
             }
             Step::Done => return Ok(leans),
             Step::Match(pattern, subject, located) => {

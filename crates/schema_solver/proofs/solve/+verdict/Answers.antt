@@ -1,9 +1,9 @@
 use Rattle.std.proofs.Common.{◌≡◌, ◌∙◌, ◌+◌, ◌*◌, ◌<◌, ◌≤◌, ◌||◌, not, ℕ, Bool, suc, arith, sym, refl, rules, ap, ap₂, subst, drop, map, option_map, string_bytes, length, Some, None, false, true, List, [], ◌∷◌, ◌++◌}
-use Rattle.std.specs.Prelude.{◌⊎◌}
 use Rattle.serde_json.specs.View.{view}
 use Rattle.schema_definitions.specs.Keywords.{down, here, Answer, Question, ask, done, ecma, mark, match_text, no_reply, truth, unmark}
 use Rattle.schema_definitions.specs.Laws.{EachKeeps}
 use Rattle.std.proofs.lemmas.Bool.{or_left, or_right}
+use Rattle.std.proofs.lemmas.Result.{IfErr-weaker}
 use Rattle.schema_meaning.specs.Numbered.{left}
 use Rattle.schema_meaning.proofs.TurnsGiveRuns.{keeps_of_turns}
 use Rattle.schema_reports.specs.InstanceViews.{step_of, subject_of}
@@ -22,11 +22,12 @@ use Rattle.run_steps.proofs.NodeParts.{part_at, plan_is, reference_edge, keyword
 use Rattle.schema_greatest.specs.Stages.{EdgeTells, FormTells, PartsTell, parts_by}
 use Rattle.schema_greatest.proofs.Says.{child_some, edge_below, edge_by_node, edge_by_pair, node_says_parts}
 use Rattle.schema_solver.specs.Asked.{is_followed_in, solver_by}
-use Rattle.schema_pairs.specs.Contexts.{found_of, has_pair, solver_places}
+use Rattle.schema_pairs.specs.Contexts.{Solver, found_of, has_pair, solver_places}
 use Rattle.schema_solver.specs.Needs.{SaysTheRest}
 use Rattle.schema_pairs.specs.Answering.{Accepts, Begins, Refuses}
-use Rattle.schema_pairs.specs.declared.said.Said.{Said}
-use Rattle.schema_solver.specs.Solving.{Goes, InEach, MaySolve, is_cut, solving_in}
+use Rattle.schema_pairs.specs.Saying.{WhatIsSaid}
+use Rattle.schema_solver.specs.Solved.{Stops}
+use Rattle.schema_solver.specs.Solving.{Goes, HasRoom, InEach, MaySolve, is_cut, solving_in}
 use Rattle.schema_pairs.specs.SolverPairs.{place_of}
 use Rattle.run_steps.specs.VerdictRuns.{told_reply}
 use Rattle.schema_solver.proofs.Asking.{edge_among, may_cross, may_go_below}
@@ -37,7 +38,9 @@ use Rattle.schema_solver.proofs.solve.+verdict.Goals.{edges::solve_edge-then-edg
 use Rattle.schema_definitions.specs.Matching.{Pair}
 use Rattle.run_steps.specs.NodeRuns.{form_at_work}
 use Rattle.run_steps.proofs.KeywordTurns.{asks_there, can_after, falls_turned, tells_nothing, ask_goes_on, match_goes_on, ecma_goes_on, mark_goes_on, unmark_goes_on}
-use Rattle.schema_solver.proofs.Turned.{asked_verdict, asks_begun, asks_on, begun_with, can_begun, carries_on, goes_marked, keyword_says, never_stops, leads_asked, leads_begun, leads_ended, leads_marked, leads_matched, leads_told, leads_unmarked, says_after, stepped_by, turned_by}
+use Rattle.schema_solver.proofs.Turned.{asked_verdict, asks_begun, asks_on, begun_with, can_begun, carries_on, goes_marked, leads_asked, leads_begun, leads_ended, leads_marked, leads_matched, leads_told, leads_unmarked, says_after, stepped_by, turned_by}
+use Rattle.schema_solver.proofs.Stopping.{solved_stops, stops_begun, stops_full, stops_leaning, stops_on, stops_still, turned_stops}
+use Rattle.schema_solver.specs.declared.question.Stopped.TheVariants.{Limit}
 use Rattle.schema_solver.proofs.solve.+verdict.Goals as goal
 
 -- ---- a call's measure falls
@@ -100,6 +103,41 @@ edges::solve_pair-solve_node-requires g t c =
     let carries : CarriesItsNumber (solver_places c.enter.new.context) c.numbered_place-place.result = subst (λ v. CarriesItsNumber (root_places v) c.numbered_place-place.result) (sym begins.root) (c.numbered_place-place.ensures.carries old c.in_ok-pair.ensures.numbered) in
     λ κs h. (lower_entered _ _ t falls c.decreases, (h.0, (h.1.0, (h.1.1.0, (h.1.1.1, record { may = may; carries = carries; stands = tt })))))
 
+pub edges::solve_pair-returns-in_err-may_begin : goal.edges::solve_pair-returns-in_err-may_begin
+edges::solve_pair-returns-in_err-may_begin g t c =
+    let set = solver_by g.K.Validate g.M.Matcher c.args.engine.now in
+    let says = g.K.Validate.says_monotone in
+    let p = steps_to c.args.question.now.place.now in
+    let i = c.args.node.0 in
+    let old = c.args.context.now in
+    let node : c.in_ok-pair.pair.node.0 ≡ c.args.node.0 = ap (λ (n : SchemaNode). n.0) c.in_ok-pair.ensures.node in
+    let place = c.in_ok-pair.ensures.place in
+    let same = c.in_ok-pair.ensures.unchanged in
+    let none : c.state.result ≡ None = c.in_default.is in
+    let new = pair_new set old p i c.in_ok-pair.pair.node.0 (place_of c.in_ok-pair.pair) c.new.new.context node place same (c.state.ensures.unknown none) (c.state.ensures.idle none) (c.state.ensures.free none) c.in_ok-pair.pair.number c.in_ok-pair.ensures.numbered c.in_ok-pair.ensures.own c.requires.stands in
+    let now = c.new.new.context in
+    let full = c.in_err-may_begin.ensures.stops in
+    let few : full.1.0 ≤ old.begun = subst (λ (z : Solver). full.1.0 ≤ z.begun) same full.1.2 in
+    let stops = subst (λ z. Stops set says old z Limit) (sym same) (stops_full set says old p i new full.1.0 full.1.1 few) in
+    solved_stops set says p old now _ c.from_residual-in_err-may_begin.result _ c.from_residual-in_err-may_begin.ensures.1 (subst (Stops set says old now) (sym full.0) stops)
+
+pub edges::solve_pair-returns-in_err-said : goal.edges::solve_pair-returns-in_err-said
+edges::solve_pair-returns-in_err-said g t c =
+    let set = solver_by g.K.Validate g.M.Matcher c.args.engine.now in
+    let says = g.K.Validate.says_monotone in
+    let p = steps_to c.args.question.now.place.now in
+    let i = c.args.node.0 in
+    let old = c.args.context.now in
+    let node : c.in_ok-pair.pair.node.0 ≡ c.args.node.0 = ap (λ (n : SchemaNode). n.0) c.in_ok-pair.ensures.node in
+    let place = c.in_ok-pair.ensures.place in
+    let same = c.in_ok-pair.ensures.unchanged in
+    let none : c.state.result ≡ None = c.in_default.is in
+    let new = pair_new set old p i c.in_ok-pair.pair.node.0 (place_of c.in_ok-pair.pair) c.new.new.context node place same (c.state.ensures.unknown none) (c.state.ensures.idle none) (c.state.ensures.free none) c.in_ok-pair.pair.number c.in_ok-pair.ensures.numbered c.in_ok-pair.ensures.own c.requires.stands in
+    let begins : Begins i p old c.enter.new.context = at_pair (λ k z d. Begins k z d c.enter.new.context) node place same c.in_ok-mark.ensures.begins in
+    let room : HasRoom set old = at_pair (λ k z d. HasRoom set d) node place same c.in_ok-may_begin.ensures.room in
+    solved_stops set says p old c.solve_node.new.context _ c.from_residual-in_err-said.result _ c.from_residual-in_err-said.ensures.1
+    (stops_begun set says old c.enter.new.context c.solve_node.new.context p i _ new room begins c.in_err-said.ensures.stops)
+
 pub edges::solve_pair-keep_answer-requires-clause-apart : goal.edges::solve_pair-keep_answer-requires-clause-apart
 edges::solve_pair-keep_answer-requires-clause-apart g t c =
     let set = solver_by g.K.Validate g.M.Matcher c.args.engine.now in
@@ -113,7 +151,7 @@ edges::solve_pair-keep_answer-requires-clause-apart g t c =
     let laws : (texts : Bool) → EachKeeps (g.K.Validate.words texts) = λ texts m. (g.K.Validate.absorbed m, keeps_of_turns (g.K.Validate.words texts) m (g.K.Validate.absorbed m) (g.K.Validate.remaining m) (g.K.Validate.can_be texts m) (g.K.Validate.ends texts m) (g.K.Validate.fits texts m) (g.met.K.Validate.turn_laws texts m) (g.met.K.Validate.function_laws texts m)) in
     let ran = pair_ran set old p c.args.node.0 c.in_ok-pair.pair.node.0 (place_of c.in_ok-pair.pair) (steps_to c.numbered_place-place.result) c.new.new.context c.enter.new.context c.solve_node.new.context c.exit.new.context c.in_ok-mark.mark c.in_ok-said.said
     node place same c.numbered_place-place.ensures.same (c.state.ensures.unknown none) (c.state.ensures.idle none) (c.state.ensures.free none) c.in_ok-pair.pair.number c.in_ok-pair.ensures.numbered c.in_ok-pair.ensures.own c.requires.stands
-    c.in_ok-mark.ensures.begins c.in_ok-said.ensures.goes c.in_ok-said.ensures.says c.in_ok-mark.ensures.mark c.exit.ensures.left c.exit.ensures.root c.exit.ensures.assumed c.exit.ensures.verdicts c.exit.ensures.marking c.exit.ensures.begun in
+    c.in_ok-may_begin.ensures.room c.in_ok-mark.ensures.begins c.in_ok-said.ensures.goes c.in_ok-said.ensures.says c.in_ok-mark.ensures.mark c.exit.ensures.left c.exit.ensures.root c.exit.ensures.assumed c.exit.ensures.verdicts c.exit.ensures.marking c.exit.ensures.begun in
     apart_mark set old p c.args.node.0 c.enter.new.context c.solve_node.new.context c.exit.new.context c.in_ok-mark.mark c.in_ok-said.said ran
 
 pub edges::solve_pair-returns : goal.edges::solve_pair-returns
@@ -129,7 +167,7 @@ edges::solve_pair-returns g t c =
     let laws : (texts : Bool) → EachKeeps (g.K.Validate.words texts) = λ texts m. (g.K.Validate.absorbed m, keeps_of_turns (g.K.Validate.words texts) m (g.K.Validate.absorbed m) (g.K.Validate.remaining m) (g.K.Validate.can_be texts m) (g.K.Validate.ends texts m) (g.K.Validate.fits texts m) (g.met.K.Validate.turn_laws texts m) (g.met.K.Validate.function_laws texts m)) in
     let ran = pair_ran set old p c.args.node.0 c.in_ok-pair.pair.node.0 (place_of c.in_ok-pair.pair) (steps_to c.numbered_place-place.result) c.new.new.context c.enter.new.context c.solve_node.new.context c.exit.new.context c.in_ok-mark.mark c.in_ok-said.said
     node place same c.numbered_place-place.ensures.same (c.state.ensures.unknown none) (c.state.ensures.idle none) (c.state.ensures.free none) c.in_ok-pair.pair.number c.in_ok-pair.ensures.numbered c.in_ok-pair.ensures.own c.requires.stands
-    c.in_ok-mark.ensures.begins c.in_ok-said.ensures.goes c.in_ok-said.ensures.says c.in_ok-mark.ensures.mark c.exit.ensures.left c.exit.ensures.root c.exit.ensures.assumed c.exit.ensures.verdicts c.exit.ensures.marking c.exit.ensures.begun in
+    c.in_ok-may_begin.ensures.room c.in_ok-mark.ensures.begins c.in_ok-said.ensures.goes c.in_ok-said.ensures.says c.in_ok-mark.ensures.mark c.exit.ensures.left c.exit.ensures.root c.exit.ensures.assumed c.exit.ensures.verdicts c.exit.ensures.marking c.exit.ensures.begun in
     let x = c.exit.new.context in
     let n = c.keep_answer.new.context in
     let mark = c.in_ok-mark.mark in
@@ -142,7 +180,7 @@ edges::solve_pair-returns g t c =
       goes = kept.0;
       marking = search rules;
       says = λ texts tells. kept.1;
-      stops = λ each. tt;
+      stops = tt;
     }
 
 pub edges::solve_edge-solve_pair-requires : goal.edges::solve_edge-solve_pair-requires
@@ -298,8 +336,8 @@ entries::solve_entries-solve_form-requires g t c =
     let here = part_at entry_of (shaped_part g.K.Validate.shape) c.args.entries.now c.loop-entry.entry-index c.entry-item.result c.loop-entry-test.true c.entry-item.is in
     λ κs h. (lower_same _ _ t 7 1 l c.decreases, (h.0, (h.1.0, (h.1.1.0, (h.1.1.1, record { may = may_after set p old c.loop-entry.context s c.args.node.0 c.requires.may went; carries = carries_on old c.loop-entry.context c.args.question.now.place.now went.root c.requires.carries; stands = (c.requires.stands.0, c.requires.stands.1, shaped_part g.K.Validate.shape (entry_of c.entry-item.result), c.requires.stands.2 _ here, refl) })))))
 
-pub entries::solve_entries-returns-then-not-said : goal.entries::solve_entries-returns-then-not-said
-entries::solve_entries-returns-then-not-said g t c = record {
+pub entries::solve_entries-returns-then-not-valid : goal.entries::solve_entries-returns-then-not-valid
+entries::solve_entries-returns-then-not-valid g t c = record {
   goes =
       let set = solver_by g.K.Validate g.M.Matcher c.args.engine.now in
       let p = steps_to c.args.question.now.place.now in
@@ -314,12 +352,21 @@ entries::solve_entries-returns-then-not-said g t c = record {
       let next = c.solve_form.new.context in
       let x = shaped_part g.K.Validate.shape (entry_of c.entry-item.result) in
       let rest = parts (drop (c.loop-entry.entry-index + 1) c.args.entries.now) in
+      let no = sym c.valid.ensures.valid ∙ c.if-not-valid.true in
       let split = ap parts (drop_at c.args.entries.now c.loop-entry.entry-index c.entry-item.result c.loop-entry-test.true c.entry-item.is) in
       let so_far : InEach set (view here.root) (λ texts w. SaysTheRest w p (found_of here) c.loop-entry.leans (parts c.args.entries.now) (x ∷ rest)) = subst (λ left. InEach set (view here.root) (λ texts w. SaysTheRest w p (found_of here) c.loop-entry.leans (parts c.args.entries.now) left)) split c.loop-entry.invariant.leads in
-      subst (λ b. InEach set (view next.root) (λ texts w. PartsTell w p (found_of next) (parts c.args.entries.now) b c.in_ok-said.said.leans)) (sym (no_of c.in_ok-said.said.valid c.if-not-said.true))
-      (entry_refuses set p here next c.in_ok-said.ensures.goes (parts c.args.entries.now) x rest c.loop-entry.leans so_far c.in_ok-said.said.leans (subst (λ b. InEach set (view next.root) (λ texts w. FormTells w p (found_of next) x.form b c.in_ok-said.said.leans)) (no_of c.in_ok-said.said.valid c.if-not-said.true) c.in_ok-said.ensures.says));
+      subst (λ b. InEach set (view next.root) (λ texts w. PartsTell w p (found_of next) (parts c.args.entries.now) b c.in_ok-said.said.leans)) (sym no)
+      (entry_refuses set p here next c.in_ok-said.ensures.goes (parts c.args.entries.now) x rest c.loop-entry.leans so_far c.in_ok-said.said.leans (subst (λ b. InEach set (view next.root) (λ texts w. FormTells w p (found_of next) x.form b c.in_ok-said.said.leans)) no c.in_ok-said.ensures.says));
   stops = search rules;
 }
+
+pub entries::solve_entries-returns-in_err-said : goal.entries::solve_entries-returns-in_err-said
+entries::solve_entries-returns-in_err-said g t c =
+    let set = solver_by g.K.Validate g.M.Matcher c.args.engine.now in
+    let says = g.K.Validate.says_monotone in
+    let p = steps_to c.args.question.now.place.now in
+    solved_stops set says p c.args.context.now c.solve_form.new.context _ c.from_residual.result _ c.from_residual.ensures.1
+    (stops_on set says p c.args.context.now c.loop-entry.context c.solve_form.new.context _ c.loop-entry.invariant.goes c.in_err-said.ensures.stops)
 
 pub entries::solve_entries-loop-entry-preserved : goal.entries::solve_entries-loop-entry-preserved
 entries::solve_entries-loop-entry-preserved g t c =
@@ -335,7 +382,7 @@ entries::solve_entries-loop-entry-preserved g t c =
     record {
       goes = goes_on set p c.args.context.now here next c.loop-entry.invariant.goes c.in_ok-said.ensures.goes;
       marking = c.in_ok-said.ensures.marking ∙ c.loop-entry.invariant.marking;
-      leads = entry_accepts set p here next c.in_ok-said.ensures.goes (parts c.args.entries.now) x rest c.loop-entry.leans so_far c.in_ok-said.said.leans (subst (λ b. InEach set (view next.root) (λ texts w. FormTells w p (found_of next) x.form b c.in_ok-said.said.leans)) (yes_of c.in_ok-said.said.valid c.if-not-said.false) c.in_ok-said.ensures.says);
+      leads = rw c.leans-leans.ensures.leans (entry_accepts set p here next c.in_ok-said.ensures.goes (parts c.args.entries.now) x rest c.loop-entry.leans so_far c.in_ok-said.said.leans (subst (λ b. InEach set (view next.root) (λ texts w. FormTells w p (found_of next) x.form b c.in_ok-said.said.leans)) (sym c.valid.ensures.valid ∙ c.if-not-valid.false) c.in_ok-said.ensures.says));
     }
 
 pub entries::solve_entries-returns : goal.entries::solve_entries-returns
@@ -349,7 +396,7 @@ entries::solve_entries-returns g t c = record {
       let p = steps_to c.args.question.now.place.now in
       let parts = λ (es : List (Entry g.row.K.Denot)). map (shaped_part g.K.Validate.shape) (map entry_of es) in
       let none = ap parts (drop_past c.args.entries.now c.loop-entry.entry-index c.loop-entry-test.false) in
-      λ texts tells answers fits. (c.loop-entry.invariant.leads texts tells).same answers fits ∙ ap (parts_by (solving_in set (view c.loop-entry.context.root) texts) p answers) none;
+      rw c.of.ensures.said (λ texts tells answers fits. (c.loop-entry.invariant.leads texts tells).same answers fits ∙ ap (parts_by (solving_in set (view c.loop-entry.context.root) texts) p answers) none);
   stops = search rules;
 }
 
@@ -368,7 +415,7 @@ entries::solve_form-returns-in-Some g t c = record {
       let m = g.K.Validate.shape c.in-Keyword.keyword in
       let es = map (option_map edge_of) c.in-Keyword.field-1.items in
       let form = rw c.in-Keyword.is at c.requires.stands in
-      rw c.in-Keyword.is (says_at_once set laws old s p c.args.node.0 c.requires.may m es form (g.K.Validate.absorbed m) (g.K.Validate.remaining m) (λ texts. g.K.Validate.can_be texts m) (λ texts. g.K.Validate.ends texts m) (λ texts. g.K.Validate.fits texts m) (λ texts. g.met.K.Validate.turn_laws texts m) c.in-Some.valid c.in-Some.ensures.at_once);
+      rw c.settled.ensures.said (rw c.in-Keyword.is (says_at_once set laws old s p c.args.node.0 c.requires.may m es form (g.K.Validate.absorbed m) (g.K.Validate.remaining m) (λ texts. g.K.Validate.can_be texts m) (λ texts. g.K.Validate.ends texts m) (λ texts. g.K.Validate.fits texts m) (λ texts. g.met.K.Validate.turn_laws texts m) c.in-Some.valid c.in-Some.ensures.at_once));
   stops = search rules;
 }
 
@@ -509,11 +556,50 @@ turns::solver_answer-returns-in-Ok g t c = record {
       let found = λ (texts : Bool). (answer_of texts c.solver_turns-turned.new.answer).verdict in
       let said = rw c.in-Ok.is at c.solver_turns-turned.ensures.says in
       if_ok_mono c.said_of.result _ _ (λ s (is, monotone).
-      subst (λ (s : Said). InEach set (view c.put_back.new.self.root) (λ texts w. FormTells w p (found_of c.put_back.new.self) (form_at_work g.K.Validate.shape c.args.keyword.now) s.valid s.leans)) (sym is)
+      subst (λ (s : WhatIsSaid). InEach set (view c.put_back.new.self.root) (λ texts w. FormTells w p (found_of c.put_back.new.self) (form_at_work g.K.Validate.shape c.args.keyword.now) s.valid s.leans)) (sym is)
       (says_after set p end c.put_back.new.self after p (form_at_work g.K.Validate.shape c.args.keyword.now) c.verdict_of.result l found c.verdict_of.ensures.verdict
       (λ texts tells. said texts tells (λ leans. g.met.K.Validate.grows texts m (monotone leans))))) c.said_of.ensures.said;
-  stops = λ each. never_stops c.said_of.result _ c.said_of.ensures.stops (keyword_says (solver_by g.K.Validate g.M.Matcher c.args.engine.now) g.K.Validate.says_monotone c.args.node.0 _ _ each c.requires.may.known c.requires.stands);
+  stops =
+      let set = solver_by g.K.Validate g.M.Matcher c.args.engine.now in
+      let p = steps_to c.args.question.now.place.now in
+      let aside = c.set_aside-aside.new.self in
+      let end = c.solver_turns-turned.new.context in
+      let e = c.set_aside-aside.ensures in
+      let b = c.put_back.ensures in
+      let m = g.K.Validate.shape c.args.keyword.now.keyword.now in
+      let es = map (option_map edge_of) c.args.keyword.now.children.now in
+      let turns : Goes set p aside end = rw c.in-Ok.is at c.solver_turns-turned.ensures.goes in
+      let before = goes_marked set p c.args.context.now aside c.requires.may.sound e.root e.in_progress e.assumed e.verdicts e.begun in
+      let after = goes_marked set p end c.put_back.new.self turns.sound b.root b.in_progress b.assumed b.verdicts b.begun in
+      let went = goes_on set p c.args.context.now end c.put_back.new.self (goes_on set p c.args.context.now aside end before turns) after in
+      IfErr-weaker c.said_of.result _ _ (λ e (leans, told, silent). subst (Stops set g.K.Validate.says_monotone c.args.context.now c.put_back.new.self) (sym leans) (stops_leaning set g.K.Validate.says_monotone c.args.node.0 m es c.requires.may.known c.requires.stands silent p c.args.context.now c.put_back.new.self went)) c.said_of.ensures.stops;
 }
+
+pub turns::solver_answer-returns : goal.turns::solver_answer-returns
+turns::solver_answer-returns g t c = record {
+  goes = tt;
+  marking = tt;
+  says = tt;
+  stops =
+      let set = solver_by g.K.Validate g.M.Matcher c.args.engine.now in
+      let says = g.K.Validate.says_monotone in
+      let p = steps_to c.args.question.now.place.now in
+      let aside = c.set_aside-aside.new.self in
+      let end = c.solver_turns-turned.new.context in
+      let e = c.set_aside-aside.ensures in
+      let stops : Stops set says aside end c.in-Err.stopped = rw c.in-Err.is at c.solver_turns-turned.ensures.stops in
+      let before = goes_marked set p c.args.context.now aside c.requires.may.sound e.root e.in_progress e.assumed e.verdicts e.begun in
+      stops_still set says c.args.context.now end c.put_back.new.self c.in-Err.stopped (stops_on set says p c.args.context.now aside end c.in-Err.stopped before stops) c.put_back.ensures.begun;
+}
+
+pub turns::solver_turns-returns-in_err-said-in-Ask : goal.turns::solver_turns-returns-in_err-said-in-Ask
+turns::solver_turns-returns-in_err-said-in-Ask g t c =
+    let set = solver_by g.K.Validate g.M.Matcher c.args.engine.now in
+    let says = g.K.Validate.says_monotone in
+    let p = steps_to c.args.question.now.place.now in
+    let m = g.K.Validate.shape c.args.keyword.now.keyword.now in
+    turned_stops set says p c.args.context.now c.solve_child.new.context _ m c.from_residual-in_err-said-in-Ask.result _ c.from_residual-in_err-said-in-Ask.ensures.1
+    (stops_on set says p c.args.context.now c.turns.context c.solve_child.new.context _ c.turns.invariant.goes c.in_err-said-in-Ask.ensures.stops)
 
 pub turns::solver_turns-turns-init : goal.turns::solver_turns-turns-init
 turns::solver_turns-turns-init g t c =
@@ -604,9 +690,9 @@ turns::solver_turns-turns-preserved-in-Ask g t c =
     record {
       goes = goes_on set p c.args.context.now c.turns.context next went c.in_ok-said-in-Ask.ensures.goes;
       can = can_after (g.K.Validate.words false) m (g.K.Validate.absorbed m) (g.K.Validate.remaining m) (g.K.Validate.can_be false m) (g.K.Validate.ends false m) (g.K.Validate.fits false m) (g.met.K.Validate.turn_laws false m) s (c.turns.run, answer_of false c.turns.answer) (c.turn.new.run, answer_of false c.turn.new.answer) told c.turns.invariant.can turn;
-      asks = asks_on set m (g.K.Validate.absorbed m) (g.K.Validate.remaining m) (λ texts. g.K.Validate.can_be texts m) (λ texts. g.K.Validate.ends texts m) (λ texts. g.K.Validate.fits texts m) (λ texts. g.met.K.Validate.turn_laws texts m) s (c.turns.run, answer_of false c.turns.answer) (c.turn.new.run, answer_of false c.turn.new.answer) told (truth c.in_ok-said-in-Ask.said.valid) (ask q (mode_of c.in-Ask.wanted)) c.turns.invariant.can turn step (ask_goes_on q (mode_of c.in-Ask.wanted)) c.turns.invariant.asks;
-      leads = leads_asked set m (g.K.Validate.absorbed m) (g.K.Validate.remaining m) (λ texts. g.K.Validate.can_be texts m) (λ texts. g.K.Validate.ends texts m) (λ texts. g.K.Validate.fits texts m) (λ texts. g.met.K.Validate.turn_laws texts m) s keeps c.args.context.now p c.args.node.0 c.requires.may_ask.may es c.requires.may_ask.stands c.turns.context next c.in_ok-said-in-Ask.ensures.goes went.root c.turns.leans c.in_ok-said-in-Ask.said.leans c.turns.context.marking next.marking c.in_ok-said-in-Ask.ensures.marking
-          (λ texts. (c.turns.run, answer_of texts c.turns.answer)) (λ texts. (c.turn.new.run, answer_of texts c.turn.new.answer)) (λ texts. told_reply c.turns.told) q (mode_of c.in-Ask.wanted) c.in_ok-said-in-Ask.said.valid turned stepped wanted c.in_ok-said-in-Ask.ensures.says c.turns.invariant.leads;
+      asks = rw c.valid.ensures.valid (asks_on set m (g.K.Validate.absorbed m) (g.K.Validate.remaining m) (λ texts. g.K.Validate.can_be texts m) (λ texts. g.K.Validate.ends texts m) (λ texts. g.K.Validate.fits texts m) (λ texts. g.met.K.Validate.turn_laws texts m) s (c.turns.run, answer_of false c.turns.answer) (c.turn.new.run, answer_of false c.turn.new.answer) told (truth c.in_ok-said-in-Ask.said.valid) (ask q (mode_of c.in-Ask.wanted)) c.turns.invariant.can turn step (ask_goes_on q (mode_of c.in-Ask.wanted)) c.turns.invariant.asks);
+      leads = rw c.valid.ensures.valid (rw c.leans-leans.ensures.leans (leads_asked set m (g.K.Validate.absorbed m) (g.K.Validate.remaining m) (λ texts. g.K.Validate.can_be texts m) (λ texts. g.K.Validate.ends texts m) (λ texts. g.K.Validate.fits texts m) (λ texts. g.met.K.Validate.turn_laws texts m) s keeps c.args.context.now p c.args.node.0 c.requires.may_ask.may es c.requires.may_ask.stands c.turns.context next c.in_ok-said-in-Ask.ensures.goes went.root c.turns.leans c.in_ok-said-in-Ask.said.leans c.turns.context.marking next.marking c.in_ok-said-in-Ask.ensures.marking
+          (λ texts. (c.turns.run, answer_of texts c.turns.answer)) (λ texts. (c.turn.new.run, answer_of texts c.turn.new.answer)) (λ texts. told_reply c.turns.told) q (mode_of c.in-Ask.wanted) c.in_ok-said-in-Ask.said.valid turned stepped wanted c.in_ok-said-in-Ask.ensures.says c.turns.invariant.leads));
     }
 
 pub turns::solver_turns-turns-smaller-in-Match : goal.turns::solver_turns-turns-smaller-in-Match

@@ -1,4 +1,5 @@
-use Rattle.std.proofs.Common.{◌≡◌, ◌∙◌, Bool, [], refl, subst, sym}
+use Rattle.std.proofs.Common.{◌≡◌, ◌∙◌, Bool, [], ap, inr, refl, subst, sym}
+use Rattle.std.specs.Prelude.{is_some}
 use Rattle.serde_json.specs.View.{view}
 use Rattle.schema_definitions.specs.Instance.{a_value}
 use Rattle.schema_definitions.specs.Laws.{EachKeeps}
@@ -9,8 +10,9 @@ use Rattle.schema_greatest.specs.Stages.{Tells}
 use Rattle.schema_solver.specs.Asked.{solver_of}
 use Rattle.schema_pairs.specs.Contexts.{found_of, solver_places}
 use Rattle.schema_pairs.specs.Answering.{fresh}
-use Rattle.schema_solver.specs.Solving.{Goes, InEach, MaySolve}
-use Rattle.schema_solver.proofs.Going.{end_few, end_holds, end_rests, end_says, end_sound, fresh_may}
+use Rattle.schema_solver.specs.Solving.{Goes, InEach, IsLate, MaySolve, StaysWithin}
+use Rattle.schema_solver.proofs.Going.{end_few, end_holds, end_rests, end_says, end_sound, end_within, fresh_may, root_late, root_within}
+use Rattle.schema_solver.proofs.Stopping.{not_leaning}
 use Rattle.schema_solver.proofs.solve.solve_root.Goals as goal
 
 pub solve_node-requires : goal.solve_node-requires
@@ -42,11 +44,58 @@ returns-in-Ok g c =
     let tells : InEach set (view new.root) (λ texts w. Tells w (found_of new) i [] said.valid said.leans) = subst (λ p. InEach set (view new.root) (λ texts w. Tells w (found_of new) i p said.valid said.leans)) place c.in-Ok.ensures.says in
     record {
       exactly = λ each. refl;
-      says = end_says set laws ranked v i c.requires.known new went said.valid said.leans tells;
+      says = rw c.valid.ensures.valid (end_says set laws ranked v i c.requires.known new went said.valid said.leans tells);
       root = went.root;
       idle = went.in_progress;
       holds = end_holds set laws ranked v i c.requires.known new went;
       sound = end_sound set laws ranked v i c.requires.known new went;
-      rests = end_rests set laws ranked v i c.requires.known new went said.valid said.leans tells;
+      rests = rw c.valid.ensures.valid (end_rests set laws ranked v i c.requires.known new went said.valid said.leans tells);
       few = end_few set laws ranked v i c.requires.known new went;
+      within = end_within set laws ranked v i c.requires.known new went;
+      stops = tt;
+      limited = tt;
+      late = tt;
+    }
+
+pub returns-in-Leans : goal.returns-in-Leans
+returns-in-Leans g c =
+    let set = solver_of g.K.Validate.words g.K.Validate.is_whole g.K.Validate.shape g.M.Matcher.matching c.args.engine.now in
+    let v = c.args.instance.now in
+    let begins : c.args.context.now ≡ fresh v = c.requires.fresh in
+    let new = c.solve_node.new.context in
+    let stops = c.in-Err.ensures.stops in
+    record {
+      exactly = λ each. absurd (not_leaning c.in-Err.stopped (stops.reason each) c.in-Leans.is);
+      says = tt;
+      root = tt;
+      idle = tt;
+      holds = tt;
+      sound = tt;
+      rests = tt;
+      few = tt;
+      within = root_within set v new (subst (λ z. StaysWithin set z new) begins stops.within);
+      stops = tt;
+      limited = tt;
+      late = tt;
+    }
+
+pub returns : goal.returns
+returns g c =
+    let set = solver_of g.K.Validate.words g.K.Validate.is_whole g.K.Validate.shape g.M.Matcher.matching c.args.engine.now in
+    let v = c.args.instance.now in
+    let begins : c.args.context.now ≡ fresh v = c.requires.fresh in
+    let late : IsLate set (fresh v) = subst (IsLate set) begins (c.in-Err.ensures.stops.late c.in-Limit.is) in
+    record {
+      exactly = λ each. tt;
+      says = tt;
+      root = tt;
+      idle = tt;
+      holds = tt;
+      sound = tt;
+      rests = tt;
+      few = tt;
+      within = tt;
+      stops = inr refl;
+      limited = λ is. ap is_some late.limit;
+      late = λ is. root_late set v late;
     }

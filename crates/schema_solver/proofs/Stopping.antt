@@ -1,0 +1,78 @@
+-- Why a solver stops, and what it leaves then.
+use Rattle.std.proofs.Common.{◌≡◌, ◌∙◌, ℕ, ◌<◌, ◌≤◌, Bool, false, inl, inr, refl, subst, sym, true≢false}
+use Rattle.std.specs.Prelude.{Err, IsErrAnd, Ok, Result, Some, ◌⊎◌}
+use Rattle.schema_definitions.specs.Instance.{Place}
+use Rattle.schema_definitions.specs.Guarded.{Children, node_keyword}
+use Rattle.run_steps.specs.NodeRuns.{HasForm}
+use Rattle.schema_greatest.specs.Under.{Solving}
+use Rattle.schema_greatest.specs.Found.{Found}
+use Rattle.schema_pairs.specs.Contexts.{Solver}
+use Rattle.schema_pairs.specs.Answering.{Begins}
+use Rattle.schema_solver.specs.declared.question.Stopped.{Stopped}
+use Rattle.schema_solver.specs.declared.question.Stopped.TheVariants.{Leans, Limit, OutOfMemory}
+use Rattle.schema_solver.specs.Solved.{Solved, Stops, Turned}
+use Rattle.schema_solver.specs.Solving.{Goes, HasRoom, IsNew, Setting}
+use Rattle.schema_solver.proofs.Going.{late_on}
+use Rattle.schema_solver.proofs.PairSteps.{late_begun, late_here, within_begun}
+use Rattle.schema_solver.proofs.Turned.{keyword_says}
+
+leans_is_no_limit : ¬ (Leans ≡ Limit)
+leans_is_no_limit is = cc
+
+-- for either reason it is at no yes that leans
+pub not_leaning : (e : Stopped) → (e ≡ OutOfMemory) ⊎ (e ≡ Limit) → ¬ (e ≡ Leans)
+not_leaning e (inl is) leans = cc
+not_leaning e (inr is) leans = cc
+
+module _ {K R : Type 0} (g : Setting K R) (says : K → Bool) where
+  -- after a step
+  pub stops_on : (p : Place) (a b c : Solver) (e : Stopped) → Goes g p a b → Stops g says b c e → Stops g says a c e
+  stops_on p a b c e went stops = record {
+    reason = stops.reason;
+    within = λ most limit few. stops.within most limit (went.within most limit few);
+    late = λ is. late_on g p a b went (stops.late is);
+  }
+
+  -- before what begins no pair
+  pub stops_still : (a b c : Solver) (e : Stopped) → Stops g says a b e → c.begun ≡ b.begun → Stops g says a c e
+  stops_still a b c e stops same = record {
+    reason = stops.reason;
+    within = λ most limit few. subst (λ k. k ≤ most) (sym same) (stops.within most limit few);
+    late = stops.late;
+  }
+
+  -- where no more may be begun
+  pub stops_full : (c : Solver) (p : Place) (i : ℕ) → IsNew g c p i → (most : ℕ) → g.most ≡ Some most → most ≤ c.begun → Stops g says c c Limit
+  stops_full c p i is_new most limit full = record {
+    reason = λ each. inr refl;
+    within = λ most limit few. few;
+    late = λ is. late_here g c p i is_new most limit full;
+  }
+
+  -- once a pair has been begun
+  pub stops_begun : (a b c : Solver) (p : Place) (i : ℕ) (e : Stopped) → IsNew g a p i → HasRoom g a → Begins i p a b → Stops g says b c e → Stops g says a c e
+  stops_begun a b c p i e is_new room begins stops = record {
+    reason = stops.reason;
+    within = λ most limit few. stops.within most limit (within_begun g a p i b begins room most limit few);
+    late = λ is. late_begun g a p i is_new b begins (stops.late is);
+  }
+
+  -- at a yes that leans, of a keyword alone that does not say that it is monotone
+  pub stops_leaning : (i : ℕ) (m : K) (es : Children) → i < g.count → HasForm g.nodes i (node_keyword m es) → says m ≡ false
+      → (p : Place) (c c' : Solver) → Goes g p c c' → Stops g says c c' Leans
+  stops_leaning i m es l form silent p c c' went = record {
+    reason = λ each. absurd (true≢false (sym (keyword_says g says i m es each l form) ∙ silent));
+    within = went.within;
+    late = λ is. absurd (leans_is_no_limit is);
+  }
+
+  -- what a result says that is such an error
+  module _ {T : Type 0} (p : Place) (c c' : Solver) (e : Stopped) where
+    pub solved_stops : (result : Result T Stopped) (says_this : T → Solving K R → Found → Type 0) → IsErrAnd result (λ x. x ≡ e) → Stops g says c c' e → Solved g says p c c' result says_this
+    solved_stops (Ok x) says_this is stops = absurd is
+    solved_stops (Err x) says_this is stops = record { goes = tt; marking = tt; says = tt; stops = subst (Stops g says c c') (sym is) stops }
+
+  module _ (p : Place) (c c' : Solver) (e : Stopped) (m : K) where
+    pub turned_stops : (result : Result Bool Stopped) (says_this : Bool → Bool → Solving K R → Found → Type 0) → IsErrAnd result (λ x. x ≡ e) → Stops g says c c' e → Turned g says p c c' result m says_this
+    turned_stops (Ok x) says_this is stops = absurd is
+    turned_stops (Err x) says_this is stops = record { goes = tt; says = tt; stops = subst (Stops g says c c') (sym is) stops }
