@@ -1,8 +1,9 @@
-//! The traits of the parts that are handed in, node numbers, and the context of a run.
+//! The traits of the parts that are handed in, node numbers, and the context of a run and its budget.
 pub use schema_contexts::kept_paths::KeptPaths;
 pub use schema_contexts::marks::{Marks, child_edge};
 pub use schema_contexts::validation::ValidationContext;
-pub use schema_contexts::{kept_paths, validation};
+pub use schema_contexts::work::Work;
+pub use schema_contexts::{kept_paths, validation, work};
 pub use schema_parts::cloning::CloneKeyword;
 pub use schema_parts::keyword::{
     Answer, Below, Fault, Found, Marked, MatchPoint, Mode, OwnError, Reply, Spot, SpotMatch, Step,

@@ -16,3 +16,4 @@ mod MapEntries
 mod EntryFailures
 mod CompiledAlone
 pub mod Greatest
+mod AtLimits

@@ -1,7 +1,8 @@
 -- What a solver says of the root's number is what the run of the root's node decides; and that a validator that is made has a solver.
-use Rattle.std.proofs.Common.{◌∙◌, ◌≡◌, Bool, List, [], ap, subst, sym, true}
-use Rattle.std.specs.Prelude.{Err, IfOk, IfSome, None, Ok, Option, Result, Some, is_some}
+use Rattle.std.proofs.Common.{◌*◌, ◌∙◌, ◌≡◌, ◌≤◌, Bool, List, [], ap, arith, false, length, refl, subst, suc, sym, true, ℕ}
+use Rattle.std.specs.Prelude.{Err, IfOk, IfSome, None, Ok, OnErr, Option, Result, Some, is_some}
 use Rattle.serde_json.specs.Data.{Data}
+use Rattle.serde_json.specs.declared.value.Value.{Value}
 use Rattle.schema_definitions.specs.Keywords.{Keywords}
 use Rattle.schema_definitions.specs.Matching.{Matcher}
 use Rattle.schema_definitions.specs.Reports.{Outcome}
@@ -10,10 +11,12 @@ use Rattle.schema_node.proofs.NodeOutcomes.{outcome_is}
 use Rattle.node_table.specs.NodeTable.{NodeEntry, numbered}
 use Rattle.schema_pairs.specs.Following.{IsFollowing}
 use Rattle.schema_solver.specs.Asked.{solver_over}
-use Rattle.schema_solver.specs.Solving.{SaysAsNodes}
+use Rattle.schema_solver.specs.Solving.{LimitWithinBound, SaysAsNodes}
 use Rattle.schema_validator.specs.Answers.{SaysVerdict}
 use Rattle.schema_validator.specs.Program.{Program}
-use Rattle.schema_validator.specs.Solved.{HasSolver}
+use Rattle.schema_parts.specs.declared.keyword.Validate.{Ghosts as KeywordMembers}
+use Rattle.schema_parts.specs.declared.matcher.Matcher.{Ghosts as MatcherMembers}
+use Rattle.schema_validator.specs.Solved.{AreEnough, HasSolver, StopsLate}
 
 pub solved_decides : {K S R M : Type 0} (shape : K → S) (words : Bool → Keywords S R) (is_whole : S → Bool) (matching : M → Matcher) (p : Program K M) (followed : List Bool) (instance : Data) (valid : Bool)
     → SaysAsNodes (solver_over words is_whole shape p.nodes followed (matching p.matcher)) instance p.root valid → SaysVerdict shape words is_whole matching p instance [] valid
@@ -38,3 +41,15 @@ pub if_ok_some_both : {X E : Type 0} (found : Result (Option X) E) (P Q R : X �
 if_ok_some_both (Ok (Some x)) P Q R both p q = both x p q
 if_ok_some_both (Ok None) P Q R both p q = tt
 if_ok_some_both (Err e) P Q R both p q = tt
+
+-- where so many pairs are enough, a solver that may begin so many is not stopped
+pub enough_decide : {C Run K M T E : Type 0} (keywords : KeywordMembers C Run K) (matchers : MatcherMembers M) (p : Program C M) (instance : Value) (limit : ℕ) (result : Result T E) (before after : Bool)
+    → OnErr result (before ≡ false → after ≡ true → StopsLate keywords matchers p instance limit) → AreEnough keywords matchers p instance limit → OnErr result (before ≡ false → after ≡ false)
+enough_decide keywords matchers p instance limit (Ok x) before after late enough = tt
+enough_decide keywords matchers p instance limit (Err e) before false late enough = λ fresh. refl
+enough_decide keywords matchers p instance limit (Err e) before true late enough = λ fresh.
+    let most : LimitWithinBound (solver_over keywords.words keywords.is_whole keywords.shape p.nodes enough.followed (matchers.matching p.matcher)) instance limit =
+    of_some p.followed enough.followed (λ followed. LimitWithinBound (solver_over keywords.words keywords.is_whole keywords.shape p.nodes followed (matchers.matching p.matcher)) instance limit) enough.is_followed (late fresh refl) in
+    let more = most enough.numbers enough.each in
+    let bound = enough.bound in
+    absurd (omega (arith, more, bound))

@@ -26,6 +26,8 @@ pub record Options : Type 0 where
   pub checks : Bool
   -- how many runs a call makes at most
   pub runs : ℕ
+  -- how many steps a call takes at most, where there is a limit: a node that is asked at a place is one, and a pair that a solver begins
+  pub work : Option ℕ
   -- how many targets of references are compiled one inside another
   pub nested : ℕ
 
@@ -38,7 +40,7 @@ abbrev pub default_nested : ℕ
 default_nested = 8
 
 abbrev pub default_options : Options
-default_options = record { draft = None; base = None; formats = None; declared = []; limit = 65536; checks = true; runs = default_runs; nested = default_nested }
+default_options = record { draft = None; base = None; formats = None; declared = []; limit = 65536; checks = true; runs = default_runs; work = None; nested = default_nested }
 
 -- options with these limits on runs and on nested targets, and else the same
 abbrev pub limited : Options → ℕ → ℕ → Options

@@ -17,3 +17,4 @@ pub mod FirstCauses
 pub mod Entries
 pub mod SharedErrors
 pub mod Greatest
+pub mod Stopped

@@ -15,14 +15,15 @@ use Rattle.schema_meaning.specs.Means as means
 use Rattle.schema_meaning.specs.Fractions.{AreWhole}
 use Rattle.node_table.specs.NodeTable.{NodeEntry, numbered}
 
--- the nodes, the number of the root's, the root's draft, the matcher, how many runs a call makes at most, and whether each number of the
--- nodes is one that its solver follows, where it has a solver
+-- the nodes, the number of the root's, the root's draft, the matcher, how many runs a call makes at most, how many steps it takes at most,
+-- where there is a limit, and whether each number of the nodes is one that its solver follows, where it has a solver
 pub record Program (K M : Type 0) : Type 0 where
   pub nodes : List (NodeEntry K)
   pub root : ℕ
   pub draft : Draft
   pub matcher : M
   pub runs : ℕ
+  pub work : Option ℕ
   pub followed : Option (List Bool)
 
 -- S is what is known of a keyword, R a run with its answer so far

@@ -1,6 +1,6 @@
 -- A validator that is compiled from a key: its nodes correspond one to one to the keys that this key reaches, found in the one
 -- order that the schema and the limit on nested targets give, and its edges are guarded by that order; its draft is the root's,
--- and its matcher answers as the one that was handed in; its calls make as many runs at most as the options say. The key is the schema's root's, or that of a subschema by itself.
+-- and its matcher answers as the one that was handed in; its calls make as many runs, and take as many steps, at most as the options say. The key is the schema's root's, or that of a subschema by itself.
 use Rattle.std.specs.Prelude.{◌≡◌, Ok, ℕ}
 use Rattle.serde_json.specs.Data.{Data}
 use Rattle.schema_definitions.specs.Matching.{Matcher}
@@ -22,6 +22,7 @@ module _ {S K C M : Type 0} (resolver : Resolver S) (table : Table K) (matcher :
     pub drafted : root_draft (parts_of resolver table no_matcher no_keywords options) schema ≡ Ok p.draft
     pub matcher_is : matching p.matcher ≡ matcher
     pub runs_are : p.runs ≡ options.runs
+    pub work_is : p.work ≡ options.work
 
   -- it is compiled from the root's key, for which no cause of refusal stands
   pub record IsProgramOf (p : Program C M) : Type 0 where
@@ -32,3 +33,4 @@ module _ {S K C M : Type 0} (resolver : Resolver S) (table : Table K) (matcher :
     pub drafted : root_draft (parts_of resolver table no_matcher no_keywords options) schema ≡ Ok p.draft
     pub matcher_is : matching p.matcher ≡ matcher
     pub runs_are : p.runs ≡ options.runs
+    pub work_is : p.work ≡ options.work

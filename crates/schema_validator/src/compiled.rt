@@ -5,7 +5,7 @@ ghost use Rattle.node_table.specs.NodeTable.{numbered};
 ghost use Rattle.schema_validator.specs.Called.{HasUnitsAsCompiled, MeansAsCompiled};
 ghost use Rattle.schema_validator.specs.Handed.{default_runs, handed};
 
-use crate::validator::Validator;
+use crate::validator::{CallLimits, Validator};
 use node_table::node::Nodes;
 use schema_keywords::keywords::Draft;
 use schema_parts::keyword::Validate;
@@ -20,7 +20,7 @@ use std::alloc::Global;
 
 /// Builds a validator from compiled nodes, the number of a key's node and the root's draft. Where the nodes are compiled from
 /// this key and no chain of references returns, the validator means the key's plain meaning and has its units. The matcher is
-/// cloned. Its calls make 64 runs at most for unfinished matches, and it has no solver.
+/// cloned. Its calls make 64 runs at most for unfinished matches, take any number of steps, and it has no solver.
 ///
 /// # Errors
 ///
@@ -36,6 +36,7 @@ pub fn of_compiled<S: Resolver, T: KeywordTable<K>, K: Validate, M: Matcher>(
     requires inside { root.0 < length nodes }
     ensures made { IfOk result (λ v. (v.nodes ≡ nodes) × (v.root ≡ root.0) × (v.draft ≡ draft_of draft)) }
     ensures runs { IfOk result (λ v. v.runs ≡ default_runs) }
+    ensures work { IfOk result (λ v. v.work ≡ None) }
     ensures solver { IfOk result (λ v. v.followed ≡ None) }
     ensures matcher { IfOk result (λ v. M.matching v.matcher ≡ M.matching matcher.now) }
     ensures means { IfOk result (λ v. MeansAsCompiled
@@ -52,12 +53,15 @@ pub fn of_compiled<S: Resolver, T: KeywordTable<K>, K: Validate, M: Matcher>(
         nodes,
         root,
         draft,
-        MAX_ASSUMED_RUNS,
+        CallLimits {
+            runs: MAX_ASSUMED_RUNS,
+            work: None,
+        },
         Solver::none(),
     )
 }
 
-/// Builds a validator as `of_compiled` does, whose calls make so many runs at most for unfinished matches, and which has this solver.
+/// Builds a validator as `of_compiled` does, whose calls have these limits, and which has this solver.
 pub(crate) fn of_compiled_within<S: Resolver, T: KeywordTable<K>, K: Validate, M: Matcher>(
     table: &T,
     resolver: &S,
@@ -65,13 +69,14 @@ pub(crate) fn of_compiled_within<S: Resolver, T: KeywordTable<K>, K: Validate, M
     nodes: Nodes<K>,
     root: SchemaNode,
     draft: Draft,
-    run_limit: u32,
+    limits: CallLimits,
     finder: Solver,
 ) -> Result<Validator<K, M>, OutOfMemory>
     requires inside { root.0 < length nodes }
-    requires limit { 1 ≤ run_limit }
+    requires limit { 1 ≤ limits.runs }
     ensures made { IfOk result (λ v. (v.nodes ≡ nodes) × (v.root ≡ root.0) × (v.draft ≡ draft_of draft)) }
-    ensures runs { IfOk result (λ v. v.runs ≡ run_limit) }
+    ensures runs { IfOk result (λ v. v.runs ≡ limits.runs) }
+    ensures work { IfOk result (λ v. v.work ≡ limits.work) }
     ensures solver { IfOk result (λ v. v.followed ≡ finder) }
     ensures matcher { IfOk result (λ v. M.matching v.matcher ≡ M.matching matcher.now) }
     ensures means { IfOk result (λ v. MeansAsCompiled
@@ -82,5 +87,5 @@ pub(crate) fn of_compiled_within<S: Resolver, T: KeywordTable<K>, K: Validate, M
         nodes root.0 v) }
 {
     let matcher = matcher.clone()?;
-    Ok(Validator::of_nodes_within(nodes, root, draft, matcher, run_limit, finder))
+    Ok(Validator::of_nodes_within(nodes, root, draft, matcher, limits, finder))
 }

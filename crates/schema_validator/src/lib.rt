@@ -5,4 +5,5 @@ pub mod building;
 pub mod compiled;
 pub mod map;
 pub mod options;
+pub mod stopping;
 pub mod validator;

@@ -22,8 +22,8 @@ const DEFAULT_NESTED_LIMIT: usize = 8;
 
 /// How a schema is compiled, and how much a call of the validator may do: the draft and the base of its root, whether the meta
 /// validators check it, whether formats are checked, which custom vocabularies are declared, how many keys may be reached, how many
-/// targets of references are compiled one inside another, and how many runs a call makes at most for unfinished matches. What is not
-/// set is left to schema and resolver.
+/// targets of references are compiled one inside another, how many runs a call makes at most for unfinished matches, and how many steps
+/// it takes at most, where there is a limit. What is not set is left to schema and resolver.
 #[derive(Drop)]
 pub struct ValidationOptions {
     draft: Option<Draft>,
@@ -31,6 +31,7 @@ pub struct ValidationOptions {
     compiling: CompileOptions,
     checks: bool,
     run_limit: u32,
+    work_limit: Option<u64>,
     nested_limit: usize,
 }
 
@@ -49,6 +50,7 @@ impl Model for ValidationOptions {
       limit = o.compiling.node_limit;
       checks = o.checks;
       runs = o.run_limit;
+      work = o.work_limit;
       nested = o.nested_limit;
     } };
 
@@ -72,6 +74,7 @@ impl ValidationOptions {
             },
             checks: true,
             run_limit: MAX_ASSUMED_RUNS,
+            work_limit: None,
             nested_limit: DEFAULT_NESTED_LIMIT,
         }
     }
@@ -118,6 +121,18 @@ impl ValidationOptions {
     {
         let mut options = self;
         options.run_limit = limit;
+        options
+    }
+
+    /// Lets a call of the validator take so many steps at most: each time that a node is asked at a place counts one, in all runs of the
+    /// call, and so does each pair that a solver begins. A call that would take one more stops: `is_valid` answers no, and the other
+    /// calls give one failure, with the text `The limit of N steps was reached`. Where this is not set there is no limit. Allocates
+    /// nothing.
+    pub fn with_work_limit(self, limit: u64) -> ValidationOptions
+        ensures work { result ≡ record self { work = Some limit } }
+    {
+        let mut options = self;
+        options.work_limit = Some(limit);
         options
     }
 

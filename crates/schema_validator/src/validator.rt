@@ -1,8 +1,9 @@
 //! A validator: what it answers of instances.
-ghost use Rattle.std.specs.Prelude.{◌≡◌, ◌↔◌, ◌&&◌, ◌<◌, ◌≤◌, [], false, true, Bool, None, Option, IfOk, All, IfSome, IsSome};
+ghost use Rattle.std.specs.Prelude.{◌≡◌, ◌↔◌, ◌&&◌, ◌<◌, ◌≤◌, [], false, true, Bool, None, Option, IfOk, All, IfSome, IsSome, OnErr};
 ghost use Rattle.std.specs.Prelude.{is_some, length, slice_get};
 ghost use Rattle.serde_json.specs.View.{view};
 ghost use Rattle.schema_keywords.specs.KeywordViews.{draft_of};
+ghost use Rattle.schema_contexts.specs.Works.{Asks, IsSpent, Spends};
 ghost use Rattle.schema_definitions.specs.Unfinished.{starting};
 ghost use Rattle.schema_reports.specs.ReportViews.{BorrowsItsPlace};
 ghost use Rattle.schema_parts.specs.FaultViews.{errors_in};
@@ -20,16 +21,18 @@ ghost use Rattle.schema_validator.specs.Asked.{RunGivesUnit, UnitsFromSomeDepth,
 ghost use Rattle.schema_validator.specs.Greatest.{DecidesAccepted, ErrorsAccepted, EvaluatesAccepted, FirstAccepted, NodesAreMonotone};
 ghost use Rattle.schema_validator.specs.Handed.{default_runs};
 ghost use Rattle.schema_validator.specs.SharedErrors.{AreShared};
-ghost use Rattle.schema_validator.specs.Solved.{BeganFew, RestsOnContext};
+ghost use Rattle.schema_validator.specs.Solved.{AreEnough, BeganFew, IsCountedIn, RestsOnContext, StopsLate};
 ghost use Rattle.schema_validator.specs.Asked.{RunDecides, RunFindsFirst, RunListsErrors, RunMeets, RunReplies};
 ghost use Rattle.schema_meaning.specs.Numbered.{Ranked};
 ghost use Rattle.schema_verdicts.specs.Saying.{EachSays};
 ghost use Rattle.node_table.specs.NodeTable.{numbered};
 
+mod calls;
 mod cloning;
 
 use node_table::node::Nodes;
 use schema_contexts::validation::ValidationContext;
+use schema_contexts::work::Work;
 use schema_keywords::keywords::Draft;
 use schema_matches::assumptions::MatchAssumptions;
 use schema_node::node::RunNodes;
@@ -52,6 +55,14 @@ use serde_json::Value;
 use std::alloc::Global;
 use std::marker::Model;
 
+/// How much a call may do: how many runs it makes at most for unfinished matches, and how many steps it takes at most, where there is a
+/// limit (`with_work_limit`).
+#[derive(Clone, Copy)]
+pub struct CallLimits {
+    pub runs: u32,
+    pub work: Option<u64>,
+}
+
 /// A compiled schema. It validates any number of instances, and no call changes it.
 #[derive(Drop)]
 pub struct Validator<K: Validate, M> {
@@ -60,6 +71,7 @@ pub struct Validator<K: Validate, M> {
     draft: Draft,
     matcher: M,
     run_limit: u32,
+    work_limit: Option<u64>,
     // where a solver finds verdicts
     finder: Solver,
 }
@@ -81,6 +93,7 @@ impl<K: Validate, M> Model for Validator<K, M> {
       draft = draft_of v.draft;
       matcher = v.matcher;
       runs = v.run_limit;
+      work = v.work_limit;
       followed = v.finder;
     } };
 
@@ -111,7 +124,7 @@ fn unless_refused<'i>(error: Option<ValidationError<'i>>) -> Result<(), Validati
 
 impl<K: Validate, M: Matcher> Validator<K, M> {
     /// Makes a validator of compiled nodes, the number of the root's node, the root's draft, and the matcher. Its calls make 64
-    /// runs at most for unfinished matches, and it has no solver. Allocates nothing.
+    /// runs at most for unfinished matches, take any number of steps, and it has no solver. Allocates nothing.
     pub fn of_nodes(nodes: Nodes<K>, root: SchemaNode, draft: Draft, matcher: M) -> Validator<K, M>
         requires inside { root.0 < length nodes }
         ensures made { result ≡ record {
@@ -120,6 +133,7 @@ impl<K: Validate, M: Matcher> Validator<K, M> {
           draft = draft_of draft;
           matcher = matcher;
           runs = default_runs;
+          work = None;
           followed = None;
         } }
     {
@@ -128,28 +142,32 @@ impl<K: Validate, M: Matcher> Validator<K, M> {
             root,
             draft,
             matcher,
-            MAX_ASSUMED_RUNS,
+            CallLimits {
+                runs: MAX_ASSUMED_RUNS,
+                work: None,
+            },
             Solver::none(),
         )
     }
 
-    // Makes a validator of compiled nodes, whose calls make so many runs at most for unfinished matches, and which has this solver.
+    // Makes a validator of compiled nodes, whose calls have these limits, and which has this solver.
     pub(crate) fn of_nodes_within(
         nodes: Nodes<K>,
         root: SchemaNode,
         draft: Draft,
         matcher: M,
-        run_limit: u32,
+        limits: CallLimits,
         finder: Solver,
     ) -> Validator<K, M>
         requires inside { root.0 < length nodes }
-        requires limit { 1 ≤ run_limit }
+        requires limit { 1 ≤ limits.runs }
         ensures made { result ≡ record {
           nodes = nodes;
           root = root.0;
           draft = draft_of draft;
           matcher = matcher;
-          runs = run_limit;
+          runs = limits.runs;
+          work = limits.work;
           followed = finder;
         } }
     {
@@ -158,7 +176,8 @@ impl<K: Validate, M: Matcher> Validator<K, M> {
             root,
             draft,
             matcher,
-            run_limit,
+            run_limit: limits.runs,
+            work_limit: limits.work,
             finder,
         }
     }
@@ -168,6 +187,13 @@ impl<K: Validate, M: Matcher> Validator<K, M> {
         ensures runs { result ≡ self.now.runs }
     {
         self.run_limit
+    }
+
+    /// Returns how many steps a call takes at most, where there is a limit.
+    pub fn work_limit(&self) -> Option<u64>
+        ensures work { result ≡ self.now.work }
+    {
+        self.work_limit
     }
 
     /// Returns the draft of the schema's root.
@@ -217,6 +243,7 @@ impl<K: Validate, M: Matcher> Validator<K, M> {
         instance: &'i Value,
         mode: Mode,
         matches: MatchAssumptions<'i>,
+        work: &mut Work,
     ) -> Result<(MatchAssumptions<'i>, Reply<'i>), OutOfMemory>
         requires wanted { ¬ (mode_of mode ≡ for_units) }
         ensures says { IfOk result (λ r. RunReplies
@@ -225,12 +252,14 @@ impl<K: Validate, M: Matcher> Validator<K, M> {
             K.Validate M.Matcher.own self.now (view instance.now) (mode_of mode) matches.entry r.0) }
         ensures assumes { IfOk result (λ r. r.0.assumptions ≡ matches.entry.assumptions) }
         ensures makes_one { IfOk result (λ _. 1 ≤ self.now.runs) }
+        ensures works { IfOk result (λ _. Asks work.old work.new) }
         ensures speaks { IfOk result (λ r. (o : Outcome) × (reply_of false r.1 ≡ reply_by (mode_of mode) o)) }
         ensures borrows { IfOk result (λ r. All (BorrowsItsPlace (view instance.now)) (errors_in r.1)) }
     {
         let place = Place::root(alloc);
         let path = Location::new(alloc);
         let mut context = ValidationContext::assuming(alloc, PlacesOnDemand::of(instance), matches);
+        context.allow(*work);
         let question = FirstQuestion {
             instance: Instance::Value(instance),
             place: &place,
@@ -240,6 +269,8 @@ impl<K: Validate, M: Matcher> Validator<K, M> {
         let reply = self
             .nodes
             .run(alloc, &self.matcher, self.root, &question, &mut context);
+        let left = context.work();
+        *work = left;
         let met = context.into_matches();
         match reply {
             Ok(reply) => Ok((met, reply)),
@@ -256,15 +287,17 @@ impl<K: Validate, M: Matcher> Validator<K, M> {
         alloc: Global,
         instance: &'i Value,
         matches: MatchAssumptions<'i>,
+        work: &mut Work,
     ) -> Result<(MatchAssumptions<'i>, bool), OutOfMemory>
         ensures says { IfOk result (λ r. RunDecides
             K.Validate M.Matcher.own self.now (view instance.now) matches.entry.assumptions r.1) }
         ensures meets { IfOk result (λ r. RunMeets
             K.Validate M.Matcher.own self.now (view instance.now) for_verdict matches.entry r.0) }
         ensures assumes { IfOk result (λ r. r.0.assumptions ≡ matches.entry.assumptions) }
+        ensures works { IfOk result (λ _. Asks work.old work.new) }
         ensures makes_one { IfOk result (λ _. 1 ≤ self.now.runs) }
     {
-        let (met, reply) = self.asked(alloc, instance, Mode::Verdict, matches)?;
+        let (met, reply) = self.asked(alloc, instance, Mode::Verdict, matches, work)?;
         match reply {
             Reply::Truth(valid) => Ok((met, valid)),
             _ => unreachable!(),
@@ -277,6 +310,7 @@ impl<K: Validate, M: Matcher> Validator<K, M> {
         alloc: Global,
         finishes: bool,
         instance: &'i Value,
+        work: &mut Work,
     ) -> Result<Option<SolvedVerdict<'i>>, OutOfMemory>
         requires finishes { finishes ≡ true → FinishesEach (M.matching self.now.matcher) }
         ensures exactly { EachSays K.says_monotone (numbered K.shape self.now.nodes) (length self.now.nodes)
@@ -289,6 +323,10 @@ impl<K: Validate, M: Matcher> Validator<K, M> {
             K.Validate M.Matcher.own self.now (view instance.now) v.valid)) }
         ensures rests { IfOk result (λ found. IfSome found (RestsOnContext K.Validate M.Matcher.own self.now instance.now)) }
         ensures few { IfOk result (λ found. IfSome found (BeganFew K.Validate M.Matcher.own self.now instance.now)) }
+        ensures works { IfOk result (λ _. Spends work.old work.new) }
+        ensures counted { IfOk result (λ found. IfSome found (λ v. IsCountedIn v work.old work.new)) }
+        ensures late { OnErr result (work.old.stopped ≡ false → work.new.stopped ≡ true
+            → StopsLate K.Validate M.Matcher.own self.now instance.now work.old.left) }
     {
         self.finder.verdict(
             alloc,
@@ -297,42 +335,55 @@ impl<K: Validate, M: Matcher> Validator<K, M> {
             finishes,
             self.root,
             instance,
+            work,
         )
     }
 
     // Whether every outcome of the unfinished matches accepts.
-    fn valid_under_each(&self, alloc: Global, instance: &Value) -> Result<bool, OutOfMemory>
+    fn valid_under_each(
+        &self,
+        alloc: Global,
+        instance: &Value,
+        work: &mut Work,
+    ) -> Result<bool, OutOfMemory>
+        ensures works { IfOk result (λ _. Spends work.old work.new) }
         ensures depth { IfOk result (λ valid. DecidesFromSomeDepth
             K.Validate M.Matcher.own self.now (view instance.now) valid) }
     {
-        if let Some(solved) = self.solved(alloc, self.matcher.finishes(), instance)? {
+        if let Some(solved) = self.solved(alloc, self.matcher.finishes(), instance, work)? {
             return Ok(solved.valid);
         }
-        let first = self.verdict(alloc, instance, MatchAssumptions::new(alloc))?;
+        let first = self.verdict(alloc, instance, MatchAssumptions::new(alloc), work)?;
         if !first.0.met_unassumed() {
             drop(first.0);
             return Ok(first.1);
         }
         validity_under_each(
             alloc,
-            &mut |matches| self.verdict(alloc, instance, matches),
+            &mut |matches| self.verdict(alloc, instance, matches, work),
             first,
             self.run_limit,
         )
     }
 
     // Whether the matcher finishes every match, and the root's node accepts the instance: then it has no error. `false` says nothing.
-    fn accepts_at_once(&self, alloc: Global, instance: &Value) -> Result<bool, OutOfMemory>
+    fn accepts_at_once(
+        &self,
+        alloc: Global,
+        instance: &Value,
+        work: &mut Work,
+    ) -> Result<bool, OutOfMemory>
+        ensures works { IfOk result (λ _. Spends work.old work.new) }
         ensures first { IfOk result (λ accepts. accepts ≡ true → FirstFromSomeDepth
             K.Validate M.Matcher.own self.now (view instance.now) None) }
         ensures errors { IfOk result (λ accepts. accepts ≡ true → ErrorsFromSomeDepth
             K.Validate M.Matcher.own self.now (view instance.now) []) }
     {
         if self.matcher.finishes() {
-            if let Some(solved) = self.solved(alloc, true, instance)? {
+            if let Some(solved) = self.solved(alloc, true, instance, work)? {
                 return Ok(solved.valid);
             }
-            let (met, accepts) = self.verdict(alloc, instance, MatchAssumptions::new(alloc))?;
+            let (met, accepts) = self.verdict(alloc, instance, MatchAssumptions::new(alloc), work)?;
             drop(met);
             return Ok(accepts);
         }
@@ -344,16 +395,19 @@ impl<K: Validate, M: Matcher> Validator<K, M> {
         &self,
         alloc: Global,
         instance: &'i Value,
+        work: &mut Work,
     ) -> Result<(MatchAssumptions<'i>, Option<ValidationError<'i>>), OutOfMemory>
         ensures says { IfOk result (λ r. RunFindsFirst
             K.Validate M.Matcher.own self.now (view instance.now) [] r.1) }
         ensures meets { IfOk result (λ r. RunMeets
             K.Validate M.Matcher.own self.now (view instance.now) for_first (starting []) r.0) }
         ensures assumes { IfOk result (λ r. r.0.assumptions ≡ []) }
+        ensures works { IfOk result (λ _. Asks work.old work.new) }
         ensures makes_one { IfOk result (λ _. 1 ≤ self.now.runs) }
         ensures borrows { IfOk result (λ r. IfSome r.1 (BorrowsItsPlace (view instance.now))) }
     {
-        let (met, reply) = self.asked(alloc, instance, Mode::First, MatchAssumptions::new(alloc))?;
+        let nothing = MatchAssumptions::new(alloc);
+        let (met, reply) = self.asked(alloc, instance, Mode::First, nothing, work)?;
         match reply {
             Reply::First(Some(error)) => Ok((met, Some(Box::into_inner(error)))),
             Reply::First(None) => Ok((met, None)),
@@ -367,16 +421,18 @@ impl<K: Validate, M: Matcher> Validator<K, M> {
         alloc: Global,
         instance: &'i Value,
         matches: MatchAssumptions<'i>,
+        work: &mut Work,
     ) -> Result<(MatchAssumptions<'i>, Vec<ValidationError<'i>>), OutOfMemory>
         ensures says { IfOk result (λ r. RunListsErrors
             K.Validate M.Matcher.own self.now (view instance.now) matches.entry.assumptions r.1.items) }
         ensures meets { IfOk result (λ r. RunMeets
             K.Validate M.Matcher.own self.now (view instance.now) for_all matches.entry r.0) }
         ensures assumes { IfOk result (λ r. r.0.assumptions ≡ matches.entry.assumptions) }
+        ensures works { IfOk result (λ _. Asks work.old work.new) }
         ensures makes_one { IfOk result (λ _. 1 ≤ self.now.runs) }
         ensures borrows { IfOk result (λ r. All (BorrowsItsPlace (view instance.now)) r.1.items) }
     {
-        let (met, reply) = self.asked(alloc, instance, Mode::All, matches)?;
+        let (met, reply) = self.asked(alloc, instance, Mode::All, matches, work)?;
         match reply {
             Reply::All(errors) => Ok((met, errors)),
             _ => unreachable!(),
@@ -390,15 +446,17 @@ impl<K: Validate, M: Matcher> Validator<K, M> {
         alloc: Global,
         instance: &'i Value,
         first: (MatchAssumptions<'i>, Vec<ValidationError<'i>>),
+        work: &mut Work,
     ) -> Result<Vec<ValidationError<'i>>, OutOfMemory>
         requires none { first.0.assumptions ≡ [] }
         requires met { IsSome first.0.unassumed }
         ensures shares { IfOk result (λ es. AreShared
             K.Validate M.Matcher.own self.now (view instance.now) first.entry.0 es.items) }
+        ensures works { IfOk result (λ _. Spends work.old work.new) }
     {
         let shared = errors_under_each(
             alloc,
-            &mut |matches| self.errors(alloc, instance, matches),
+            &mut |matches| self.errors(alloc, instance, matches, work),
             first,
             self.run_limit,
             instance,
@@ -412,22 +470,24 @@ impl<K: Validate, M: Matcher> Validator<K, M> {
         &self,
         alloc: Global,
         instance: &'i Value,
+        work: &mut Work,
     ) -> Result<Option<ValidationError<'i>>, OutOfMemory>
         ensures depth { IfOk result (λ e. FirstFromSomeDepth
             K.Validate M.Matcher.own self.now (view instance.now) e) }
         ensures borrows { IfOk result (λ e. IfSome e (BorrowsItsPlace (view instance.now))) }
+        ensures works { IfOk result (λ _. Spends work.old work.new) }
     {
-        let accepts = self.accepts_at_once(alloc, instance)?;
+        let accepts = self.accepts_at_once(alloc, instance, work)?;
         if accepts {
             return Ok(None);
         }
-        let (met, error) = self.first(alloc, instance)?;
+        let (met, error) = self.first(alloc, instance, work)?;
         if !met.met_unassumed() {
             drop(met);
             return Ok(error);
         }
         drop(error);
-        let shared = self.shared_errors(alloc, instance, (met, Vec::new(alloc)))?;
+        let shared = self.shared_errors(alloc, instance, (met, Vec::new(alloc)), work)?;
         Ok(first_of(shared))
     }
 
@@ -437,21 +497,23 @@ impl<K: Validate, M: Matcher> Validator<K, M> {
         &self,
         alloc: Global,
         instance: &'i Value,
+        work: &mut Work,
     ) -> Result<Vec<ValidationError<'i>>, OutOfMemory>
         ensures depth { IfOk result (λ es. ErrorsFromSomeDepth
             K.Validate M.Matcher.own self.now (view instance.now) es.items) }
         ensures borrows { IfOk result (λ es. All (BorrowsItsPlace (view instance.now)) es.items) }
+        ensures works { IfOk result (λ _. Spends work.old work.new) }
     {
-        let accepts = self.accepts_at_once(alloc, instance)?;
+        let accepts = self.accepts_at_once(alloc, instance, work)?;
         if accepts {
             return Ok(Vec::new(alloc));
         }
-        let (met, errors) = self.errors(alloc, instance, MatchAssumptions::new(alloc))?;
+        let (met, errors) = self.errors(alloc, instance, MatchAssumptions::new(alloc), work)?;
         if !met.met_unassumed() {
             drop(met);
             return Ok(errors);
         }
-        self.shared_errors(alloc, instance, (met, errors))
+        self.shared_errors(alloc, instance, (met, errors), work)
     }
 
     // The unit of the root's node, where nothing is assumed.
@@ -459,17 +521,20 @@ impl<K: Validate, M: Matcher> Validator<K, M> {
         &self,
         alloc: Global,
         instance: &'i Value,
+        work: &mut Work,
     ) -> Result<(MatchAssumptions<'i>, EvaluationNode), OutOfMemory>
         ensures says { IfOk result (λ r. RunGivesUnit
             K.Validate M.Matcher.own self.now (view instance.now) [] r.1) }
         ensures meets { IfOk result (λ r. RunMeets
             K.Validate M.Matcher.own self.now (view instance.now) for_units (starting []) r.0) }
         ensures assumes { IfOk result (λ r. r.0.assumptions ≡ []) }
+        ensures works { IfOk result (λ _. Asks work.old work.new) }
         ensures makes_one { IfOk result (λ _. 1 ≤ self.now.runs) }
     {
         let place = Place::root(alloc);
         let path = Location::new(alloc);
         let mut context = ValidationContext::new(alloc, PlacesOnDemand::of(instance));
+        context.allow(*work);
         let unit = self.nodes.evaluate_instance(
             alloc,
             &self.matcher,
@@ -479,6 +544,7 @@ impl<K: Validate, M: Matcher> Validator<K, M> {
             &path,
             &mut context,
         );
+        *work = context.work();
         let met = context.into_matches();
         match unit {
             Ok(unit) => Ok((met, unit)),
@@ -495,39 +561,48 @@ impl<K: Validate, M: Matcher> Validator<K, M> {
         &self,
         alloc: Global,
         instance: &Value,
+        work: &mut Work,
     ) -> Result<EvaluationNode, OutOfMemory>
         ensures depth { IfOk result (λ u. EvaluatesFromSomeDepth
             K.Validate M.Matcher.own self.now (view instance.now) u) }
         ensures units { IfOk result (λ u. UnitsFromSomeDepth
             K.Validate M.Matcher.own self.now (view instance.now) u) }
+        ensures works { IfOk result (λ _. Spends work.old work.new) }
     {
-        let (met, unit) = self.unit(alloc, instance)?;
+        let (met, unit) = self.unit(alloc, instance, work)?;
         if !met.met_unassumed() {
             drop(met);
             return Ok(unit);
         }
         drop(unit);
-        let shared = self.shared_errors(alloc, instance, (met, Vec::new(alloc)))?;
+        let shared = self.shared_errors(alloc, instance, (met, Vec::new(alloc)), work)?;
         unit_of_errors(alloc, shared)
     }
 
-    /// Returns whether the instance is valid. Where the matcher leaves matches unfinished, returns whether the instance is valid
-    /// under every outcome of them, and `false` if that takes more runs than a call makes. Where each keyword is monotone, and it
-    /// takes no more runs, returns `true` exactly if the greatest solution of the nodes accepts, also where references return.
+    /// Returns what `is_valid` does, but takes no more steps than `work` allows, and counts them there (`with_work_limit`).
     ///
     /// # Errors
     ///
-    /// Fails out of memory.
-    pub fn is_valid(&self, alloc: Global, instance: &Value) -> Result<bool, OutOfMemory>
+    /// Fails out of memory, and where one more step is to be taken: then `work` says that it is stopped, and allows no more.
+    pub fn is_valid_within(
+        &self,
+        alloc: Global,
+        instance: &Value,
+        work: &mut Work,
+    ) -> Result<bool, OutOfMemory>
         ensures depth { IfOk result (λ valid. DecidesFromSomeDepth
             K.Validate M.Matcher.own self.now (view instance.now) valid) }
         ensures senses { IfOk result (λ valid. DecidesInEverySense
             K.Validate M.Matcher.own self.now (view instance.now) valid) }
         ensures greatest { IfOk result (λ valid. DecidesAccepted
             K.Validate M.Matcher.own self.now (view instance.now) valid) }
+        ensures works { IfOk result (λ _. Spends work.old work.new) }
+        ensures stopped { OnErr result (work.new.stopped ≡ true → IsSpent work.new) }
     {
         let _ranked = self.node_count();
-        Ok(self.valid_under_each(alloc, instance)?)
+        let answer = self.valid_under_each(alloc, instance, work);
+        let _spent = work.is_stopped();
+        Ok(answer?)
     }
 
     /// Returns whether the instance is valid, as a solver finds it, with the context in which it found that; `None` where the validator
@@ -537,7 +612,8 @@ impl<K: Validate, M: Matcher> Validator<K, M> {
     /// holds nothing but what is so; with g numbers of nodes that a guarded edge leads to or that are not followed, and p places of the
     /// instance, no more than g * p * g pairs of them were begun in it, reference cycles included (`SolverContext::begun`). Where the
     /// matcher says that it finishes every match, `is_valid`, `validate` and `iter_errors` ask this first. Where each keyword is monotone,
-    /// it answers `true` exactly if the greatest solution of the nodes accepts.
+    /// it answers `true` exactly if the greatest solution of the nodes accepts. It counts nothing against the validator's limit, and begins
+    /// as many pairs as it needs.
     ///
     /// # Errors
     ///
@@ -558,24 +634,54 @@ impl<K: Validate, M: Matcher> Validator<K, M> {
         ensures rests { IfOk result (λ found. IfSome found (RestsOnContext K.Validate M.Matcher.own self.now instance.now)) }
         ensures few { IfOk result (λ found. IfSome found (BeganFew K.Validate M.Matcher.own self.now instance.now)) }
     {
-        let _ranked = self.node_count();
-        self.solved(alloc, true, instance)
+        let mut work = Work::unlimited();
+        self.solve_within(alloc, instance, &mut work)
     }
 
-    /// Returns the first error as an inner `Err`, and an inner `Ok` if the instance is valid. Where the matcher leaves matches
-    /// unfinished, the error is the first that all outcomes of them share. It tells of such a match instead if some outcome
-    /// refuses and they share no error, or if that takes more runs than a call makes. Any other error is one that the nodes give
-    /// under some outcome, so it points at keyword and value as the build promises of these. Where each keyword is monotone, and it
-    /// takes no more runs, there is no error exactly if the greatest solution of the nodes accepts. Where the matcher says that it
-    /// finishes every match, the verdict is asked first, and the error only where the verdict is no.
+    /// Returns what `solve` does, but begins no more pairs than `work` allows, and counts there those that it begins. Where it is
+    /// stopped, one pair more than `work` allowed is within the bound g * p * g on what it begins. So where `work` allows that many or
+    /// more, it is not stopped; and where each keyword says that it is monotone, it then finds the verdict, if memory is enough.
     ///
     /// # Errors
     ///
-    /// Fails out of memory.
-    pub fn validate<'i>(
+    /// Fails out of memory, and where one more pair is to be begun: then `work` says that it is stopped.
+    pub fn solve_within<'i>(
         &self,
         alloc: Global,
         instance: &'i Value,
+        work: &mut Work,
+    ) -> Result<Option<SolvedVerdict<'i>>, OutOfMemory>
+        requires finishes { FinishesEach (M.matching self.now.matcher) }
+        ensures exactly { EachSays K.says_monotone (numbered K.shape self.now.nodes) (length self.now.nodes)
+            → IfOk result (λ found. is_some found ≡ is_some self.now.followed) }
+        ensures only { IfOk result (λ found. is_some found ≡ true → is_some self.now.followed ≡ true) }
+        ensures depth { IfOk result (λ found. IfSome found (λ v. DecidesFromSomeDepth
+            K.Validate M.Matcher.own self.now (view instance.now) v.valid)) }
+        ensures greatest { IfOk result (λ found. IfSome found (λ v. DecidesAccepted
+            K.Validate M.Matcher.own self.now (view instance.now) v.valid)) }
+        ensures rests { IfOk result (λ found. IfSome found (RestsOnContext K.Validate M.Matcher.own self.now instance.now)) }
+        ensures few { IfOk result (λ found. IfSome found (BeganFew K.Validate M.Matcher.own self.now instance.now)) }
+        ensures works { IfOk result (λ _. Spends work.old work.new) }
+        ensures counted { IfOk result (λ found. IfSome found (λ v. IsCountedIn v work.old work.new)) }
+        ensures late { OnErr result (work.old.stopped ≡ false → work.new.stopped ≡ true
+            → StopsLate K.Validate M.Matcher.own self.now instance.now work.old.left) }
+        ensures decides { AreEnough K.Validate M.Matcher.own self.now instance.now work.old.left
+            → OnErr result (work.old.stopped ≡ false → work.new.stopped ≡ false) }
+    {
+        let _ranked = self.node_count();
+        self.solved(alloc, true, instance, work)
+    }
+
+    /// Returns what `validate` does, but takes no more steps than `work` allows, and counts them there (`with_work_limit`).
+    ///
+    /// # Errors
+    ///
+    /// Fails out of memory, and where one more step is to be taken: then `work` says that it is stopped, and allows no more.
+    pub fn validate_within<'i>(
+        &self,
+        alloc: Global,
+        instance: &'i Value,
+        work: &mut Work,
     ) -> Result<Result<(), ValidationError<'i>>, OutOfMemory>
         ensures depth { IfOk result (λ r. FirstFromSomeDepth
             K.Validate M.Matcher.own self.now (view instance.now) (refusal_of r)) }
@@ -586,25 +692,25 @@ impl<K: Validate, M: Matcher> Validator<K, M> {
         ensures points { IfOk result (λ r. FirstPointsAsNodes
             K.Validate M.Matcher.own self.now (view instance.now) (refusal_of r)) }
         ensures borrows { IfOk result (λ r. IfSome (refusal_of r) (BorrowsItsPlace (view instance.now))) }
+        ensures works { IfOk result (λ _. Spends work.old work.new) }
+        ensures stopped { OnErr result (work.new.stopped ≡ true → IsSpent work.new) }
     {
         let _ranked = self.node_count();
-        Ok(unless_refused(self.first_under_each(alloc, instance)?))
+        let answer = self.first_under_each(alloc, instance, work);
+        let _spent = work.is_stopped();
+        Ok(unless_refused(answer?))
     }
 
-    /// Returns all errors in order, and none if the instance is valid. Where the matcher leaves matches unfinished, these are the
-    /// errors that all outcomes of them share. There is one error, which tells of such a match, if some outcome refuses and
-    /// they share no error, or if that takes more runs than a call makes. Any other error is one that the nodes give under some
-    /// outcome, so it points at keyword and value as the build promises of these. Where each keyword is monotone, and it takes no
-    /// more runs, there is no error exactly if the greatest solution of the nodes accepts. Where the matcher says that it finishes
-    /// every match, the verdict is asked first, and the errors only where the verdict is no.
+    /// Returns what `iter_errors` does, but takes no more steps than `work` allows, and counts them there (`with_work_limit`).
     ///
     /// # Errors
     ///
-    /// Fails out of memory.
-    pub fn iter_errors<'i>(
+    /// Fails out of memory, and where one more step is to be taken: then `work` says that it is stopped, and allows no more.
+    pub fn iter_errors_within<'i>(
         &self,
         alloc: Global,
         instance: &'i Value,
+        work: &mut Work,
     ) -> Result<ErrorIterator<'i>, OutOfMemory>
         ensures depth { IfOk result (λ es. ErrorsFromSomeDepth
             K.Validate M.Matcher.own self.now (view instance.now) es) }
@@ -615,24 +721,26 @@ impl<K: Validate, M: Matcher> Validator<K, M> {
         ensures points { IfOk result (λ es. ErrorsPointAsNodes
             K.Validate M.Matcher.own self.now (view instance.now) es) }
         ensures borrows { IfOk result (λ es. All (BorrowsItsPlace (view instance.now)) es) }
+        ensures works { IfOk result (λ _. Spends work.old work.new) }
+        ensures stopped { OnErr result (work.new.stopped ≡ true → IsSpent work.new) }
     {
         let _ranked = self.node_count();
-        Ok(ErrorIterator::new(self.all_under_each(alloc, instance)?))
+        let answer = self.all_under_each(alloc, instance, work);
+        let _spent = work.is_stopped();
+        Ok(ErrorIterator::new(answer?))
     }
 
-    /// Returns the evaluation of the instance: the unit of each schema and of each keyword that it is asked of. Where the run
-    /// meets no unfinished match, these are the units that the nodes have, which a build promises to be the plain ones where no
-    /// chain of references returns. Where the matcher leaves matches unfinished that the run meets, the evaluation is made of the
-    /// errors that all outcomes of them share instead: it has one unit for each, at its paths, without absolute locations and
-    /// annotations, inside one at empty locations. There is one error, which tells of such a match, if some outcome refuses and
-    /// they share no error, or if that takes more runs than a call makes. If it takes no more, the outermost unit is valid exactly
-    /// if the instance is valid under every outcome; where each keyword is monotone, exactly if the greatest solution of the nodes
-    /// accepts.
+    /// Returns what `evaluate` does, but takes no more steps than `work` allows, and counts them there (`with_work_limit`).
     ///
     /// # Errors
     ///
-    /// Fails out of memory.
-    pub fn evaluate(&self, alloc: Global, instance: &Value) -> Result<Evaluation, OutOfMemory>
+    /// Fails out of memory, and where one more step is to be taken: then `work` says that it is stopped, and allows no more.
+    pub fn evaluate_within(
+        &self,
+        alloc: Global,
+        instance: &Value,
+        work: &mut Work,
+    ) -> Result<Evaluation, OutOfMemory>
         ensures depth { IfOk result (λ u. EvaluatesFromSomeDepth
             K.Validate M.Matcher.own self.now (view instance.now) u) }
         ensures senses { IfOk result (λ u. EvaluatesInEverySense
@@ -643,8 +751,12 @@ impl<K: Validate, M: Matcher> Validator<K, M> {
             K.Validate M.Matcher.own self.now (view instance.now) u) }
         ensures plain { IfOk result (λ u. UnitsInEverySense
             K.Validate M.Matcher.own self.now (view instance.now) u) }
+        ensures works { IfOk result (λ _. Spends work.old work.new) }
+        ensures stopped { OnErr result (work.new.stopped ≡ true → IsSpent work.new) }
     {
         let _ranked = self.node_count();
-        Ok(Evaluation::new(self.evaluated_under_each(alloc, instance)?))
+        let answer = self.evaluated_under_each(alloc, instance, work);
+        let _spent = work.is_stopped();
+        Ok(Evaluation::new(answer?))
     }
 }

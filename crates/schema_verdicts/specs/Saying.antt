@@ -1,13 +1,11 @@
 -- Each keyword of each node says of itself that it is monotone. References say nothing against it.
 use Rattle.std.specs.List.{list_all}
-use Rattle.std.specs.Prelude.{All, Bool, List, Some, true, ℕ, ◌<◌, ◌≡◌}
-use Rattle.schema_definitions.specs.Guarded.{NodeForm, Nodes}
+use Rattle.std.specs.Prelude.{Bool, List, Some}
+use Rattle.schema_definitions.specs.Guarded.{NodeForm}
 use Rattle.schema_meaning.specs.Fractions.{form_words, node_words}
 use Rattle.node_table.specs.NodeTable.{NodeEntry, plan_in}
-
 -- each keyword of these numbers says so
-abbrev pub EachSays : {S : Type 0} → (S → Bool) → Nodes S → ℕ → Type 0
-EachSays says nodes count = (i : ℕ) → i < count → All (λ m. says m ≡ true) (node_words (nodes.entries i))
+pub use Rattle.schema_solver.specs.Solving.{EachSays}
 
 module _ {K : Type 0} (says : K → Bool) where
   -- ---- the same, computed over a table

@@ -1,15 +1,16 @@
 //! Where a solver finds the verdicts of some nodes.
-ghost use Rattle.std.specs.Prelude.{◌≡◌, ◌<◌, ◌&&◌, [], IfOk, IfSome, None, is_some, length, true};
+ghost use Rattle.std.specs.Prelude.{◌≡◌, ◌<◌, ◌+◌, ◌&&◌, [], IfOk, IfSome, None, OnErr, false, is_some, length, true};
 ghost use Rattle.serde_json.specs.View.{view};
-ghost use Rattle.schema_verdicts.specs.Saying.{EachSays};
 ghost use Rattle.schema_pairs.specs.Following.{IsFollowing};
 ghost use Rattle.schema_parts.specs.MatcherViews.{FinishesEach};
 ghost use Rattle.node_table.specs.NodeTable.{numbered};
 ghost use Rattle.schema_solver.specs.Asked.{solver_over};
-ghost use Rattle.schema_solver.specs.Solving.{BeginsFew, SaysAsNodes};
+ghost use Rattle.schema_solver.specs.Solving.{BeginsFew, EachSays, LimitWithinBound, SaysAsNodes};
+ghost use Rattle.schema_contexts.specs.Works.{Spends};
 ghost use Rattle.schema_verdicts.specs.Finding.{IsFoundAt};
 
 use node_table::node::Nodes;
+use schema_contexts::work::Work;
 use schema_pairs::context::SolverContext;
 use schema_pairs::followed::Followed;
 use schema_parts::keyword::Validate;
@@ -17,10 +18,10 @@ use schema_parts::matcher::Matcher;
 use schema_parts::numbers::SchemaNode;
 use schema_places::on_demand::PlacesOnDemand;
 use schema_reports::location::OutOfMemory;
-use schema_solver::question::SolverEngine;
+use schema_solver::question::{SolverEngine, Stopped};
 use schema_solver::solve::solve_root;
 use serde_json::Value;
-use std::alloc::Global;
+use std::alloc::{AllocError, Global};
 use std::marker::Model;
 
 /// A verdict that a solver found, and the context that it found it in: what the verdict rests on, and how many pairs were begun for it
@@ -44,6 +45,18 @@ impl Model for Solver {
     ghost Value = { Option (List Bool) };
 
     ghost view = { λ f. f.followed };
+}
+
+// Says in a call's work that a solver stopped at its limit, where it did.
+fn stop_at_limit(work: &mut Work, stopped: Stopped)
+    ensures limit { stopped ≡ Stopped.Limit → work.old.limited ≡ true → work.new ≡ record work.old { left = 0; stopped = true } }
+    ensures other { stopped ≡ Stopped.OutOfMemory → work.new ≡ work.old }
+{
+    match stopped {
+        Stopped::Limit => work.stop(),
+        Stopped::OutOfMemory => (),
+        Stopped::Leans => (),
+    }
 }
 
 impl Solver {
@@ -83,7 +96,10 @@ impl Solver {
     /// holds is what the nodes say, and the verdict is what the node says under each set with all pairs that the context answers yes and
     /// none that it refused; where each keyword is monotone, all that it holds is so of every set that stands by itself. With g numbers
     /// that a guarded edge leads to or that are not followed, and p places, that context began at most g * p * g pairs. (Which numbers
-    /// are followed changes nothing of what is said, so `says` names none.) Fails only if memory cannot be allocated.
+    /// are followed changes nothing of what is said, so `says` names none.) The pairs that it begins are counted in the work; where this
+    /// has a limit, no more are begun than it has left. Fails if memory cannot be allocated, and then the work is as it was; and if one
+    /// more pair was to be begun than the work has left, and then the work says that it is stopped: so only where it has less than
+    /// g * p * g left.
     pub fn verdict<'i, K: Validate, M: Matcher>(
         &self,
         alloc: Global,
@@ -92,6 +108,7 @@ impl Solver {
         finishes: bool,
         node: SchemaNode,
         instance: &'i Value,
+        work: &mut Work,
     ) -> Result<Option<SolvedVerdict<'i>>, OutOfMemory>
         requires known { node.0 < length nodes.now }
         requires finishes { finishes ≡ true → FinishesEach (M.matching matcher.now) }
@@ -105,6 +122,14 @@ impl Solver {
             (solver_over K.words K.is_whole K.shape nodes.now followed (M.matching matcher.now)) instance.now node.0 v))) }
         ensures few { IfOk result (λ found. IfSome found (λ v. IfSome self.now (λ followed. BeginsFew
             (solver_over K.words K.is_whole K.shape nodes.now followed (M.matching matcher.now)) instance.now v.context.begun))) }
+        ensures unasked { (is_some self.now && finishes) ≡ false → work.new ≡ work.old }
+        ensures works { IfOk result (λ _. Spends work.old work.new) }
+        ensures counted { IfOk result (λ found. IfSome found (λ v. work.old.limited ≡ true
+            → v.context.begun + work.new.left ≡ work.old.left)) }
+        ensures late { OnErr result (work.old.stopped ≡ false → work.new.stopped ≡ true
+            → IfSome self.now (λ followed. LimitWithinBound
+            (solver_over K.words K.is_whole K.shape nodes.now followed (M.matching matcher.now)) instance.now work.old.left)) }
+        ensures stays { OnErr result (work.new.stopped ≡ false → work.new ≡ work.old) }
     {
         if let Some(followed) = &self.followed {
             if finishes {
@@ -113,12 +138,22 @@ impl Solver {
                     alloc,
                     matcher,
                     followed,
+                    most: work.left(),
                 };
                 let mut context = SolverContext::new(alloc, PlacesOnDemand::of(instance));
-                if let Some(valid) = solve_root(&engine, node, instance, &mut context)? {
-                    return Ok(Some(SolvedVerdict { valid, context }));
+                match solve_root(&engine, node, instance, &mut context) {
+                    Ok(found) => {
+                        work.spend(context.begun());
+                        if let Some(valid) = found {
+                            return Ok(Some(SolvedVerdict { valid, context }));
+                        }
+                        return Ok(None);
+                    }
+                    Err(stopped) => {
+                        stop_at_limit(work, stopped);
+                        return Err(AllocError);
+                    }
                 }
-                return Ok(None);
             }
         }
         Ok(None)

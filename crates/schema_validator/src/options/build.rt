@@ -15,7 +15,7 @@ ghost use Rattle.schema_validator.specs.Solved.{HasSolver};
 use crate::compiled::of_compiled_within;
 use crate::options::ValidationOptions;
 use crate::options::root::root_key;
-use crate::validator::Validator;
+use crate::validator::{CallLimits, Validator};
 use schema_compiler::compiler::compile;
 use schema_keys::check::validate_schema;
 use schema_keys::error::BuildError;
@@ -160,7 +160,10 @@ impl ValidationOptions {
         let nodes = compiled.nodes;
         drop(compiled.keys);
         drop(compiled.reservations);
-        let runs = self.run_limit;
+        let limits = CallLimits {
+            runs: self.run_limit,
+            work: self.work_limit,
+        };
         let finder = Solver::of(alloc, &nodes)?;
         let validator = of_compiled_within(
             table,
@@ -169,7 +172,7 @@ impl ValidationOptions {
             nodes,
             SchemaNode(0),
             draft,
-            runs,
+            limits,
             finder,
         )?;
         Ok(validator)

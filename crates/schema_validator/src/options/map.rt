@@ -18,7 +18,7 @@ use crate::compiled::of_compiled_within;
 use crate::map::ValidatorMap;
 use crate::options::ValidationOptions;
 use crate::options::root::root_key;
-use crate::validator::Validator;
+use crate::validator::{CallLimits, Validator};
 use schema_compiler::compiler::{check_vocabularies, compile_subschema};
 use schema_keys::check::validate_schema;
 use schema_keys::context::Context;
@@ -227,6 +227,10 @@ impl<'p, S: Resolver, T, M: Matcher> MapBuilding<'p, S, T, M> {
         drop(compiled.keys);
         drop(compiled.reservations);
         let finder = Solver::of(self.alloc, &nodes)?;
+        let limits = CallLimits {
+            runs: options.run_limit,
+            work: options.work_limit,
+        };
         let validator = of_compiled_within(
             self.table,
             self.resolver,
@@ -234,7 +238,7 @@ impl<'p, S: Resolver, T, M: Matcher> MapBuilding<'p, S, T, M> {
             nodes,
             SchemaNode(0),
             draft,
-            options.run_limit,
+            limits,
             finder,
         )?;
         Ok(validator)

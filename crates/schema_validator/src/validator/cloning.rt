@@ -10,7 +10,7 @@ use schema_reports::location::OutOfMemory;
 use std::alloc::Global;
 
 impl<K: CloneKeyword, M: Matcher> Validator<K, M> {
-    /// Returns a clone of the validator: it has the same root, draft, limit of runs and numbers that a solver follows, its nodes are the
+    /// Returns a clone of the validator: it has the same root, draft, limits and numbers that a solver follows, its nodes are the
     /// same but for their keywords, which have the shapes of its source's, and its matcher matches alike. So it answers equally.
     ///
     /// # Errors
@@ -23,6 +23,7 @@ impl<K: CloneKeyword, M: Matcher> Validator<K, M> {
         ensures matcher { IfOk result (λ copy. M.matching copy.matcher ≡ M.matching self.now.matcher) }
         ensures solver { IfOk result (λ copy. copy.followed ≡ self.now.followed) }
         ensures runs { IfOk result (λ copy. copy.runs ≡ self.now.runs) }
+        ensures work { IfOk result (λ copy. copy.work ≡ self.now.work) }
         ensures says { IfOk result (λ copy. SaySame K.Validate M.Matcher.own copy self.now) }
         ensures answers { IfOk result (λ copy. AnswerSame K.Validate M.Matcher.own copy self.now) }
     {
@@ -32,6 +33,7 @@ impl<K: CloneKeyword, M: Matcher> Validator<K, M> {
             draft: self.draft,
             matcher: self.matcher.clone()?,
             run_limit: self.run_limit,
+            work_limit: self.work_limit,
             finder: self.finder.clone()?,
         })
     }

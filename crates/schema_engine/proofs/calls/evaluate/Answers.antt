@@ -20,7 +20,7 @@ returns-clause-answer g c =
     let m = g.M.Matcher.matching c.args.matcher.now in
     let k = g.K.Validate in
     plainly_from r table m k.words default_options (view c.args.schema.now) k.shape k.is_whole g.M.Matcher.matching c.in_ok-validator.validator (view c.args.instance.now)
-    (λ texts v. EvaluationAnswered v default_runs texts c.in_ok-answer.field-0) c.in_ok-validator.ensures.means (rw c.in_ok-validator.ensures.program.runs_are at c.in_ok-answer.ensures.senses)
+    (λ texts v. EvaluationAnswered v default_runs texts c.in_ok-answer.field-0) c.in_ok-validator.ensures.means (rw c.in_ok-validator.ensures.program.runs_are at (rw c.in_ok-validator.ensures.program.work_is at c.in_ok-answer.ensures.senses))
 
 pub returns-clause-plain_units : goal.returns-clause-plain_units
 returns-clause-plain_units g c =
@@ -30,13 +30,13 @@ returns-clause-plain_units g c =
     let k = g.K.Validate in
     let built = c.in_ok-validator.ensures in
     plainly_with_units r table m k.words default_options (view c.args.schema.now) k.shape k.is_whole g.M.Matcher.matching c.in_ok-validator.validator (view c.args.instance.now)
-    (λ texts v units. UnitsAnswered v texts units c.in_ok-answer.field-0) built.means built.units c.in_ok-answer.ensures.plain
+    (λ texts v units. UnitsAnswered v texts units c.in_ok-answer.field-0) built.means built.units (rw c.in_ok-validator.ensures.program.work_is at c.in_ok-answer.ensures.plain)
 
 pub returns-clause-guarded : goal.returns-clause-guarded
-returns-clause-guarded g c = (c.in_ok-validator.validator, c.in_ok-validator.ensures.program, rw c.in_ok-validator.ensures.program.runs_are at c.in_ok-answer.ensures.depth)
+returns-clause-guarded g c = (c.in_ok-validator.validator, c.in_ok-validator.ensures.program, rw c.in_ok-validator.ensures.program.runs_are at (rw c.in_ok-validator.ensures.program.work_is at c.in_ok-answer.ensures.depth))
 
 pub returns-clause-units : goal.returns-clause-units
-returns-clause-units g c = (c.in_ok-validator.validator, c.in_ok-validator.ensures.program, c.in_ok-answer.ensures.units)
+returns-clause-units g c = (c.in_ok-validator.validator, c.in_ok-validator.ensures.program, (rw c.in_ok-validator.ensures.program.work_is at c.in_ok-answer.ensures.units))
 
 pub returns-clause-leads : goal.returns-clause-leads
 returns-clause-leads g c =
@@ -50,7 +50,7 @@ returns-clause-leads g c =
       c.in_ok-validator.validator,
       built.program,
       rw built.program.runs_are at (evaluation_points r table m k.words default_options (view c.args.schema.now) k.shape g.M.Matcher.matching c.in_ok-validator.validator k.is_whole built.means built.points
-          (view c.args.instance.now) k.absorbed each g.met.K.Validate.hands_units_on (g.met.T.KeywordTable.right c.args.table.now) built.program c.in_ok-answer.field-0 c.in_ok-answer.ensures.depth c.in_ok-answer.ensures.units),
+          (view c.args.instance.now) k.absorbed each g.met.K.Validate.hands_units_on (g.met.T.KeywordTable.right c.args.table.now) built.program c.in_ok-answer.field-0 (rw c.in_ok-validator.ensures.program.work_is at c.in_ok-answer.ensures.depth) (rw c.in_ok-validator.ensures.program.work_is at c.in_ok-answer.ensures.units)),
     )
 
 pub returns-clause-greatest : goal.returns-clause-greatest
@@ -60,7 +60,7 @@ returns-clause-greatest g c =
     let keeps : (texts : Bool) → EachKeeps (k.words texts) = λ texts s. (k.absorbed s, keeps_of_turns (k.words texts) s (k.absorbed s) (k.remaining s) (k.can_be texts s) (k.ends texts s) (k.fits texts s) (g.met.K.Validate.turn_laws texts s) (g.met.K.Validate.function_laws texts s)) in
     let built = c.in_ok-validator.ensures in
     says_greatest h keeps (g.met.S.Resolver.same c.args.resolver.now) default_options (view c.args.schema.now) c.in_ok-validator.validator built.program built.means (view c.args.instance.now)
-    evaluate (λ texts. verdict_in texts c.in_ok-answer.field-0) c.in_ok-answer.ensures.greatest
+    evaluate (λ texts. verdict_in texts c.in_ok-answer.field-0) (rw c.in_ok-validator.ensures.program.work_is at c.in_ok-answer.ensures.greatest)
 
 pub returns-in_err-validator-clause-refused : goal.returns-in_err-validator-clause-refused
 returns-in_err-validator-clause-refused g c =

@@ -18,10 +18,10 @@ returns-clause-answer g c =
     let m = g.M.Matcher.matching c.args.matcher.now in
     let k = g.K.Validate in
     plainly_from r table m k.words default_options (view c.args.schema.now) k.shape k.is_whole g.M.Matcher.matching c.in_ok-built.built (view c.args.instance.now)
-    (λ texts v. VerdictSays v default_runs is_valid c.in_ok-is_valid.field-0) c.in_ok-built.ensures.means (rw c.in_ok-built.ensures.program.runs_are at c.in_ok-is_valid.ensures.senses)
+    (λ texts v. VerdictSays v default_runs is_valid c.in_ok-is_valid.field-0) c.in_ok-built.ensures.means (rw c.in_ok-built.ensures.program.runs_are at (rw c.in_ok-built.ensures.program.work_is at c.in_ok-is_valid.ensures.senses))
 
 pub returns-clause-guarded : goal.returns-clause-guarded
-returns-clause-guarded g c = (c.in_ok-built.built, c.in_ok-built.ensures.program, rw c.in_ok-built.ensures.program.runs_are at c.in_ok-is_valid.ensures.depth)
+returns-clause-guarded g c = (c.in_ok-built.built, c.in_ok-built.ensures.program, rw c.in_ok-built.ensures.program.runs_are at (rw c.in_ok-built.ensures.program.work_is at c.in_ok-is_valid.ensures.depth))
 
 pub returns-clause-greatest : goal.returns-clause-greatest
 returns-clause-greatest g c =
@@ -30,7 +30,7 @@ returns-clause-greatest g c =
     let keeps : (texts : Bool) → EachKeeps (k.words texts) = λ texts s. (k.absorbed s, keeps_of_turns (k.words texts) s (k.absorbed s) (k.remaining s) (k.can_be texts s) (k.ends texts s) (k.fits texts s) (g.met.K.Validate.turn_laws texts s) (g.met.K.Validate.function_laws texts s)) in
     let built = c.in_ok-built.ensures in
     says_greatest h keeps (g.met.S.Resolver.same c.args.resolver.now) default_options (view c.args.schema.now) c.in_ok-built.built built.program built.means (view c.args.instance.now)
-    is_valid (λ texts. c.in_ok-is_valid.field-0) c.in_ok-is_valid.ensures.greatest
+    is_valid (λ texts. c.in_ok-is_valid.field-0) (rw c.in_ok-built.ensures.program.work_is at c.in_ok-is_valid.ensures.greatest)
 
 pub returns-in_err-built-clause-refused : goal.returns-in_err-built-clause-refused
 returns-in_err-built-clause-refused g c =

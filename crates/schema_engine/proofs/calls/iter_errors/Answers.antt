@@ -20,10 +20,10 @@ returns-clause-answer g c =
     let m = g.M.Matcher.matching c.args.matcher.now in
     let k = g.K.Validate in
     plainly_from r table m k.words default_options (view c.args.schema.now) k.shape k.is_whole g.M.Matcher.matching c.in_ok-validator.validator (view c.args.instance.now)
-    (λ texts v. ErrorsAnswered v default_runs texts c.in_ok-answer.field-0) c.in_ok-validator.ensures.means (rw c.in_ok-validator.ensures.program.runs_are at c.in_ok-answer.ensures.senses)
+    (λ texts v. ErrorsAnswered v default_runs texts c.in_ok-answer.field-0) c.in_ok-validator.ensures.means (rw c.in_ok-validator.ensures.program.runs_are at (rw c.in_ok-validator.ensures.program.work_is at c.in_ok-answer.ensures.senses))
 
 pub returns-clause-guarded : goal.returns-clause-guarded
-returns-clause-guarded g c = (c.in_ok-validator.validator, c.in_ok-validator.ensures.program, rw c.in_ok-validator.ensures.program.runs_are at c.in_ok-answer.ensures.depth)
+returns-clause-guarded g c = (c.in_ok-validator.validator, c.in_ok-validator.ensures.program, rw c.in_ok-validator.ensures.program.runs_are at (rw c.in_ok-validator.ensures.program.work_is at c.in_ok-answer.ensures.depth))
 
 pub returns-clause-leads : goal.returns-clause-leads
 returns-clause-leads g c =
@@ -35,7 +35,7 @@ returns-clause-leads g c =
       c.in_ok-validator.validator,
       built.program,
       rw built.program.runs_are at (each_points r table m k.words default_options (view c.args.schema.now) k.shape g.M.Matcher.matching c.in_ok-validator.validator k.is_whole built.means built.points
-          (view c.args.instance.now) c.in_ok-answer.field-0 c.in_ok-answer.ensures.points),
+          (view c.args.instance.now) c.in_ok-answer.field-0 (rw c.in_ok-validator.ensures.program.work_is at c.in_ok-answer.ensures.points)),
     )
 
 pub returns-clause-greatest : goal.returns-clause-greatest
@@ -45,7 +45,7 @@ returns-clause-greatest g c =
     let keeps : (texts : Bool) → EachKeeps (k.words texts) = λ texts s. (k.absorbed s, keeps_of_turns (k.words texts) s (k.absorbed s) (k.remaining s) (k.can_be texts s) (k.ends texts s) (k.fits texts s) (g.met.K.Validate.turn_laws texts s) (g.met.K.Validate.function_laws texts s)) in
     let built = c.in_ok-validator.ensures in
     says_greatest h keeps (g.met.S.Resolver.same c.args.resolver.now) default_options (view c.args.schema.now) c.in_ok-validator.validator built.program built.means (view c.args.instance.now)
-    iter_errors (λ texts. is_empty c.in_ok-answer.field-0) c.in_ok-answer.ensures.greatest
+    iter_errors (λ texts. is_empty c.in_ok-answer.field-0) (rw c.in_ok-validator.ensures.program.work_is at c.in_ok-answer.ensures.greatest)
 
 pub returns-in_err-validator-clause-refused : goal.returns-in_err-validator-clause-refused
 returns-in_err-validator-clause-refused g c =

@@ -127,6 +127,7 @@ returns-clause-program g c =
       drafted = c.in_ok-root.ensures.drafted ∙ ap Ok (sym made.2);
       matcher_is = c.in_ok-validator.ensures.matcher;
       runs_are = c.in_ok-validator.ensures.runs ∙ ap (λ (o : Options). o.runs) c.self.view_is;
+      work_is = c.in_ok-validator.ensures.work ∙ ap (λ (o : Options). o.work) c.self.view_is;
     }
 
 pub returns-clause-greatest : goal.returns-clause-greatest

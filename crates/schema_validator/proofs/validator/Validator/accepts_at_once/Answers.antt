@@ -13,6 +13,7 @@ use Rattle.schema_validator.specs.Program.{Program}
 use Rattle.schema_calls.proofs.ErrorSearches.{errors_at_once, first_at_once}
 use Rattle.schema_validator.proofs.Solved.{of_some}
 use Rattle.schema_calls.proofs.Searches.{finishes_of}
+use Rattle.schema_node.proofs.Spending.{asks_spends, spends_on}
 use Rattle.schema_validator.proofs.validator.Validator.accepts_at_once.Goals as goal
 
 pub returns-in-Some-clause-first : goal.returns-in-Some-clause-first
@@ -76,3 +77,6 @@ returns-then-finishes-clause-errors g c = λ accepts texts speaks.
       suc deep,
       λ n more. errors_at_once (w.words texts) each (g.M.Matcher.matching p.matcher) nodes d p.root n p.runs c.in_ok-met.ensures.makes_one finishes texts (sym accepts ∙ says texts speaks nothing_twice n (omega (arith, more))),
     )
+
+pub returns-then-finishes-clause-works : goal.returns-then-finishes-clause-works
+returns-then-finishes-clause-works g c = spends_on _ _ _ c.in_ok-solved.ensures.works (asks_spends _ _ c.in_ok-met.ensures.works)

@@ -14,6 +14,7 @@ use Rattle.schema_validator.specs.Answers.{MeetsMatches, SaysErrors}
 use Rattle.schema_validator.specs.Asked.{ErrorsFromSomeDepth}
 use Rattle.schema_calls.proofs.ErrorSearches.{errors_first}
 use Rattle.schema_calls.proofs.Searches.{none_of}
+use Rattle.schema_node.proofs.Spending.{asks_spends, spends_on}
 use Rattle.schema_validator.proofs.validator.Validator.all_under_each.Goals as goal
 
 pub returns-then-accepts-clause-depth : goal.returns-then-accepts-clause-depth
@@ -54,3 +55,9 @@ returns-clause-borrows g c =
     let d = view c.args.instance.now in
     let meets = subst (λ (r : Remembered). MeetsMatches w.shape w.words w.is_whole g.M.Matcher.matching p d for_all r c.in_ok-met.met) c.new-2.ensures.starts c.in_ok-met.ensures.meets in
     if_ok_mono c.shared_errors.result _ _ (λ es shared. shared.borrows iter_errors (λ as' k. refl) meets) c.shared_errors.ensures.shares
+
+pub returns-then-not-met_unassumed-clause-works : goal.returns-then-not-met_unassumed-clause-works
+returns-then-not-met_unassumed-clause-works g c = spends_on _ _ _ c.in_ok-accepts.ensures.works (asks_spends _ _ c.in_ok-met.ensures.works)
+
+pub returns-clause-works : goal.returns-clause-works
+returns-clause-works g c = if_ok_mono c.shared_errors.result _ _ (λ es spends. spends_on _ _ _ c.in_ok-accepts.ensures.works (spends_on _ _ _ (asks_spends _ _ c.in_ok-met.ensures.works) spends)) c.shared_errors.ensures.works

@@ -24,6 +24,7 @@ returns-clause-says g c =
     (ap (λ (p : Program g.row.K.Denot g.row.M.Denot). p.root) same)
     (g.met.M.Matcher.cloned c.self.inside.matcher c.in_ok-clone-2.field-0 c.in_ok-clone-2.ensures.cases ∙ ap (λ (p : Program g.row.K.Denot g.row.M.Denot). g.M.Matcher.matching p.matcher) same)
     (ap (λ (p : Program g.row.K.Denot g.row.M.Denot). p.runs) same)
+    (ap (λ (p : Program g.row.K.Denot g.row.M.Denot). p.work) same)
 
 pub returns-clause-answers : goal.returns-clause-answers
 returns-clause-answers g c =
@@ -34,3 +35,4 @@ returns-clause-answers g c =
     (ap (λ (p : Program g.row.K.Denot g.row.M.Denot). p.root) same)
     (g.met.M.Matcher.cloned c.self.inside.matcher c.in_ok-clone-2.field-0 c.in_ok-clone-2.ensures.cases ∙ ap (λ (p : Program g.row.K.Denot g.row.M.Denot). g.M.Matcher.matching p.matcher) same)
     (ap (λ (p : Program g.row.K.Denot g.row.M.Denot). p.runs) same)
+    (ap (λ (p : Program g.row.K.Denot g.row.M.Denot). p.work) same)

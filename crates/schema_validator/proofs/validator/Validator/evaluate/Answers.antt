@@ -1,40 +1,36 @@
-use Rattle.std.proofs.Common.{Bool, subst, sym}
+use Rattle.std.proofs.Common.{subst, sym}
 use Rattle.serde_json.specs.View.{view}
-use Rattle.schema_definitions.specs.Cover.{Sense}
-use Rattle.schema_definitions.specs.Laws.{EachKeeps}
-use Rattle.schema_meaning.specs.Means.{FromSomeDepth}
 use Rattle.schema_reports.specs.declared.evaluation.EvaluationNode.{EvaluationNode}
-use Rattle.schema_meaning.proofs.SensesMeant.{of_every_sense}
-use Rattle.schema_meaning.proofs.TurnsGiveRuns.{keeps_of_turns}
-use Rattle.node_table.specs.NodeTable.{numbered}
-use Rattle.schema_calls.specs.Evaluated.{EvaluationAnswered}
-use Rattle.schema_validator.specs.Program.{HasUnits}
-use Rattle.schema_validator.proofs.Greatest.{evaluates_accepted}
-use Rattle.schema_validator.proofs.PlainAnswers.{units_in_every_sense}
+use Rattle.schema_validator.specs.Stopped.{GivesLimit}
+use Rattle.schema_validator.proofs.AtLimits.{gives_limit, stops, unless}
 use Rattle.schema_validator.proofs.validator.Validator.evaluate.Goals as goal
 
-pub returns-clause-depth : goal.returns-clause-depth
-returns-clause-depth g c = λ texts speaks.
-    let p = c.args.self.now in
-    subst (λ (u : EvaluationNode). FromSomeDepth (g.K.Validate.words texts) (g.M.Matcher.matching p.matcher) (numbered g.K.Validate.shape p.nodes) p.root (view c.args.instance.now) (λ (v : Sense). EvaluationAnswered v p.runs texts u)) (sym c.new.ensures.root) (c.in_ok-evaluated_under_each.ensures.depth texts speaks)
+pub returns-in-Ok-clause-depth : goal.returns-in-Ok-clause-depth
+returns-in-Ok-clause-depth g c = unless _ _ _ c.in-Ok.ensures.depth
 
-pub returns-clause-senses : goal.returns-clause-senses
-returns-clause-senses g c = λ texts speaks.
-    let p = c.args.self.now in
-    of_every_sense (g.K.Validate.words texts) (g.M.Matcher.matching p.matcher) (numbered g.K.Validate.shape p.nodes) p.root (view c.args.instance.now) (λ (v : Sense). EvaluationAnswered v p.runs texts _)
-    (subst (λ (u : EvaluationNode). FromSomeDepth (g.K.Validate.words texts) (g.M.Matcher.matching p.matcher) (numbered g.K.Validate.shape p.nodes) p.root (view c.args.instance.now) (λ (v : Sense). EvaluationAnswered v p.runs texts u)) (sym c.new.ensures.root) (c.in_ok-evaluated_under_each.ensures.depth texts speaks))
+pub returns-in-Ok-clause-senses : goal.returns-in-Ok-clause-senses
+returns-in-Ok-clause-senses g c = unless _ _ _ c.in-Ok.ensures.senses
 
-pub returns-clause-units : goal.returns-clause-units
-returns-clause-units g c =
-    subst (λ (u : EvaluationNode). HasUnits g.K.Validate.shape g.K.Validate.words g.K.Validate.is_whole g.M.Matcher.matching c.args.self.now (view c.args.instance.now) u) (sym c.new.ensures.root) c.in_ok-evaluated_under_each.ensures.units
+pub returns-in-Ok-clause-greatest : goal.returns-in-Ok-clause-greatest
+returns-in-Ok-clause-greatest g c = unless _ _ _ c.in-Ok.ensures.greatest
 
-pub returns-clause-plain : goal.returns-clause-plain
-returns-clause-plain g c =
-    let k = g.K.Validate in
-    units_in_every_sense k.shape k.words k.is_whole g.M.Matcher.matching c.args.self.now (view c.args.instance.now) _ (returns-clause-units g c)
+pub returns-in-Ok-clause-units : goal.returns-in-Ok-clause-units
+returns-in-Ok-clause-units g c = unless _ _ _ c.in-Ok.ensures.units
 
-pub returns-clause-greatest : goal.returns-clause-greatest
-returns-clause-greatest g c =
-    let k = g.K.Validate in
-    let keeps : (texts : Bool) → EachKeeps (k.words texts) = λ texts s. (k.absorbed s, keeps_of_turns (k.words texts) s (k.absorbed s) (k.remaining s) (k.can_be texts s) (k.ends texts s) (k.fits texts s) (g.met.K.Validate.turn_laws texts s) (g.met.K.Validate.function_laws texts s)) in
-    evaluates_accepted k g.M.Matcher keeps c.args.self.now c.node_count-ranked.ensures.ranked c.node_count-ranked.ensures.inside (view c.args.instance.now) _ (returns-clause-depth g c)
+pub returns-in-Ok-clause-plain : goal.returns-in-Ok-clause-plain
+returns-in-Ok-clause-plain g c = unless _ _ _ c.in-Ok.ensures.plain
+
+pub returns-in_ok-unit_of_errors-in-Some-clause-depth : goal.returns-in_ok-unit_of_errors-in-Some-clause-depth
+returns-in_ok-unit_of_errors-in-Some-clause-depth g c = stops _ _ _ _ c.in-Some.ensures.limit (subst (λ (u : EvaluationNode). GivesLimit u c.in-Some.limit) (sym c.new.ensures.root) (gives_limit (view c.args.instance.now) c.in-Some.limit c.in_ok-unit_of_errors-in-Some.field-0 c.in_ok-failure-in-Some.failure.items c.in_ok-failure-in-Some.ensures.tells c.in_ok-unit_of_errors-in-Some.ensures.unit))
+
+pub returns-in_ok-unit_of_errors-in-Some-clause-senses : goal.returns-in_ok-unit_of_errors-in-Some-clause-senses
+returns-in_ok-unit_of_errors-in-Some-clause-senses g c = stops _ _ _ _ c.in-Some.ensures.limit (subst (λ (u : EvaluationNode). GivesLimit u c.in-Some.limit) (sym c.new.ensures.root) (gives_limit (view c.args.instance.now) c.in-Some.limit c.in_ok-unit_of_errors-in-Some.field-0 c.in_ok-failure-in-Some.failure.items c.in_ok-failure-in-Some.ensures.tells c.in_ok-unit_of_errors-in-Some.ensures.unit))
+
+pub returns-in_ok-unit_of_errors-in-Some-clause-greatest : goal.returns-in_ok-unit_of_errors-in-Some-clause-greatest
+returns-in_ok-unit_of_errors-in-Some-clause-greatest g c = stops _ _ _ _ c.in-Some.ensures.limit (subst (λ (u : EvaluationNode). GivesLimit u c.in-Some.limit) (sym c.new.ensures.root) (gives_limit (view c.args.instance.now) c.in-Some.limit c.in_ok-unit_of_errors-in-Some.field-0 c.in_ok-failure-in-Some.failure.items c.in_ok-failure-in-Some.ensures.tells c.in_ok-unit_of_errors-in-Some.ensures.unit))
+
+pub returns-in_ok-unit_of_errors-in-Some-clause-units : goal.returns-in_ok-unit_of_errors-in-Some-clause-units
+returns-in_ok-unit_of_errors-in-Some-clause-units g c = stops _ _ _ _ c.in-Some.ensures.limit (subst (λ (u : EvaluationNode). GivesLimit u c.in-Some.limit) (sym c.new.ensures.root) (gives_limit (view c.args.instance.now) c.in-Some.limit c.in_ok-unit_of_errors-in-Some.field-0 c.in_ok-failure-in-Some.failure.items c.in_ok-failure-in-Some.ensures.tells c.in_ok-unit_of_errors-in-Some.ensures.unit))
+
+pub returns-in_ok-unit_of_errors-in-Some-clause-plain : goal.returns-in_ok-unit_of_errors-in-Some-clause-plain
+returns-in_ok-unit_of_errors-in-Some-clause-plain g c = stops _ _ _ _ c.in-Some.ensures.limit (subst (λ (u : EvaluationNode). GivesLimit u c.in-Some.limit) (sym c.new.ensures.root) (gives_limit (view c.args.instance.now) c.in-Some.limit c.in_ok-unit_of_errors-in-Some.field-0 c.in_ok-failure-in-Some.failure.items c.in_ok-failure-in-Some.ensures.tells c.in_ok-unit_of_errors-in-Some.ensures.unit))

@@ -6,9 +6,10 @@ use Rattle.schema_meaning.specs.Numbered.{left, subject_in}
 use Rattle.schema_meaning.proofs.TurnsGiveRuns.{keeps_of_turns}
 use Rattle.node_table.specs.NodeTable.{numbered}
 use Rattle.schema_contexts.proofs.Matches.{nothing_twice}
-use Rattle.schema_parts.proofs.Replies.{if_ok_mono}
+use Rattle.schema_parts.proofs.Replies.{if_ok_always, if_ok_mono}
 use Rattle.schema_calls.proofs.ErrorSearches.{evaluated_first, units_first, units_searched}
 use Rattle.schema_calls.proofs.Searches.{none_of}
+use Rattle.schema_node.proofs.Spending.{asks_spends, spends_on}
 use Rattle.schema_validator.proofs.validator.Validator.evaluated_under_each.Goals as goal
 
 pub returns-then-not-met_unassumed-clause-depth : goal.returns-then-not-met_unassumed-clause-depth
@@ -56,3 +57,9 @@ returns-clause-units g c = if_ok_mono c.unit_of_errors.result _ _ (λ u made tex
 
 pub returns-clause-depth : goal.returns-clause-depth
 returns-clause-depth g c = if_ok_mono c.unit_of_errors.result _ _ (λ u made. c.in_ok-shared.ensures.shares.units c.in_ok-met.ensures.meets u made) c.unit_of_errors.ensures.unit
+
+pub returns-then-not-met_unassumed-clause-works : goal.returns-then-not-met_unassumed-clause-works
+returns-then-not-met_unassumed-clause-works g c = asks_spends _ _ c.in_ok-met.ensures.works
+
+pub returns-clause-works : goal.returns-clause-works
+returns-clause-works g c = if_ok_always c.unit_of_errors.result _ (spends_on _ _ _ (asks_spends _ _ c.in_ok-met.ensures.works) c.in_ok-shared.ensures.works)

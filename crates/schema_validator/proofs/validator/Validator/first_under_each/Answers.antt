@@ -13,6 +13,7 @@ use Rattle.schema_contexts.proofs.Matches.{nothing_twice}
 use Rattle.schema_validator.specs.Asked.{FirstFromSomeDepth}
 use Rattle.schema_calls.proofs.ErrorSearches.{first_first, first_has}
 use Rattle.schema_calls.proofs.Searches.{none_of}
+use Rattle.schema_node.proofs.Spending.{asks_spends, spends_on}
 use Rattle.schema_validator.proofs.validator.Validator.first_under_each.Goals as goal
 
 pub returns-then-not-met_unassumed-clause-depth : goal.returns-then-not-met_unassumed-clause-depth
@@ -40,3 +41,9 @@ returns-clause-borrows g c =
     let d = view c.args.instance.now in
     subst (λ (o : Option ValidationError). IfSome o (BorrowsItsPlace d)) (sym c.first_of.ensures.first)
     (first_has (BorrowsItsPlace d) c.in_ok-shared.shared.items (c.in_ok-shared.ensures.shares.borrows validate validate_later c.in_ok-met.ensures.meets))
+
+pub returns-then-not-met_unassumed-clause-works : goal.returns-then-not-met_unassumed-clause-works
+returns-then-not-met_unassumed-clause-works g c = spends_on _ _ _ c.in_ok-accepts.ensures.works (asks_spends _ _ c.in_ok-met.ensures.works)
+
+pub returns-clause-works : goal.returns-clause-works
+returns-clause-works g c = spends_on _ _ _ c.in_ok-accepts.ensures.works (spends_on _ _ _ (asks_spends _ _ c.in_ok-met.ensures.works) c.in_ok-shared.ensures.works)

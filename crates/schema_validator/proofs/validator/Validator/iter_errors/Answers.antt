@@ -1,44 +1,39 @@
-use Rattle.std.proofs.Common.{Bool, List, subst, sym}
+use Rattle.std.proofs.Common.{◌∙◌, [], List, subst, sym}
 use Rattle.std.specs.Prelude.{All}
+use Rattle.std.proofs.lemmas.List.Elements.{All-cons, All-nil}
 use Rattle.serde_json.specs.View.{view}
-use Rattle.schema_definitions.specs.Guarded.{guarded_sense}
-use Rattle.schema_definitions.specs.Cover.{Sense}
-use Rattle.schema_definitions.specs.Laws.{EachKeeps}
-use Rattle.schema_meaning.specs.Numbered.{subject_in}
-use Rattle.schema_meaning.specs.Means.{FromSomeDepth}
 use Rattle.schema_reports.specs.ReportViews.{BorrowsItsPlace}
 use Rattle.schema_reports.specs.declared.reports.ValidationError.{ValidationError}
-use Rattle.schema_meaning.proofs.SensesMeant.{of_every_sense}
-use Rattle.schema_meaning.proofs.TurnsGiveRuns.{keeps_of_turns}
-use Rattle.node_table.specs.NodeTable.{numbered}
-use Rattle.schema_calls.specs.Spoken.{EachIsGiven, ErrorsAnswered}
-use Rattle.schema_validator.proofs.Greatest.{errors_accepted}
-use Rattle.schema_validator.proofs.Pointing.{each_is_given}
+use Rattle.schema_validator.specs.Stopped.{OnlyTellsLimit}
+use Rattle.schema_validator.proofs.AtLimits.{stops, tells_borrows, unless}
 use Rattle.schema_validator.proofs.validator.Validator.iter_errors.Goals as goal
 
-pub returns-clause-depth : goal.returns-clause-depth
-returns-clause-depth g c = λ texts speaks.
-    let p = c.args.self.now in
-    subst (λ (es : List ValidationError). FromSomeDepth (g.K.Validate.words texts) (g.M.Matcher.matching p.matcher) (numbered g.K.Validate.shape p.nodes) p.root (view c.args.instance.now) (λ (v : Sense). ErrorsAnswered v p.runs texts es)) (sym c.new.ensures.errors) (c.in_ok-all_under_each.ensures.depth texts speaks)
+pub returns-in-Ok-clause-depth : goal.returns-in-Ok-clause-depth
+returns-in-Ok-clause-depth g c = unless _ _ _ c.in-Ok.ensures.depth
 
-pub returns-clause-senses : goal.returns-clause-senses
-returns-clause-senses g c = λ texts speaks.
-    let p = c.args.self.now in
-    of_every_sense (g.K.Validate.words texts) (g.M.Matcher.matching p.matcher) (numbered g.K.Validate.shape p.nodes) p.root (view c.args.instance.now) (λ (v : Sense). ErrorsAnswered v p.runs texts _)
-    (subst (λ (es : List ValidationError). FromSomeDepth (g.K.Validate.words texts) (g.M.Matcher.matching p.matcher) (numbered g.K.Validate.shape p.nodes) p.root (view c.args.instance.now) (λ (v : Sense). ErrorsAnswered v p.runs texts es)) (sym c.new.ensures.errors) (c.in_ok-all_under_each.ensures.depth texts speaks))
+pub returns-in-Ok-clause-senses : goal.returns-in-Ok-clause-senses
+returns-in-Ok-clause-senses g c = unless _ _ _ c.in-Ok.ensures.senses
 
-pub returns-clause-borrows : goal.returns-clause-borrows
-returns-clause-borrows g c = subst (λ (es : List ValidationError). All (BorrowsItsPlace (view c.args.instance.now)) es) (sym c.new.ensures.errors) c.in_ok-all_under_each.ensures.borrows
+pub returns-in-Ok-clause-greatest : goal.returns-in-Ok-clause-greatest
+returns-in-Ok-clause-greatest g c = unless _ _ _ c.in-Ok.ensures.greatest
 
-pub returns-clause-points : goal.returns-clause-points
-returns-clause-points g c = λ texts speaks.
-    let p = c.args.self.now in
-    let deep = c.in_ok-all_under_each.ensures.depth texts speaks in
-    subst (λ (es : List ValidationError). FromSomeDepth (g.K.Validate.words texts) (g.M.Matcher.matching p.matcher) (numbered g.K.Validate.shape p.nodes) p.root (view c.args.instance.now) (λ (v : Sense). EachIsGiven v p.runs texts es)) (sym c.new.ensures.errors)
-    (deep.0, λ n more. each_is_given (guarded_sense (g.K.Validate.words texts) (g.M.Matcher.matching p.matcher) (numbered g.K.Validate.shape p.nodes) (subject_in (view c.args.instance.now)) n p.root) p.runs texts c.in_ok-all_under_each.field-0.items (deep.1 n more))
+pub returns-in-Ok-clause-points : goal.returns-in-Ok-clause-points
+returns-in-Ok-clause-points g c = unless _ _ _ c.in-Ok.ensures.points
 
-pub returns-clause-greatest : goal.returns-clause-greatest
-returns-clause-greatest g c =
-    let k = g.K.Validate in
-    let keeps : (texts : Bool) → EachKeeps (k.words texts) = λ texts s. (k.absorbed s, keeps_of_turns (k.words texts) s (k.absorbed s) (k.remaining s) (k.can_be texts s) (k.ends texts s) (k.fits texts s) (g.met.K.Validate.turn_laws texts s) (g.met.K.Validate.function_laws texts s)) in
-    errors_accepted k g.M.Matcher keeps c.args.self.now c.node_count-ranked.ensures.ranked c.node_count-ranked.ensures.inside (view c.args.instance.now) _ (returns-clause-depth g c)
+pub returns-in_ok-limit_failure_alone-in-Some-clause-depth : goal.returns-in_ok-limit_failure_alone-in-Some-clause-depth
+returns-in_ok-limit_failure_alone-in-Some-clause-depth g c = stops _ _ _ _ c.in-Some.ensures.limit (subst (λ (es : List ValidationError). OnlyTellsLimit (view c.args.instance.now) es c.in-Some.limit) (sym c.new.ensures.errors) c.in_ok-limit_failure_alone-in-Some.ensures.tells)
+
+pub returns-in_ok-limit_failure_alone-in-Some-clause-senses : goal.returns-in_ok-limit_failure_alone-in-Some-clause-senses
+returns-in_ok-limit_failure_alone-in-Some-clause-senses g c = stops _ _ _ _ c.in-Some.ensures.limit (subst (λ (es : List ValidationError). OnlyTellsLimit (view c.args.instance.now) es c.in-Some.limit) (sym c.new.ensures.errors) c.in_ok-limit_failure_alone-in-Some.ensures.tells)
+
+pub returns-in_ok-limit_failure_alone-in-Some-clause-greatest : goal.returns-in_ok-limit_failure_alone-in-Some-clause-greatest
+returns-in_ok-limit_failure_alone-in-Some-clause-greatest g c = stops _ _ _ _ c.in-Some.ensures.limit (subst (λ (es : List ValidationError). OnlyTellsLimit (view c.args.instance.now) es c.in-Some.limit) (sym c.new.ensures.errors) c.in_ok-limit_failure_alone-in-Some.ensures.tells)
+
+pub returns-in_ok-limit_failure_alone-in-Some-clause-points : goal.returns-in_ok-limit_failure_alone-in-Some-clause-points
+returns-in_ok-limit_failure_alone-in-Some-clause-points g c = stops _ _ _ _ c.in-Some.ensures.limit (subst (λ (es : List ValidationError). OnlyTellsLimit (view c.args.instance.now) es c.in-Some.limit) (sym c.new.ensures.errors) c.in_ok-limit_failure_alone-in-Some.ensures.tells)
+
+pub returns-in_ok-limit_failure_alone-in-Some-clause-borrows : goal.returns-in_ok-limit_failure_alone-in-Some-clause-borrows
+returns-in_ok-limit_failure_alone-in-Some-clause-borrows g c =
+    let d = view c.args.instance.now in
+    let told = c.in_ok-limit_failure_alone-in-Some.ensures.tells in
+    subst (All (BorrowsItsPlace d)) (sym (c.new.ensures.errors ∙ told.1)) (All-cons (BorrowsItsPlace d) told.0 [] (tells_borrows d c.in-Some.limit told.0 told.2) (All-nil (BorrowsItsPlace d)))

@@ -1,6 +1,6 @@
 use Rattle.std.proofs.Common.{◌≡◌, ◌≤◌, ◌&&◌, Bool, List, [], arith, length, subst, suc, sym, true}
 use Rattle.std.proofs.lemmas.Option.{IfSome_then}
-use Rattle.std.specs.Prelude.{IfOk, IfSome, Option, is_some}
+use Rattle.std.specs.Prelude.{IfOk, IfSome, OnErr, Option, false, is_some}
 use Rattle.serde_json.specs.View.{view}
 use Rattle.schema_definitions.specs.Laws.{EachKeeps}
 use Rattle.schema_meaning.specs.Numbered.{left, subject_in}
@@ -10,7 +10,7 @@ use Rattle.schema_contexts.proofs.Matches.{nothing_twice}
 use Rattle.schema_parts.proofs.Replies.{if_ok_mono}
 use Rattle.schema_parts.specs.MatcherViews.{FinishesEach}
 use Rattle.schema_solver.specs.Asked.{solver_over}
-use Rattle.schema_solver.specs.Solving.{BeginsFew, SaysAsNodes}
+use Rattle.schema_solver.specs.Solving.{BeginsFew, LimitWithinBound, SaysAsNodes}
 use Rattle.schema_verdicts.specs.Finding.{IsFoundAt}
 use Rattle.schema_verdicts.specs.Saying.{EachSays}
 use Rattle.schema_verdicts.specs.declared.eligible.SolvedVerdict.{SolvedVerdict}
@@ -30,6 +30,10 @@ returns-clause-exactly g c =
 pub returns-clause-only : goal.returns-clause-only
 returns-clause-only g c =
     subst (λ (p : Program g.row.K.Denot g.row.M.Denot). IfOk c.verdict.result (λ (found : Option SolvedVerdict). is_some found ≡ true → (is_some p.followed && c.args.finishes) ≡ true)) c.self.view_is c.verdict.ensures.only
+
+pub returns-clause-finishes : goal.returns-clause-finishes
+returns-clause-finishes g c =
+    subst (λ (p : Program g.row.K.Denot g.row.M.Denot). IfOk c.verdict.result (λ (found : Option SolvedVerdict). IfSome found (λ _. FinishesEach (g.M.Matcher.matching p.matcher)))) c.self.view_is c.verdict.ensures.finishes
 
 pub returns-clause-says : goal.returns-clause-says
 returns-clause-says g c = if_ok_mono c.verdict.result _ _ (λ found says.
@@ -65,3 +69,11 @@ returns-clause-few g c =
     let w = g.K.Validate in
     subst (λ (p : Program g.row.K.Denot g.row.M.Denot). IfOk c.verdict.result (λ (found : Option SolvedVerdict). IfSome found (λ (v : SolvedVerdict). IfSome p.followed (λ (followed : List Bool).
     BeginsFew (solver_over w.words w.is_whole w.shape p.nodes followed (g.M.Matcher.matching p.matcher)) c.args.instance.now v.context.begun)))) c.self.view_is c.verdict.ensures.few
+
+pub returns-clause-late : goal.returns-clause-late
+returns-clause-late g c =
+    let w = g.K.Validate in
+    let before = c.args.work.now in
+    let after = c.verdict.new.work in
+    subst (λ (p : Program g.row.K.Denot g.row.M.Denot). OnErr c.verdict.result (before.stopped ≡ false → after.stopped ≡ true → IfSome p.followed (λ (followed : List Bool).
+    LimitWithinBound (solver_over w.words w.is_whole w.shape p.nodes followed (g.M.Matcher.matching p.matcher)) c.args.instance.now before.left))) c.self.view_is c.verdict.ensures.late

@@ -1,44 +1,31 @@
-use Rattle.std.proofs.Common.{Bool, subst, sym}
-use Rattle.std.specs.Prelude.{Option, IfSome}
+use Rattle.std.proofs.Common.{refl}
 use Rattle.serde_json.specs.View.{view}
-use Rattle.schema_definitions.specs.Guarded.{guarded_sense}
-use Rattle.schema_definitions.specs.Cover.{Sense}
-use Rattle.schema_definitions.specs.Laws.{EachKeeps}
-use Rattle.schema_meaning.specs.Numbered.{subject_in}
-use Rattle.schema_meaning.specs.Means.{FromSomeDepth}
-use Rattle.schema_reports.specs.ReportViews.{BorrowsItsPlace}
-use Rattle.schema_reports.specs.declared.reports.ValidationError.{ValidationError}
-use Rattle.schema_meaning.proofs.SensesMeant.{of_every_sense}
-use Rattle.schema_meaning.proofs.TurnsGiveRuns.{keeps_of_turns}
-use Rattle.node_table.specs.NodeTable.{numbered}
-use Rattle.schema_calls.specs.Spoken.{FirstAnswered, FirstIsGiven}
-use Rattle.schema_validator.proofs.Greatest.{first_accepted}
-use Rattle.schema_validator.proofs.Pointing.{first_is_given}
+use Rattle.schema_validator.proofs.AtLimits.{stops, tells_borrows, unless}
 use Rattle.schema_validator.proofs.validator.Validator.validate.Goals as goal
 
-pub returns-clause-depth : goal.returns-clause-depth
-returns-clause-depth g c = λ texts speaks.
-    let p = c.args.self.now in
-    subst (λ (o : Option ValidationError). FromSomeDepth (g.K.Validate.words texts) (g.M.Matcher.matching p.matcher) (numbered g.K.Validate.shape p.nodes) p.root (view c.args.instance.now) (λ (v : Sense). FirstAnswered v p.runs texts o)) (sym c.unless_refused.ensures.refusal) (c.in_ok-first_under_each.ensures.depth texts speaks)
+pub returns-in-Ok-clause-depth : goal.returns-in-Ok-clause-depth
+returns-in-Ok-clause-depth g c = unless _ _ _ c.in-Ok.ensures.depth
 
-pub returns-clause-senses : goal.returns-clause-senses
-returns-clause-senses g c = λ texts speaks.
-    let p = c.args.self.now in
-    of_every_sense (g.K.Validate.words texts) (g.M.Matcher.matching p.matcher) (numbered g.K.Validate.shape p.nodes) p.root (view c.args.instance.now) (λ (v : Sense). FirstAnswered v p.runs texts _)
-    (subst (λ (o : Option ValidationError). FromSomeDepth (g.K.Validate.words texts) (g.M.Matcher.matching p.matcher) (numbered g.K.Validate.shape p.nodes) p.root (view c.args.instance.now) (λ (v : Sense). FirstAnswered v p.runs texts o)) (sym c.unless_refused.ensures.refusal) (c.in_ok-first_under_each.ensures.depth texts speaks))
+pub returns-in-Ok-clause-senses : goal.returns-in-Ok-clause-senses
+returns-in-Ok-clause-senses g c = unless _ _ _ c.in-Ok.ensures.senses
 
-pub returns-clause-borrows : goal.returns-clause-borrows
-returns-clause-borrows g c = subst (λ (o : Option ValidationError). IfSome o (BorrowsItsPlace (view c.args.instance.now))) (sym c.unless_refused.ensures.refusal) c.in_ok-first_under_each.ensures.borrows
+pub returns-in-Ok-clause-greatest : goal.returns-in-Ok-clause-greatest
+returns-in-Ok-clause-greatest g c = unless _ _ _ c.in-Ok.ensures.greatest
 
-pub returns-clause-points : goal.returns-clause-points
-returns-clause-points g c = λ texts speaks.
-    let p = c.args.self.now in
-    let deep = c.in_ok-first_under_each.ensures.depth texts speaks in
-    subst (λ (o : Option ValidationError). FromSomeDepth (g.K.Validate.words texts) (g.M.Matcher.matching p.matcher) (numbered g.K.Validate.shape p.nodes) p.root (view c.args.instance.now) (λ (v : Sense). FirstIsGiven v p.runs texts o)) (sym c.unless_refused.ensures.refusal)
-    (deep.0, λ n more. first_is_given (guarded_sense (g.K.Validate.words texts) (g.M.Matcher.matching p.matcher) (numbered g.K.Validate.shape p.nodes) (subject_in (view c.args.instance.now)) n p.root) p.runs texts c.in_ok-first_under_each.field-0 (deep.1 n more))
+pub returns-in-Ok-clause-points : goal.returns-in-Ok-clause-points
+returns-in-Ok-clause-points g c = unless _ _ _ c.in-Ok.ensures.points
 
-pub returns-clause-greatest : goal.returns-clause-greatest
-returns-clause-greatest g c =
-    let k = g.K.Validate in
-    let keeps : (texts : Bool) → EachKeeps (k.words texts) = λ texts s. (k.absorbed s, keeps_of_turns (k.words texts) s (k.absorbed s) (k.remaining s) (k.can_be texts s) (k.ends texts s) (k.fits texts s) (g.met.K.Validate.turn_laws texts s) (g.met.K.Validate.function_laws texts s)) in
-    first_accepted k g.M.Matcher keeps c.args.self.now c.node_count-ranked.ensures.ranked c.node_count-ranked.ensures.inside (view c.args.instance.now) _ (returns-clause-depth g c)
+pub returns-in_ok-limit_failure-in-Some-clause-depth : goal.returns-in_ok-limit_failure-in-Some-clause-depth
+returns-in_ok-limit_failure-in-Some-clause-depth g c = stops _ _ _ _ c.in-Some.ensures.limit (c.in_ok-limit_failure-in-Some.field-0, refl, c.in_ok-limit_failure-in-Some.ensures.tells)
+
+pub returns-in_ok-limit_failure-in-Some-clause-senses : goal.returns-in_ok-limit_failure-in-Some-clause-senses
+returns-in_ok-limit_failure-in-Some-clause-senses g c = stops _ _ _ _ c.in-Some.ensures.limit (c.in_ok-limit_failure-in-Some.field-0, refl, c.in_ok-limit_failure-in-Some.ensures.tells)
+
+pub returns-in_ok-limit_failure-in-Some-clause-greatest : goal.returns-in_ok-limit_failure-in-Some-clause-greatest
+returns-in_ok-limit_failure-in-Some-clause-greatest g c = stops _ _ _ _ c.in-Some.ensures.limit (c.in_ok-limit_failure-in-Some.field-0, refl, c.in_ok-limit_failure-in-Some.ensures.tells)
+
+pub returns-in_ok-limit_failure-in-Some-clause-points : goal.returns-in_ok-limit_failure-in-Some-clause-points
+returns-in_ok-limit_failure-in-Some-clause-points g c = stops _ _ _ _ c.in-Some.ensures.limit (c.in_ok-limit_failure-in-Some.field-0, refl, c.in_ok-limit_failure-in-Some.ensures.tells)
+
+pub returns-in_ok-limit_failure-in-Some-clause-borrows : goal.returns-in_ok-limit_failure-in-Some-clause-borrows
+returns-in_ok-limit_failure-in-Some-clause-borrows g c = tells_borrows (view c.args.instance.now) c.in-Some.limit c.in_ok-limit_failure-in-Some.field-0 c.in_ok-limit_failure-in-Some.ensures.tells

@@ -1,0 +1,40 @@
+use Rattle.std.proofs.Common.{Bool, subst, sym}
+use Rattle.serde_json.specs.View.{view}
+use Rattle.schema_definitions.specs.Cover.{Sense}
+use Rattle.schema_definitions.specs.Laws.{EachKeeps}
+use Rattle.schema_meaning.specs.Means.{FromSomeDepth}
+use Rattle.schema_reports.specs.declared.evaluation.EvaluationNode.{EvaluationNode}
+use Rattle.schema_meaning.proofs.SensesMeant.{of_every_sense}
+use Rattle.schema_meaning.proofs.TurnsGiveRuns.{keeps_of_turns}
+use Rattle.node_table.specs.NodeTable.{numbered}
+use Rattle.schema_calls.specs.Evaluated.{EvaluationAnswered}
+use Rattle.schema_validator.specs.Program.{HasUnits}
+use Rattle.schema_validator.proofs.Greatest.{evaluates_accepted}
+use Rattle.schema_validator.proofs.PlainAnswers.{units_in_every_sense}
+use Rattle.schema_validator.proofs.validator.Validator.evaluate_within.Goals as goal
+
+pub returns-clause-depth : goal.returns-clause-depth
+returns-clause-depth g c = λ texts speaks.
+    let p = c.args.self.now in
+    subst (λ (u : EvaluationNode). FromSomeDepth (g.K.Validate.words texts) (g.M.Matcher.matching p.matcher) (numbered g.K.Validate.shape p.nodes) p.root (view c.args.instance.now) (λ (v : Sense). EvaluationAnswered v p.runs texts u)) (sym c.new.ensures.root) (c.in_ok-answer.ensures.depth texts speaks)
+
+pub returns-clause-senses : goal.returns-clause-senses
+returns-clause-senses g c = λ texts speaks.
+    let p = c.args.self.now in
+    of_every_sense (g.K.Validate.words texts) (g.M.Matcher.matching p.matcher) (numbered g.K.Validate.shape p.nodes) p.root (view c.args.instance.now) (λ (v : Sense). EvaluationAnswered v p.runs texts _)
+    (subst (λ (u : EvaluationNode). FromSomeDepth (g.K.Validate.words texts) (g.M.Matcher.matching p.matcher) (numbered g.K.Validate.shape p.nodes) p.root (view c.args.instance.now) (λ (v : Sense). EvaluationAnswered v p.runs texts u)) (sym c.new.ensures.root) (c.in_ok-answer.ensures.depth texts speaks))
+
+pub returns-clause-units : goal.returns-clause-units
+returns-clause-units g c =
+    subst (λ (u : EvaluationNode). HasUnits g.K.Validate.shape g.K.Validate.words g.K.Validate.is_whole g.M.Matcher.matching c.args.self.now (view c.args.instance.now) u) (sym c.new.ensures.root) c.in_ok-answer.ensures.units
+
+pub returns-clause-plain : goal.returns-clause-plain
+returns-clause-plain g c =
+    let k = g.K.Validate in
+    units_in_every_sense k.shape k.words k.is_whole g.M.Matcher.matching c.args.self.now (view c.args.instance.now) _ (returns-clause-units g c)
+
+pub returns-clause-greatest : goal.returns-clause-greatest
+returns-clause-greatest g c =
+    let k = g.K.Validate in
+    let keeps : (texts : Bool) → EachKeeps (k.words texts) = λ texts s. (k.absorbed s, keeps_of_turns (k.words texts) s (k.absorbed s) (k.remaining s) (k.can_be texts s) (k.ends texts s) (k.fits texts s) (g.met.K.Validate.turn_laws texts s) (g.met.K.Validate.function_laws texts s)) in
+    evaluates_accepted k g.M.Matcher keeps c.args.self.now c.node_count-ranked.ensures.ranked c.node_count-ranked.ensures.inside (view c.args.instance.now) _ (returns-clause-depth g c)

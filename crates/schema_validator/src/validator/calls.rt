@@ -1,0 +1,172 @@
+//! The calls of a validator, within its limit of steps.
+ghost use Rattle.std.specs.Prelude.{◌≡◌, All, IfOk, IfSome, Some, false};
+ghost use Rattle.serde_json.specs.View.{view};
+ghost use Rattle.schema_reports.specs.ReportViews.{BorrowsItsPlace};
+ghost use Rattle.schema_validator.specs.Answers.{refusal_of};
+ghost use Rattle.schema_validator.specs.Asked.{DecidesFromSomeDepth, ErrorsFromSomeDepth, FirstFromSomeDepth};
+ghost use Rattle.schema_validator.specs.Asked.{DecidesInEverySense, ErrorsInEverySense, FirstInEverySense};
+ghost use Rattle.schema_validator.specs.Asked.{ErrorsPointAsNodes, FirstPointsAsNodes};
+ghost use Rattle.schema_validator.specs.Asked.{EvaluatesFromSomeDepth, EvaluatesInEverySense};
+ghost use Rattle.schema_validator.specs.Asked.{UnitsFromSomeDepth, UnitsInEverySense};
+ghost use Rattle.schema_validator.specs.Greatest.{DecidesAccepted, ErrorsAccepted, EvaluatesAccepted, FirstAccepted};
+ghost use Rattle.schema_validator.specs.Stopped.{FirstTellsLimit, GivesLimit, OnlyTellsLimit, UnlessStopped};
+
+use crate::stopping::{limit_failure, limit_failure_alone};
+use crate::validator::Validator;
+use schema_contexts::work::Work;
+use schema_output::error_units::unit_of_errors;
+use schema_output::evaluation::Evaluation;
+use schema_parts::keyword::Validate;
+use schema_parts::matcher::Matcher;
+use schema_reports::location::OutOfMemory;
+use schema_reports::reports::{ErrorIterator, ValidationError};
+use serde_json::Value;
+use std::alloc::Global;
+
+impl<K: Validate, M: Matcher> Validator<K, M> {
+    // The validator's limit of steps, where a call has stopped at one.
+    fn stopped_at(&self, work: &Work) -> Option<u64>
+        ensures limit { IfSome result (λ limit. self.now.work ≡ Some limit) }
+    {
+        if !work.is_stopped() {
+            return None;
+        }
+        self.work_limit()
+    }
+
+    /// Returns whether the instance is valid. Where the matcher leaves matches unfinished, returns whether the instance is valid
+    /// under every outcome of them, and `false` if that takes more runs than a call makes. Where each keyword is monotone, and it
+    /// takes no more runs, returns `true` exactly if the greatest solution of the nodes accepts, also where references return.
+    /// Where a limit is set on its steps (`with_work_limit`), and it would take one more, it returns `false`.
+    ///
+    /// # Errors
+    ///
+    /// Fails out of memory.
+    pub fn is_valid(&self, alloc: Global, instance: &Value) -> Result<bool, OutOfMemory>
+        ensures depth { IfOk result (λ valid. UnlessStopped self.now.work (λ limit. valid ≡ false)
+            (DecidesFromSomeDepth K.Validate M.Matcher.own self.now (view instance.now) valid)) }
+        ensures senses { IfOk result (λ valid. UnlessStopped self.now.work (λ limit. valid ≡ false)
+            (DecidesInEverySense K.Validate M.Matcher.own self.now (view instance.now) valid)) }
+        ensures greatest { IfOk result (λ valid. UnlessStopped self.now.work (λ limit. valid ≡ false)
+            (DecidesAccepted K.Validate M.Matcher.own self.now (view instance.now) valid)) }
+    {
+        let mut work = Work::within(self.work_limit());
+        match self.is_valid_within(alloc, instance, &mut work) {
+            Ok(valid) => Ok(valid),
+            Err(refused) => match self.stopped_at(&work) {
+                Some(_limit) => Ok(false),
+                None => Err(refused),
+            },
+        }
+    }
+
+    /// Returns the first error as an inner `Err`, and an inner `Ok` if the instance is valid. Where the matcher leaves matches
+    /// unfinished, the error is the first that all outcomes of them share. It tells of such a match instead if some outcome
+    /// refuses and they share no error, or if that takes more runs than a call makes. Any other error is one that the nodes give
+    /// under some outcome, so it points at keyword and value as the build promises of these. Where each keyword is monotone, and it
+    /// takes no more runs, there is no error exactly if the greatest solution of the nodes accepts. Where the matcher says that it
+    /// finishes every match, the verdict is asked first, and the error only where the verdict is no. Where a limit is set on the steps of
+    /// a call (`with_work_limit`), and it would take one more, the error tells of the limit.
+    ///
+    /// # Errors
+    ///
+    /// Fails out of memory.
+    pub fn validate<'i>(
+        &self,
+        alloc: Global,
+        instance: &'i Value,
+    ) -> Result<Result<(), ValidationError<'i>>, OutOfMemory>
+        ensures depth { IfOk result (λ r. UnlessStopped self.now.work (FirstTellsLimit (view instance.now) (refusal_of r))
+            (FirstFromSomeDepth K.Validate M.Matcher.own self.now (view instance.now) (refusal_of r))) }
+        ensures senses { IfOk result (λ r. UnlessStopped self.now.work (FirstTellsLimit (view instance.now) (refusal_of r))
+            (FirstInEverySense K.Validate M.Matcher.own self.now (view instance.now) (refusal_of r))) }
+        ensures greatest { IfOk result (λ r. UnlessStopped self.now.work (FirstTellsLimit (view instance.now) (refusal_of r))
+            (FirstAccepted K.Validate M.Matcher.own self.now (view instance.now) (refusal_of r))) }
+        ensures points { IfOk result (λ r. UnlessStopped self.now.work (FirstTellsLimit (view instance.now) (refusal_of r))
+            (FirstPointsAsNodes K.Validate M.Matcher.own self.now (view instance.now) (refusal_of r))) }
+        ensures borrows { IfOk result (λ r. IfSome (refusal_of r) (BorrowsItsPlace (view instance.now))) }
+    {
+        let mut work = Work::within(self.work_limit());
+        match self.validate_within(alloc, instance, &mut work) {
+            Ok(refusal) => Ok(refusal),
+            Err(refused) => match self.stopped_at(&work) {
+                Some(limit) => Ok(Err(limit_failure(alloc, limit, instance)?)),
+                None => Err(refused),
+            },
+        }
+    }
+
+    /// Returns all errors in order, and none if the instance is valid. Where the matcher leaves matches unfinished, these are the
+    /// errors that all outcomes of them share. There is one error, which tells of such a match, if some outcome refuses and
+    /// they share no error, or if that takes more runs than a call makes. Any other error is one that the nodes give under some
+    /// outcome, so it points at keyword and value as the build promises of these. Where each keyword is monotone, and it takes no
+    /// more runs, there is no error exactly if the greatest solution of the nodes accepts. Where the matcher says that it finishes
+    /// every match, the verdict is asked first, and the errors only where the verdict is no. Where a limit is set on the steps of
+    /// a call (`with_work_limit`), and it would take one more, there is one error, which tells of the limit.
+    ///
+    /// # Errors
+    ///
+    /// Fails out of memory.
+    pub fn iter_errors<'i>(
+        &self,
+        alloc: Global,
+        instance: &'i Value,
+    ) -> Result<ErrorIterator<'i>, OutOfMemory>
+        ensures depth { IfOk result (λ es. UnlessStopped self.now.work (OnlyTellsLimit (view instance.now) es)
+            (ErrorsFromSomeDepth K.Validate M.Matcher.own self.now (view instance.now) es)) }
+        ensures senses { IfOk result (λ es. UnlessStopped self.now.work (OnlyTellsLimit (view instance.now) es)
+            (ErrorsInEverySense K.Validate M.Matcher.own self.now (view instance.now) es)) }
+        ensures greatest { IfOk result (λ es. UnlessStopped self.now.work (OnlyTellsLimit (view instance.now) es)
+            (ErrorsAccepted K.Validate M.Matcher.own self.now (view instance.now) es)) }
+        ensures points { IfOk result (λ es. UnlessStopped self.now.work (OnlyTellsLimit (view instance.now) es)
+            (ErrorsPointAsNodes K.Validate M.Matcher.own self.now (view instance.now) es)) }
+        ensures borrows { IfOk result (λ es. All (BorrowsItsPlace (view instance.now)) es) }
+    {
+        let mut work = Work::within(self.work_limit());
+        match self.iter_errors_within(alloc, instance, &mut work) {
+            Ok(errors) => Ok(errors),
+            Err(refused) => match self.stopped_at(&work) {
+                Some(limit) => Ok(ErrorIterator::new(limit_failure_alone(alloc, limit, instance)?)),
+                None => Err(refused),
+            },
+        }
+    }
+
+    /// Returns the evaluation of the instance: the unit of each schema and of each keyword that it is asked of. Where the run
+    /// meets no unfinished match, these are the units that the nodes have, which a build promises to be the plain ones where no
+    /// chain of references returns. Where the matcher leaves matches unfinished that the run meets, the evaluation is made of the
+    /// errors that all outcomes of them share instead: it has one unit for each, at its paths, without absolute locations and
+    /// annotations, inside one at empty locations. There is one error, which tells of such a match, if some outcome refuses and
+    /// they share no error, or if that takes more runs than a call makes. If it takes no more, the outermost unit is valid exactly
+    /// if the instance is valid under every outcome; where each keyword is monotone, exactly if the greatest solution of the nodes
+    /// accepts. Where a limit is set on the steps of a call (`with_work_limit`), and it would take one more, the evaluation is made of
+    /// the one error that tells of the limit.
+    ///
+    /// # Errors
+    ///
+    /// Fails out of memory.
+    pub fn evaluate(&self, alloc: Global, instance: &Value) -> Result<Evaluation, OutOfMemory>
+        ensures depth { IfOk result (λ u. UnlessStopped self.now.work (GivesLimit u)
+            (EvaluatesFromSomeDepth K.Validate M.Matcher.own self.now (view instance.now) u)) }
+        ensures senses { IfOk result (λ u. UnlessStopped self.now.work (GivesLimit u)
+            (EvaluatesInEverySense K.Validate M.Matcher.own self.now (view instance.now) u)) }
+        ensures greatest { IfOk result (λ u. UnlessStopped self.now.work (GivesLimit u)
+            (EvaluatesAccepted K.Validate M.Matcher.own self.now (view instance.now) u)) }
+        ensures units { IfOk result (λ u. UnlessStopped self.now.work (GivesLimit u)
+            (UnitsFromSomeDepth K.Validate M.Matcher.own self.now (view instance.now) u)) }
+        ensures plain { IfOk result (λ u. UnlessStopped self.now.work (GivesLimit u)
+            (UnitsInEverySense K.Validate M.Matcher.own self.now (view instance.now) u)) }
+    {
+        let mut work = Work::within(self.work_limit());
+        match self.evaluate_within(alloc, instance, &mut work) {
+            Ok(evaluation) => Ok(evaluation),
+            Err(refused) => match self.stopped_at(&work) {
+                Some(limit) => {
+                    let failure = limit_failure_alone(alloc, limit, instance)?;
+                    Ok(Evaluation::new(unit_of_errors(alloc, failure)?))
+                }
+                None => Err(refused),
+            },
+        }
+    }
+}
