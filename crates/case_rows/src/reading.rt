@@ -47,7 +47,7 @@ enum Shape {
 }
 
 /// The members that a row may have.
-const SHAPES: [(&str, Shape); 20] = [
+const SHAPES: [(&str, Shape); 21] = [
     ("name", Shape::Text),
     ("call", Shape::Call),
     ("schema", Shape::Any),
@@ -60,6 +60,7 @@ const SHAPES: [(&str, Shape); 20] = [
     ("nested", Shape::Count),
     ("nested_limit", Shape::Count),
     ("run_limit", Shape::Runs),
+    ("work_limit", Shape::Count),
     ("check", Shape::Truth),
     ("formats", Shape::Truth),
     ("declares", Shape::Texts),

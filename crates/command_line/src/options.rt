@@ -95,6 +95,7 @@ pub struct Options<'w> {
     /// Whether the schema is checked by its meta-schema.
     pub checked: bool,
     pub run_limit: Option<u32>,
+    pub work_limit: Option<u64>,
     pub nested_limit: Option<usize>,
     /// Whether it is told how far the lines are read.
     pub progress: bool,

@@ -86,6 +86,11 @@ fn run_limit_option<'a>(alloc: Global) -> Arg<'a> {
     option(alloc, "run-limit", "N", help).value_parser(clap::value_parser!(u32).range(1..))
 }
 
+fn work_limit_option<'a>(alloc: Global) -> Arg<'a> {
+    let help = "How many steps an instance takes at most; else any number";
+    option(alloc, "work-limit", "N", help).value_parser(clap::value_parser!(u64))
+}
+
 fn nested_limit_option<'a>(alloc: Global) -> Arg<'a> {
     let help = "How many targets of references are compiled one inside another; else 8";
     option(alloc, "nested-limit", "N", help).value_parser(clap::value_parser!(usize))
@@ -111,6 +116,7 @@ fn manners<'a>(alloc: Global, command: Command<'a>) -> Result<Command<'a>, OutOf
 /// The command with the limits of the engine.
 fn limits<'a>(alloc: Global, command: Command<'a>) -> Result<Command<'a>, OutOfMemory> {
     let command = command.arg(run_limit_option(alloc))?;
+    let command = command.arg(work_limit_option(alloc))?;
     command.arg(nested_limit_option(alloc))
 }
 
@@ -168,6 +174,7 @@ fn options_of<'w>(
             .unwrap_or(Output::Text),
         checked: !matches.get_flag("no-check"),
         run_limit: matches.get_one::<u32>("run-limit"),
+        work_limit: matches.get_one::<u64>("work-limit"),
         nested_limit: matches.get_one::<usize>("nested-limit"),
         progress: matches.get_flag("progress"),
     })

@@ -46,10 +46,22 @@ fn options_of(alloc: Global, case: &Case<'_>) -> Result<ValidationOptions, OutOf
 
 // The options of a case that hold no text.
 fn plain_options_of(alloc: Global, case: &Case<'_>) -> ValidationOptions {
-    let mut options = ValidationOptions::new(alloc);
+    let mut options = limits_of(alloc, case);
     if let Some(draft) = case.draft("draft") {
         options = options.with_draft(draft);
     }
+    if let Some(checked) = case.truth("check") {
+        options = options.should_validate_schema(checked);
+    }
+    if let Some(checked) = case.truth("formats") {
+        options = options.should_validate_formats(checked);
+    }
+    options
+}
+
+// The options of a case that are limits.
+fn limits_of(alloc: Global, case: &Case<'_>) -> ValidationOptions {
+    let mut options = ValidationOptions::new(alloc);
     if let Some(limit) = case.count("limit") {
         options = options.with_node_limit(limit);
     }
@@ -59,11 +71,8 @@ fn plain_options_of(alloc: Global, case: &Case<'_>) -> ValidationOptions {
     if let Some(limit) = case.runs("run_limit") {
         options = options.with_run_limit(limit);
     }
-    if let Some(checked) = case.truth("check") {
-        options = options.should_validate_schema(checked);
-    }
-    if let Some(checked) = case.truth("formats") {
-        options = options.should_validate_formats(checked);
+    if let Some(limit) = case.count("work_limit") {
+        options = options.with_work_limit(limit as u64);
     }
     options
 }

@@ -1,5 +1,5 @@
 -- What a validator says first of an instance, as data, where its matcher leaves no match unfinished. (Core 2020-12, 4.3.5 and 8.1)
-use Rattle.std.specs.Prelude.{Bool, Option, length, ◌<◌, ◌≤◌}
+use Rattle.std.specs.Prelude.{Bool, None, Option, length, ◌<◌, ◌≡◌, ◌≤◌}
 use Rattle.serde_json.specs.Data.{Data}
 use Rattle.schema_definitions.specs.Reports.{Error}
 use Rattle.schema_meaning.specs.Fractions.{AreWhole}
@@ -17,10 +17,12 @@ module _ {C Run K M : Type 0} (keywords : KeywordMembers C Run K) (matchers : Ma
   abbrev pub first_by : Bool → Data → Option Error
   first_by texts instance = first_told (keywords.words texts) (matchers.matching p.matcher) (numbered keywords.shape p.nodes) (length p.nodes) p.root instance
 
-  -- the matcher leaves no match unfinished, no text of a keyword shows a fraction, and the nodes are those of a validator
+  -- the matcher leaves no match unfinished, no text of a keyword shows a fraction, the nodes are those of a validator, and a call asks
+  -- any number of them
   pub record Checks : Type 0 where
     pub finishes : FinishesEach (matchers.matching p.matcher)
     pub whole : AreWhole keywords.is_whole (numbered keywords.shape p.nodes) (length p.nodes)
     pub ranked : Ranked (numbered keywords.shape p.nodes) (length p.nodes)
     pub inside : p.root < length p.nodes
     pub some : 1 ≤ p.runs
+    pub unlimited : p.work ≡ None

@@ -17,8 +17,8 @@ use shown_fractions::nodes::{TellsFractions, show_no_fraction};
 use std::alloc::Global;
 use std::marker::Model;
 
-/// A validator whose matcher finishes every match, and whose keywords show no fraction of the schema: what it says first of an instance
-/// is a function of the instance, and so is the error's text where the instance holds no fraction.
+/// A validator whose calls ask any number of nodes, whose matcher finishes every match, and whose keywords show no fraction of the schema:
+/// what it says first of an instance is a function of the instance, and so is the error's text where the instance holds no fraction.
 #[derive(Drop)]
 pub struct Checker<K: Validate, M: Matcher> {
     validator: Validator<K, M>,
@@ -50,7 +50,8 @@ fn error_in<'v>(refusal: Result<(), ValidationError<'v>>) -> Option<ValidationEr
 }
 
 impl<K: Validate, M: Matcher> Checker<K, M> {
-    /// Makes one of a validator, if its keywords show no fraction of the schema. Allocates nothing.
+    /// Makes one of a validator, if its calls ask any number of nodes, and if its keywords show no fraction of the schema. Allocates
+    /// nothing.
     pub fn of<F: TellsFractions<K>>(
         fractions: &F,
         validator: Validator<K, M>,
@@ -66,11 +67,14 @@ impl<K: Validate, M: Matcher> Checker<K, M> {
         if !show_no_fraction(fractions, nodes) {
             return None;
         }
+        if validator.work_limit().is_some() {
+            return None;
+        }
         Some(Checker { validator })
     }
 
     /// Makes one of a validator that finishes its matches where a matcher does, if this matcher says that it finishes every match, if the
-    /// validator makes runs, and if its keywords show no fraction of the schema. Allocates nothing.
+    /// validator's calls make runs and ask any number of nodes, and if its keywords show no fraction of the schema. Allocates nothing.
     pub fn by_matcher<F: TellsFractions<K>>(
         fractions: &F,
         matcher: &M,

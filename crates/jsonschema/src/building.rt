@@ -45,6 +45,9 @@ fn engine_options(alloc: Global, options: &Options<'_>) -> ValidationOptions {
             chosen = chosen.with_run_limit(limit);
         }
     }
+    if let Some(limit) = options.work_limit {
+        chosen = chosen.with_work_limit(limit);
+    }
     if let Some(limit) = options.nested_limit {
         chosen = chosen.with_nested_limit(limit);
     }

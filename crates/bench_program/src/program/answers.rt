@@ -20,6 +20,7 @@ use crate::program::Status;
 use crate::program::requests::Call;
 use bench_keywords::keyword::BenchKeyword;
 use bench_parts::matcher::BenchMatcher;
+use schema_engine::context::Work;
 use schema_engine::validator::Validator;
 use schema_output::evaluation::Evaluation;
 use schema_reports::location::OutOfMemory;
@@ -73,7 +74,8 @@ fn verdict(
     ensures depth { IfOk result (λ a. AnswersFromSomeDepth
         validator.now (view instance.now) IsValid a.accepted (string_bytes a.text)) }
 {
-    let accepted = validator.is_valid(alloc, instance)?;
+    let mut work = Work::unlimited();
+    let accepted = validator.is_valid_within(alloc, instance, &mut work)?;
     let text = verdict_text(alloc, accepted)?;
     Ok(Answer { accepted, text })
 }
@@ -100,7 +102,8 @@ fn first(
     ensures depth { IfOk result (λ a. AnswersFromSomeDepth
         validator.now (view instance.now) Validate a.accepted (string_bytes a.text)) }
 {
-    match validator.validate(alloc, instance)? {
+    let mut work = Work::unlimited();
+    match validator.validate_within(alloc, instance, &mut work)? {
         Ok(()) => Ok(Answer {
             accepted: true,
             text: String::from_str(alloc, "ok\n")?,
@@ -129,7 +132,8 @@ fn errors(
 {
     let mut accepted = true;
     let mut text = String::new(alloc);
-    for error in validator.iter_errors(alloc, instance)? {
+    let mut work = Work::unlimited();
+    for error in validator.iter_errors_within(alloc, instance, &mut work)? {
         accepted = false;
         push_error(&mut text, alloc, &error)?;
     }
@@ -147,7 +151,8 @@ fn evaluation(
     ensures depth { IfOk result (λ a. AnswersFromSomeDepth
         validator.now (view instance.now) Evaluate a.accepted (string_bytes a.text)) }
 {
-    let evaluation = validator.evaluate(alloc, instance)?;
+    let mut work = Work::unlimited();
+    let evaluation = validator.evaluate_within(alloc, instance, &mut work)?;
     let accepted = evaluation.is_valid();
     let text = list_line(alloc, &evaluation)?;
     Ok(Answer { accepted, text })
@@ -162,7 +167,7 @@ fn list_line(alloc: Global, evaluation: &Evaluation) -> Result<String, OutOfMemo
     Ok(text)
 }
 
-/// What a call of the validator answers of an instance.
+/// What a call of the validator answers of an instance. It asks any number of nodes, whatever limit the validator has.
 ///
 /// # Errors
 ///

@@ -7,7 +7,7 @@ use Rattle.schema_reports.specs.ReportViews.{error_of}
 use Rattle.schema_validator.specs.Answers.{refusal_of}
 use Rattle.schema_validator.specs.Program.{Program}
 use Rattle.first_checker.specs.Checks.{first_by}
-use Rattle.first_checker.proofs.FirstChecked.{first_checked}
+use Rattle.first_checker.proofs.FirstChecked.{first_checked, unstopped}
 use Rattle.first_checker.proofs.checker.Checker.check.Goals as goal
 
 pub returns-clause-checked : goal.returns-clause-checked
@@ -17,4 +17,5 @@ returns-clause-checked g c = λ texts whole.
     let each : (t : Bool) → EachKeeps (w.words t) = λ t m. (w.absorbed m, keeps_of_turns (w.words t) m (w.absorbed m) (w.remaining m) (w.can_be t m) (w.ends t m) (w.fits t m) (g.met.K.Validate.turn_laws t m) (g.met.K.Validate.function_laws t m)) in
     subst (λ (p : Program g.row.K.Denot g.row.M.Denot). option_map (error_of texts) c.error_in.result ≡ first_by w g.M.Matcher p texts d) c.self.view_is
     (ap (option_map (error_of texts)) c.error_in.ensures.error
-    ∙ first_checked w g.M.Matcher c.self.inside.validator c.self.invariant each d (refusal_of c.in_ok-refusal.refusal) c.in_ok-refusal.ensures.depth texts whole)
+    ∙ first_checked w g.M.Matcher c.self.inside.validator c.self.invariant each d (refusal_of c.in_ok-refusal.refusal)
+    (unstopped w g.M.Matcher c.self.inside.validator c.self.invariant _ _ c.in_ok-refusal.ensures.depth) texts whole)

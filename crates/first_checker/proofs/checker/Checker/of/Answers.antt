@@ -1,9 +1,10 @@
-use Rattle.std.proofs.Common.{length, subst}
+use Rattle.std.proofs.Common.{◌∙◌, length, subst, sym}
 use Rattle.schema_meaning.specs.Fractions.{AreWhole}
 use Rattle.schema_meaning.specs.Numbered.{Ranked}
 use Rattle.node_table.specs.NodeTable.{NodeEntry, numbered}
 use Rattle.node_table.proofs.RankedTable.{ranked_table}
 use Rattle.std.specs.Prelude.{List}
+use Rattle.first_checker.proofs.FirstChecked.{unlimited_of}
 use Rattle.first_checker.proofs.checker.Checker.of.Goals as goal
 
 pub invariant_of-result : goal.invariant_of-result
@@ -15,4 +16,5 @@ invariant_of-result g c = record {
       c.nodes-nodes.ensures.nodes (ranked_table g.K.Validate.shape _ c.len-ranked.ensures.ordered.0 c.len-ranked.ensures.ordered.1);
   inside = c.requires.inside;
   some = c.requires.some;
+  unlimited = unlimited_of c.work_limit.result c.work_limit.ensures.work (sym c.is_some.ensures ∙ c.if-is_some.false);
 }
