@@ -24,14 +24,25 @@ fn main(rt: HostRuntime) -> anyhow::Result<()> {
     check(&rt, alloc, &schema, &instance)
 }
 
-/// Builds a validator of the schema, and prints the errors of the instance.
+/// Makes what checks schemas by their meta-schemas, and goes on with it.
 fn check(rt: &impl Print, alloc: Global, schema: &Value, instance: &Value) -> anyhow::Result<()> {
     let documents = MetaDocuments::new(alloc)?;
     let metas = StandardMeta::new(alloc, &documents)?;
+    check_by(rt, alloc, &metas, schema, instance)
+}
+
+/// Builds a validator of the schema, and prints the errors of the instance.
+fn check_by(
+    rt: &impl Print,
+    alloc: Global,
+    metas: &StandardMeta<'_>,
+    schema: &Value,
+    instance: &Value,
+) -> anyhow::Result<()> {
     let sources = Sources::new(alloc, schema);
     let patterns = sources.patterns(alloc)?;
     let options = ValidationOptions::new(alloc);
-    let validator = build(alloc, sources, &patterns, &metas, options)?;
+    let validator = build(alloc, sources, &patterns, metas, options)?;
     print_errors(rt, alloc, &validator, instance)
 }
 
