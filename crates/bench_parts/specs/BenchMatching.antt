@@ -21,3 +21,8 @@ bench_matcher ps = record {
   is_match = λ p s. if list_any (bytes_eq p) ps then unfinished (limit unfinished_text) else finished (contains_text p s);
   is_ecma = λ p. true;
 }
+
+-- whether it leaves no pattern unfinished
+abbrev pub leaves_none : List Text → Bool
+leaves_none [] = true
+leaves_none (p ∷ ps) = false

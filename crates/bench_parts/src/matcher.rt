@@ -105,9 +105,11 @@ fn push_copies(texts: &[String], copies: &mut Vec<String>) -> Result<(), AllocEr
 
 impl Matcher for BenchMatcher {
     ghost use Rattle.std.proofs.Common.{ap};
-    ghost use Rattle.bench_parts.specs.BenchMatching.{bench_matcher};
+    ghost use Rattle.bench_parts.specs.BenchMatching.{bench_matcher, leaves_none};
 
     ghost matching = { bench_matcher };
+
+    ghost finishing = { leaves_none };
 
     #[inline(always)]
     fn is_match(&self, alloc: Global, pattern: &str, subject: &str) -> Result<Match, OutOfMemory> {

@@ -70,6 +70,10 @@ impl Matcher for FailingMatcher {
         Ok(true)
     }
 
+    fn finishes(&self) -> bool {
+        false
+    }
+
     ghost cloned = { λ m n same. refl };
 }
 

@@ -42,6 +42,11 @@ answer_of MatchesNothing None = finished false
 abbrev pub regex_matcher : Unreadable → Matcher
 regex_matcher u = record { is_match = λ p s. answer_of u (found_in (pattern_in p) s); is_ecma = is_readable }
 
+-- whether it finishes every match: what cannot be read matches nothing
+abbrev pub finishes_each : Unreadable → Bool
+finishes_each LeftUnfinished = false
+finishes_each MatchesNothing = true
+
 -- a matcher as its clauses see it: what it makes of patterns that cannot be read, and the patterns for each of which it keeps a search
 pub record Kept : Type 0 where
   pub unreadable : Unreadable

@@ -126,9 +126,11 @@ impl<'r> Clone for RegexMatcher<'r> {
 /// A pattern that is not in the table is compiled for the call. If it can be read and is too big to compile, memory is wanting.
 impl<'r> Matcher for RegexMatcher<'r> {
     ghost use Rattle.std.proofs.Common.{ap};
-    ghost use Rattle.regex_matcher.specs.RegexMatching.{regex_matcher};
+    ghost use Rattle.regex_matcher.specs.RegexMatching.{finishes_each, regex_matcher};
 
     ghost matching = { λ m. regex_matcher m.unreadable };
+
+    ghost finishing = { λ m. finishes_each m.unreadable };
 
     fn is_match(&self, alloc: Global, pattern: &str, subject: &str) -> Result<Match, OutOfMemory> {
         if let Some(answer) = self.kept_answer(pattern, subject) {

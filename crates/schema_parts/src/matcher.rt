@@ -1,5 +1,5 @@
 //! The matcher, which says whether a text matches a pattern.
-ghost use Rattle.std.specs.Prelude.{◌≡◌, IfOk, true};
+ghost use Rattle.std.specs.Prelude.{◌≡◌, Bool, IfOk, false, true};
 ghost use Rattle.schema_definitions.specs.Matching as spec;
 ghost use Rattle.schema_matches.specs.MatchViews.{match_of};
 ghost use Rattle.schema_parts.specs.MatcherViews.{FinishesEach};
@@ -12,6 +12,9 @@ use std::alloc::Global;
 pub trait Matcher: Clone + Drop {
     ghost matching: { Self → spec.Matcher };
 
+    /// What it says of itself when it is asked whether it finishes every match. `false` where it is not given.
+    ghost finishing: { Self → Bool } = { λ _. false };
+
     /// Whether the subject matches the pattern.
     fn is_match(&self, alloc: Global, pattern: &str, subject: &str) -> Result<Match, OutOfMemory>
         ensures matches { IfOk result (λ m. match_of m ≡ (matching self.now).is_match pattern.now subject.now) };
@@ -21,13 +24,11 @@ pub trait Matcher: Clone + Drop {
         ensures valid { IfOk result (λ b. b ≡ (matching self.now).is_ecma pattern.now) };
 
     /// Returns whether it finishes every match, as an engine that never goes back does. `false` says nothing, and is always right.
-    /// Where it says so, the calls that give errors ask for the verdict first, which costs less where an instance is valid. It
-    /// allocates nothing.
+    /// Where it says so, a solver may find verdicts, and the calls that give errors ask for the verdict first, which costs less where
+    /// an instance is valid. A matcher that may return `true` gives `finishing`. It allocates nothing.
     fn finishes(&self) -> bool
         ensures finishes { result ≡ true → FinishesEach (matching self.now) }
-    {
-        false
-    }
+        ensures says { result ≡ finishing self.now };
 
     ghost cloned: { (m n : Self) → Self.is_clone m n → matching n ≡ matching m };
 }

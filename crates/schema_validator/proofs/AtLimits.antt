@@ -22,6 +22,10 @@ pub some_is : (o : Option ℕ) → IfSome o (λ limit. o ≡ Some limit)
 some_is None = tt
 some_is (Some limit) = refl
 
+pub where_some : {P : Type 0} (o : Option ℕ) → P → IfSome o (λ _. P)
+where_some None h = tt
+where_some (Some limit) h = h
+
 -- the failure borrows the whole instance
 pub tells_borrows : (root : Data) (limit : ℕ) (e : ValidationError) → TellsLimit root limit e → BorrowsItsPlace root e
 tells_borrows root limit e told = ap (subject_at root) (ap (λ (x : Error). x.place) told.is) ∙ ap Some (sym told.at_root)

@@ -4,12 +4,14 @@ use Rattle.serde_json.specs.declared.value.Value.{Value}
 use Rattle.schema_definitions.specs.Keywords.{Answer}
 use Rattle.schema_parts.specs.declared.keyword.Validate.{Ghosts as KeywordMembers}
 use Rattle.schema_parts.specs.declared.matcher.Matcher.{Ghosts as MatcherMembers}
+use Rattle.node_table.specs.NodeTable.{numbered}
 use Rattle.schema_contexts.specs.Progress.{root_places}
 use Rattle.schema_contexts.specs.Works.{Budget}
 use Rattle.schema_pairs.specs.Following.{IsFollowing}
 use Rattle.schema_solver.specs.Asked.{solver_over}
 use Rattle.schema_solver.specs.Solving.{BeginsFew, HasEachCut, LimitWithinBound, Setting}
 use Rattle.schema_verdicts.specs.Finding.{IsFoundAt}
+use Rattle.schema_verdicts.specs.Saying.{EachSays}
 use Rattle.schema_verdicts.specs.declared.eligible.SolvedVerdict.{SolvedVerdict}
 use Rattle.schema_validator.specs.Program.{Program}
 
@@ -42,6 +44,13 @@ module _ {C Run K M : Type 0} (keywords : KeywordMembers C Run K) (matchers : Ma
     pub numbers : List ℕ
     pub each : HasEachCut (solver_with followed) numbers
     pub bound : length numbers * length (root_places instance) * length numbers ≤ limit
+
+  -- the solver finds the verdict within such a limit, if memory is enough: the matcher says that it finishes every match, each keyword says
+  -- that it is monotone, and so many pairs are enough
+  pub record IsDecidedWithin (limit : ℕ) : Type 0 where
+    pub finishing : matchers.finishing p.matcher ≡ true
+    pub monotone : EachSays keywords.says_monotone (numbered keywords.shape p.nodes) (length p.nodes)
+    pub enough : AreEnough limit
 
 -- a validator has a solver; which numbers that follows is said by weights that cover the nodes
 abbrev pub HasSolver : {C M : Type 0} → Program C M → Type 0

@@ -21,7 +21,7 @@ ghost use Rattle.schema_validator.specs.Asked.{RunGivesUnit, UnitsFromSomeDepth,
 ghost use Rattle.schema_validator.specs.Greatest.{DecidesAccepted, ErrorsAccepted, EvaluatesAccepted, FirstAccepted, NodesAreMonotone};
 ghost use Rattle.schema_validator.specs.Handed.{default_runs};
 ghost use Rattle.schema_validator.specs.SharedErrors.{AreShared};
-ghost use Rattle.schema_validator.specs.Solved.{AreEnough, BeganFew, IsCountedIn, RestsOnContext, StopsLate};
+ghost use Rattle.schema_validator.specs.Solved.{AreEnough, BeganFew, IsCountedIn, IsDecidedWithin, RestsOnContext, StopsLate};
 ghost use Rattle.schema_validator.specs.Asked.{RunDecides, RunFindsFirst, RunListsErrors, RunMeets, RunReplies};
 ghost use Rattle.schema_meaning.specs.Numbered.{Ranked};
 ghost use Rattle.schema_verdicts.specs.Saying.{EachSays};
@@ -349,6 +349,8 @@ impl<K: Validate, M: Matcher> Validator<K, M> {
         ensures works { IfOk result (λ _. Spends work.old work.new) }
         ensures depth { IfOk result (λ valid. DecidesFromSomeDepth
             K.Validate M.Matcher.own self.now (view instance.now) valid) }
+        ensures decides { IsDecidedWithin K.Validate M.Matcher.own self.now instance.now work.old.left
+            → OnErr result (work.old.stopped ≡ false → work.new.stopped ≡ false) }
     {
         if let Some(solved) = self.solved(alloc, self.matcher.finishes(), instance, work)? {
             return Ok(solved.valid);
@@ -579,7 +581,9 @@ impl<K: Validate, M: Matcher> Validator<K, M> {
         unit_of_errors(alloc, shared)
     }
 
-    /// Returns what `is_valid` does, but takes no more steps than `work` allows, and counts them there (`with_work_limit`).
+    /// Returns what `is_valid` does, but takes no more steps than `work` allows, and counts them there (`with_work_limit`). It is not
+    /// stopped where the matcher says that it finishes every match, each keyword says that it is monotone, and there is a solver for
+    /// which so many pairs are enough (`solve_within`).
     ///
     /// # Errors
     ///
@@ -598,6 +602,8 @@ impl<K: Validate, M: Matcher> Validator<K, M> {
             K.Validate M.Matcher.own self.now (view instance.now) valid) }
         ensures works { IfOk result (λ _. Spends work.old work.new) }
         ensures stopped { OnErr result (work.new.stopped ≡ true → IsSpent work.new) }
+        ensures decides { IsDecidedWithin K.Validate M.Matcher.own self.now instance.now work.old.left
+            → OnErr result (work.old.stopped ≡ false → work.new.stopped ≡ false) }
     {
         let _ranked = self.node_count();
         let answer = self.valid_under_each(alloc, instance, work);

@@ -9,7 +9,7 @@ use Rattle.schema_parts.specs.declared.keyword.Validate.{Ghosts as KeywordMember
 use Rattle.schema_parts.specs.declared.matcher.Matcher.{Ghosts as MatcherMembers}
 use Rattle.schema_parts.specs.declared.resolver.Resolver.{Ghosts as ResolverMembers}
 use Rattle.schema_parts.specs.declared.table.KeywordTable.{Ghosts as TableMembers}
-use Rattle.regex_matcher.specs.RegexMatching.{Kept, regex_matcher}
+use Rattle.regex_matcher.specs.RegexMatching.{Kept, finishes_each, regex_matcher}
 use Rattle.bench_resolver.specs.BenchDocuments.{BenchDocument, GivenDocument}
 use Rattle.schema_validator.specs.Called.{IsCompiledFrom, MeansPlainly}
 use Rattle.schema_validator.specs.Handed.{Handed, Options, default_options, handed}
@@ -20,7 +20,7 @@ use Rattle.meta_schemas.specs.MetaUris.{uri_of}
 
 -- what matchers of regular expressions stand for
 abbrev pub regexes : MatcherMembers Kept
-regexes = record { matching = λ m. regex_matcher m.unreadable }
+regexes = record { matching = λ m. regex_matcher m.unreadable; finishing = λ m. finishes_each m.unreadable }
 
 -- what is handed in beside the options: a resolver, the table that refuses patterns that cannot be read, and a matcher
 abbrev pub handed_by : {State S C Maker Run K : Type 0} → ResolverMembers BenchDocument State S → TableMembers StandardTable C Maker Run K → KeywordMembers C Run K

@@ -1,5 +1,5 @@
 //! The calls of a validator, within its limit of steps.
-ghost use Rattle.std.specs.Prelude.{◌≡◌, All, IfOk, IfSome, Some, false};
+ghost use Rattle.std.specs.Prelude.{◌≡◌, All, IfOk, IfSome, Some, false, true};
 ghost use Rattle.serde_json.specs.View.{view};
 ghost use Rattle.schema_reports.specs.ReportViews.{BorrowsItsPlace};
 ghost use Rattle.schema_validator.specs.Answers.{refusal_of};
@@ -9,6 +9,7 @@ ghost use Rattle.schema_validator.specs.Asked.{ErrorsPointAsNodes, FirstPointsAs
 ghost use Rattle.schema_validator.specs.Asked.{EvaluatesFromSomeDepth, EvaluatesInEverySense};
 ghost use Rattle.schema_validator.specs.Asked.{UnitsFromSomeDepth, UnitsInEverySense};
 ghost use Rattle.schema_validator.specs.Greatest.{DecidesAccepted, ErrorsAccepted, EvaluatesAccepted, FirstAccepted};
+ghost use Rattle.schema_validator.specs.Solved.{IsDecidedWithin};
 ghost use Rattle.schema_validator.specs.Stopped.{FirstTellsLimit, GivesLimit, OnlyTellsLimit, UnlessStopped};
 
 use crate::stopping::{limit_failure, limit_failure_alone};
@@ -27,6 +28,7 @@ impl<K: Validate, M: Matcher> Validator<K, M> {
     // The validator's limit of steps, where a call has stopped at one.
     fn stopped_at(&self, work: &Work) -> Option<u64>
         ensures limit { IfSome result (λ limit. self.now.work ≡ Some limit) }
+        ensures stopped { IfSome result (λ _. work.now.stopped ≡ true) }
     {
         if !work.is_stopped() {
             return None;
@@ -37,7 +39,9 @@ impl<K: Validate, M: Matcher> Validator<K, M> {
     /// Returns whether the instance is valid. Where the matcher leaves matches unfinished, returns whether the instance is valid
     /// under every outcome of them, and `false` if that takes more runs than a call makes. Where each keyword is monotone, and it
     /// takes no more runs, returns `true` exactly if the greatest solution of the nodes accepts, also where references return.
-    /// Where a limit is set on its steps (`with_work_limit`), and it would take one more, it returns `false`.
+    /// Where a limit is set on its steps (`with_work_limit`), and it would take one more, it returns `false`. It takes no more where the
+    /// matcher says that it finishes every match, each keyword says that it is monotone, and there is a solver for which a limit on
+    /// pairs as large is enough (`solve_within`): a `false` is then a verdict.
     ///
     /// # Errors
     ///
@@ -49,6 +53,8 @@ impl<K: Validate, M: Matcher> Validator<K, M> {
             (DecidesInEverySense K.Validate M.Matcher.own self.now (view instance.now) valid)) }
         ensures greatest { IfOk result (λ valid. UnlessStopped self.now.work (λ limit. valid ≡ false)
             (DecidesAccepted K.Validate M.Matcher.own self.now (view instance.now) valid)) }
+        ensures decides { IfSome self.now.work (IsDecidedWithin K.Validate M.Matcher.own self.now instance.now)
+            → IfOk result (λ valid. DecidesFromSomeDepth K.Validate M.Matcher.own self.now (view instance.now) valid) }
     {
         let mut work = Work::within(self.work_limit());
         match self.is_valid_within(alloc, instance, &mut work) {

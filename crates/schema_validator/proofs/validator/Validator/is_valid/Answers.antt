@@ -1,5 +1,7 @@
+use Rattle.std.proofs.Common.{◌∙◌, ap, refl}
+use Rattle.schema_contexts.specs.Works.{allowed}
 use Rattle.schema_validator.proofs.AtLimits.{stops, unless}
-use Rattle.std.proofs.Common.{refl}
+use Rattle.schema_validator.proofs.Solved.{not_stopped}
 use Rattle.schema_validator.proofs.validator.Validator.is_valid.Goals as goal
 
 pub returns-in-Ok-clause-depth : goal.returns-in-Ok-clause-depth
@@ -19,3 +21,11 @@ returns-in-Some-clause-senses g c = stops _ _ _ _ c.in-Some.ensures.limit refl
 
 pub returns-in-Some-clause-greatest : goal.returns-in-Some-clause-greatest
 returns-in-Some-clause-greatest g c = stops _ _ _ _ c.in-Some.ensures.limit refl
+
+pub returns-in-Ok-clause-decides : goal.returns-in-Ok-clause-decides
+returns-in-Ok-clause-decides g c = λ decided. c.in-Ok.ensures.depth
+
+pub returns-in-Some-clause-decides : goal.returns-in-Some-clause-decides
+returns-in-Some-clause-decides g c = λ decided.
+    let given = c.within-work.ensures.within ∙ ap allowed (c.work_limit.ensures.work ∙ c.in-Some.ensures.limit) in
+    absurd (not_stopped g.K.Validate g.M.Matcher c.args.self.now c.args.instance.now _ c.within-work.result c.is_valid_within.new.work given c.in-Some.ensures.limit decided c.in-Err.ensures.decides c.in-Some.ensures.stopped)

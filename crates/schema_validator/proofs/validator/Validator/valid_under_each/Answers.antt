@@ -1,4 +1,5 @@
 use Rattle.std.proofs.Common.{rules, ◌≡◌, ◌∙◌, ◌≤◌, ◌<◌, ℕ, Bool, false, suc, [], refl, sym, ap, subst, arith, length}
+use Rattle.std.specs.Prelude.{Err}
 use Rattle.serde_json.specs.View.{view}
 use Rattle.serde_json.specs.declared.value.Value.{Value}
 use Rattle.schema_definitions.specs.Cover.{is_valid}
@@ -18,7 +19,7 @@ use Rattle.schema_validator.specs.Answers.{MeetsMatches, SaysVerdict}
 use Rattle.schema_validator.specs.Asked.{DecidesFromSomeDepth}
 use Rattle.schema_validator.specs.Program.{Program, Speaks}
 use Rattle.schema_validator.proofs.SharedErrors.{both_on}
-use Rattle.schema_validator.proofs.Solved.{of_some}
+use Rattle.schema_validator.proofs.Solved.{enough_decide, gives_a_verdict, of_some, on_err}
 use Rattle.schema_calls.proofs.Searches.{follows, if_ok_each, none_of, reached_has, sense, verdict_first, verdict_runs}
 use Rattle.schema_validator.proofs.validator.Validator.valid_under_each.Goals as goal
 
@@ -29,7 +30,16 @@ returns-in-Some g c =
     record {
       depth = of_some _ c.in-Some.solved (λ (v : SolvedVerdict). DecidesFromSomeDepth w g.M.Matcher p (view c.args.instance.now) v.valid) c.in-Some.is c.in_ok-solved.ensures.depth;
       works = c.in_ok-solved.ensures.works;
+      decides = λ decided. tt;
     }
+
+pub returns-in_err-solved-clause-decides : goal.returns-in_err-solved-clause-decides
+returns-in_err-solved-clause-decides g c = λ decided.
+    on_err _ (enough_decide {T = ℕ} {E = ℕ} g.K.Validate g.M.Matcher c.args.self.now c.args.instance.now c.args.work.now.left (Err 0) c.args.work.now.stopped c.solved.new.work.stopped c.in_err-solved.ensures.late decided.enough)
+
+pub returns-in_err-first-clause-decides : goal.returns-in_err-first-clause-decides
+returns-in_err-first-clause-decides g c = λ decided.
+    absurd (gives_a_verdict g.K.Validate g.M.Matcher c.args.self.now c.args.instance.now _ c.finishes.result _ (c.finishes.ensures.says ∙ ap (λ (v : Program g.row.K.Denot g.row.M.Denot). g.M.Matcher.finishing v.matcher) c.self.view_is) c.in_ok-solved.ensures.exactly (λ x. c.in_default.not-Some x) decided)
 
 pub returns-then-not-met_unassumed : goal.returns-then-not-met_unassumed
 returns-then-not-met_unassumed g c =
@@ -46,6 +56,7 @@ returns-then-not-met_unassumed g c =
           let each : EachKeeps (w.words texts) = λ m. (w.absorbed m, keeps_of_turns (w.words texts) m (w.absorbed m) (w.remaining m) (w.can_be texts m) (w.ends texts m) (w.fits texts m) (g.met.K.Validate.turn_laws texts m) (g.met.K.Validate.function_laws texts m)) in
           (suc deep, λ n more. verdict_first (w.words texts) each (g.M.Matcher.matching p.matcher) nodes d p.root n p.runs c.in_ok-first.ensures.makes_one c.in_ok-first.first.1 c.in_ok-first.first.0 (says texts speaks nothing_twice n (omega (arith, more))) (meets texts speaks nothing_twice n (omega (arith, more))) none);
       works = spends_on _ _ _ c.in_ok-solved.ensures.works (asks_spends _ _ c.in_ok-first.ensures.works);
+      decides = λ decided. tt;
     }
 
 pub returns : goal.returns
@@ -88,4 +99,5 @@ returns g c =
           let asks : Asks z.3.now end.3.now = search rules in
           (named ∙ has.0, spends_on _ _ _ has.1 (asks_spends _ _ asks))) c.validity_under_each.new.run reaches in
           spends_on _ _ _ c.in_ok-solved.ensures.works (spends_on _ _ _ (asks_spends _ _ c.in_ok-first.ensures.works) (subst (Spends before) (sym (c.work-1.given.1 (sym kept.0))) kept.1))) c.validity_under_each.ensures.reaches;
+      decides = λ decided. absurd (gives_a_verdict w g.M.Matcher p c.args.instance.now _ c.finishes.result _ (c.finishes.ensures.says ∙ ap (λ (v : Program g.row.K.Denot g.row.M.Denot). g.M.Matcher.finishing v.matcher) c.self.view_is) c.in_ok-solved.ensures.exactly (λ x. c.in_default.not-Some x) decided);
     }
