@@ -1,5 +1,6 @@
 //! JSON equality (JSON Schema Core 2020-12, 4.2.2), by which `enum`, `const` and `uniqueItems` compare.
 ghost use Rattle.std.specs.Prelude.{◌≡◌, ◌==◌, option_map};
+ghost use Rattle.serde_json.specs.Data.{string};
 ghost use Rattle.serde_json.specs.Events.{members_len};
 ghost use Rattle.std.specs.List.Sorted.{IsStrictlySortedBy};
 ghost use Rattle.std.specs.Map.{keys_of};
@@ -111,9 +112,26 @@ pub fn are_all_distinct_by_pairs(values: &[Value]) -> bool
 pub fn is_among(value: &Value, others: &[Value]) -> bool
     ensures among { result ≡ has_equal (view value.now) (items_view others.now) }
 {
+    if let Value::String(text) = value {
+        return is_text_among(text.as_str(), others);
+    }
     for other in others {
         if is_equal(value, other) {
             return true;
+        }
+    }
+    false
+}
+
+// Whether one of the values is this text.
+fn is_text_among(text: &str, values: &[Value]) -> bool
+    ensures among { result ≡ has_equal (string text.now) (items_view values.now) }
+{
+    for value in values {
+        if let Value::String(other) = value {
+            if other.len() == text.len() && other.as_str() == text {
+                return true;
+            }
         }
     }
     false

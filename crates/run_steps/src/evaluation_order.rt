@@ -1,6 +1,6 @@
 //! The units of a schema's entries, in their order: that of an absorbed `type` first, those of absorbed counts before the first
 //! entry that looks inside the instance.
-ghost use Rattle.std.specs.Prelude.{◌≡◌, Bool, IfOk, map};
+ghost use Rattle.std.specs.Prelude.{◌≡◌, ◌++◌, Bool, IfOk, map};
 ghost use Rattle.schema_reports.specs.UnitViews.{unit_of};
 ghost use Rattle.schema_definitions.specs.UnitOrder.{all_placed, nothing_placed, placed, with_absorbed};
 ghost use Rattle.run_steps.specs.EntryUnits.{absorbed_of, entry_units_of, placed_of};
@@ -34,6 +34,22 @@ pub struct UnitsInOrder {
     before: Vec<EvaluationNode>,
     counts: Vec<EvaluationNode>,
     after: Vec<EvaluationNode>,
+}
+
+// The units of one list, and then those of another one. A list of none is not copied into.
+fn joined(
+    first: Vec<EvaluationNode>,
+    more: Vec<EvaluationNode>,
+) -> Result<Vec<EvaluationNode>, OutOfMemory>
+    ensures joined { IfOk result (λ nodes. nodes.items ≡ first.items ++ more.items) }
+{
+    if first.is_empty() {
+        return Ok(more);
+    }
+    let mut nodes = first;
+    let mut others = more;
+    nodes.append(&mut others)?;
+    Ok(nodes)
 }
 
 impl UnitsInOrder {
@@ -82,13 +98,9 @@ impl UnitsInOrder {
     pub fn into_children(self) -> Result<ChildList, OutOfMemory>
         ensures children { IfOk result (λ l. (texts : Bool) → map (unit_of texts) l ≡ all_placed (placed_of texts self)) }
     {
-        let mut nodes = self.types;
-        let mut before = self.before;
-        let mut counts = self.counts;
-        let mut after = self.after;
-        nodes.append(&mut before)?;
-        nodes.append(&mut counts)?;
-        nodes.append(&mut after)?;
+        let nodes = joined(self.types, self.before)?;
+        let nodes = joined(nodes, self.counts)?;
+        let nodes = joined(nodes, self.after)?;
         Ok(ChildList::from_nodes(nodes))
     }
 }

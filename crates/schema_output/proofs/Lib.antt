@@ -1,3 +1,4 @@
+pub mod PlainPlaces
 mod PlainBytes
 mod Pushes
 mod Printing

@@ -50,6 +50,13 @@ places_text r =
     ++ (codes ",\"instanceLocation\":" ++ (quoted r.instance_location
     ++ (codes ",\"schemaLocation\":" ++ (quoted (schema_location r) ++ valid_text r.valid)))))
 
+-- the same, where each text stands for itself between quotes
+abbrev pub plain_places_text : Text → Text → Text → Bool → Text
+plain_places_text path place schema valid =
+    codes "\"evaluationPath\":\"" ++ (path
+    ++ (codes "\",\"instanceLocation\":\"" ++ (place
+    ++ (codes "\",\"schemaLocation\":\"" ++ (schema ++ 34 ∷ valid_text valid)))))
+
 -- the member of one error, with a comma behind it
 abbrev pub error_text : Described → Text
 error_text d = codes "\"errors\":{" ++ (quoted d.name ++ (codes ":" ++ (quoted d.text ++ codes "},")))

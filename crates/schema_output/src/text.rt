@@ -5,7 +5,8 @@ ghost use Rattle.serde_json.specs.Written.{compact_text};
 ghost use Rattle.schema_definitions.specs.Instance.{Text};
 ghost use Rattle.schema_reports.specs.UnitViews.{described_of, report_in, unit_of};
 ghost use Rattle.schema_output.specs.Output.{output_list, unit_object};
-ghost use Rattle.schema_output.specs.Texts.{Follow, IsJsonText, Prints, closing, error_text, objects_below, places_text, valid_text};
+ghost use Rattle.schema_output.specs.Texts.{Follow, IsJsonText, Prints};
+ghost use Rattle.schema_output.specs.Texts.{closing, error_text, objects_below, places_text, plain_places_text, valid_text};
 
 use crate::list::{schema_location, unit_object};
 use schema_reports::evaluation::{ErrorDescription, EvaluationNode, UnitReport};
@@ -56,16 +57,53 @@ fn valid_text(valid: bool) -> &'static str
     }
 }
 
+// The same, behind a text and its quote.
+fn ending_text(valid: bool) -> &'static str
+    ensures text { result.now ≡ 34 ∷ valid_text valid }
+{
+    if valid {
+        "\",\"valid\":true}"
+    } else {
+        "\",\"valid\":false}"
+    }
+}
+
+// Adds the members that every unit has, where their texts stand for themselves between quotes, and closes its object.
+fn push_plain_places(
+    out: &mut String,
+    path: &str,
+    place: &str,
+    schema: &str,
+    valid: bool,
+) -> Result<(), OutOfMemory>
+    ensures places { IfOk result (λ _. string_bytes out.new ≡ string_bytes out.old
+        ++ plain_places_text path.now place.now schema.now valid) }
+{
+    out.push_str("\"evaluationPath\":\"")?;
+    out.push_str(path)?;
+    out.push_str("\",\"instanceLocation\":\"")?;
+    out.push_str(place)?;
+    out.push_str("\",\"schemaLocation\":\"")?;
+    out.push_str(schema)?;
+    out.push_str(ending_text(valid))
+}
+
 // Adds the members that every unit has, and closes its object.
 fn push_places(alloc: Global, out: &mut String, report: &UnitReport) -> Result<(), OutOfMemory>
     ensures places { IfOk result (λ _. string_bytes out.new ≡ string_bytes out.old ++ places_text (report_in true report.now)) }
 {
+    let path = report.evaluation_path.as_str();
+    let place = report.instance_location.as_str();
+    let schema = schema_location(report);
+    if is_plain(path.as_bytes()) && is_plain(place.as_bytes()) && is_plain(schema.as_bytes()) {
+        return push_plain_places(out, path, place, schema, report.valid);
+    }
     out.push_str("\"evaluationPath\":")?;
-    push_quoted(alloc, out, report.evaluation_path.as_str())?;
+    push_quoted(alloc, out, path)?;
     out.push_str(",\"instanceLocation\":")?;
-    push_quoted(alloc, out, report.instance_location.as_str())?;
+    push_quoted(alloc, out, place)?;
     out.push_str(",\"schemaLocation\":")?;
-    push_quoted(alloc, out, schema_location(report))?;
+    push_quoted(alloc, out, schema)?;
     out.push_str(valid_text(report.valid))
 }
 

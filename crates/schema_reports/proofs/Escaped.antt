@@ -1,10 +1,10 @@
 -- The escapes of a text, character by character.
-use Rattle.std.proofs.Common.{◌≡◌, ℕ, suc, ◌<◌, ◌≤◌, ◌+◌, cond, eqb, List, [], ◌∷◌, ◌++◌, length, get_or, drop, inl, inr, refl, sym, ap, ap₂, ◌∙◌, arith, append_assoc, append-nil}
+use Rattle.std.proofs.Common.{◌≡◌, ℕ, suc, ◌<◌, ◌≤◌, ◌+◌, ◌&&◌, Bool, true, false, not, cond, eqb, List, [], ◌∷◌, ◌++◌, length, get_or, drop, take, inl, inr, refl, sym, ap, ap₂, ◌∙◌, arith, append_assoc, append-nil}
 use Rattle.std.proofs.lemmas.Bool.{cases_lt}
 use Rattle.std.proofs.lemmas.Bool.Decides.{nat_tests}
 use Rattle.std.proofs.lemmas.Str.{inside_one, encode_ascii, chars-encodes}
 use Rattle.std.specs.Str.{chars, IsUtf8}
-use Rattle.std.proofs.lemmas.List.{at_drop_more, at_drop_all}
+use Rattle.std.proofs.lemmas.List.{at_drop_more, at_drop_all, take_more, take_all}
 use lib.Utf8.{encode, encodes}
 use Rattle.schema_definitions.specs.Pointer.{escaped}
 
@@ -52,3 +52,20 @@ escaped_end cs n h = at_drop_all (λ xs. escaped (encodes xs)) cs n h
 -- the characters of a text spell it
 pub spelled : (bs : List ℕ) → IsUtf8 bs → encodes (chars bs) ≡ bs
 spelled bs u = ap (λ x. encodes (chars x)) (sym u.1.1) ∙ ap encodes (chars-encodes u.0 u.1.0) ∙ u.1.1
+
+-- one byte more that stands for itself
+pub bare_more : (b : Bool) (xs : List ℕ) (i : ℕ) → i < length xs → (b ≡ true → escaped (take i xs) ≡ take i xs)
+    → (b && (not (eqb (get_or xs i 0) 126) && not (eqb (get_or xs i 0) 47))) ≡ true → escaped (take (i + 1) xs) ≡ take (i + 1) xs
+bare_more false xs i below before h = cc
+bare_more true xs i below before h =
+    let x = get_or xs i 0 in
+    let first : x ≡ 126 → ⊥ = other x h in
+    let second : x ≡ 47 → ⊥ = another x h in
+    let t = take_more xs i 0 below in
+    ap escaped t ∙ escaped-append (take i xs) (x ∷ []) ∙ ap₂ (λ (a b : List ℕ). a ++ b) (before refl) (plain_small x first second) ∙ sym t
+  where
+    other : (x : ℕ) → (not (eqb x 126) && not (eqb x 47)) ≡ true → x ≡ 126 → ⊥
+    other x h e = grind (arith, nat_tests)
+
+    another : (x : ℕ) → (not (eqb x 126) && not (eqb x 47)) ≡ true → x ≡ 47 → ⊥
+    another x h e = grind (arith, nat_tests)

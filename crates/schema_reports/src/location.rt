@@ -1,5 +1,5 @@
 //! Pointer texts (RFC 6901).
-ghost use Rattle.std.specs.Prelude.{◌≡◌, ℕ, List, [], ◌++◌, IfOk, bytes_eq, string_bytes, decimal};
+ghost use Rattle.std.specs.Prelude.{◌≡◌, ℕ, List, [], ◌++◌, IfOk, bytes_eq, string_bytes, decimal, true};
 ghost use Rattle.std.specs.Cmp.{partial_equiv_from_equiv};
 ghost use Rattle.std.specs.Cmp.Lexicographic.{nat_list_eq_equiv};
 ghost use Rattle.std.specs.Char.{encode_utf8};
@@ -46,10 +46,24 @@ fn push_escaped_char(text: &mut String, c: char) -> Result<(), OutOfMemory>
     }
 }
 
+// Whether a name stands for itself in a pointer. No byte ends the walk, so that many bytes are looked at in one step.
+fn is_bare(name: &[u8]) -> bool
+    ensures bare { result ≡ true → escaped name.now ≡ name.now }
+{
+    let mut bare = true;
+    for byte in name {
+        bare &= (*byte != b'~') & (*byte != b'/');
+    }
+    bare
+}
+
 // A name, with `~` as `~0` and `/` as `~1`.
 fn push_escaped(text: &mut String, name: &str) -> Result<(), OutOfMemory>
     ensures escaped { IfOk result (λ _. string_bytes text.new ≡ string_bytes text.old ++ escaped name.now) }
 {
+    if is_bare(name.as_bytes()) {
+        return text.push_str(name);
+    }
     for c in name.chars() {
         push_escaped_char(text, c)?;
     }

@@ -11,17 +11,17 @@ pub child-requires : goal.child-requires
 child-requires c =
     let ps = c.args.places.now in
     let above = subst (λ (p : EvaluationPlace). CarriesItsNumber ps p) c.in-Below.is c.requires.carries in
-    let own = subst (λ (p : EvaluationPlace). CarriesItsNumber ps p) c.in-Numbered.is above in
+    let own = subst (λ (p : EvaluationPlace). CarriesItsNumber ps p) c.in-Numbered-above.is above in
     record { known = (stands _ ps _ own).0 }
 
-pub returns-in-Numbered : goal.returns-in-Numbered
-returns-in-Numbered c =
+pub returns-in-Numbered-above : goal.returns-in-Numbered-above
+returns-in-Numbered-above c =
     let ps = c.args.places.now in
     let above = subst (λ (p : EvaluationPlace). CarriesItsNumber ps p) c.in-Below.is c.requires.carries in
-    let own = subst (λ (p : EvaluationPlace). CarriesItsNumber ps p) c.in-Numbered.is above in
+    let own = subst (λ (p : EvaluationPlace). CarriesItsNumber ps p) c.in-Numbered-above.is above in
     let at = stands _ ps _ own in
     record {
       number = c.child.ensures.child ∙ ap (λ (q : Place). number_of (q ++ step_of c.in-Below.step ∷ []) ps) at.1
-          ∙ ap (λ (p : EvaluationPlace). number_of (steps_to p ++ step_of c.in-Below.step ∷ []) ps) (sym c.in-Numbered.is)
+          ∙ ap (λ (p : EvaluationPlace). number_of (steps_to p ++ step_of c.in-Below.step ∷ []) ps) (sym c.in-Numbered-above.is)
           ∙ ap (λ (p : EvaluationPlace). number_of (steps_to p) ps) (sym c.in-Below.is);
     }
