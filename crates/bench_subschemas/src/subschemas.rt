@@ -1,5 +1,6 @@
 //! Subschemas of schemas.
-ghost use Rattle.std.specs.Prelude.{◌≡◌, ◌++◌, ◌∷◌, [], flat_map, map, IfOk, option_map};
+ghost use Rattle.std.specs.Prelude.{◌≡◌, ◌++◌, ◌∷◌, [], flat_map, map, IfOk, IfSome, option_map};
+ghost use Rattle.std.specs.Rc.{rc_str_bytes};
 ghost use Rattle.serde_json.specs.Find.{get};
 ghost use Rattle.serde_json.specs.Data.{object};
 ghost use Rattle.serde_json.specs.View.{members_view, view};
@@ -9,7 +10,7 @@ ghost use Rattle.schema_parts.specs.ResolverViews.{place_of, placed_of};
 ghost use Rattle.bench_subschemas.specs.BenchResolving.{below_list, below_object, below_value, is_schema};
 ghost use Rattle.bench_subschemas.specs.BenchResolving.{subschemas};
 ghost use Rattle.bench_subschemas.specs.FoundSchemas.{found_at, schema_if};
-ghost use Rattle.bench_subschemas.specs.FoundViews.{below, found_of, path_of, placed_at};
+ghost use Rattle.bench_subschemas.specs.FoundViews.{below, found_of, path_of, placed_at, steps_inside};
 
 use crate::plain::any_names_schemas;
 use crate::rules::Rule;
@@ -63,6 +64,13 @@ impl<'v> FoundSchema<'v> {
         ensures added { IfOk result (λ _. path.new ≡ path.old ++ path_of self.now) }
     {
         path.push(SchemaStep::Member(RcStr::from_str(alloc, self.keyword)?))?;
+        self.add_inside(alloc, path)
+    }
+
+    /// Adds the steps that lead from the keyword's value to the subschema to a path. Fails only if memory cannot be allocated.
+    fn add_inside(&self, alloc: Global, path: &mut SchemaPath) -> Result<(), OutOfMemory>
+        ensures added { IfOk result (λ _. path.new ≡ path.old ++ steps_inside self.now.inside) }
+    {
         match self.inside {
             Inside::Nothing => Ok(()),
             Inside::Member(name) => path.push(SchemaStep::Member(RcStr::from_str(alloc, name)?)),
@@ -250,17 +258,52 @@ pub fn subschemas_found<'v>(
     }
 }
 
-/// The place of a subschema of the schema at a place.
+/// The last keyword again, where it is this one. A clone costs no memory.
+fn keyword_again(last: &Option<RcStr>, keyword: &str) -> Result<Option<RcStr>, OutOfMemory>
+    ensures same { IfOk result (λ again. IfSome again (λ k. rc_str_bytes k ≡ keyword.now)) }
+{
+    match last {
+        Some(last) => {
+            if last.as_str() == keyword {
+                Ok(Some(last.clone()?))
+            } else {
+                Ok(None)
+            }
+        }
+        None => Ok(None),
+    }
+}
+
+/// A keyword as a step has it: the last one where that is the same, so that the subschemas under one share it. It is the last one
+/// from then on.
+fn keyword_of(alloc: Global, last: &mut Option<RcStr>, keyword: &str) -> Result<RcStr, OutOfMemory>
+    ensures keyword { IfOk result (λ k. rc_str_bytes k ≡ keyword.now) }
+{
+    if let Some(again) = keyword_again(last, keyword)? {
+        return Ok(again);
+    }
+    let first = RcStr::from_str(alloc, keyword)?;
+    *last = Some(first.clone()?);
+    Ok(first)
+}
+
+/// The place of a subschema of the schema at a place, where the last one that was found has this keyword.
 fn place_found(
     alloc: Global,
     place: &SchemaPlace,
+    last: &mut Option<RcStr>,
     found: &FoundSchema<'_>,
 ) -> Result<SchemaPlace, OutOfMemory>
     ensures place { IfOk result (λ p. place_of p ≡ at_path (place_of place.now) (path_of found.now)) }
 {
-    let mut path = SchemaPath::root(alloc);
-    found.add_steps(alloc, &mut path)?;
-    place.below(alloc, &path)
+    let keyword = keyword_of(alloc, last, found.keyword)?;
+    let mut path = place.path.with_room(alloc, 2)?;
+    path.push(SchemaStep::Member(keyword))?;
+    found.add_inside(alloc, &mut path)?;
+    Ok(SchemaPlace {
+        document: place.document,
+        path,
+    })
 }
 
 /// The places of subschemas of the schema at a place.
@@ -272,8 +315,9 @@ fn places_found(
     ensures places { IfOk result (λ places. map place_of places.items ≡ map (at_path (place_of place.now)) (map path_of found.now)) }
 {
     let mut places = Vec::with_capacity(alloc, found.len())?;
+    let mut last = None;
     for one in found {
-        places.push(place_found(alloc, place, one)?)?;
+        places.push(place_found(alloc, place, &mut last, one)?)?;
     }
     Ok(places)
 }
@@ -287,8 +331,9 @@ fn placed_found<'v>(
     ensures placed { IfOk result (λ ps. map placed_of ps.items ≡ map (placed_at (place_of place.now)) (map found_of found.now)) }
 {
     let mut placed = Vec::with_capacity(alloc, found.len())?;
+    let mut last = None;
     for one in found {
-        let below = place_found(alloc, place, one)?;
+        let below = place_found(alloc, place, &mut last, one)?;
         placed.push(PlacedSchema {
             place: below,
             value: Some(one.schema),

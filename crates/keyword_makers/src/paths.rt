@@ -1,8 +1,10 @@
 //! The values of members, and paths below a keyword.
 ghost use Rattle.std.specs.Prelude.{◌≡◌, ◌∷◌, [], IfOk, option_map};
+ghost use Rattle.std.specs.Rc.{rc_str_bytes};
 ghost use Rattle.serde_json.specs.Find.{get_member};
 ghost use Rattle.serde_json.specs.View.{items_view, members_view, view};
 ghost use Rattle.schema_definitions.specs.Instance.{to_item, to_member};
+ghost use Rattle.schema_parts.specs.SchemaViews.{schema_step_of};
 ghost use Rattle.keyword_makers.specs.Making.{items_from};
 
 use schema_parts::schema_place::{SchemaPath, SchemaStep};
@@ -23,12 +25,26 @@ pub fn value_of(alloc: Global, keyword: &str) -> Result<SchemaPath, OutOfMemory>
     ensures path { IfOk result (λ path. path ≡ to_member keyword.now ∷ []) }
 {
     let name = RcStr::from_str(alloc, keyword)?;
-    let mut path = SchemaPath::root(alloc);
+    let mut path = SchemaPath::with_capacity(alloc, 1)?;
     path.push(SchemaStep::Member(name))?;
     Ok(path)
 }
 
-/// The places of the items of a list, below a keyword.
+/// The path of a step below a keyword, whose name it shares.
+pub(crate) fn step_below(
+    alloc: Global,
+    keyword: &RcStr,
+    step: SchemaStep,
+) -> Result<SchemaPath, OutOfMemory>
+    ensures path { IfOk result (λ path. path ≡ to_member (rc_str_bytes keyword.now) ∷ schema_step_of step ∷ []) }
+{
+    let mut path = SchemaPath::with_capacity(alloc, 2)?;
+    path.push(SchemaStep::Member(keyword.clone()?))?;
+    path.push(step)?;
+    Ok(path)
+}
+
+/// The places of the items of a list, below a keyword, whose name they share.
 pub fn items_below(
     alloc: Global,
     keyword: &str,
@@ -36,18 +52,10 @@ pub fn items_below(
 ) -> Result<Vec<SchemaPath>, OutOfMemory>
     ensures paths { IfOk result (λ paths. paths.items ≡ items_from keyword.now 0 (items_view items.now)) }
 {
-    let mut paths = Vec::new(alloc);
+    let first = RcStr::from_str(alloc, keyword)?;
+    let mut paths = Vec::with_capacity(alloc, items.len())?;
     for (index, _item) in items.iter().enumerate() {
-        paths.push(item_below(alloc, keyword, index)?)?;
+        paths.push(step_below(alloc, &first, SchemaStep::Item(index))?)?;
     }
     Ok(paths)
-}
-
-/// The place of an item, below a keyword.
-fn item_below(alloc: Global, keyword: &str, index: usize) -> Result<SchemaPath, OutOfMemory>
-    ensures path { IfOk result (λ path. path ≡ to_member keyword.now ∷ to_item index ∷ []) }
-{
-    let mut path = value_of(alloc, keyword)?;
-    path.push(SchemaStep::Item(index))?;
-    Ok(path)
 }

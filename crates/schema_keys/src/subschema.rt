@@ -29,8 +29,7 @@ impl<'p, 'c, R: Resolver> Context<'p, 'c, R> {
     fn location_below(&self, path: &SchemaPath) -> Result<Location, OutOfMemory>
         ensures location { IfOk result (λ l. l ≡ self.now.key.now.location ++ pointer_to path.now) }
     {
-        let pointer = path.pointer(self.alloc)?;
-        self.location().append(&pointer)
+        path.pointer_from(self.alloc, self.location())
     }
 
     /// Whether a value that was read has an identifier.

@@ -117,15 +117,14 @@ fn pointer_room(steps: &[SchemaStep]) -> usize {
     bytes
 }
 
-// The pointer of some steps.
-fn pointer_of_steps(alloc: Global, steps: &[SchemaStep]) -> Result<Location, OutOfMemory>
-    ensures pointer { IfOk result (λ l. l ≡ pointer_to (map schema_step_of steps.now)) }
+// Appends the pointer of some steps to another one. On `Err` a part of it may have been written.
+fn push_pointer_of(pointer: &mut Location, steps: &[SchemaStep]) -> Result<(), OutOfMemory>
+    ensures pushed { IfOk result (λ _. pointer.new ≡ pointer.old ++ pointer_to (map schema_step_of steps.now)) }
 {
-    let mut location = Location::with_capacity(alloc, pointer_room(steps))?;
     for step in steps {
-        push_schema_step(&mut location, step)?;
+        push_schema_step(pointer, step)?;
     }
-    Ok(location)
+    Ok(())
 }
 
 /// A path in a document. Contracts see its steps.
@@ -152,6 +151,15 @@ impl SchemaPath {
         SchemaPath {
             steps: Vec::new(alloc),
         }
+    }
+
+    /// Returns the path of the document's root, with room for so many steps. Fails only if memory cannot be allocated.
+    pub fn with_capacity(alloc: Global, steps: usize) -> Result<SchemaPath, OutOfMemory>
+        ensures root { IfOk result (λ p. p ≡ []) }
+    {
+        Ok(SchemaPath {
+            steps: Vec::with_capacity(alloc, steps)?,
+        })
     }
 
     /// Returns the steps, from the document's root on.
@@ -207,6 +215,28 @@ impl SchemaPath {
         Ok(SchemaPath { steps })
     }
 
+    /// Returns the same path, with room for so many steps more. Fails only if memory cannot be allocated.
+    pub fn with_room(&self, alloc: Global, more: usize) -> Result<SchemaPath, OutOfMemory>
+        ensures same { IfOk result (λ p. p ≡ self.now) }
+    {
+        let count = self.steps.len().saturating_add(more);
+        let mut steps = Vec::with_capacity(alloc, count)?;
+        push_steps(&mut steps, self.steps.as_slice())?;
+        Ok(SchemaPath { steps })
+    }
+
+    /// Returns another pointer followed by the one of this path. Fails only if memory cannot be allocated.
+    pub fn pointer_from(&self, alloc: Global, from: &Location) -> Result<Location, OutOfMemory>
+        ensures pointer { IfOk result (λ l. l ≡ from.now ++ pointer_to self.now) }
+    {
+        let steps = self.steps.as_slice();
+        let room = pointer_room(steps).saturating_add(from.as_str().len());
+        let mut pointer = Location::with_capacity(alloc, room)?;
+        pointer.push_escaped(from.as_str())?;
+        push_pointer_of(&mut pointer, steps)?;
+        Ok(pointer)
+    }
+
     /// Returns the path followed by another. Fails only if memory cannot be allocated.
     pub fn append(&self, alloc: Global, rest: &SchemaPath) -> Result<SchemaPath, OutOfMemory>
         ensures appended { IfOk result (λ p. p ≡ self.now ++ rest.now) }
@@ -222,7 +252,10 @@ impl SchemaPath {
     pub fn pointer(&self, alloc: Global) -> Result<Location, OutOfMemory>
         ensures pointer { IfOk result (λ l. l ≡ pointer_to self.now) }
     {
-        pointer_of_steps(alloc, self.steps.as_slice())
+        let steps = self.steps.as_slice();
+        let mut pointer = Location::with_capacity(alloc, pointer_room(steps))?;
+        push_pointer_of(&mut pointer, steps)?;
+        Ok(pointer)
     }
 }
 
