@@ -1,3 +1,4 @@
+pub mod AskedTold
 mod ToldAlike
 pub mod PropertyCounts
 pub mod MissingNames

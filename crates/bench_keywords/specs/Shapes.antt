@@ -11,7 +11,7 @@ abbrev pub shape_of : BenchKeyword → BenchShape
 shape_of (keyword.Type name) = has_type name
 shape_of (keyword.Types names) = has_types names.items
 shape_of (keyword.Required names) = requires (map string_bytes names.items)
-shape_of (keyword.Properties names) = has_properties (map string_bytes names.items)
+shape_of (keyword.Properties names) = has_properties names
 shape_of (keyword.Count kind limit) = has_count kind limit
 shape_of (keyword.Pattern pattern) = has_pattern (string_bytes pattern)
 shape_of (keyword.AllOf count) = applies (has_all_of count)

@@ -20,15 +20,20 @@ use crate::pattern::turn_pattern;
 use crate::properties::{asks_none, turn_properties};
 use crate::property_names::turn_property_names;
 use crate::required::{lacks_one, tell_required};
+use crate::texts::text_of;
 use crate::type_names::TypeName;
 use crate::types::{fits_one, tell_type, tell_types};
 use keyword_ways::branching::branch_on;
+use keyword_ways::items::items_of;
+use keyword_ways::members::members_of;
 use keyword_ways::run::Progress;
 use keyword_ways::telling::tell_on;
 use schema_applicators::all_of::turn_all_of;
 use schema_applicators::any_of::turn_any_of;
 use schema_applicators::not::turn_not;
 use schema_applicators::one_of::turn_one_of;
+use schema_parts::ascending::AscendingNames;
+use schema_parts::asking::Asking;
 use schema_parts::keyword::{Answer, Mode, Reply, Step, Validate};
 use schema_reports::instance::Instance;
 use schema_reports::location::OutOfMemory;
@@ -45,7 +50,7 @@ pub enum BenchKeyword {
     Types(Vec<TypeName>),
     Required(Vec<String>),
     /// The names of the schemas, child by child.
-    Properties(Vec<String>),
+    Properties(AscendingNames),
     /// One that counts, with its limit.
     Count(CountKind, u64),
     /// `pattern`, with its text.
@@ -277,6 +282,35 @@ impl Validate for BenchKeyword {
                 }
             }
             _ => None,
+        }
+    }
+
+    #[inline(always)]
+    fn asking<'s, 'i>(&'s self, instance: Instance<'i>) -> Asking<'s, 'i> {
+        match self {
+            BenchKeyword::Properties(names) => match members_of(instance) {
+                Some(members) => Asking::Members(names, members),
+                None => Asking::ByTurns,
+            },
+            BenchKeyword::Items(before) => match items_of(instance) {
+                Some(items) => Asking::Items(*before, items),
+                None => Asking::ByTurns,
+            },
+            BenchKeyword::PrefixItems(count) => match items_of(instance) {
+                Some(items) => Asking::Listed(*count, items),
+                None => Asking::ByTurns,
+            },
+            BenchKeyword::PropertyNames => match members_of(instance) {
+                Some(members) => Asking::Names(members),
+                None => Asking::ByTurns,
+            },
+            BenchKeyword::AllOf(count) => Asking::Each(*count),
+            BenchKeyword::AnyOf(count) => Asking::One(*count),
+            BenchKeyword::Pattern(pattern) => match text_of(instance) {
+                Some(text) => Asking::Match(pattern.as_str(), text),
+                None => Asking::ByTurns,
+            },
+            _ => Asking::ByTurns,
         }
     }
 

@@ -1,3 +1,5 @@
+pub mod MemberNames
 pub mod TextsWithin
 pub mod BelowPlaces
 pub mod MetaFaults
+pub mod NoFaults

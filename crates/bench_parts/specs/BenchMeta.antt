@@ -1,6 +1,6 @@
 -- What the bench's meta validators refuse of a document: the first fault, members in the order of their names and items in
 -- order, a member before what is inside it. A text counts as empty where texts are not spoken of. (Core 2020-12, 8.1.1 and 4.3.1; Validation 2020-12, 6.3.2)
-use Rattle.std.specs.Prelude.{Bool, None, Option, Some, [], bytes_eq, codes, false, if◌then◌else◌, is_some, not, true, ℕ, ◌&&◌, ◌++◌, ◌+◌, ◌∷◌}
+use Rattle.std.specs.Prelude.{Bool, None, Option, Some, [], bytes_eq, codes, false, if◌then◌else◌, is_some, not, true, ℕ, ◌&&◌, ◌++◌, ◌+◌, ◌≡◌, ◌∷◌}
 use Rattle.serde_json.specs.Data.{Data, Items, Members, array, boolean, item, member, no_items, no_members, null, number, object, string}
 use Rattle.serde_json.specs.Find.{as_array, as_number}
 use Rattle.serde_json.specs.Written.{compact_text}
@@ -63,6 +63,13 @@ abbrev mutual
   fault_in_members texts d place no_members = None
   fault_in_members texts d place (member k v ms) = earlier (member_fault texts d (place ++ to_member k ∷ []) k v)
       (earlier (fault_in texts d (place ++ to_member k ∷ []) v) (fault_in_members texts d place ms))
+
+-- whatever the draft and the place, there is no fault inside a value, and none of a member itself
+abbrev pub HasNoFaultInside : Data → Type 0
+HasNoFaultInside v = (texts : Bool) (d : Draft) (place : Place) → fault_in texts d place v ≡ None
+
+abbrev pub HasNoFaultItself : Text → Data → Type 0
+HasNoFaultItself k v = (texts : Bool) (d : Draft) (place : Place) → member_fault texts d place k v ≡ None
 
 abbrev pub is_schema : Data → Bool
 is_schema (object ms) = true

@@ -1,11 +1,13 @@
 //! The meta validators.
-ghost use Rattle.std.specs.Prelude.{◌≡◌, ◌++◌, ◌∷◌, [], Bool, IfOk, IfSome, Some, true, false, option_map, string_bytes};
+ghost use Rattle.std.specs.Prelude.{◌≡◌, ◌++◌, ◌∷◌, [], Bool, IfOk, IfSome, Some, true, false, is_some, option_map, string_bytes};
 ghost use Rattle.serde_json.specs.Data.{Data, array, object};
+ghost use Rattle.serde_json.specs.Find.{as_array};
 ghost use Rattle.serde_json.specs.Written.{has_float, items_have_float, members_have_float};
 ghost use Rattle.serde_json.specs.View.{items_view, members_view, view};
 ghost use Rattle.schema_definitions.specs.Instance.{a_value, subject_at};
 ghost use Rattle.schema_keywords.specs.KeywordViews.{draft_of};
 ghost use Rattle.schema_reports.specs.ReportViews.{BorrowsItsPlace, error_of};
+ghost use Rattle.bench_parts.specs.BenchMeta.{HasNoFaultInside, HasNoFaultItself};
 ghost use Rattle.bench_parts.specs.BenchMeta.{fault_in, fault_in_items, fault_in_members, is_2020_12, is_schema, member_fault};
 ghost use Rattle.bench_parts.specs.BenchMeta.{is_list_of_items, is_no_length, mistyped, type_text};
 
@@ -84,6 +86,23 @@ fn is_list_of_items(draft: Draft, name: &str, member: &Value) -> bool
     name == "items" && is_2020_12(draft) && member.is_array()
 }
 
+/// Whether there may be an error inside a value: it has values inside.
+fn has_inside(value: &Value) -> bool
+    ensures none { result ≡ false → HasNoFaultInside (view value.now) }
+    ensures no_list { result ≡ false → is_some (as_array (view value.now)) ≡ false }
+{
+    matches!(value, Value::Array(_) | Value::Object(_))
+}
+
+/// Whether there may be an error of a member or inside it.
+#[tactic(auto, using(crate::proofs::NoFaults::none_itself))]
+fn may_have_fault(name: &str, member: &Value) -> bool
+    ensures own { result ≡ false → HasNoFaultItself name.now (view member.now) }
+    ensures inside { result ≡ false → HasNoFaultInside (view member.now) }
+{
+    has_inside(member) || is_no_length(name, member)
+}
+
 /// The error of a member itself, at its place.
 fn member_fault<'v>(
     alloc: Global,
@@ -145,6 +164,9 @@ fn fault_in_items<'v>(
         → subject_at root place.now ≡ Some (a_value (array (items_view items.now.items))) → IfSome o (BorrowsItsPlace root)) }
 {
     for (index, item) in items.iter().enumerate() {
+        if !has_inside(item) {
+            continue;
+        }
         let below = place.below(InstanceStep::Item(index))?;
         if let Some(error) = fault_in(alloc, draft, &below, item)? {
             return Ok(Some(error));
@@ -167,8 +189,12 @@ fn fault_in_members<'v>(
         → subject_at root place.now ≡ Some (a_value (object (members_view members.now.entries))) → IfSome o (BorrowsItsPlace root)) }
 {
     for (name, member) in members.iter() {
-        let below = place.below(InstanceStep::Member(name.as_str()))?;
-        if let Some(error) = member_fault(alloc, draft, &below, name.as_str(), member)? {
+        let named = name.as_str();
+        if !may_have_fault(named, member) {
+            continue;
+        }
+        let below = place.below(InstanceStep::Member(named))?;
+        if let Some(error) = member_fault(alloc, draft, &below, named, member)? {
             return Ok(Some(error));
         }
         if let Some(error) = fault_in(alloc, draft, &below, member)? {

@@ -20,10 +20,11 @@ use bench_keywords::keyword::BenchKeyword;
 use keyword_makers::branches::branches_of;
 use keyword_makers::lists::{each_schema, list_length};
 use keyword_makers::maker::{Ending, PathsMaker, asks_for, ends, only_child};
-use keyword_makers::members::{names_of, values_below};
+use keyword_makers::members::values_below;
 use keyword_makers::paths::value_in;
 use keyword_makers::refusals::{makes_if, malformed};
 use schema_keywords::keywords::{Draft, VocabularySet};
+use schema_parts::ascending::AscendingNames;
 use schema_parts::table::{KeywordOrigin, KeywordTable, MakerReply, MakerStep};
 use schema_reports::location::OutOfMemory;
 use serde_json::{Map, Value};
@@ -36,6 +37,7 @@ use std::alloc::Global;
 pub struct BenchTable {}
 
 /// The maker of `properties`.
+#[tactic(auto, using(crate::proofs::MemberNames::names_are))]
 fn properties_maker(
     alloc: Global,
     name: &str,
@@ -45,7 +47,7 @@ fn properties_maker(
 {
     match value.as_object() {
         Some(members) => {
-            let names = names_of(alloc, members)?;
+            let names = AscendingNames::of_members(alloc, members)?;
             let paths = values_below(alloc, name, names.as_slice())?;
             Ok(asks_for(paths, BenchKeyword::Properties(names)))
         }

@@ -1,4 +1,5 @@
 //! A keyword of one of two types.
+use schema_parts::asking::Asking;
 use schema_parts::keyword::{Answer, Mode, Reply, Step, Validate};
 use schema_reports::instance::Instance;
 use schema_reports::location::OutOfMemory;
@@ -78,6 +79,13 @@ impl<A: Validate, B: Validate> Validate for Both<A, B> {
         match self {
             Both::First(keyword) => keyword.is_valid_at_once(instance),
             Both::Second(keyword) => keyword.is_valid_at_once(instance),
+        }
+    }
+
+    fn asking<'s, 'i>(&'s self, instance: Instance<'i>) -> Asking<'s, 'i> {
+        match self {
+            Both::First(keyword) => keyword.asking(instance),
+            Both::Second(keyword) => keyword.asking(instance),
         }
     }
 

@@ -1,9 +1,13 @@
 //! Items of instances.
-ghost use Rattle.std.specs.Prelude.{◌≡◌};
+ghost use Rattle.std.specs.Prelude.{◌≡◌, IfSome};
+ghost use Rattle.serde_json.specs.Data.{array};
+ghost use Rattle.serde_json.specs.View.{items_view};
+ghost use Rattle.schema_definitions.specs.Instance.{a_value};
 ghost use Rattle.schema_reports.specs.InstanceViews.{subject_of};
 ghost use Rattle.keyword_ways.specs.Items.{is_list, item_count};
 
 use schema_reports::instance::Instance;
+use serde_json::Value;
 
 /// Whether the instance is a list.
 pub fn is_list(instance: Instance<'_>) -> bool
@@ -25,6 +29,20 @@ pub fn item_count(instance: Instance<'_>) -> usize
         Instance::Value(value) => match value.as_array() {
             Some(items) => items.len(),
             None => 0,
+        },
+    }
+}
+
+/// The items of the instance, where it is a list.
+#[inline(always)]
+pub fn items_of<'i>(instance: Instance<'i>) -> Option<&'i [Value]>
+    ensures items { IfSome result (λ items. subject_of instance.entry ≡ a_value (array (items_view items.now))) }
+{
+    match instance {
+        Instance::Name(_) => None,
+        Instance::Value(value) => match value {
+            Value::Array(items) => Some(items.as_slice()),
+            _ => None,
         },
     }
 }

@@ -1,7 +1,9 @@
 //! Members of instances.
-ghost use Rattle.std.specs.Prelude.{◌≡◌, [], is_some, slice_index_or};
+ghost use Rattle.std.specs.Prelude.{◌≡◌, [], IfSome, is_some, slice_index_or};
+ghost use Rattle.serde_json.specs.Data.{object};
 ghost use Rattle.serde_json.specs.Find.{get_member};
 ghost use Rattle.serde_json.specs.View.{members_view};
+ghost use Rattle.schema_definitions.specs.Instance.{a_value};
 ghost use Rattle.schema_reports.specs.InstanceViews.{subject_of};
 ghost use Rattle.keyword_ways.specs.Members.{has_member, is_object, member_count, name_at, names_in};
 
@@ -77,6 +79,20 @@ pub fn name_at<'i>(instance: Instance<'i>, number: usize) -> &'i str
         Instance::Value(value) => match value.as_object() {
             Some(members) => name_among(members, number),
             None => "",
+        },
+    }
+}
+
+/// The members of the instance, where it is an object.
+#[inline(always)]
+pub fn members_of<'i>(instance: Instance<'i>) -> Option<&'i Map<String, Value>>
+    ensures members { IfSome result (λ members. subject_of instance.entry ≡ a_value (object (members_view members.now.entries))) }
+{
+    match instance {
+        Instance::Name(_) => None,
+        Instance::Value(value) => match value {
+            Value::Object(members) => Some(members),
+            _ => None,
         },
     }
 }

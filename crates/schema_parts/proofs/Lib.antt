@@ -1,3 +1,4 @@
+pub mod NamesAscend
 pub mod Replies
 pub mod PartLaws
 pub mod SchemaPaths

@@ -1,4 +1,6 @@
 pub mod AtOnce
+pub mod AskedAtOnce
+pub mod Ascending
 pub mod SchemaViews
 pub mod ResolverViews
 pub mod KeywordViews

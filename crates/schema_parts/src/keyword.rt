@@ -10,11 +10,13 @@ ghost use Rattle.schema_reports.specs.EvaluationResults.{gives_with};
 ghost use Rattle.schema_definitions.specs.Remembering.{EachAsksVerdicts};
 ghost use Rattle.schema_meaning.specs.Greatest.{IsMonotone};
 ghost use Rattle.schema_meaning.specs.UnitsLead.{EachHandsUnitsOn};
+ghost use Rattle.schema_parts.specs.AskedAtOnce.{AsksRightly};
 ghost use Rattle.schema_parts.specs.AtOnce.{EndsAtOnce};
 ghost use Rattle.schema_parts.specs.FaultViews.{errors_in, faults_in, PassesBorrowed};
 ghost use Rattle.schema_parts.specs.KeywordViews.{mode_of, reply_of, answer_of, fresh, turn_of, Tells};
 ghost use Rattle.schema_parts.specs.UnitQuestions.{AsksNoUnits};
 
+use crate::asking::Asking;
 use schema_reports::evaluation::EvaluationNode;
 use schema_reports::evaluation_result::{AbsorbedResult, EvaluationResult};
 use schema_reports::instance::{Instance, InstanceStep};
@@ -217,6 +219,16 @@ pub trait Validate: Drop {
     {
         let _ = instance;
         None
+    }
+
+    /// Returns what the run for the verdict asks of the instance, where the verdict follows from the answers alone. `ByTurns` leaves it to
+    /// a run, and is always right. It allocates nothing.
+    fn asking<'s, 'i>(&'s self, instance: Instance<'i>) -> Asking<'s, 'i>
+        ensures asks { (texts : Bool) → Tells texts (is_whole (shape self.now)) (subject_of instance.entry)
+            → AsksRightly (words texts) (shape self.now) (subject_of instance.entry) result }
+    {
+        let _ = instance;
+        Asking::ByTurns
     }
 
     /// Returns whether the keyword says of itself that it is monotone: a yes more among the verdicts of its questions never turns

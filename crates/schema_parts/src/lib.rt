@@ -1,6 +1,8 @@
 //! The traits of the parts that are handed in: keywords, their table, a resolver, a matcher and meta validators.
 #![tactic(auto)]
 
+pub mod ascending;
+pub mod asking;
 pub mod cloning;
 pub mod keyword;
 pub mod matcher;

@@ -7,3 +7,4 @@ pub mod ContainsMeant
 pub mod WantsMeant
 pub mod ToldAlike
 pub mod AtOnce
+pub mod AskedTold

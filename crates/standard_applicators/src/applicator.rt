@@ -8,9 +8,11 @@ use crate::items::{turn_later_items, turn_listed_items};
 use crate::names::Names;
 use crate::unexpected::NoLaterItems;
 use crate::wants::Wants;
+use keyword_ways::items::items_of;
 use keyword_ways::leaf::{LeafKeyword, turn_leaf};
 use keyword_ways::planned::Planned;
 use keyword_ways::run::Progress;
+use schema_parts::asking::Asking;
 use schema_parts::keyword::{Answer, Mode, Reply, Step, Validate};
 use schema_reports::instance::Instance;
 use schema_reports::location::OutOfMemory;
@@ -108,6 +110,20 @@ impl Validate for StandardApplicator {
             StandardApplicator::Contains(keyword) => keyword.is_valid_at_once(instance),
             StandardApplicator::NoLaterItems(keyword) => Some(keyword.holds(instance)),
             _ => None,
+        }
+    }
+
+    fn asking<'s, 'i>(&'s self, instance: Instance<'i>) -> Asking<'s, 'i> {
+        match self {
+            StandardApplicator::ListedItems(count) => match items_of(instance) {
+                Some(items) => Asking::Listed(*count, items),
+                None => Asking::ByTurns,
+            },
+            StandardApplicator::LaterItems(before) => match items_of(instance) {
+                Some(items) => Asking::Items(*before, items),
+                None => Asking::ByTurns,
+            },
+            _ => Asking::ByTurns,
         }
     }
 
