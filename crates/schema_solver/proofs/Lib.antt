@@ -5,3 +5,4 @@ pub mod Asking
 pub mod Crossing
 pub mod Turned
 pub mod Stopping
+pub mod ByQuestions

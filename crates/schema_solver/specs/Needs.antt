@@ -1,13 +1,19 @@
--- How deep the questions of a solver have to go, how the entries of a node stand between two of them, and what a pair's run leaves.
-use Rattle.std.specs.List.{list_any}
-use Rattle.std.specs.Prelude.{Bool, List, [], false, length, suc, true, ℕ, ◌++◌, ◌==◌, ◌∷◌, ◌≡◌}
+-- How deep the questions of a solver have to go, how the entries of a node and what a keyword asks at once stand between two of them, and what
+-- a pair's run leaves.
+use Rattle.std.specs.List.{list_all, list_any}
+use Rattle.std.specs.Prelude.{Bool, List, [], false, length, not, suc, true, ℕ, ◌&&◌, ◌++◌, ◌==◌, ◌∷◌, ◌≡◌}
 use Rattle.serde_json.specs.View.{view}
 use Rattle.schema_definitions.specs.Instance.{Place, Subject}
-use Rattle.schema_definitions.specs.Guarded.{NodeEdge, NodePart, Nodes}
+use Rattle.schema_definitions.specs.Guarded.{Children, NodeEdge, NodePart, Nodes, node_keyword}
+use Rattle.schema_definitions.specs.Keywords.{Question}
+use Rattle.schema_definitions.specs.Matching.{Matching}
 use Rattle.schema_meaning.specs.Numbered.{left}
+use Rattle.schema_parts.specs.AskedAtOnce.{AsksRightly}
+use Rattle.schema_parts.specs.KeywordViews.{Tells as MayTell}
+use Rattle.schema_parts.specs.declared.asking.Asking.{Asking}
 use Rattle.schema_greatest.specs.Under.{EdgeAnswers, Solving}
 use Rattle.schema_greatest.specs.Found.{Found}
-use Rattle.schema_greatest.specs.Stages.{Fits, Tells, parts_by}
+use Rattle.schema_greatest.specs.Stages.{Fits, Tells, child_by, edges_by, form_by, parts_by}
 use Rattle.schema_pairs.specs.Contexts.{Solver, found_of}
 use Rattle.schema_pairs.specs.Answering.{Begins}
 use Rattle.schema_pairs.specs.Saying.{WhatIsSaid}
@@ -25,6 +31,28 @@ edge_needs cut nodes count e s busy = elim (cut e) [ true ↦ pair_needs nodes c
 pub record SaysTheRest {K R : Type 0} (w : Solving K R) (p : Place) (f : Found) (leans : Bool) (all rest : List (NodePart K)) : Type 0 where
   pub same : (answers : EdgeAnswers) → Fits f leans answers → parts_by w p answers all ≡ parts_by w p answers rest
   pub refuses : (answers : EdgeAnswers) → parts_by w p answers rest ≡ false → parts_by w p answers all ≡ false
+
+-- what the answers of questions say: that all accept, or that one does
+abbrev pub answers_say : Bool → (Question → Bool) → List Question → Bool
+answers_say true accepts qs = list_all accepts qs
+answers_say false accepts qs = list_any accepts qs
+
+-- in each reading in which it may tell its texts, this is what the keyword asks of the subject, as it tells at once
+abbrev pub TellsWhatItAsks : {K R : Type 0} → Setting K R → Subject → K → Asking → Type 0
+TellsWhatItAsks g s m a = (texts : Bool) → MayTell texts (g.is_whole m) s → AsksRightly (g.words texts) m s a
+
+-- and it says of the subject what the answers of these questions say
+abbrev pub SaysByQuestions : {K R : Type 0} → Setting K R → Subject → K → Bool → List Question → Type 0
+SaysByQuestions g s m all qs = (texts : Bool) → MayTell texts (g.is_whole m) s → (matching : Matching) (accepts : Question → Bool)
+    → (g.words texts).holds m s matching accepts ≡ answers_say all accepts qs
+
+-- the keyword says what the answers of those questions say that are left, where all have to accept leaning on what is answered yes for now
+-- where one of the others does; and once those say otherwise than they have to, so does it
+pub record SaysByTheRest {K R : Type 0} (w : Solving K R) (p : Place) (f : Found) (m : K) (es : Children) (all leans : Bool) (rest : List Question) : Type 0 where
+  pub same : (answers : EdgeAnswers) → Fits f (all && leans) answers
+      → form_by w p (edges_by w p answers) (node_keyword m es) ≡ answers_say all (child_by w p (edges_by w p answers) es) rest
+  pub ends : (answers : EdgeAnswers) → answers_say all (child_by w p (edges_by w p answers) es) rest ≡ not all
+      → form_by w p (edges_by w p answers) (node_keyword m es) ≡ not all
 
 -- a pair that was new was begun, as one more might be, its node was run and said this, and the pair was left
 pub record PairRan {K R : Type 0} (g : Setting K R) (old begun end left : Solver) (p : Place) (i mark : ℕ) (s : WhatIsSaid) : Type 0 where

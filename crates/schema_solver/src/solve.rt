@@ -7,6 +7,7 @@ ghost use Rattle.schema_solver.specs.Asked.{solver_of};
 ghost use Rattle.schema_pairs.specs.Answering.{fresh};
 ghost use Rattle.schema_solver.specs.Solving.{BeginsFew, EachSays, HoldsAsNodes, IsSoundIn, LimitWithinBound, RestsOnFound, SaysAsNodes};
 
+mod asking;
 mod edges;
 mod entries;
 mod turns;

@@ -1,7 +1,12 @@
 //! The verdict of what an edge leads to, and of a pair that is answered by what is found, by a solver.
-ghost use Rattle.std.specs.Prelude.{◌≡◌, ◌<◌, ◌≤◌, ℕ, IfErr, OnOk, Some};
+ghost use Rattle.std.specs.Prelude.{◌≡◌, ◌<◌, ◌≤◌, ℕ, IfErr, None, OnOk, Some, false};
 ghost use Rattle.schema_parts.specs.EdgeViews.{edge_of};
 ghost use Rattle.schema_parts.specs.KeywordViews.{below_of};
+ghost use Rattle.schema_places.specs.Numbers.{OwnNumbers};
+ghost use Rattle.schema_contexts.specs.Verdicts.{verdict_of};
+ghost use Rattle.run_steps.specs.EvaluationPlaces.{steps_to};
+ghost use Rattle.schema_pairs.specs.Contexts.{has_pair, solver_places};
+ghost use Rattle.schema_pairs.specs.SolverPairs.{IsNumbered, place_of};
 ghost use Rattle.schema_solver.specs.Asked.{solver_by};
 ghost use Rattle.schema_solver.specs.Solved.{MayAsk, Solves, a_pair, an_edge, the_child};
 
@@ -85,10 +90,8 @@ fn may_begin<K, M>(
     Ok(())
 }
 
-// What is said of a pair: what is known of it, a yes that leans where it is in progress or assumed, and else what its node says, under
-// which the pair is in progress; it stops where no more pairs may be begun. A no is known for good, and what was assumed since is dropped;
-// a yes is known for good, with all that was assumed since, where no other pair is in progress at the place, and alone where it leans on
-// nothing; else it is assumed.
+// What is said of a pair: what is known of it, a yes that leans where it is in progress or assumed, and else what its node says. Most pairs
+// are answered by what is found, so what the others need has room on the stack of its own.
 #[cycle(verdict)]
 #[inline(never)]
 fn solve_pair<'i, K: Validate, M: Matcher>(
@@ -105,6 +108,32 @@ fn solve_pair<'i, K: Validate, M: Matcher>(
     if let Some(said) = pair.state(context) {
         return Ok(said);
     }
+    begin_pair(engine, node, &pair, question, context)
+}
+
+// What is said of a pair of which nothing is found: what its node says, under which the pair is in progress; it stops where no more pairs
+// may be begun. A no is known for good, and what was assumed since is dropped; a yes is known for good, with all that was assumed since,
+// where no other pair is in progress at the place, and alone where it leans on nothing; else it is assumed.
+#[cycle(verdict)]
+#[inline(never)]
+fn begin_pair<'i, K: Validate, M: Matcher>(
+    engine: &SolverEngine<'_, K, M>,
+    node: SchemaNode,
+    pair: &SolverPair<'_, 'i>,
+    question: &Asked<'_, 'i>,
+    context: &mut SolverContext<'i>,
+) -> Result<Said, Stopped>
+    requires may_ask { MayAsk (solver_by K.Validate M.Matcher.own engine.now) question.now (a_pair node.0) context.old }
+    requires node { pair.now.node.0 ≡ node.0 }
+    requires place { place_of pair.now ≡ steps_to question.now.place.now }
+    requires numbered { IsNumbered (solver_places context.old) pair.now }
+    requires own { OwnNumbers (solver_places context.old) }
+    requires unknown { verdict_of pair.now.node.0 (place_of pair.now) context.old.verdicts ≡ None }
+    requires idle { has_pair context.old.in_progress pair.now.node.0 (place_of pair.now) ≡ false }
+    requires free { has_pair context.old.assumed pair.now.node.0 (place_of pair.now) ≡ false }
+    ensures { Solves (solver_by K.Validate M.Matcher.own engine.now) K.says_monotone question.now
+        (a_pair node.0) context.old context.new result }
+{
     may_begin(engine, context)?;
     let mark = pair.enter(context)?;
     let place = pair.numbered_place();

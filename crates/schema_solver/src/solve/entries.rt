@@ -3,8 +3,8 @@ ghost use Rattle.schema_solver.specs.Asked.{solver_by};
 ghost use Rattle.schema_solver.specs.Solved.{MayAsk, Solves, a_node, the_entries, the_entry};
 
 use crate::question::{Asked, SolverEngine, Stopped};
+use crate::solve::asking::solve_asked;
 use crate::solve::edges::solve_edge;
-use crate::solve::turns::solver_answer;
 use node_table::node::{Entry, EntryForm, NodeForm};
 use run_steps::question::NamedKeyword;
 use schema_pairs::context::SolverContext;
@@ -85,8 +85,8 @@ fn solve_form<'i, K: Validate, M: Matcher>(
     }
 }
 
-// The verdict of an entry by a run. Its room on the stack is its own, and the call is the last that the caller makes, so that the caller's
-// room is given back before.
+// The verdict of an entry's keyword by what it asks at once, or by a run. Its room on the stack is its own, and the call is the last that
+// the caller makes, so that the caller's room is given back before.
 #[cycle(verdict)]
 #[inline(never)]
 fn solve_keyword<'i, K: Validate, M: Matcher>(
@@ -107,7 +107,7 @@ fn solve_keyword<'i, K: Validate, M: Matcher>(
                 keyword,
                 children: children.as_slice(),
             };
-            solver_answer(engine, node, &named, question, context)
+            solve_asked(engine, node, &named, question, context)
         }
         EntryForm::Reference(edge) => solve_edge(engine, edge, question, context),
     }

@@ -147,7 +147,7 @@ fn solver_turns<'i, K: Validate, M: Matcher>(
 
 // How a match comes out, of a matcher that finishes each. Its room on the stack is its own, so that a turn that asks for none pays nothing.
 #[inline(never)]
-fn finished_match<K, M: Matcher>(
+pub(crate) fn finished_match<K, M: Matcher>(
     engine: &SolverEngine<'_, K, M>,
     pattern: &str,
     subject: &str,

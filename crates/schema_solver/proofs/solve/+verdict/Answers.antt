@@ -2,16 +2,19 @@ use Rattle.std.proofs.Common.{◌≡◌, ◌∙◌, ◌+◌, ◌*◌, ◌<◌, �
 use Rattle.serde_json.specs.View.{view}
 use Rattle.schema_definitions.specs.Keywords.{down, here, Answer, Question, ask, done, ecma, mark, match_text, no_reply, truth, unmark}
 use Rattle.schema_definitions.specs.Laws.{EachKeeps}
+use Rattle.schema_definitions.specs.Instance.{after_step}
 use Rattle.std.proofs.lemmas.Bool.{or_left, or_right}
 use Rattle.std.proofs.lemmas.Result.{IfErr-weaker}
 use Rattle.schema_meaning.specs.Numbered.{left}
 use Rattle.schema_meaning.proofs.TurnsGiveRuns.{keeps_of_turns}
 use Rattle.schema_reports.specs.InstanceViews.{step_of, subject_of}
 use Rattle.schema_parts.specs.EdgeViews.{edge_of}
+use Rattle.asked_questions.specs.Questions.{StandsThere, below_in, question_in}
 use Rattle.schema_parts.specs.KeywordViews.{below_of, answer_of, keyword_point, marked_of, mode_of, reply_of, spot_point, turn_of}
 use Rattle.schema_parts.specs.declared.numbers.SchemaNode.{SchemaNode}
 use Rattle.schema_parts.proofs.Drops.{drop_at, drop_past}
 use Rattle.schema_parts.proofs.Replies.{if_ok_mono}
+use Rattle.schema_places.specs.Numbers.{OwnNumbers}
 use Rattle.schema_contexts.specs.Progress.{busy_at, root_places}
 use Rattle.schema_contexts.proofs.Pairs.{busy-below}
 use Rattle.node_table.specs.NodeTable.{numbered, shaped_part}
@@ -23,12 +26,12 @@ use Rattle.schema_greatest.specs.Stages.{EdgeTells, FormTells, PartsTell, parts_
 use Rattle.schema_greatest.proofs.Says.{child_some, edge_below, edge_by_node, edge_by_pair, node_says_parts}
 use Rattle.schema_solver.specs.Asked.{is_followed_in, solver_by}
 use Rattle.schema_pairs.specs.Contexts.{Solver, found_of, has_pair, solver_places}
-use Rattle.schema_solver.specs.Needs.{SaysTheRest}
+use Rattle.schema_solver.specs.Needs.{SaysByTheRest, SaysTheRest, pair_needs}
 use Rattle.schema_pairs.specs.Answering.{Accepts, Begins, Refuses}
 use Rattle.schema_pairs.specs.Saying.{WhatIsSaid}
-use Rattle.schema_solver.specs.Solved.{Stops}
+use Rattle.schema_solver.specs.Solved.{MayAsk, Solves, Stops, a_pair}
 use Rattle.schema_solver.specs.Solving.{Goes, HasRoom, InEach, MaySolve, is_cut, solving_in}
-use Rattle.schema_pairs.specs.SolverPairs.{place_of}
+use Rattle.schema_pairs.specs.SolverPairs.{IsNumbered, place_of}
 use Rattle.run_steps.specs.VerdictRuns.{told_reply}
 use Rattle.schema_solver.proofs.Asking.{edge_among, may_cross, may_go_below}
 use Rattle.schema_solver.proofs.Crossing.{apart_mark, at_pair, cut_guards, entry_accepts, entry_refuses, falls_across, falls_across_below, falls_entered, needs_of_cut, needs_of_free, pair_new, pair_ran, ran_kept, says_at_once, solvable_here}
@@ -39,6 +42,7 @@ use Rattle.schema_definitions.specs.Matching.{Pair}
 use Rattle.run_steps.specs.NodeRuns.{form_at_work}
 use Rattle.run_steps.proofs.KeywordTurns.{asks_there, can_after, falls_turned, tells_nothing, ask_goes_on, match_goes_on, ecma_goes_on, mark_goes_on, unmark_goes_on}
 use Rattle.schema_solver.proofs.Turned.{asked_verdict, asks_begun, asks_on, begun_with, can_begun, carries_on, goes_marked, leads_asked, leads_begun, leads_ended, leads_marked, leads_matched, leads_told, leads_unmarked, says_after, stepped_by, turned_by}
+use Rattle.schema_solver.proofs.ByQuestions.{likewise, match_says, otherwise, present_there, puts_unless, question_ends, question_goes_on, questions_begin, questions_end, says_by_questions}
 use Rattle.schema_solver.proofs.Stopping.{solved_stops, stops_begun, stops_full, stops_leaning, stops_on, stops_still, turned_stops}
 use Rattle.schema_solver.specs.declared.question.Stopped.TheVariants.{Limit}
 use Rattle.schema_solver.proofs.solve.+verdict.Goals as goal
@@ -48,17 +52,20 @@ use Rattle.schema_solver.proofs.solve.+verdict.Goals as goal
 lower_same : (a b t i d : ℕ) → a ≡ b → 20 * b + (i + suc d) ≡ t → 20 * a + i < t
 lower_same a b t i d l e = omega (arith, l, e)
 
-lower_across : (a c t d : ℕ) → a ≤ c → 20 * c + suc (suc d) ≡ t → 20 * a + 1 < t
+lower_across : (a c t d : ℕ) → a ≤ c → 20 * c + suc (suc (suc d)) ≡ t → 20 * a + 2 < t
 lower_across a c t d l e = omega (arith, l, e)
 
-lower_pair : (a c t : ℕ) → c ≡ a → 20 * c + 1 ≡ t → 20 * a < t
+lower_pair : (a c t : ℕ) → c ≡ a → 20 * c + 2 ≡ t → 20 * a + 1 < t
 lower_pair a c t l e = omega (arith, l, e)
 
-lower_free : (a c t : ℕ) → c ≡ suc a → 20 * c + 1 ≡ t → 20 * a + 10 < t
+lower_free : (a c t : ℕ) → c ≡ suc a → 20 * c + 2 ≡ t → 20 * a + 10 < t
 lower_free a c t l e = omega (arith, l, e)
 
 lower_entered : (a c t : ℕ) → c ≡ suc a → 20 * c ≡ t → 20 * a + 10 < t
 lower_entered a c t l e = omega (arith, l, e)
+
+lower_begun : (a c t : ℕ) → a ≡ c → 20 * c + 1 ≡ t → 20 * a < t
+lower_begun a c t l e = omega (arith, l, e)
 
 -- ---- by a test
 
@@ -82,91 +89,109 @@ edges::solve_pair-returns-in-Some g t c = record {
   stops = search rules;
 }
 
-pub edges::solve_pair-solve_node-requires : goal.edges::solve_pair-solve_node-requires
-edges::solve_pair-solve_node-requires g t c =
+pub edges::solve_pair-begin_pair-requires : goal.edges::solve_pair-begin_pair-requires
+edges::solve_pair-begin_pair-requires g t c =
     let set = solver_by g.K.Validate g.M.Matcher c.args.engine.now in
     let ns = numbered g.K.Validate.shape c.args.engine.now.nodes.now in
     let p = steps_to c.args.question.now.place.now in
     let s = subject_of c.args.question.now.instance in
     let old = c.args.context.now in
-    let node : c.in_ok-pair.pair.node.0 ≡ c.args.node.0 = ap (λ (n : SchemaNode). n.0) c.in_ok-pair.ensures.node in
-    let place = c.in_ok-pair.ensures.place in
-    let same = c.in_ok-pair.ensures.unchanged in
+    let now = c.new.new.context in
+    let same : now ≡ old = c.in_ok-pair.ensures.unchanged in
     let none : c.state.result ≡ None = c.in_default.is in
+    let pair = c.in_ok-pair.pair in
+    let l = ap (λ (z : Solver). pair_needs ns (length c.args.engine.now.nodes.now) c.args.node.0 s (busy_at p z.in_progress)) same in
+    let may = subst (λ z. MayAsk set c.args.question.now (a_pair c.args.node.0) z) (sym same) c.requires in
+    let numbered_there = subst (λ z. IsNumbered (solver_places z) pair) (sym same) c.in_ok-pair.ensures.numbered in
+    let own = subst (λ z. OwnNumbers (solver_places z)) (sym same) c.in_ok-pair.ensures.own in
+    let node = ap (λ (n : SchemaNode). n.0) c.in_ok-pair.ensures.node in
+    λ κs h. (lower_begun _ _ t l c.decreases, (h.0, (h.1.0, (h.1.1.0, (h.1.1.1, (may, (node, (c.in_ok-pair.ensures.place, (numbered_there, (own, (c.state.ensures.unknown none, (c.state.ensures.idle none, c.state.ensures.free none))))))))))))
+
+pub edges::solve_pair-returns : goal.edges::solve_pair-returns
+edges::solve_pair-returns g t c =
+    let set = solver_by g.K.Validate g.M.Matcher c.args.engine.now in
+    subst (λ z. Solves set g.K.Validate.says_monotone c.args.question.now (a_pair c.args.node.0) z c.begin_pair.new.context c.begin_pair.result) c.in_ok-pair.ensures.unchanged c.begin_pair.ensures
+
+pub edges::begin_pair-solve_node-requires : goal.edges::begin_pair-solve_node-requires
+edges::begin_pair-solve_node-requires g t c =
+    let set = solver_by g.K.Validate g.M.Matcher c.args.engine.now in
+    let ns = numbered g.K.Validate.shape c.args.engine.now.nodes.now in
+    let p = steps_to c.args.question.now.place.now in
+    let s = subject_of c.args.question.now.instance in
+    let old = c.args.context.now in
+    let node : c.args.pair.now.node.0 ≡ c.args.node.0 = c.requires.node in
+    let place = c.requires.place in
+    let same : old ≡ old = refl in
     let laws : (texts : Bool) → EachKeeps (g.K.Validate.words texts) = λ texts m. (g.K.Validate.absorbed m, keeps_of_turns (g.K.Validate.words texts) m (g.K.Validate.absorbed m) (g.K.Validate.remaining m) (g.K.Validate.can_be texts m) (g.K.Validate.ends texts m) (g.K.Validate.fits texts m) (g.met.K.Validate.turn_laws texts m) (g.met.K.Validate.function_laws texts m)) in
     let begins : Begins c.args.node.0 p old c.enter.new.context = at_pair (λ k z d. Begins k z d c.enter.new.context) node place same c.in_ok-mark.ensures.begins in
-    let idle = at_pair (λ k z d. has_pair d.in_progress k z ≡ false) node place same (c.state.ensures.idle none) in
+    let idle = at_pair (λ k z d. has_pair d.in_progress k z ≡ false) node place same c.requires.idle in
     let there : steps_to c.numbered_place-place.result ≡ p = c.numbered_place-place.ensures.same ∙ place in
-    let new = pair_new set old p c.args.node.0 c.in_ok-pair.pair.node.0 (place_of c.in_ok-pair.pair) c.new.new.context node place same (c.state.ensures.unknown none) (c.state.ensures.idle none) (c.state.ensures.free none) c.in_ok-pair.pair.number c.in_ok-pair.ensures.numbered c.in_ok-pair.ensures.own c.requires.stands in
-    let may = subst (λ z. MaySolve set c.enter.new.context s z c.args.node.0) (sym there) (begun_may set laws old c.enter.new.context s p c.args.node.0 c.requires.may new begins) in
-    let falls = falls_entered set old s p c.args.node.0 c.requires.may c.enter.new.context begins idle ∙ ap (λ z. suc (left ns (length c.args.engine.now.nodes.now) c.args.node.0 s (busy_at z c.enter.new.context.in_progress))) (sym there) in
-    let carries : CarriesItsNumber (solver_places c.enter.new.context) c.numbered_place-place.result = subst (λ v. CarriesItsNumber (root_places v) c.numbered_place-place.result) (sym begins.root) (c.numbered_place-place.ensures.carries old c.in_ok-pair.ensures.numbered) in
+    let new = pair_new set old p c.args.node.0 c.args.pair.now.node.0 (place_of c.args.pair.now) c.args.context.now node place same c.requires.unknown c.requires.idle c.requires.free c.args.pair.now.number c.requires.numbered c.requires.own c.requires.may_ask.stands in
+    let may = subst (λ z. MaySolve set c.enter.new.context s z c.args.node.0) (sym there) (begun_may set laws old c.enter.new.context s p c.args.node.0 c.requires.may_ask.may new begins) in
+    let falls = falls_entered set old s p c.args.node.0 c.requires.may_ask.may c.enter.new.context begins idle ∙ ap (λ z. suc (left ns (length c.args.engine.now.nodes.now) c.args.node.0 s (busy_at z c.enter.new.context.in_progress))) (sym there) in
+    let carries : CarriesItsNumber (solver_places c.enter.new.context) c.numbered_place-place.result = subst (λ v. CarriesItsNumber (root_places v) c.numbered_place-place.result) (sym begins.root) (c.numbered_place-place.ensures.carries old c.requires.numbered) in
     λ κs h. (lower_entered _ _ t falls c.decreases, (h.0, (h.1.0, (h.1.1.0, (h.1.1.1, record { may = may; carries = carries; stands = tt })))))
 
-pub edges::solve_pair-returns-in_err-may_begin : goal.edges::solve_pair-returns-in_err-may_begin
-edges::solve_pair-returns-in_err-may_begin g t c =
+pub edges::begin_pair-returns-in_err-may_begin : goal.edges::begin_pair-returns-in_err-may_begin
+edges::begin_pair-returns-in_err-may_begin g t c =
     let set = solver_by g.K.Validate g.M.Matcher c.args.engine.now in
     let says = g.K.Validate.says_monotone in
     let p = steps_to c.args.question.now.place.now in
     let i = c.args.node.0 in
     let old = c.args.context.now in
-    let node : c.in_ok-pair.pair.node.0 ≡ c.args.node.0 = ap (λ (n : SchemaNode). n.0) c.in_ok-pair.ensures.node in
-    let place = c.in_ok-pair.ensures.place in
-    let same = c.in_ok-pair.ensures.unchanged in
-    let none : c.state.result ≡ None = c.in_default.is in
-    let new = pair_new set old p i c.in_ok-pair.pair.node.0 (place_of c.in_ok-pair.pair) c.new.new.context node place same (c.state.ensures.unknown none) (c.state.ensures.idle none) (c.state.ensures.free none) c.in_ok-pair.pair.number c.in_ok-pair.ensures.numbered c.in_ok-pair.ensures.own c.requires.stands in
-    let now = c.new.new.context in
+    let node : c.args.pair.now.node.0 ≡ c.args.node.0 = c.requires.node in
+    let place = c.requires.place in
+    let same : old ≡ old = refl in
+    let new = pair_new set old p i c.args.pair.now.node.0 (place_of c.args.pair.now) c.args.context.now node place same c.requires.unknown c.requires.idle c.requires.free c.args.pair.now.number c.requires.numbered c.requires.own c.requires.may_ask.stands in
+    let now = c.args.context.now in
     let full = c.in_err-may_begin.ensures.stops in
     let few : full.1.0 ≤ old.begun = subst (λ (z : Solver). full.1.0 ≤ z.begun) same full.1.2 in
     let stops = subst (λ z. Stops set says old z Limit) (sym same) (stops_full set says old p i new full.1.0 full.1.1 few) in
-    solved_stops set says p old now _ c.from_residual-in_err-may_begin.result _ c.from_residual-in_err-may_begin.ensures.1 (subst (Stops set says old now) (sym full.0) stops)
+    solved_stops set says p old now _ c.from_residual.result _ c.from_residual.ensures.1 (subst (Stops set says old now) (sym full.0) stops)
 
-pub edges::solve_pair-returns-in_err-said : goal.edges::solve_pair-returns-in_err-said
-edges::solve_pair-returns-in_err-said g t c =
+pub edges::begin_pair-returns-in_err-said : goal.edges::begin_pair-returns-in_err-said
+edges::begin_pair-returns-in_err-said g t c =
     let set = solver_by g.K.Validate g.M.Matcher c.args.engine.now in
     let says = g.K.Validate.says_monotone in
     let p = steps_to c.args.question.now.place.now in
     let i = c.args.node.0 in
     let old = c.args.context.now in
-    let node : c.in_ok-pair.pair.node.0 ≡ c.args.node.0 = ap (λ (n : SchemaNode). n.0) c.in_ok-pair.ensures.node in
-    let place = c.in_ok-pair.ensures.place in
-    let same = c.in_ok-pair.ensures.unchanged in
-    let none : c.state.result ≡ None = c.in_default.is in
-    let new = pair_new set old p i c.in_ok-pair.pair.node.0 (place_of c.in_ok-pair.pair) c.new.new.context node place same (c.state.ensures.unknown none) (c.state.ensures.idle none) (c.state.ensures.free none) c.in_ok-pair.pair.number c.in_ok-pair.ensures.numbered c.in_ok-pair.ensures.own c.requires.stands in
+    let node : c.args.pair.now.node.0 ≡ c.args.node.0 = c.requires.node in
+    let place = c.requires.place in
+    let same : old ≡ old = refl in
+    let new = pair_new set old p i c.args.pair.now.node.0 (place_of c.args.pair.now) c.args.context.now node place same c.requires.unknown c.requires.idle c.requires.free c.args.pair.now.number c.requires.numbered c.requires.own c.requires.may_ask.stands in
     let begins : Begins i p old c.enter.new.context = at_pair (λ k z d. Begins k z d c.enter.new.context) node place same c.in_ok-mark.ensures.begins in
     let room : HasRoom set old = at_pair (λ k z d. HasRoom set d) node place same c.in_ok-may_begin.ensures.room in
     solved_stops set says p old c.solve_node.new.context _ c.from_residual-in_err-said.result _ c.from_residual-in_err-said.ensures.1
     (stops_begun set says old c.enter.new.context c.solve_node.new.context p i _ new room begins c.in_err-said.ensures.stops)
 
-pub edges::solve_pair-keep_answer-requires-clause-apart : goal.edges::solve_pair-keep_answer-requires-clause-apart
-edges::solve_pair-keep_answer-requires-clause-apart g t c =
+pub edges::begin_pair-keep_answer-requires-clause-apart : goal.edges::begin_pair-keep_answer-requires-clause-apart
+edges::begin_pair-keep_answer-requires-clause-apart g t c =
     let set = solver_by g.K.Validate g.M.Matcher c.args.engine.now in
     let p = steps_to c.args.question.now.place.now in
     let s = subject_of c.args.question.now.instance in
     let old = c.args.context.now in
-    let node : c.in_ok-pair.pair.node.0 ≡ c.args.node.0 = ap (λ (n : SchemaNode). n.0) c.in_ok-pair.ensures.node in
-    let place = c.in_ok-pair.ensures.place in
-    let same = c.in_ok-pair.ensures.unchanged in
-    let none : c.state.result ≡ None = c.in_default.is in
+    let node : c.args.pair.now.node.0 ≡ c.args.node.0 = c.requires.node in
+    let place = c.requires.place in
+    let same : old ≡ old = refl in
     let laws : (texts : Bool) → EachKeeps (g.K.Validate.words texts) = λ texts m. (g.K.Validate.absorbed m, keeps_of_turns (g.K.Validate.words texts) m (g.K.Validate.absorbed m) (g.K.Validate.remaining m) (g.K.Validate.can_be texts m) (g.K.Validate.ends texts m) (g.K.Validate.fits texts m) (g.met.K.Validate.turn_laws texts m) (g.met.K.Validate.function_laws texts m)) in
-    let ran = pair_ran set old p c.args.node.0 c.in_ok-pair.pair.node.0 (place_of c.in_ok-pair.pair) (steps_to c.numbered_place-place.result) c.new.new.context c.enter.new.context c.solve_node.new.context c.exit.new.context c.in_ok-mark.mark c.in_ok-said.said
-    node place same c.numbered_place-place.ensures.same (c.state.ensures.unknown none) (c.state.ensures.idle none) (c.state.ensures.free none) c.in_ok-pair.pair.number c.in_ok-pair.ensures.numbered c.in_ok-pair.ensures.own c.requires.stands
+    let ran = pair_ran set old p c.args.node.0 c.args.pair.now.node.0 (place_of c.args.pair.now) (steps_to c.numbered_place-place.result) c.args.context.now c.enter.new.context c.solve_node.new.context c.exit.new.context c.in_ok-mark.mark c.in_ok-said.said
+    node place same c.numbered_place-place.ensures.same c.requires.unknown c.requires.idle c.requires.free c.args.pair.now.number c.requires.numbered c.requires.own c.requires.may_ask.stands
     c.in_ok-may_begin.ensures.room c.in_ok-mark.ensures.begins c.in_ok-said.ensures.goes c.in_ok-said.ensures.says c.in_ok-mark.ensures.mark c.exit.ensures.left c.exit.ensures.root c.exit.ensures.assumed c.exit.ensures.verdicts c.exit.ensures.marking c.exit.ensures.begun in
     apart_mark set old p c.args.node.0 c.enter.new.context c.solve_node.new.context c.exit.new.context c.in_ok-mark.mark c.in_ok-said.said ran
 
-pub edges::solve_pair-returns : goal.edges::solve_pair-returns
-edges::solve_pair-returns g t c =
+pub edges::begin_pair-returns : goal.edges::begin_pair-returns
+edges::begin_pair-returns g t c =
     let set = solver_by g.K.Validate g.M.Matcher c.args.engine.now in
     let p = steps_to c.args.question.now.place.now in
     let s = subject_of c.args.question.now.instance in
     let old = c.args.context.now in
-    let node : c.in_ok-pair.pair.node.0 ≡ c.args.node.0 = ap (λ (n : SchemaNode). n.0) c.in_ok-pair.ensures.node in
-    let place = c.in_ok-pair.ensures.place in
-    let same = c.in_ok-pair.ensures.unchanged in
-    let none : c.state.result ≡ None = c.in_default.is in
+    let node : c.args.pair.now.node.0 ≡ c.args.node.0 = c.requires.node in
+    let place = c.requires.place in
+    let same : old ≡ old = refl in
     let laws : (texts : Bool) → EachKeeps (g.K.Validate.words texts) = λ texts m. (g.K.Validate.absorbed m, keeps_of_turns (g.K.Validate.words texts) m (g.K.Validate.absorbed m) (g.K.Validate.remaining m) (g.K.Validate.can_be texts m) (g.K.Validate.ends texts m) (g.K.Validate.fits texts m) (g.met.K.Validate.turn_laws texts m) (g.met.K.Validate.function_laws texts m)) in
-    let ran = pair_ran set old p c.args.node.0 c.in_ok-pair.pair.node.0 (place_of c.in_ok-pair.pair) (steps_to c.numbered_place-place.result) c.new.new.context c.enter.new.context c.solve_node.new.context c.exit.new.context c.in_ok-mark.mark c.in_ok-said.said
-    node place same c.numbered_place-place.ensures.same (c.state.ensures.unknown none) (c.state.ensures.idle none) (c.state.ensures.free none) c.in_ok-pair.pair.number c.in_ok-pair.ensures.numbered c.in_ok-pair.ensures.own c.requires.stands
+    let ran = pair_ran set old p c.args.node.0 c.args.pair.now.node.0 (place_of c.args.pair.now) (steps_to c.numbered_place-place.result) c.args.context.now c.enter.new.context c.solve_node.new.context c.exit.new.context c.in_ok-mark.mark c.in_ok-said.said
+    node place same c.numbered_place-place.ensures.same c.requires.unknown c.requires.idle c.requires.free c.args.pair.now.number c.requires.numbered c.requires.own c.requires.may_ask.stands
     c.in_ok-may_begin.ensures.room c.in_ok-mark.ensures.begins c.in_ok-said.ensures.goes c.in_ok-said.ensures.says c.in_ok-mark.ensures.mark c.exit.ensures.left c.exit.ensures.root c.exit.ensures.assumed c.exit.ensures.verdicts c.exit.ensures.marking c.exit.ensures.begun in
     let x = c.exit.new.context in
     let n = c.keep_answer.new.context in
@@ -175,7 +200,7 @@ edges::solve_pair-returns g t c =
     let now = c.in_ok-kept.kept in
     let as_no = at_pair (λ k z d. said.valid ≡ false → Refuses k z mark x n) node place same c.in_ok-kept.ensures.refused in
     let as_yes = at_pair (λ k z d. said.valid ≡ true → Accepts k z mark said now x n) node place same c.in_ok-kept.ensures.accepted in
-    let kept = ran_kept set laws old s p c.args.node.0 c.requires.may c.enter.new.context c.solve_node.new.context x mark said ran n c.keep_answer.ensures.root c.keep_answer.ensures.in_progress c.keep_answer.ensures.marking c.keep_answer.ensures.begun now c.in_ok-kept.ensures.valid as_no as_yes in
+    let kept = ran_kept set laws old s p c.args.node.0 c.requires.may_ask.may c.enter.new.context c.solve_node.new.context x mark said ran n c.keep_answer.ensures.root c.keep_answer.ensures.in_progress c.keep_answer.ensures.marking c.keep_answer.ensures.begun now c.in_ok-kept.ensures.valid as_no as_yes in
     record {
       goes = kept.0;
       marking = search rules;
@@ -334,7 +359,7 @@ entries::solve_entries-solve_form-requires g t c =
     let went = c.loop-entry.invariant.goes in
     let l = ap (λ es. left ns (length c.args.engine.now.nodes.now) c.args.node.0 s (busy_at p es)) went.in_progress in
     let here = part_at entry_of (shaped_part g.K.Validate.shape) c.args.entries.now c.loop-entry.entry-index c.entry-item.result c.loop-entry-test.true c.entry-item.is in
-    λ κs h. (lower_same _ _ t 7 1 l c.decreases, (h.0, (h.1.0, (h.1.1.0, (h.1.1.1, record { may = may_after set p old c.loop-entry.context s c.args.node.0 c.requires.may went; carries = carries_on old c.loop-entry.context c.args.question.now.place.now went.root c.requires.carries; stands = (c.requires.stands.0, c.requires.stands.1, shaped_part g.K.Validate.shape (entry_of c.entry-item.result), c.requires.stands.2 _ here, refl) })))))
+    λ κs h. (lower_same _ _ t 8 0 l c.decreases, (h.0, (h.1.0, (h.1.1.0, (h.1.1.1, record { may = may_after set p old c.loop-entry.context s c.args.node.0 c.requires.may went; carries = carries_on old c.loop-entry.context c.args.question.now.place.now went.root c.requires.carries; stands = (c.requires.stands.0, c.requires.stands.1, shaped_part g.K.Validate.shape (entry_of c.entry-item.result), c.requires.stands.2 _ here, refl) })))))
 
 pub entries::solve_entries-returns-then-not-valid : goal.entries::solve_entries-returns-then-not-valid
 entries::solve_entries-returns-then-not-valid g t c = record {
@@ -421,7 +446,7 @@ entries::solve_form-returns-in-Some g t c = record {
 
 pub entries::solve_form-solve_keyword-requires : goal.entries::solve_form-solve_keyword-requires
 entries::solve_form-solve_keyword-requires g t c =
-    λ κs h. (lower_same _ _ t 6 0 refl c.decreases, (h.0, (h.1.0, (h.1.1.0, (h.1.1.1, c.requires)))))
+    λ κs h. (lower_same _ _ t 7 0 refl c.decreases, (h.0, (h.1.0, (h.1.1.0, (h.1.1.1, c.requires)))))
 
 pub entries::solve_form-solve_edge-requires : goal.entries::solve_form-solve_edge-requires
 entries::solve_form-solve_edge-requires g t c =
@@ -437,15 +462,15 @@ entries::solve_form-solve_edge-requires g t c =
     let l = falls_across ns count cut (cut_guards (is_followed_in c.args.engine.now.followed.now)) c.requires.may.ranked c.args.node.0 s (busy_at p old.in_progress) e c.requires.may.known k in
     λ κs h. (lower_across _ _ t 5 l c.decreases, (h.0, (h.1.0, (h.1.1.0, (h.1.1.1, record { may = may_cross set old s p c.args.node.0 e c.requires.may k; carries = c.requires.carries; stands = (c.args.node.0, c.requires.may.known, k) })))))
 
-pub entries::solve_keyword-solver_answer-requires : goal.entries::solve_keyword-solver_answer-requires
-entries::solve_keyword-solver_answer-requires g t c =
-    λ κs h. (lower_same _ _ t 5 0 refl c.decreases, (h.0, (h.1.0, (h.1.1.0, (h.1.1.1, record { may = c.requires.may; carries = c.requires.carries; stands = rw (c.in-Keyword.is, ← c.as_slice.ensures.value) at c.requires.stands })))))
+pub entries::solve_keyword-solve_asked-requires : goal.entries::solve_keyword-solve_asked-requires
+entries::solve_keyword-solve_asked-requires g t c =
+    λ κs h. (lower_same _ _ t 6 0 refl c.decreases, (h.0, (h.1.0, (h.1.1.0, (h.1.1.1, record { may = c.requires.may; carries = c.requires.carries; stands = rw (c.in-Keyword.is, ← c.as_slice.ensures.value) at c.requires.stands })))))
 
 pub entries::solve_keyword-returns-in-Keyword : goal.entries::solve_keyword-returns-in-Keyword
 entries::solve_keyword-returns-in-Keyword g t c = record {
   goes = search rules;
   marking = search rules;
-  says = rw (c.in-Keyword.is, ← c.as_slice.ensures.value) c.solver_answer.ensures.says;
+  says = rw (c.in-Keyword.is, ← c.as_slice.ensures.value) c.solve_asked.ensures.says;
   stops = search rules;
 }
 
@@ -512,6 +537,213 @@ entries::solve_node-returns-in-Keywords g t c = record {
       let new = c.solve_entries.new.context in
       if_ok_mono c.solve_entries.result _ _ (λ b says texts tells. node_says_parts (solving_in set (view new.root) texts) (found_of new) p (solvable_here set laws old s p c.args.node.0 c.requires.may (view new.root) texts) c.args.node.0 c.requires.may.known _ b.valid b.leans plan (says texts tells))
       (rw c.as_slice.ensures.value at c.solve_entries.ensures.says);
+  stops = search rules;
+}
+
+-- ---- what a keyword asks at once
+
+pub asking::solve_asked-finished_match-requires : goal.asking::solve_asked-finished_match-requires
+asking::solve_asked-finished_match-requires g t c = record { finishes = c.requires.may.finishes }
+
+pub asking::solve_asked-returns-in_ok-matches-in-Match : goal.asking::solve_asked-returns-in_ok-matches-in-Match
+asking::solve_asked-returns-in_ok-matches-in-Match g t c = record {
+  goes =
+      let set = solver_by g.K.Validate g.M.Matcher c.args.engine.now in
+      goes_none set (steps_to c.args.question.now.place.now) c.args.context.now c.requires.may.sound;
+  marking = search rules;
+  says =
+      let set = solver_by g.K.Validate g.M.Matcher c.args.engine.now in
+      let p = steps_to c.args.question.now.place.now in
+      let s = subject_of c.args.question.now.instance in
+      let m = g.K.Validate.shape c.args.keyword.now.keyword.now in
+      let es = map (option_map edge_of) c.args.keyword.now.children.now in
+      rw c.settled.ensures.said (match_says set c.args.context.now s p c.args.node.0 c.requires.may m es c.requires.stands c.in-Match.pattern.now c.in-Match.subject.now c.in_ok-matches-in-Match.matches c.in_ok-matches-in-Match.ensures.answer
+      (λ texts tells. (c.in-Match.ensures.asks texts tells).says refl));
+  stops = search rules;
+}
+
+pub asking::solve_asked-solver_answer-requires : goal.asking::solve_asked-solver_answer-requires
+asking::solve_asked-solver_answer-requires g t c =
+    λ κs h. (lower_same _ _ t 5 0 refl c.decreases, (h.0, (h.1.0, (h.1.1.0, (h.1.1.1, c.requires)))))
+
+pub asking::solve_asked-solve_questions-requires : goal.asking::solve_asked-solve_questions-requires
+asking::solve_asked-solve_questions-requires g t c =
+    let puts = puts_unless c.asking-asking.result c.in_default.not-ByTurns c.in_default.not-Match in
+    λ κs h. (lower_same _ _ t 4 1 refl c.decreases, (h.0, (h.1.0, (h.1.1.0, (h.1.1.1, (c.requires, (puts, c.asking-asking.ensures.asks)))))))
+
+pub asking::solve_questions-put_questions-questions-requires : goal.asking::solve_questions-put_questions-questions-requires
+asking::solve_questions-put_questions-questions-requires g t c =
+    let s = subject_of c.args.question.now.instance in
+    let m = g.K.Validate.shape c.args.keyword.now.keyword.now in
+    record { puts = c.requires.puts; own = (c.requires.asks false (tells_nothing (g.K.Validate.is_whole m) s)).own }
+
+pub asking::solve_questions-loop-asked-init : goal.asking::solve_questions-loop-asked-init
+asking::solve_questions-loop-asked-init g t c =
+    let set = solver_by g.K.Validate g.M.Matcher c.args.engine.now in
+    let p = steps_to c.args.question.now.place.now in
+    let s = subject_of c.args.question.now.instance in
+    let m = g.K.Validate.shape c.args.keyword.now.keyword.now in
+    let es = map (option_map edge_of) c.args.keyword.now.children.now in
+    let all = c.has_to_be_each-all.result in
+    let left = c.put_questions-questions.result.left in
+    record {
+      goes = goes_none set p c.args.context.now c.requires.may_ask.may.sound;
+      marking = refl;
+      there = c.put_questions-questions.ensures.there;
+      leads = questions_begin set c.args.context.now s p c.args.node.0 c.requires.may_ask.may m es c.requires.may_ask.stands all left
+          (says_by_questions set s m c.args.asking c.requires.asks c.requires.puts all c.has_to_be_each-all.ensures.all left c.put_questions-questions.ensures.left);
+    }
+
+pub asking::solve_questions-solve_there-requires : goal.asking::solve_questions-solve_there-requires
+asking::solve_questions-solve_there-requires g t c =
+    let set = solver_by g.K.Validate g.M.Matcher c.args.engine.now in
+    let ns = numbered g.K.Validate.shape c.args.engine.now.nodes.now in
+    let p = steps_to c.args.question.now.place.now in
+    let s = subject_of c.args.question.now.instance in
+    let m = g.K.Validate.shape c.args.keyword.now.keyword.now in
+    let es = map (option_map edge_of) c.args.keyword.now.children.now in
+    let went = c.loop-asked.invariant.goes in
+    let l = ap (λ es. left ns (length c.args.engine.now.nodes.now) c.args.node.0 s (busy_at p es)) went.in_progress in
+    let there = subst (λ z. StandsThere z c.in-Some.asked) c.loop-asked.invariant.there c.in-Some.ensures.there in
+    λ κs h. (lower_same _ _ t 3 0 l c.decreases, (h.0, (h.1.0, (h.1.1.0, (h.1.1.1, (record { may = may_after set p c.args.context.now c.loop-asked.context s c.args.node.0 c.requires.may_ask.may went; carries = carries_on c.args.context.now c.loop-asked.context c.args.question.now.place.now went.root c.requires.may_ask.carries; stands = (keyword_children ns c.args.node.0 m es c.requires.may_ask.stands, present_there s c.in-Some.asked there) }, there))))))
+
+pub asking::solve_questions-returns-in_err-said : goal.asking::solve_questions-returns-in_err-said
+asking::solve_questions-returns-in_err-said g t c =
+    let set = solver_by g.K.Validate g.M.Matcher c.args.engine.now in
+    let says = g.K.Validate.says_monotone in
+    let p = steps_to c.args.question.now.place.now in
+    solved_stops set says p c.args.context.now c.solve_there.new.context _ c.from_residual.result _ c.from_residual.ensures.1
+    (stops_on set says p c.args.context.now c.loop-asked.context c.solve_there.new.context _ c.loop-asked.invariant.goes c.in_err-said.ensures.stops)
+
+pub asking::solve_questions-returns-then-valid-all : goal.asking::solve_questions-returns-then-valid-all
+asking::solve_questions-returns-then-valid-all g t c = record {
+  goes =
+      let set = solver_by g.K.Validate g.M.Matcher c.args.engine.now in
+      let p = steps_to c.args.question.now.place.now in
+      goes_on set p c.args.context.now c.loop-asked.context c.solve_there.new.context c.loop-asked.invariant.goes c.in_ok-said.ensures.goes;
+  marking =
+      c.in_ok-said.ensures.marking ∙ c.loop-asked.invariant.marking;
+  says =
+      let set = solver_by g.K.Validate g.M.Matcher c.args.engine.now in
+      let p = steps_to c.args.question.now.place.now in
+      let m = g.K.Validate.shape c.args.keyword.now.keyword.now in
+      let es = map (option_map edge_of) c.args.keyword.now.children.now in
+      let laws : (texts : Bool) → EachKeeps (g.K.Validate.words texts) = λ texts m. (g.K.Validate.absorbed m, keeps_of_turns (g.K.Validate.words texts) m (g.K.Validate.absorbed m) (g.K.Validate.remaining m) (g.K.Validate.can_be texts m) (g.K.Validate.ends texts m) (g.K.Validate.fits texts m) (g.met.K.Validate.turn_laws texts m) (g.met.K.Validate.function_laws texts m)) in
+      let here = c.loop-asked.context in
+      let next = c.solve_there.new.context in
+      let rest = c.next.new.self.left in
+      let so_far : InEach set (view here.root) (λ texts w. SaysByTheRest w p (found_of here) m es c.has_to_be_each-all.result c.loop-asked.leans (question_in c.in-Some.asked ∷ rest)) = subst (λ left. InEach set (view here.root) (λ texts w. SaysByTheRest w p (found_of here) m es c.has_to_be_each-all.result c.loop-asked.leans left)) c.in-Some.ensures.next c.loop-asked.invariant.leads in
+      question_ends set laws c.requires.may_ask.may.ranked p here next c.in_ok-said.ensures.goes m es c.has_to_be_each-all.result c.loop-asked.leans (question_in c.in-Some.asked) rest so_far c.in_ok-said.said.valid c.in_ok-said.said.leans c.in_ok-said.ensures.says (sym c.valid.ensures.valid ∙ otherwise _ _ c.if-valid-all.true);
+  stops = search rules;
+}
+
+pub asking::solve_questions-loop-asked-preserved : goal.asking::solve_questions-loop-asked-preserved
+asking::solve_questions-loop-asked-preserved g t c =
+    let set = solver_by g.K.Validate g.M.Matcher c.args.engine.now in
+    let p = steps_to c.args.question.now.place.now in
+    let m = g.K.Validate.shape c.args.keyword.now.keyword.now in
+    let es = map (option_map edge_of) c.args.keyword.now.children.now in
+    let laws : (texts : Bool) → EachKeeps (g.K.Validate.words texts) = λ texts m. (g.K.Validate.absorbed m, keeps_of_turns (g.K.Validate.words texts) m (g.K.Validate.absorbed m) (g.K.Validate.remaining m) (g.K.Validate.can_be texts m) (g.K.Validate.ends texts m) (g.K.Validate.fits texts m) (g.met.K.Validate.turn_laws texts m) (g.met.K.Validate.function_laws texts m)) in
+    let here = c.loop-asked.context in
+    let next = c.solve_there.new.context in
+    let rest = c.next.new.self.left in
+    let so_far : InEach set (view here.root) (λ texts w. SaysByTheRest w p (found_of here) m es c.has_to_be_each-all.result c.loop-asked.leans (question_in c.in-Some.asked ∷ rest)) = subst (λ left. InEach set (view here.root) (λ texts w. SaysByTheRest w p (found_of here) m es c.has_to_be_each-all.result c.loop-asked.leans left)) c.in-Some.ensures.next c.loop-asked.invariant.leads in
+    record {
+      goes = goes_on set p c.args.context.now here next c.loop-asked.invariant.goes c.in_ok-said.ensures.goes;
+      marking = c.in_ok-said.ensures.marking ∙ c.loop-asked.invariant.marking;
+      there = c.next.ensures.subject ∙ c.loop-asked.invariant.there;
+      leads = rw c.leans-leans.ensures.leans (question_goes_on set laws c.requires.may_ask.may.ranked p here next c.in_ok-said.ensures.goes m es c.has_to_be_each-all.result c.loop-asked.leans (question_in c.in-Some.asked) rest so_far c.in_ok-said.said.valid c.in_ok-said.said.leans c.in_ok-said.ensures.says (sym c.valid.ensures.valid ∙ likewise _ _ c.if-valid-all.false));
+    }
+
+pub asking::solve_questions-loop-asked-smaller : goal.asking::solve_questions-loop-asked-smaller
+asking::solve_questions-loop-asked-smaller g t c =
+    let one : length c.loop-asked.questions.left ≡ suc (length c.next.new.self.left) = ap length c.in-Some.ensures.next in
+    omega (arith, one)
+
+pub asking::solve_questions-returns : goal.asking::solve_questions-returns
+asking::solve_questions-returns g t c = record {
+  goes =
+      c.loop-asked.invariant.goes;
+  marking =
+      c.loop-asked.invariant.marking;
+  says =
+      let set = solver_by g.K.Validate g.M.Matcher c.args.engine.now in
+      let p = steps_to c.args.question.now.place.now in
+      let m = g.K.Validate.shape c.args.keyword.now.keyword.now in
+      let es = map (option_map edge_of) c.args.keyword.now.children.now in
+      let here = c.loop-asked.context in
+      let none = subst (λ left. InEach set (view here.root) (λ texts w. SaysByTheRest w p (found_of here) m es c.has_to_be_each-all.result c.loop-asked.leans left)) c.in_default.ensures.next c.loop-asked.invariant.leads in
+      rw c.of.ensures.said (questions_end set here p m es c.has_to_be_each-all.result c.loop-asked.leans none);
+  stops = search rules;
+}
+
+pub asking::solve_there-solve_edge-requires : goal.asking::solve_there-solve_edge-requires
+asking::solve_there-solve_edge-requires g t c =
+    let set = solver_by g.K.Validate g.M.Matcher c.args.engine.now in
+    let ns = numbered g.K.Validate.shape c.args.engine.now.nodes.now in
+    let p = steps_to c.args.question.now.place.now in
+    let s = subject_of c.args.question.now.instance in
+    let old = c.args.context.now in
+    let e = edge_of c.in-Some.edge.now in
+    let count = length c.args.engine.now.nodes.now in
+    let k = c.requires.may_ask.stands.0 c.args.asked.child e (sym c.in-Some.ensures.edge) in
+    let cut = is_cut (is_followed_in c.args.engine.now.followed.now) in
+    let l = falls_across ns count cut (cut_guards (is_followed_in c.args.engine.now.followed.now)) c.requires.may_ask.may.ranked c.args.node.0 s (busy_at p old.in_progress) e c.requires.may_ask.may.known k in
+    λ κs h. (lower_across _ _ t 0 l c.decreases, (h.0, (h.1.0, (h.1.1.0, (h.1.1.1, record { may = may_cross set old s p c.args.node.0 e c.requires.may_ask.may k; carries = c.requires.may_ask.carries; stands = (c.args.node.0, c.requires.may_ask.may.known, k) })))))
+
+pub asking::solve_there-solve_edge-requires-in-Some-below : goal.asking::solve_there-solve_edge-requires-in-Some-below
+asking::solve_there-solve_edge-requires-in-Some-below g t c =
+    let set = solver_by g.K.Validate g.M.Matcher c.args.engine.now in
+    let ns = numbered g.K.Validate.shape c.args.engine.now.nodes.now in
+    let p = steps_to c.args.question.now.place.now in
+    let s = subject_of c.args.question.now.instance in
+    let old = c.args.context.now in
+    let e = edge_of c.in-Some.edge.now in
+    let count = length c.args.engine.now.nodes.now in
+    let k = c.requires.may_ask.stands.0 c.args.asked.child e (sym c.in-Some.ensures.edge) in
+    let cut = is_cut (is_followed_in c.args.engine.now.followed.now) in
+    let step = step_of c.in-Some-below.step in
+    let q = steps_to c.below-lower.result in
+    let inner = subject_of c.in-Some-below.inner in
+    let leads : after_step step s ≡ Some inner = rw c.in-Some-below.is at c.requires.there in
+    let none : busy_at q old.in_progress ≡ [] = ap (λ z. busy_at z old.in_progress) c.below-lower.ensures.below ∙ busy-below p step old.in_progress c.requires.may_ask.may.above in
+    let l = falls_across_below ns count cut (cut_guards (is_followed_in c.args.engine.now.followed.now)) c.requires.may_ask.may.ranked c.args.node.0 s (busy_at p old.in_progress) e c.requires.may_ask.may.known k inner step (busy_at q old.in_progress) none leads in
+    let may = subst (λ z. MaySolve set old inner z e.node) (sym c.below-lower.ensures.below) (may_go_below set old s p e.node step inner leads (may_cross set old s p c.args.node.0 e c.requires.may_ask.may k)) in
+    λ κs h. (lower_across _ _ t 0 l c.decreases, (h.0, (h.1.0, (h.1.1.0, (h.1.1.1, record { may = may; carries = c.below-lower.ensures.carries (solver_places old) c.requires.may_ask.carries; stands = (c.args.node.0, c.requires.may_ask.may.known, k) })))))
+
+pub asking::solve_there-returns-in-None : goal.asking::solve_there-returns-in-None
+asking::solve_there-returns-in-None g t c = record {
+  goes =
+      let set = solver_by g.K.Validate g.M.Matcher c.args.engine.now in
+      goes_none set (steps_to c.args.question.now.place.now) c.args.context.now c.requires.may_ask.may.sound;
+  marking = search rules;
+  says = search rules;
+  stops = search rules;
+}
+
+pub asking::solve_there-returns-in-Some-below : goal.asking::solve_there-returns-in-Some-below
+asking::solve_there-returns-in-Some-below g t c = record {
+  goes =
+      let set = solver_by g.K.Validate g.M.Matcher c.args.engine.now in
+      let p = steps_to c.args.question.now.place.now in
+      let old = c.args.context.now in
+      let step = step_of c.in-Some-below.step in
+      let new = c.solve_edge-in-Some-below.new.context in
+      if_ok_mono c.solve_edge-in-Some-below.result _ _ (λ b went. goes_below set p (down step) old new (subst (λ z. Goes set z old new) c.below-lower.ensures.below went)) c.solve_edge-in-Some-below.ensures.goes;
+  marking = search rules;
+  says =
+      let set = solver_by g.K.Validate g.M.Matcher c.args.engine.now in
+      let p = steps_to c.args.question.now.place.now in
+      let step = step_of c.in-Some-below.step in
+      let new = c.solve_edge-in-Some-below.new.context in
+      let e = edge_of c.in-Some.edge.now in
+      let es = map (option_map edge_of) c.args.children.now in
+      let below : below_in c.args.asked.below ≡ down step = ap below_in c.in-Some-below.is in
+      if_ok_mono c.solve_edge-in-Some-below.result _ _ (λ b says texts tells.
+      let w = solving_in set (view new.root) texts in
+      let there : EdgeTells w (p ++ step ∷ []) (found_of new) e here b.valid b.leans = subst (λ z. EdgeTells w z (found_of new) e here b.valid b.leans) c.below-lower.ensures.below (says texts tells) in
+      let down_there : EdgeTells w p (found_of new) e (below_in c.args.asked.below) b.valid b.leans = subst (λ z. EdgeTells w p (found_of new) e z b.valid b.leans) (sym below) (edge_below w (found_of new) p e step b.valid b.leans there) in
+      child_some w (found_of new) p es (question_in c.args.asked) e b.valid b.leans (sym c.in-Some.ensures.edge) down_there) c.solve_edge-in-Some-below.ensures.says;
   stops = search rules;
 }
 
@@ -631,7 +863,7 @@ turns::solver_turns-solve_child-requires g t c =
     let ns = numbered g.K.Validate.shape c.args.engine.now.nodes.now in
     let l = ap (λ es. left ns (length c.args.engine.now.nodes.now) c.args.node.0 s (busy_at p es)) went.in_progress in
     let there = asks_there (g.K.Validate.words false) m (g.K.Validate.absorbed m) (g.K.Validate.remaining m) (g.K.Validate.can_be false m) (g.K.Validate.ends false m) (g.K.Validate.fits false m) (g.met.K.Validate.turn_laws false m) s (c.turns.run, answer_of false c.turns.answer) told q (mode_of c.in-Ask.wanted) c.turns.invariant.can ((g.met.K.Validate.function_laws false m).present s) step in
-    λ κs h. (lower_same _ _ t 2 1 l c.decreases, (h.0, (h.1.0, (h.1.1.0, (h.1.1.1, record { may = may_after set p c.args.context.now c.turns.context s c.args.node.0 c.requires.may_ask.may went; carries = carries_on c.args.context.now c.turns.context c.args.question.now.place.now went.root c.requires.may_ask.carries; stands = (keyword_children ns c.args.node.0 m es c.requires.may_ask.stands, there) })))))
+    λ κs h. (lower_same _ _ t 3 0 l c.decreases, (h.0, (h.1.0, (h.1.1.0, (h.1.1.1, record { may = may_after set p c.args.context.now c.turns.context s c.args.node.0 c.requires.may_ask.may went; carries = carries_on c.args.context.now c.turns.context c.args.question.now.place.now went.root c.requires.may_ask.carries; stands = (keyword_children ns c.args.node.0 m es c.requires.may_ask.stands, there) })))))
 
 pub turns::solver_turns-finished_match-requires : goal.turns::solver_turns-finished_match-requires
 turns::solver_turns-finished_match-requires g t c = record { finishes = c.requires.may_ask.may.finishes }

@@ -9,30 +9,42 @@ use Rattle.node_table.specs.NodeViews.{entry_of}
 use Rattle.run_steps.specs.EvaluationPlaces.{steps_to}
 use Rattle.schema_solver.specs.Asked.{is_followed_in, solver_by}
 use Rattle.schema_pairs.specs.Contexts.{found_of}
-use Rattle.schema_solver.specs.Needs.{SaysTheRest, edge_needs, pair_needs}
+use Rattle.schema_solver.specs.Needs.{SaysByTheRest, SaysTheRest, edge_needs, pair_needs}
 use Rattle.schema_solver.specs.Solving.{Goes, InEach, is_cut}
 use Rattle.schema_parts.specs.KeywordViews.{answer_of}
 use Rattle.run_steps.specs.VerdictRuns.{told_reply}
 use Rattle.schema_solver.specs.TurningOn.{AsksOn, TurnsOn}
 use Rattle.schema_solver.proofs.solve.+verdict.Given as goal
 
+abbrev pub decreases-asking::solve_asked : goal.decreases-asking::solve_asked
+decreases-asking::solve_asked g l = 20 * left (numbered g.K.Validate.shape l.engine.now.nodes.now) (length l.engine.now.nodes.now) l.node.0 (subject_of l.question.now.instance) (busy_at (steps_to l.question.now.place.now) l.context.now.in_progress) + 6
+
+abbrev pub decreases-asking::solve_questions : goal.decreases-asking::solve_questions
+decreases-asking::solve_questions g l = 20 * left (numbered g.K.Validate.shape l.engine.now.nodes.now) (length l.engine.now.nodes.now) l.node.0 (subject_of l.question.now.instance) (busy_at (steps_to l.question.now.place.now) l.context.now.in_progress) + 4
+
+abbrev pub decreases-asking::solve_there : goal.decreases-asking::solve_there
+decreases-asking::solve_there g l = 20 * left (numbered g.K.Validate.shape l.engine.now.nodes.now) (length l.engine.now.nodes.now) l.node.0 (subject_of l.question.now.instance) (busy_at (steps_to l.question.now.place.now) l.context.now.in_progress) + 3
+
 abbrev pub decreases-edges::solve_child : goal.decreases-edges::solve_child
-decreases-edges::solve_child g l = 20 * left (numbered g.K.Validate.shape l.engine.now.nodes.now) (length l.engine.now.nodes.now) l.node.0 (subject_of l.question.now.instance) (busy_at (steps_to l.question.now.place.now) l.context.now.in_progress) + 2
+decreases-edges::solve_child g l = 20 * left (numbered g.K.Validate.shape l.engine.now.nodes.now) (length l.engine.now.nodes.now) l.node.0 (subject_of l.question.now.instance) (busy_at (steps_to l.question.now.place.now) l.context.now.in_progress) + 3
 
 abbrev pub decreases-edges::solve_edge : goal.decreases-edges::solve_edge
-decreases-edges::solve_edge g l = 20 * edge_needs (is_cut (is_followed_in l.engine.now.followed.now)) (numbered g.K.Validate.shape l.engine.now.nodes.now) (length l.engine.now.nodes.now) (edge_of l.edge.now) (subject_of l.question.now.instance) (busy_at (steps_to l.question.now.place.now) l.context.now.in_progress) + 1
+decreases-edges::solve_edge g l = 20 * edge_needs (is_cut (is_followed_in l.engine.now.followed.now)) (numbered g.K.Validate.shape l.engine.now.nodes.now) (length l.engine.now.nodes.now) (edge_of l.edge.now) (subject_of l.question.now.instance) (busy_at (steps_to l.question.now.place.now) l.context.now.in_progress) + 2
+
+abbrev pub decreases-edges::begin_pair : goal.decreases-edges::begin_pair
+decreases-edges::begin_pair g l = 20 * pair_needs (numbered g.K.Validate.shape l.engine.now.nodes.now) (length l.engine.now.nodes.now) l.node.0 (subject_of l.question.now.instance) (busy_at (steps_to l.question.now.place.now) l.context.now.in_progress)
 
 abbrev pub decreases-edges::solve_pair : goal.decreases-edges::solve_pair
-decreases-edges::solve_pair g l = 20 * pair_needs (numbered g.K.Validate.shape l.engine.now.nodes.now) (length l.engine.now.nodes.now) l.node.0 (subject_of l.question.now.instance) (busy_at (steps_to l.question.now.place.now) l.context.now.in_progress)
+decreases-edges::solve_pair g l = 20 * pair_needs (numbered g.K.Validate.shape l.engine.now.nodes.now) (length l.engine.now.nodes.now) l.node.0 (subject_of l.question.now.instance) (busy_at (steps_to l.question.now.place.now) l.context.now.in_progress) + 1
 
 abbrev pub decreases-entries::solve_entries : goal.decreases-entries::solve_entries
 decreases-entries::solve_entries g l = 20 * left (numbered g.K.Validate.shape l.engine.now.nodes.now) (length l.engine.now.nodes.now) l.node.0 (subject_of l.question.now.instance) (busy_at (steps_to l.question.now.place.now) l.context.now.in_progress) + 9
 
 abbrev pub decreases-entries::solve_form : goal.decreases-entries::solve_form
-decreases-entries::solve_form g l = 20 * left (numbered g.K.Validate.shape l.engine.now.nodes.now) (length l.engine.now.nodes.now) l.node.0 (subject_of l.question.now.instance) (busy_at (steps_to l.question.now.place.now) l.context.now.in_progress) + 7
+decreases-entries::solve_form g l = 20 * left (numbered g.K.Validate.shape l.engine.now.nodes.now) (length l.engine.now.nodes.now) l.node.0 (subject_of l.question.now.instance) (busy_at (steps_to l.question.now.place.now) l.context.now.in_progress) + 8
 
 abbrev pub decreases-entries::solve_keyword : goal.decreases-entries::solve_keyword
-decreases-entries::solve_keyword g l = 20 * left (numbered g.K.Validate.shape l.engine.now.nodes.now) (length l.engine.now.nodes.now) l.node.0 (subject_of l.question.now.instance) (busy_at (steps_to l.question.now.place.now) l.context.now.in_progress) + 6
+decreases-entries::solve_keyword g l = 20 * left (numbered g.K.Validate.shape l.engine.now.nodes.now) (length l.engine.now.nodes.now) l.node.0 (subject_of l.question.now.instance) (busy_at (steps_to l.question.now.place.now) l.context.now.in_progress) + 7
 
 abbrev pub decreases-entries::solve_node : goal.decreases-entries::solve_node
 decreases-entries::solve_node g l = 20 * left (numbered g.K.Validate.shape l.engine.now.nodes.now) (length l.engine.now.nodes.now) l.node.0 (subject_of l.question.now.instance) (busy_at (steps_to l.question.now.place.now) l.context.now.in_progress) + 10
@@ -53,6 +65,24 @@ invariant-entries::solve_entries-loop-entry g l =
       marking : l.context.marking ≡ l.initial.context.marking;
       leads : InEach set (view l.context.root) (λ texts w. SaysTheRest w p (found_of l.context) l.leans (map (shaped_part g.K.Validate.shape) (map entry_of l.entries)) (map (shaped_part g.K.Validate.shape) (map entry_of (drop l.entry-index l.entries))));
     }
+
+abbrev pub invariant-asking::solve_questions-loop-asked :
+    goal.invariant-asking::solve_questions-loop-asked
+invariant-asking::solve_questions-loop-asked g l =
+    let set = solver_by g.K.Validate g.M.Matcher l.engine in
+    let p = steps_to l.question.place.now in
+    let m = g.K.Validate.shape l.keyword.keyword.now in
+    let es = map (option_map edge_of) l.keyword.children.now in
+    record {
+      goes : Goes set p l.initial.context l.context;
+      marking : l.context.marking ≡ l.initial.context.marking;
+      there : l.questions.subject ≡ subject_of l.question.instance;
+      leads : InEach set (view l.context.root) (λ texts w. SaysByTheRest w p (found_of l.context) m es l.all l.leans l.questions.left);
+    }
+
+abbrev pub decreases-asking::solve_questions-loop-asked :
+    goal.decreases-asking::solve_questions-loop-asked
+decreases-asking::solve_questions-loop-asked g l = length l.questions.left
 
 abbrev pub invariant-turns::solver_turns-turns : goal.invariant-turns::solver_turns-turns
 invariant-turns::solver_turns-turns g l =

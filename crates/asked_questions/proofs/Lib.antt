@@ -1,0 +1,4 @@
+pub mod Steps
+pub mod MemberWalks
+pub mod NameWalks
+pub mod AskedAtOnceBy

@@ -1,0 +1,188 @@
+-- A keyword that tells at once what it asks, in each reading of texts: how it begins, goes on after each answer, and ends.
+use Rattle.std.proofs.Common.{◌≡◌, ◌∙◌, ◌||◌, ◌&&◌, not, Bool, true, false, List, [], ◌∷◌, ℕ, refl, sym, subst, ap, true≢false}
+use Rattle.std.specs.Prelude.{IfSome, None, Option, Some, is_some, option_and_then}
+use Rattle.std.specs.List.{list_all, list_any}
+use Rattle.std.proofs.Math.Bool.{beq}
+use Rattle.std.proofs.lemmas.Bool.{or_right}
+use Rattle.serde_json.specs.View.{view}
+use Rattle.schema_definitions.specs.Instance.{Place, Subject, Text, after_step, subject_from}
+use Rattle.schema_definitions.specs.Guarded.{Children, node_keyword}
+use Rattle.schema_definitions.specs.Keywords.{Question}
+use Rattle.schema_definitions.specs.Laws.{EachKeeps, IsPresent, steps_below}
+use Rattle.schema_definitions.specs.Matching.{Matching, completed, completion_of, finished, matching, settled}
+use Rattle.schema_meaning.specs.Numbered.{Ranked, subject_in}
+use Rattle.schema_reports.specs.InstanceViews.{step_of, subject_of}
+use Rattle.schema_reports.specs.declared.instance.Instance.{Instance}
+use Rattle.schema_reports.specs.declared.instance.InstanceStep.{InstanceStep}
+use Rattle.schema_parts.specs.AskedAtOnce.{asked_holds, tells_at_once}
+use Rattle.schema_parts.specs.KeywordViews.{Tells as MayTell}
+use Rattle.schema_parts.specs.declared.asking.Asking.{Asking}
+use Rattle.schema_parts.specs.declared.asking.Asking.TheVariants as asking
+use Rattle.asked_questions.specs.Questions.{StandsThere, asks_for_all, below_in, puts_questions, question_in, questions_of}
+use Rattle.asked_questions.specs.declared.AskedQuestion.{AskedQuestion}
+use Rattle.asked_questions.proofs.AskedAtOnceBy.{asked_all, asked_one}
+use Rattle.run_steps.specs.NodeRuns.{HasForm}
+use Rattle.run_steps.proofs.NodeRuns.{stands_in}
+use Rattle.schema_greatest.specs.Under.{EdgeAnswers, Solving}
+use Rattle.schema_greatest.specs.Stages.{ChildTells, Fits, FormTells, child_by, edges_by}
+use Rattle.schema_greatest.proofs.Between.{grows_fits, lean_less}
+use Rattle.schema_greatest.proofs.Says.{fits_consistent}
+use Rattle.schema_pairs.specs.Contexts.{Solver, found_of}
+use Rattle.schema_solver.specs.Needs.{SaysByQuestions, SaysByTheRest, TellsWhatItAsks, answers_say}
+use Rattle.schema_solver.specs.Solving.{Goes, InEach, MaySolve, Setting, solving_in}
+use Rattle.schema_solver.proofs.Turned.{solvable_in, tells_there}
+
+-- ---- what answers say, by the first of them
+
+module _ (accepts : Question → Bool) (q : Question) (rest : List Question) where
+  first_as_it_has_to : (all : Bool) → accepts q ≡ all → answers_say all accepts (q ∷ rest) ≡ answers_say all accepts rest
+  first_as_it_has_to true is = ap (λ b. b && list_all accepts rest) is
+  first_as_it_has_to false is = ap (λ b. b || list_any accepts rest) is
+
+  first_otherwise : (all : Bool) → accepts q ≡ not all → answers_say all accepts (q ∷ rest) ≡ not all
+  first_otherwise true is = ap (λ b. b && list_all accepts rest) is
+  first_otherwise false is = ap (λ b. b || list_any accepts rest) is
+
+  later_otherwise : (all : Bool) → answers_say all accepts rest ≡ not all → answers_say all accepts (q ∷ rest) ≡ not all
+  later_otherwise true is = no_after (accepts q) _ is
+    where
+      no_after : (a b : Bool) → b ≡ false → (a && b) ≡ false
+      no_after true b h = h
+      no_after false b h = refl
+  later_otherwise false is = or_right (accepts q) _ is
+
+-- by a test of two truth values
+pub otherwise : (a b : Bool) → not (beq a b) ≡ true → a ≡ not b
+otherwise true true other = absurd (true≢false (sym other))
+otherwise true false other = refl
+otherwise false true other = refl
+otherwise false false other = absurd (true≢false (sym other))
+
+pub likewise : (a b : Bool) → not (beq a b) ≡ false → a ≡ b
+likewise true true is = refl
+likewise true false is = absurd (true≢false is)
+likewise false true is = absurd (true≢false is)
+likewise false false is = refl
+
+-- ---- where a yes leans
+
+first_leans : (all l k : Bool) → (all && l) ≡ true → (all && (l || k)) ≡ true
+first_leans true true k is = refl
+first_leans true false k is = absurd (true≢false (sym is))
+first_leans false l k is = is
+
+last_leans : (all l k : Bool) → (all && k) ≡ true → (all && (l || k)) ≡ true
+last_leans true true k is = refl
+last_leans true false k is = is
+last_leans false l k is = is
+
+leans_twice : (all l : Bool) → (all && l) ≡ true → (all && (all && l)) ≡ true
+leans_twice true l is = is
+leans_twice false l is = is
+
+none_say : (all : Bool) (accepts : Question → Bool) → answers_say all accepts [] ≡ all
+none_say true accepts = refl
+none_say false accepts = refl
+
+-- ---- what is asked
+
+-- what is asked stands there
+pub present_there : (s : Subject) (a : AskedQuestion) → StandsThere s a → IsPresent s (steps_below (question_in a).below)
+present_there s a = go a.below
+  where
+    go : (b : Option (Instance × InstanceStep)) → IfSome b (λ r. after_step (step_of r.1) s ≡ Some (subject_of r.0)) → IsPresent s (steps_below (below_in b))
+    go None there = refl
+    go (Some r) there = ap (λ o. is_some (option_and_then (subject_from []) o)) there
+
+at_once : (a : Asking) → puts_questions a ≡ true → tells_at_once a ≡ true
+at_once asking.ByTurns puts = absurd (true≢false (sym puts))
+at_once a puts = refl
+
+-- an asking puts questions unless turns say the verdict, or a match does
+pub puts_unless : (a : Asking) → ¬ (a ≡ asking.ByTurns) → ((pattern : _) (text : _) → ¬ (a ≡ asking.Match pattern text)) → puts_questions a ≡ true
+puts_unless asking.ByTurns turns matches = absurd (turns refl)
+puts_unless (asking.Match pattern text) turns matches = absurd (matches pattern text refl)
+puts_unless a turns matches = refl
+
+-- what an asking says that puts questions, their answers say
+pub says_by_questions : {K R : Type 0} (g : Setting K R) (s : Subject) (m : K) (a : Asking) → TellsWhatItAsks g s m a → puts_questions a ≡ true
+    → (all : Bool) → all ≡ asks_for_all a → (left : List Question) → left ≡ questions_of a s → SaysByQuestions g s m all left
+says_by_questions g s m a asks puts all is left same texts tells matching accepts =
+    (asks texts tells).says (at_once a puts) matching accepts ∙ by_answers all (sym is) ∙ ap (answers_say all accepts) (sym same)
+  where
+    by_answers : (b : Bool) → asks_for_all a ≡ b → asked_holds a s matching accepts ≡ answers_say b accepts (questions_of a s)
+    by_answers true is = asked_all a s matching accepts puts is
+    by_answers false is = asked_one a s matching accepts is
+
+-- ---- it begins, and what a match says
+
+module _ {K R : Type 0} (g : Setting K R) (c : Solver) (s : Subject) (p : Place) (i : ℕ) (may : MaySolve g c s p i) (m : K) (es : Children) (form : HasForm g.nodes i (node_keyword m es)) where
+  pub questions_begin : (all : Bool) (qs : List Question) → SaysByQuestions g s m all qs → InEach g (view c.root) (λ texts w. SaysByTheRest w p (found_of c) m es all false qs)
+  questions_begin all qs says texts tells = record {
+    same = λ answers fits. here (matching g.matcher (completion_of [])) (child_by w p (edges_by w p answers) es);
+    ends = λ answers other. here (matching g.matcher (completion_of [])) (child_by w p (edges_by w p answers) es) ∙ other;
+  }
+    where
+      w : Solving K R
+      w = solving_in g (view c.root) texts
+
+      here : (matching : Matching) (accepts : Question → Bool) → (g.words texts).holds m (subject_in (view c.root) p) matching accepts ≡ answers_say all accepts qs
+      here = subst (λ z. (matching : Matching) (accepts : Question → Bool) → (g.words texts).holds m z matching accepts ≡ answers_say all accepts qs)
+          (sym (stands_in (view c.root) p s may.stands)) (says texts (tells_there g c s p i m es may form texts tells))
+
+  pub match_says : (pattern text : Text) (b : Bool) → g.matcher.is_match pattern text ≡ finished b
+      → ((texts : Bool) → MayTell texts (g.is_whole m) s → (matching : Matching) (accepts : Question → Bool) → (g.words texts).holds m s matching accepts ≡ matching.matches pattern text)
+      → InEach g (view c.root) (λ texts w. FormTells w p (found_of c) (node_keyword m es) b false)
+  match_says pattern text b is says texts tells answers fits =
+      here (matching g.matcher (completion_of [])) (child_by w p (edges_by w p answers) es)
+      ∙ ap (settled (completed (completion_of []) (record { pattern = pattern; subject = text }))) is
+    where
+      w : Solving K R
+      w = solving_in g (view c.root) texts
+
+      here : (matching : Matching) (accepts : Question → Bool) → (g.words texts).holds m (subject_in (view c.root) p) matching accepts ≡ matching.matches pattern text
+      here = subst (λ z. (matching : Matching) (accepts : Question → Bool) → (g.words texts).holds m z matching accepts ≡ matching.matches pattern text)
+          (sym (stands_in (view c.root) p s may.stands)) (says texts (tells_there g c s p i m es may form texts tells))
+
+-- ---- after an answer
+
+module _ {K R : Type 0} (g : Setting K R) (laws : (texts : Bool) → EachKeeps (g.words texts)) (ranked : Ranked g.nodes g.count) (p : Place) (c d : Solver) (went : Goes g p c d)
+    (m : K) (es : Children) (all l : Bool) (q : Question) (rest : List Question)
+    (so_far : InEach g (view c.root) (λ texts w. SaysByTheRest w p (found_of c) m es all l (q ∷ rest)))
+    (b k : Bool) (says : InEach g (view d.root) (λ texts w. ChildTells w p (found_of d) es q b k)) where
+  said_before : InEach g (view d.root) (λ texts w. SaysByTheRest w p (found_of c) m es all l (q ∷ rest))
+  said_before = subst (λ u. InEach g (view u) (λ texts w. SaysByTheRest w p (found_of c) m es all l (q ∷ rest))) (sym went.root) so_far
+
+  answered : InEach g (view d.root) (λ texts w. (answers : EdgeAnswers) → Fits (found_of d) (b && k) answers → child_by w p (edges_by w p answers) es q ≡ b)
+  answered texts tells answers fits =
+      let w : Solving K R = solving_in g (view d.root) texts in
+      says texts tells (edges_by w p answers) (fits_consistent w p (solvable_in g laws ranked (view d.root) texts) (found_of d) (b && k) answers fits)
+
+  -- where it was as it has to be
+  pub question_goes_on : b ≡ all → InEach g (view d.root) (λ texts w. SaysByTheRest w p (found_of d) m es all (l || k) rest)
+  question_goes_on is texts tells =
+      let w : Solving K R = solving_in g (view d.root) texts in
+      let was : SaysByTheRest w p (found_of c) m es all l (q ∷ rest) = said_before texts tells in
+      record {
+        same = λ answers fits.
+            was.same answers (grows_fits p (found_of c) (found_of d) went.grew (all && l) (all && (l || k)) (first_leans all l k) answers fits)
+            ∙ first_as_it_has_to (child_by w p (edges_by w p answers) es) q rest all
+            (answered texts tells answers (lean_less (found_of d) (b && k) (all && (l || k)) answers (λ leans. last_leans all l k (ap (λ b. b && k) (sym is) ∙ leans)) fits) ∙ is);
+        ends = λ answers other. was.ends answers (later_otherwise (child_by w p (edges_by w p answers) es) q rest all other);
+      }
+
+  -- and where it was not
+  pub question_ends : b ≡ not all → InEach g (view d.root) (λ texts w. FormTells w p (found_of d) (node_keyword m es) b k)
+  question_ends is texts tells answers fits =
+      let w : Solving K R = solving_in g (view d.root) texts in
+      let was : SaysByTheRest w p (found_of c) m es all l (q ∷ rest) = said_before texts tells in
+      was.ends answers (first_otherwise (child_by w p (edges_by w p answers) es) q rest all (answered texts tells answers fits ∙ is)) ∙ sym is
+
+-- ---- where none is left
+
+pub questions_end : {K R : Type 0} (g : Setting K R) (c : Solver) (p : Place) (m : K) (es : Children) (all l : Bool)
+    → InEach g (view c.root) (λ texts w. SaysByTheRest w p (found_of c) m es all l []) → InEach g (view c.root) (λ texts w. FormTells w p (found_of c) (node_keyword m es) all (all && l))
+questions_end {K = K} {R = R} g c p m es all l so_far texts tells answers fits =
+    let w : Solving K R = solving_in g (view c.root) texts in
+    (so_far texts tells).same answers (lean_less (found_of c) (all && l) (all && (all && l)) answers (leans_twice all l) fits)
+    ∙ none_say all (child_by w p (edges_by w p answers) es)
