@@ -1,5 +1,5 @@
 //! Where answers are written.
-ghost use Rattle.std.specs.Prelude.{◌≡◌, is_some};
+ghost use Rattle.std.specs.Prelude.{◌≡◌, false, is_some};
 ghost use Rattle.command_line.specs.Outcomes.{outcome_told};
 
 use crate::outcomes::Outcome;
@@ -32,6 +32,20 @@ impl<T: Drop> From<AllocFailed<T>> for Stop {
     }
 }
 
+// How a run comes out that answered so, or was stopped, where each answer is written. That memory could not be had is told.
+fn unless_stopped(rt: &HostRuntime, answered: Result<Outcome, Stop>) -> Outcome
+    ensures told { result ≡ outcome_told false answered }
+{
+    match answered {
+        Ok(outcome) => outcome,
+        Err(Stop::Told) => Outcome::Unanswered,
+        Err(Stop::OutOfMemory) => {
+            let _ = eprintln!(rt; "out of memory\nhint: {MORE_MEMORY}");
+            Outcome::Unanswered
+        }
+    }
+}
+
 /// Standard output, and whether verdicts are coloured on it.
 #[derive(Drop)]
 pub struct Desk {
@@ -59,14 +73,7 @@ impl Desk {
     pub fn outcome_of(&self, rt: &HostRuntime, answered: Result<Outcome, Stop>) -> Outcome
         ensures told { result ≡ outcome_told (is_some self.now.page.fault) answered }
     {
-        let outcome = match answered {
-            Ok(outcome) => outcome,
-            Err(Stop::Told) => Outcome::Unanswered,
-            Err(Stop::OutOfMemory) => {
-                let _ = eprintln!(rt; "out of memory\nhint: {MORE_MEMORY}");
-                Outcome::Unanswered
-            }
-        };
+        let outcome = unless_stopped(rt, answered);
         match &self.page.fault {
             None => outcome,
             Some(fault) => {

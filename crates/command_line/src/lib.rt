@@ -3,7 +3,9 @@
 #![tactic(auto)]
 
 pub mod desk;
+pub mod documents;
 pub mod envelopes;
+pub mod lines;
 pub mod options;
 pub mod outcomes;
 pub mod pages;
@@ -11,4 +13,5 @@ pub mod reading;
 pub mod reports;
 pub mod tally;
 pub mod telling;
+pub mod watch;
 pub mod words;

@@ -1,5 +1,5 @@
 //! How an instance, and a run, comes out.
-ghost use Rattle.std.specs.Prelude.{◌≡◌, max};
+ghost use Rattle.std.specs.Prelude.{◌≡◌, if◌then◌else◌, max};
 ghost use Rattle.command_line.specs.Outcomes.{code_of};
 
 /// What was answered of an instance, or of several.
@@ -14,6 +14,17 @@ pub enum Outcome {
 }
 
 impl Outcome {
+    /// How an instance comes out that is accepted, or is not.
+    pub fn of(accepted: bool) -> Outcome
+        ensures code { code_of result ≡ (if accepted then 0 else 1) }
+    {
+        if accepted {
+            Outcome::Accepted
+        } else {
+            Outcome::Refused
+        }
+    }
+
     /// The status that the process ends with.
     pub fn code(self) -> u8
         ensures code { result ≡ code_of self }

@@ -1,10 +1,15 @@
 //! The words of a call, and how they are read.
+ghost use Rattle.std.specs.Prelude.{◌≡◌, ◌≢◌};
+ghost use Rattle.clap.specs.Words.{kind_of};
+ghost use Rattle.command_line.specs.Outcomes.{code_of};
 
 use crate::options::{Options, Output, Resource, draft_named};
+use crate::outcomes::Outcome;
 use clap::error::ErrorKind;
 use clap::{Arg, ArgAction, ArgMatches, Command, Error};
 use schema_reports::location::OutOfMemory;
 use std::alloc::Global;
+use std::{env, io};
 
 static DRAFTS: [&str; 5] = ["4", "6", "7", "2019-09", "2020-12"];
 
@@ -237,4 +242,29 @@ pub fn options_in<'w>(alloc: Global, words: &'w [String]) -> Result<Options<'w>,
     let mut command = command(alloc)?;
     let matches = command.try_get_matches_from_mut(words)?;
     checked_options(alloc, &mut command, &matches)
+}
+
+/// The words of the call, the program's name first.
+///
+/// # Errors
+///
+/// Fails if they are not UTF-8, or out of memory.
+pub fn given_words(rt: &HostRuntime) -> io::Result<Vec<String>> {
+    let words: Vec<String> = env::args(rt)?.collect(rt.alloc())?;
+    Ok(words)
+}
+
+/// Prints what is to be said in place of an answer, and says how the call comes out: help and the version are accepted.
+pub fn say(rt: &HostRuntime, told: Error) -> Outcome
+    ensures wrong { kind_of told ≢ ErrorKind.DisplayHelp → kind_of told ≢ ErrorKind.DisplayVersion → code_of result ≡ 2 }
+    ensures no_refusal { code_of result ≢ 1 }
+{
+    let printed = told.print(rt);
+    let wrong = told.use_stderr() || printed.is_err();
+    drop(told);
+    if wrong {
+        Outcome::Unanswered
+    } else {
+        Outcome::Accepted
+    }
 }

@@ -3,10 +3,13 @@
 use crate::files::answer_files;
 use crate::lines::answer_lines;
 use command_line::desk::{Desk, Stop};
-use command_line::options::{Options, Resource};
+use command_line::documents::{Document, documents_of};
+use command_line::options::Options;
 use command_line::outcomes::Outcome;
 use command_line::reading::value_of;
 use command_line::telling::tell;
+use schema_engine::keywords::Draft;
+use schema_engine::location::OutOfMemory;
 use serde_json::Value;
 use standard_validator::{
     BuildError, MetaDocuments, MetaError, PatternError, Patterns, Sources, StandardMeta,
@@ -14,44 +17,57 @@ use standard_validator::{
 };
 use std::alloc::Global;
 
-/// A document and its URI.
-#[derive(Drop)]
-struct Document<'w> {
-    uri: &'w str,
-    value: Value,
+/// Options with this limit of runs, if there is one that lets a run be made.
+fn with_runs(options: ValidationOptions, limit: Option<u32>) -> ValidationOptions {
+    match limit {
+        Some(limit) if limit >= 1 => options.with_run_limit(limit),
+        _ => options,
+    }
 }
 
-/// The documents of the resources.
-fn documents_of<'w>(
-    rt: &HostRuntime,
-    resources: &[Resource<'w>],
-) -> Result<Vec<Document<'w>>, Stop> {
-    let mut documents = Vec::new(rt.alloc());
-    for resource in resources {
-        let value = value_of(rt, resource.file)?;
-        documents.push(Document {
-            uri: resource.uri,
-            value,
-        })?;
+/// Options with this limit of steps, if there is one.
+fn with_work(options: ValidationOptions, limit: Option<u64>) -> ValidationOptions {
+    match limit {
+        Some(limit) => options.with_work_limit(limit),
+        None => options,
     }
-    Ok(documents)
+}
+
+/// Options with this limit of targets one inside another, if there is one.
+fn with_nested(options: ValidationOptions, limit: Option<usize>) -> ValidationOptions {
+    match limit {
+        Some(limit) => options.with_nested_limit(limit),
+        None => options,
+    }
 }
 
 /// What the engine is told of the options.
 fn engine_options(alloc: Global, options: &Options<'_>) -> ValidationOptions {
-    let mut chosen = ValidationOptions::new(alloc).should_validate_schema(options.checked);
-    if let Some(limit) = options.run_limit {
-        if limit >= 1 {
-            chosen = chosen.with_run_limit(limit);
-        }
+    let chosen = ValidationOptions::new(alloc).should_validate_schema(options.checked);
+    let chosen = with_runs(chosen, options.run_limit);
+    let chosen = with_work(chosen, options.work_limit);
+    with_nested(chosen, options.nested_limit)
+}
+
+/// Sources with these documents too.
+fn with_documents<'a>(
+    alloc: Global,
+    sources: Sources<'a>,
+    documents: &'a [Document<'_>],
+) -> Result<Sources<'a>, OutOfMemory> {
+    let mut sources = sources;
+    for document in documents {
+        sources = sources.with_document(alloc, document.uri, &document.value)?;
     }
-    if let Some(limit) = options.work_limit {
-        chosen = chosen.with_work_limit(limit);
+    Ok(sources)
+}
+
+/// Sources that are read in this draft where they name none, if there is one.
+fn with_draft<'a>(sources: Sources<'a>, draft: Option<Draft>) -> Sources<'a> {
+    match draft {
+        Some(draft) => sources.with_default_draft(draft),
+        None => sources,
     }
-    if let Some(limit) = options.nested_limit {
-        chosen = chosen.with_nested_limit(limit);
-    }
-    chosen
 }
 
 /// What the validator is built from.
@@ -61,15 +77,9 @@ fn sources_of<'a>(
     schema: &'a Value,
     documents: &'a [Document<'_>],
     metas: &'a MetaDocuments,
-) -> Result<Sources<'a>, Stop> {
-    let mut sources = Sources::new(alloc, schema);
-    if let Some(draft) = options.draft {
-        sources = sources.with_default_draft(draft);
-    }
-    for document in documents {
-        sources = sources.with_document(alloc, document.uri, &document.value)?;
-    }
-    Ok(sources.with_meta_schemas(alloc, metas)?)
+) -> Result<Sources<'a>, OutOfMemory> {
+    let sources = with_draft(Sources::new(alloc, schema), options.draft);
+    with_documents(alloc, sources, documents)?.with_meta_schemas(alloc, metas)
 }
 
 /// What may be done about a refusal of the schema.
@@ -210,7 +220,7 @@ fn answer_by_metas(
         Ok(checks) => {
             let answered = match sources_of(rt.alloc(), options, schema, documents, metas) {
                 Ok(sources) => answer_by_sources(rt, desk, options, sources, &checks),
-                Err(stop) => Err(stop),
+                Err(_refused) => Err(Stop::OutOfMemory),
             };
             drop(checks);
             answered

@@ -13,15 +13,6 @@ use standard_validator::StandardValidator;
 /// What is printed of an instance, and how it comes out.
 type Answer = Result<(Outcome, String), OutOfMemory>;
 
-/// How an instance comes out that is accepted, or is not.
-fn outcome_of(accepted: bool) -> Outcome {
-    if accepted {
-        Outcome::Accepted
-    } else {
-        Outcome::Refused
-    }
-}
-
 /// The errors of an instance, as text.
 fn errors_of(
     rt: &HostRuntime,
@@ -31,7 +22,7 @@ fn errors_of(
     instance: &Value,
 ) -> Answer {
     let errors = validator.iter_errors(rt.alloc(), instance)?;
-    let outcome = outcome_of(errors.size_hint().0 == 0);
+    let outcome = Outcome::of(errors.size_hint().0 == 0);
     let text = file_report(rt.alloc(), desk.paint, file, errors)?;
     Ok((outcome, text))
 }
@@ -45,7 +36,7 @@ pub(crate) fn verdict_of(
 ) -> Answer {
     let accepted = validator.is_valid(rt.alloc(), instance)?;
     let text = answered(rt.alloc(), Output::Flag, subject, flag(accepted))?;
-    Ok((outcome_of(accepted), text))
+    Ok((Outcome::of(accepted), text))
 }
 
 /// The list of an instance's units, in JSON.
@@ -60,7 +51,7 @@ pub(crate) fn list_of(
     let list = evaluation.list_text(rt.alloc());
     drop(evaluation);
     let text = answered(rt.alloc(), Output::List, subject, list?.as_str())?;
-    Ok((outcome_of(accepted), text))
+    Ok((Outcome::of(accepted), text))
 }
 
 /// What is answered of an instance.

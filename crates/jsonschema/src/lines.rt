@@ -3,24 +3,22 @@
 use crate::files::{list_of, verdict_of};
 use command_line::desk::{Desk, Stop};
 use command_line::envelopes::{Subject, unread};
+use command_line::lines::{cut_ending, is_blank};
 use command_line::options::{Options, Output, STANDARD_INPUT};
 use command_line::outcomes::Outcome;
 use command_line::reports::{line_report, unread_report};
 use command_line::tally::Tally;
 use command_line::telling::tell_unread;
+use command_line::watch::Watch;
 use schema_engine::location::OutOfMemory;
 use serde_json::Value;
 use standard_validator::StandardValidator;
 use std::alloc::AllocError;
 use std::fs;
 use std::io::{BufRead, BufReader, Read};
-use std::time::Instant;
 
 /// How much of a file is read at once, in bytes.
 const AT_ONCE: usize = 65536;
-
-/// How long it is between two lines that tell how far it is, in milliseconds.
-const BETWEEN: u64 = 1000;
 
 /// A file of lines, and who answers them.
 #[derive(Clone, Copy)]
@@ -29,43 +27,6 @@ struct Asked<'a, 'w, 'p> {
     options: &'a Options<'w>,
     validator: &'a StandardValidator<'p>,
     file: &'a str,
-}
-
-/// When the lines were begun, and how much of the time is told.
-#[derive(Clone, Copy)]
-struct Watch {
-    begun: Option<Instant>,
-    told: u64,
-}
-
-impl Watch {
-    /// Begins now.
-    fn new(rt: &HostRuntime) -> Watch {
-        Watch {
-            begun: Instant::now(rt).ok(),
-            told: 0,
-        }
-    }
-
-    /// How many milliseconds it is since the beginning, if the clock says.
-    fn millis(&self, rt: &HostRuntime) -> Option<u64> {
-        let elapsed = self.begun?.elapsed(rt).ok()?;
-        u64::try_from(elapsed.as_millis()).ok()
-    }
-}
-
-/// Takes the bytes that end a line away.
-fn cut_ending(line: &mut Vec<u8>) {
-    for byte in [b'\n', b'\r'] {
-        if line.as_slice().last().copied() == Some(byte) {
-            line.pop();
-        }
-    }
-}
-
-/// Whether a line holds nothing but spaces.
-fn is_blank(line: &[u8]) -> bool {
-    line.iter().all(|byte| byte.is_ascii_whitespace())
 }
 
 impl<'a, 'w, 'p> Asked<'a, 'w, 'p> {
@@ -156,17 +117,6 @@ impl<'a, 'w, 'p> Asked<'a, 'w, 'p> {
         Ok(())
     }
 
-    /// Tells how far it is, if that was not told for a while.
-    fn tell(&self, watch: &mut Watch, tally: &Tally) {
-        if let Some(millis) = watch.millis(self.rt) {
-            if millis.saturating_sub(watch.told) >= BETWEEN {
-                watch.told = millis;
-                let rate = tally.rate(millis);
-                let _ = eprintln!(self.rt; "{}: {tally}, {rate} lines a second", self.file);
-            }
-        }
-    }
-
     /// Answers each line of a reader.
     fn answer_each<R: BufRead>(
         &self,
@@ -184,30 +134,13 @@ impl<'a, 'w, 'p> Asked<'a, 'w, 'p> {
                     cut_ending(&mut line);
                     self.count(desk, number, line.as_slice(), tally)?;
                     if self.options.progress {
-                        self.tell(watch, tally);
+                        watch.tell(self.rt, self.file, tally);
                     }
                 }
                 Err(fault) => {
                     return Err(tell_unread(self.rt, self.file, &fault));
                 }
             }
-        }
-        Ok(())
-    }
-
-    /// Tells how many lines there were, and how long they took.
-    fn sum_up(&self, desk: &mut Desk, tally: &Tally, watch: &Watch) -> Result<(), OutOfMemory> {
-        let alloc = self.rt.alloc();
-        let text = format!(in alloc; "{}: {tally}\n", self.file)?;
-        match self.options.output {
-            Output::Text => desk.page.put(text.as_str()),
-            _ => {
-                let _ = eprint!(self.rt; "{text}");
-            }
-        }
-        if let Some(millis) = watch.millis(self.rt) {
-            let rate = tally.rate(millis);
-            let _ = eprintln!(self.rt; "{}: {millis} ms, {rate} lines a second", self.file);
         }
         Ok(())
     }
@@ -221,7 +154,7 @@ impl<'a, 'w, 'p> Asked<'a, 'w, 'p> {
         let mut watch = Watch::new(self.rt);
         let ended = self.answer_each(desk, &mut reader, &mut tally, &mut watch);
         drop(reader);
-        self.sum_up(desk, &tally, &watch)?;
+        watch.sum_up(self.rt, desk, self.options.output, self.file, &tally)?;
         ended?;
         Ok(tally.outcome())
     }

@@ -11,15 +11,8 @@ use crate::building::answer;
 use command_line::desk::Desk;
 use command_line::options::Options;
 use command_line::outcomes::Outcome;
-use command_line::words::options_in;
-use std::env;
+use command_line::words::{given_words, options_in, say};
 use std::process::ExitCode;
-
-/// The words of the call, the program's name first.
-fn given_words(rt: &HostRuntime) -> std::io::Result<Vec<String>> {
-    let words: Vec<String> = env::args(rt)?.collect(rt.alloc())?;
-    Ok(words)
-}
 
 /// Answers as the options ask, and tells why there is no answer.
 fn run(rt: &HostRuntime, options: &Options<'_>) -> Outcome {
@@ -38,16 +31,7 @@ fn obey(rt: &HostRuntime, words: &[String]) -> Outcome {
             drop(options);
             outcome
         }
-        Err(told) => {
-            let printed = told.print(rt);
-            let wrong = told.use_stderr() || printed.is_err();
-            drop(told);
-            if wrong {
-                Outcome::Unanswered
-            } else {
-                Outcome::Accepted
-            }
-        }
+        Err(told) => say(rt, told),
     }
 }
 

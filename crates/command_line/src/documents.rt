@@ -1,0 +1,29 @@
+//! Documents that a schema may refer to.
+
+use crate::desk::Stop;
+use crate::options::Resource;
+use crate::reading::value_of;
+use serde_json::Value;
+
+/// A document and its URI.
+#[derive(Drop)]
+pub struct Document<'w> {
+    pub uri: &'w str,
+    pub value: Value,
+}
+
+/// The documents of the resources, in their order. What is wrong with one is told.
+pub fn documents_of<'w>(
+    rt: &HostRuntime,
+    resources: &[Resource<'w>],
+) -> Result<Vec<Document<'w>>, Stop> {
+    let mut documents = Vec::new(rt.alloc());
+    for resource in resources {
+        let value = value_of(rt, resource.file)?;
+        documents.push(Document {
+            uri: resource.uri,
+            value,
+        })?;
+    }
+    Ok(documents)
+}
