@@ -11,17 +11,8 @@ use schema_reports::instance::{InstanceStep, Place, push_step};
 use schema_reports::location::{Location, OutOfMemory};
 use std::alloc::Global;
 
-// So many bytes get room for a step that is no name.
-const ROOM_OF_STEP: usize = 6;
-
-// How many bytes get room for a step.
-fn room_of(step: InstanceStep<'_>) -> usize {
-    match step {
-        InstanceStep::Member(name) => name.len().saturating_add(1),
-        InstanceStep::Item(_) => ROOM_OF_STEP,
-        InstanceStep::NameOf(_) => 0,
-    }
-}
+// How many bytes a pointer gets room for at once. Most are no longer, and to reckon how long one is takes as long as to make it.
+const ROOM_OF_POINTER: usize = 24;
 
 /// A place that was given, the place above a step and the step, or a place with its number in the instance.
 #[derive(Clone, Copy)]
@@ -128,20 +119,11 @@ impl<'p, 'i> EvaluationPlace<'p, 'i> {
         }
     }
 
-    // How many bytes the pointer takes, where no name in it is escaped; of an index it is a guess.
-    fn room(&self) -> usize {
-        match self {
-            EvaluationPlace::Given(place) => place.len().saturating_mul(ROOM_OF_STEP),
-            EvaluationPlace::Below(above, last) => above.room().saturating_add(room_of(*last)),
-            EvaluationPlace::Numbered(same, _) => same.room(),
-        }
-    }
-
     /// Returns the JSON Pointer of the place. Fails only if memory cannot be allocated.
     pub fn pointer(&self, alloc: Global) -> Result<Location, OutOfMemory>
         ensures pointer { IfOk result (λ l. l ≡ pointer_to (steps_to self.now)) }
     {
-        let mut pointer = Location::with_capacity(alloc, self.room())?;
+        let mut pointer = Location::with_capacity(alloc, ROOM_OF_POINTER)?;
         self.push_pointer(&mut pointer)?;
         Ok(pointer)
     }

@@ -58,6 +58,6 @@ AreOwn (asking.Names ms) s = s ≡ a_value (object (members_view ms.now.entries)
 AreOwn a s = Unit {0}
 
 -- the keyword holds exactly where the answers and the matches say so
-pub record AsksRightly {K R : Type 0} (keywords : Keywords K R) (m : K) (s : Subject) (a : Asking) : Type 0 where
+pub record HoldsAsTold {K R : Type 0} (keywords : Keywords K R) (m : K) (s : Subject) (a : Asking) : Type 0 where
   pub own : AreOwn a s
   pub says : tells_at_once a ≡ true → (matching : Matching) (accepts : Question → Bool) → keywords.holds m s matching accepts ≡ asked_holds a s matching accepts

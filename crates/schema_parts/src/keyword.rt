@@ -10,7 +10,7 @@ ghost use Rattle.schema_reports.specs.EvaluationResults.{gives_with};
 ghost use Rattle.schema_definitions.specs.Remembering.{EachAsksVerdicts};
 ghost use Rattle.schema_meaning.specs.Greatest.{IsMonotone};
 ghost use Rattle.schema_meaning.specs.UnitsLead.{EachHandsUnitsOn};
-ghost use Rattle.schema_parts.specs.AskedAtOnce.{AsksRightly};
+ghost use Rattle.schema_parts.specs.AskedAtOnce.{HoldsAsTold};
 ghost use Rattle.schema_parts.specs.AtOnce.{EndsAtOnce};
 ghost use Rattle.schema_parts.specs.FaultViews.{errors_in, faults_in, PassesBorrowed};
 ghost use Rattle.schema_parts.specs.KeywordViews.{mode_of, reply_of, answer_of, fresh, turn_of, Tells};
@@ -225,7 +225,7 @@ pub trait Validate: Drop {
     /// a run, and is always right. It allocates nothing.
     fn asking<'s, 'i>(&'s self, instance: Instance<'i>) -> Asking<'s, 'i>
         ensures asks { (texts : Bool) → Tells texts (is_whole (shape self.now)) (subject_of instance.entry)
-            → AsksRightly (words texts) (shape self.now) (subject_of instance.entry) result }
+            → HoldsAsTold (words texts) (shape self.now) (subject_of instance.entry) result }
     {
         let _ = instance;
         Asking::ByTurns

@@ -8,7 +8,7 @@ use Rattle.schema_definitions.specs.Guarded.{Children, NodeEdge, NodePart, Nodes
 use Rattle.schema_definitions.specs.Keywords.{Question}
 use Rattle.schema_definitions.specs.Matching.{Matching}
 use Rattle.schema_meaning.specs.Numbered.{left}
-use Rattle.schema_parts.specs.AskedAtOnce.{AsksRightly}
+use Rattle.schema_parts.specs.AskedAtOnce.{HoldsAsTold}
 use Rattle.schema_parts.specs.KeywordViews.{Tells as MayTell}
 use Rattle.schema_parts.specs.declared.asking.Asking.{Asking}
 use Rattle.schema_greatest.specs.Under.{EdgeAnswers, Solving}
@@ -39,7 +39,7 @@ answers_say false accepts qs = list_any accepts qs
 
 -- in each reading in which it may tell its texts, this is what the keyword asks of the subject, as it tells at once
 abbrev pub TellsWhatItAsks : {K R : Type 0} → Setting K R → Subject → K → Asking → Type 0
-TellsWhatItAsks g s m a = (texts : Bool) → MayTell texts (g.is_whole m) s → AsksRightly (g.words texts) m s a
+TellsWhatItAsks g s m a = (texts : Bool) → MayTell texts (g.is_whole m) s → HoldsAsTold (g.words texts) m s a
 
 -- and it says of the subject what the answers of these questions say
 abbrev pub SaysByQuestions : {K R : Type 0} → Setting K R → Subject → K → Bool → List Question → Type 0
