@@ -1,4 +1,4 @@
-pub mod PlainPlaces
+mod PlainPlaces
 mod PlainBytes
 mod Pushes
 mod Printing
