@@ -1,6 +1,6 @@
 -- What each keyword says of an instance.
 use Rattle.std.specs.List.{list_any}
-use Rattle.std.specs.Prelude.{Bool, List, None, Option, Some, [], codes, false, filter, is_some, map, min, not, true, ℕ, ◌++◌, ◌-◌, ◌&&◌, ◌∷◌}
+use Rattle.std.specs.Prelude.{Bool, List, None, Option, Some, [], codes, false, filter, is_some, map, min, not, ℕ, ◌++◌, ◌-◌, ◌&&◌, ◌∷◌}
 use Rattle.serde_json.specs.Data.{Members}
 use Rattle.serde_json.specs.Find.{as_object}
 use Rattle.schema_definitions.specs.Instance.{Subject, Text, a_name, a_value, member_of}

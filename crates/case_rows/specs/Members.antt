@@ -1,5 +1,5 @@
 -- What the members of a case are read as.
-use Rattle.std.specs.Prelude.{Bool, None, Option, Some, if◌then◌else◌, nat_lt, option_and_then, ℕ, ◌==◌, ◌^◌, ◌&&◌, ◌<◌}
+use Rattle.std.specs.Prelude.{None, Option, Some, if◌then◌else◌, nat_lt, option_and_then, ℕ, ◌==◌, ◌^◌, ◌&&◌}
 use Rattle.serde_json.specs.Data.{Data, Items, no_items}
 use Rattle.serde_json.specs.Find.{as_array, as_number, as_u64}
 use Rattle.schema_keywords.specs.declared.keywords.Draft.{Draft}

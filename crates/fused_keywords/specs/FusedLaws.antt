@@ -19,7 +19,7 @@ use Rattle.keyword_ways.specs.Places.{later_items_present}
 use Rattle.keyword_ways.specs.WayReads.{way_agrees, way_faults_read, way_holds_reads, way_passes, way_stands_inside, way_units_read}
 use Rattle.keyword_ways.specs.WayRuns.{Keeps, Replies, end_at, fits_begun, led, replies_by, reply_for, way_ends, way_falls, way_keeps, way_stands}
 use Rattle.keyword_ways.specs.WayWords.{run_replies}
-use Rattle.keyword_ways.specs.Ways.{Way, asked, at_first, goes_on, mode_from, next_if, nth, passes_on, stage_after, stage_at, way_faults, way_left, with_unit}
+use Rattle.keyword_ways.specs.Ways.{Way, asked, at_first, goes_on, mode_from, next_if, nth, passes_on, stage_after, stage_at, way_faults, with_unit}
 use Rattle.keyword_ways.specs.Ways as ways
 use Rattle.keyword_ways.specs.declared.run.Stage.{Stage}
 use Rattle.keyword_ways.specs.declared.run.Stage.TheVariants.{Asked, Begun, Counted, Ended}

@@ -5,7 +5,7 @@ use Rattle.std.proofs.lemmas.List.Elements.{All-append, All-cons, All-contains_i
 use Rattle.schema_definitions.specs.Instance.{Subject, Text}
 use Rattle.schema_definitions.specs.Reports.{Unit_, report_of}
 use Rattle.schema_definitions.specs.Matching.{Matching}
-use Rattle.schema_definitions.specs.Keywords.{Answer, Answers, Fault, Keywords, Marked, Named, Question, Reply, Turn, ask, done, for_all, for_first, for_units, for_verdict, match_text, no_reply, own, passed, truth}
+use Rattle.schema_definitions.specs.Keywords.{Answer, Answers, Fault, Keywords, Marked, Named, Question, Reply, Turn, ask, done, for_all, for_first, for_units, for_verdict, match_text, no_reply, own, passed}
 use Rattle.schema_definitions.specs.Keywords as spec
 use Rattle.schema_definitions.specs.Laws.{AsksRightly, IsPresent, IsRight, PassesUnchanged, answer_in, steps_below}
 use Rattle.schema_definitions.specs.Remembering.{AlwaysAsksVerdict, AsksVerdict, EachAsksVerdicts}

@@ -1,13 +1,12 @@
 -- A table whose every number has its form is the compilation of its root.
 use Rattle.std.proofs.Common.{◌≡◌, ℕ, zero, suc, ◌<◌, Bool, true, false, cond, List, [], ◌∷◌, ◌++◌, length, map, refl, ap, sym, ◌∙◌, subst, arith, inl, inr}
-use Rattle.std.specs.List.{list_any, starts_with}
-use Rattle.std.specs.Prelude.{AllPairs, Option, Some, None, slice_get, slice_index_or, option_map, option_and_then, unwrap_or, flat_map, bytes_eq, codes, drop, ◌==◌}
+use Rattle.std.specs.List.{starts_with}
+use Rattle.std.specs.Prelude.{AllPairs, Option, Some, None, slice_get, slice_index_or, option_map, option_and_then, unwrap_or, flat_map, codes, drop, ◌==◌}
 use Rattle.std.proofs.lemmas.Bool.{eqb-true}
 use Rattle.std.proofs.lemmas.Slice.Eq.{bytes_eq-Decides}
 use Rattle.std.proofs.lemmas.Option.{slice_get-map, slice_get_within}
 use Rattle.schema_definitions.specs.Instance.{Text}
-use Rattle.schema_definitions.specs.Drafts.{Draft, Vocabularies, custom_vocabulary}
-use Rattle.schema_definitions.specs.VocabularySets.{custom_of}
+use Rattle.schema_definitions.specs.Drafts.{Draft}
 use Rattle.schema_definitions.specs.Resolving.{Resolver}
 use Rattle.schema_definitions.specs.Matching.{Matcher}
 use Rattle.schema_definitions.specs.Making.{Request, Table}
@@ -18,7 +17,7 @@ use Rattle.serde_json.specs.View.{view}
 use Rattle.schema_meaning.specs.Reach.{Reached, asked_by, asked_edges, asked_for, at_first, different}
 use Rattle.schema_meaning.specs.MapPointers as alone
 use Rattle.schema_meaning.specs.MapPointers.{required_in, stands_in}
-use Rattle.schema_meaning.specs.Refusals.{Cause, Stands, is_required, referred_by, stands_at, the_root, undeclared, unsupported_vocabulary}
+use Rattle.schema_meaning.specs.Refusals.{Cause, Stands, is_required, referred_by, stands_at, the_root, undeclared}
 use Rattle.schema_definitions.specs.Guarded.{Children, NodeEdge, NodeForm, NodePart, NodePlan, Nodes, node_always, node_child, node_keyword, node_never, node_reference, node_these}
 use Rattle.schema_meaning.specs.Numbered.{IsNumber, Ranked, SameEdge, SameForm, SameParts, SamePlan, StandsFor}
 use Rattle.node_table.specs.NodeTable.{IsOrdered, NodeEntry, absolute_in, numbered, shaped, shaped_form, plan_in}
@@ -35,8 +34,7 @@ use Rattle.schema_keys.specs.Alone.{NamesFirst, RefusesVocabularies}
 use Rattle.schema_compiler.specs.Compilation.{IsCompilation, IsCompilationAlone, RefusesAlone, RefusesRoot, all_parts}
 use Rattle.schema_keys.specs.declared.error.BuildError.{BuildError}
 use Rattle.schema_keys.specs.declared.error.BuildError.TheVariants.{KeywordRefused, Lookup, MetaSchema, MissingRoot, NodeLimit, NotASchema, OutOfMemory, ReferenceNotText, UnsupportedVocabulary}
-use Rattle.schema_keys.proofs.Lists.{all_of, contains_of, each_append, each_in, each_map, in_of, there}
-use Rattle.schema_keys.proofs.CustomVocabularies.{of_custom}
+use Rattle.schema_keys.proofs.Lists.{all_of, contains_of, each_in, each_map, in_of, there}
 use Rattle.schema_keys.proofs.SameKeys.{and_parts, draft_true, one_key, schema_place_true, vocabularies_true}
 
 -- two keys with the same parts are one

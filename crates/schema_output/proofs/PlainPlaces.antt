@@ -1,5 +1,5 @@
 -- A text that is escaped to itself stands for itself between quotes.
-use Rattle.std.proofs.Common.{◌≡◌, ◌++◌, ◌∷◌, ◌∙◌, [], Bool, ap, append_assoc, codes, subst, sym}
+use Rattle.std.proofs.Common.{◌≡◌, ◌++◌, ◌∷◌, ◌∙◌, [], Bool, ap, append_assoc, codes, sym}
 use Rattle.json.specs.Print.{escape, quoted}
 use Rattle.schema_definitions.specs.Instance.{Text}
 use Rattle.schema_output.specs.Texts.{plain_places_text, valid_text}

@@ -7,7 +7,7 @@ use Rattle.schema_definitions.specs.Instance.{Subject, Text, a_name}
 use Rattle.schema_reports.specs.ReportViews.{spoken}
 use Rattle.schema_definitions.specs.Reports.{Unit_, report_of}
 use Rattle.schema_definitions.specs.Matching.{Matching}
-use Rattle.schema_definitions.specs.Keywords.{Answer, Answers, Fault, Gives, Marked, Question, Reply, Turn, all_valid, ask, done, ecma, for_all, for_first, for_units, for_verdict, mark, match_text, own, unmark}
+use Rattle.schema_definitions.specs.Keywords.{Answer, Answers, Fault, Marked, Question, Reply, Turn, all_valid, ask, done, ecma, for_all, for_first, for_units, for_verdict, mark, match_text, own, unmark}
 use Rattle.schema_definitions.specs.Keywords as spec
 use Rattle.schema_definitions.specs.Laws.{Agrees, AsksRightly, IsRight, PassesUnchanged, StandsInside, answer_in}
 use Rattle.schema_definitions.specs.Remembering.{AlwaysAsksVerdict, AsksVerdict, EachAsksVerdicts}

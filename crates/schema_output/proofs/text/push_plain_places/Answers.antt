@@ -1,6 +1,5 @@
-use Rattle.std.proofs.Common.{◌≡◌, ◌++◌, ◌∷◌, ◌∙◌, ap, codes, string_bytes}
+use Rattle.std.proofs.Common.{◌++◌, ◌∙◌, ap, codes, string_bytes}
 use Rattle.std.proofs.lemmas.Result.{IfOk-equal}
-use Rattle.schema_output.specs.Texts.{valid_text}
 use Rattle.schema_output.proofs.Pushes.{behind, pushed_whole}
 use Rattle.schema_output.proofs.text.push_plain_places.Goals as goal
 

@@ -2,7 +2,7 @@ use Rattle.std.proofs.Common.{◌≡◌, ◌∙◌, ◌*◌, ◌+◌, ◌<◌, t
 use Rattle.schema_definitions.specs.Instance.{Place}
 use Rattle.schema_places.specs.Numbers.{OwnNumbers, place_at}
 use Rattle.schema_contexts.specs.ProgressViews.{Holds, all_verdicts, pair_of}
-use Rattle.schema_contexts.specs.Progress.{Context, FewRows, IsWide, row_words}
+use Rattle.schema_contexts.specs.Progress.{Context, row_words}
 use Rattle.schema_contexts.specs.Rows.{AreWide, PutsBit, row_numbers, words_in}
 use Rattle.schema_contexts.specs.Verdicts.{Remembers}
 use Rattle.schema_contexts.proofs.Entering.{in_row, row_kept, some_place}

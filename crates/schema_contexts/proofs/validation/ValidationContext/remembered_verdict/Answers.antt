@@ -1,4 +1,4 @@
-use Rattle.std.proofs.Common.{◌≡◌, ◌∙◌, ◌<◌, ap, length, map, subst, sym}
+use Rattle.std.proofs.Common.{◌∙◌, ◌<◌, ap, length, map, subst, sym}
 use Rattle.schema_places.specs.Numbers.{place_at}
 use Rattle.schema_contexts.specs.ProgressViews.{pair_of}
 use Rattle.schema_contexts.specs.Progress.{Context, places_in, root_places}
