@@ -1,8 +1,9 @@
 -- What is told at once that a keyword asks says whether it holds.
-use Rattle.std.proofs.Common.{◌≡◌, ◌∙◌, ◌&&◌, ◌+◌, ◌-◌, ◌||◌, ◌∷◌, [], Bool, List, ap, arith, false, length, map, min, not, refl, string_bytes, suc, true, zero, ℕ}
+use Rattle.std.proofs.Common.{◌≡◌, ◌∙◌, ◌&&◌, ◌+◌, ◌-◌, ◌||◌, ◌∷◌, [], Bool, List, ap, arith, false, length, map, min, not, refl, string_bytes, true, ℕ}
+use Rattle.std.proofs.lemmas.List.Folds.{list_all-map}
 use Rattle.std.specs.List.{list_all, list_any}
 use Rattle.serde_json.specs.Data.{array, object}
-use Rattle.serde_json.specs.View.{items_view, members_view, view}
+use Rattle.serde_json.specs.View.{items_view, members_view}
 use Rattle.serde_json.specs.declared.value.Value.{Value}
 use Rattle.serde_json.proofs.Views.{Entry}
 use Rattle.schema_definitions.specs.Instance.{Subject, Text, a_value}
@@ -12,27 +13,16 @@ use Rattle.schema_definitions.specs.Matching.{Matching}
 use Rattle.schema_parts.specs.AskedAtOnce.{all_at_names, child_at, first_at_name, numbers_from}
 use Rattle.schema_parts.specs.AskedAtOnce as asked
 use Rattle.schema_parts.specs.KeywordViews.{is_nil}
-use Rattle.keyword_ways.specs.Items.{child_at_item, child_here, each_from, first_at_item, item_count, items_count}
+use Rattle.keyword_ways.specs.Items.{child_here, each_from}
 use Rattle.keyword_ways.specs.Members.{at_name, has_member, members_from, names_in, only_if, subject_names}
 use Rattle.keyword_ways.specs.Somes.{somes, with_some}
 use Rattle.keyword_ways.specs.Tallies.{counted, yes_count}
 use Rattle.keyword_ways.specs.Ways.{way_holds}
+use Rattle.keyword_ways.proofs.AskedAlike.{each_at_its_own, first_at_each, numbered_alike}
 use Rattle.schema_applicators.specs.ApplicatorShape.{has_all_of, has_any_of}
 use Rattle.schema_applicators.specs.Words.{if_none}
 use Rattle.bench_keywords.specs.BenchShape.{applies, has_items, has_prefix_items, has_properties, has_property_names}
 use Rattle.bench_keywords.specs.Words.{way}
-
-each_holds : (accepts : Question → Bool) (f : ℕ → Question) (i n : ℕ) → list_all accepts (each_from f i n) ≡ list_all (λ k. accepts (f k)) (numbers_from i n)
-each_holds accepts f i zero = refl
-each_holds accepts f i (suc n) = ap (λ b. accepts (f i) && b) (each_holds accepts f (i + 1) n)
-
-here_same : (i n : ℕ) → each_from child_here i n ≡ map asked.child_here (numbers_from i n)
-here_same i zero = refl
-here_same i (suc n) = ap (λ qs. child_here i ∷ qs) (here_same (i + 1) n)
-
-items_counted : (xs : List Value) → items_count (items_view xs) ≡ length xs
-items_counted [] = refl
-items_counted (x ∷ xs) = let h = items_counted xs in omega (arith, h)
 
 min_one : (n : ℕ) → min 1 (n + 1) ≡ 1
 min_one n = omega arith
@@ -63,23 +53,20 @@ names_hold accepts (e ∷ es) = ap (λ b. accepts (at_name (string_bytes e.0)) &
 
 module _ (texts : Bool) (s : Subject) (matching : Matching) (accepts : Question → Bool) where
   pub each_asked : (n : ℕ) → way_holds (way texts (applies (has_all_of n)) s) matching accepts ≡ list_all accepts (map asked.child_here (numbers_from 0 n))
-  each_asked n = ap (λ qs. list_all accepts qs) (here_same 0 n)
+  each_asked n = ap (list_all accepts) (numbered_alike child_here 0 n)
 
   pub one_asked : (n : ℕ) → way_holds (way texts (applies (has_any_of n)) s) matching accepts ≡ list_any accepts (map asked.child_here (numbers_from 0 n))
-  one_asked n = any_told _ accepts (each_from child_here 0 n) ∙ ap (λ qs. list_any accepts qs) (here_same 0 n)
+  one_asked n = any_told _ accepts (each_from child_here 0 n) ∙ ap (list_any accepts) (numbered_alike child_here 0 n)
 
   pub members_asked : (ks : List Text) → way_holds (way texts (has_properties ks) s) matching accepts ≡ all_at_names accepts s 0 ks
   members_asked ks = members_hold accepts s 0 ks
 
   module _ (items : List Value) (is : s ≡ a_value (array (items_view items))) where
-    count : item_count s ≡ length items
-    count = ap item_count is ∙ items_counted items
-
     pub items_asked : (n : ℕ) → way_holds (way texts (has_items n) s) matching accepts ≡ list_all (λ k. accepts (child_at 0 k)) (numbers_from n (length items - n))
-    items_asked n = each_holds accepts first_at_item n (item_count s - n) ∙ ap (λ (m : ℕ). list_all (λ k. accepts (child_at 0 k)) (numbers_from n (m - n))) count
+    items_asked n = ap (list_all accepts) (first_at_each s items is n) ∙ list_all-map accepts (child_at 0) (numbers_from n (length items - n))
 
     pub listed_asked : (n : ℕ) → way_holds (way texts (has_prefix_items n) s) matching accepts ≡ list_all (λ k. accepts (child_at k k)) (numbers_from 0 (min n (length items)))
-    listed_asked n = each_holds accepts child_at_item 0 (min n (item_count s)) ∙ ap (λ (m : ℕ). list_all (λ k. accepts (child_at k k)) (numbers_from 0 (min n m))) count
+    listed_asked n = ap (list_all accepts) (each_at_its_own s items is n) ∙ list_all-map accepts (λ k. child_at k k) (numbers_from 0 (min n (length items)))
 
   pub names_asked : (es : List Entry) → s ≡ a_value (object (members_view es)) → way_holds (way texts has_property_names s) matching accepts ≡ list_all (λ e. accepts (first_at_name (string_bytes e.0))) es
   names_asked es is = ap (λ t. list_all accepts (map at_name (subject_names t))) is ∙ names_hold accepts es

@@ -5,3 +5,4 @@ pub mod MemberNames
 pub mod MemberCounts
 pub mod AtOnce
 pub mod ToldTexts
+pub mod AskedAlike
