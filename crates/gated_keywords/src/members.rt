@@ -1,27 +1,18 @@
 //! The names of an instance's members.
-ghost use Rattle.std.specs.Prelude.{◌≡◌, IfOk, option_map};
+ghost use Rattle.std.specs.Prelude.{◌≡◌, IfOk};
 ghost use Rattle.serde_json.specs.View.{members_view};
 ghost use Rattle.schema_reports.specs.InstanceViews.{subject_of};
 ghost use Rattle.schema_parts.specs.KeywordViews.{is_nil};
-ghost use Rattle.keyword_ways.specs.Members.{names_in, names_of_any as names_of_members, subject_names};
+ghost use Rattle.keyword_ways.specs.Members.{names_in, subject_names};
 ghost use Rattle.gated_keywords.specs.GatedKeywords.{unlisted};
 
 use crate::listed::Listed;
 use crate::names::NamesLeft;
+use keyword_ways::members::members_of;
 use schema_reports::instance::Instance;
 use schema_reports::location::OutOfMemory;
 use serde_json::{Map, Value};
 use std::alloc::Global;
-
-/// The members of an instance, where it is an object.
-fn members_of<'i>(instance: Instance<'i>) -> Option<&'i Map<String, Value>>
-    ensures members { names_of_members (option_map (λ m. members_view m.now.entries) result) ≡ subject_names (subject_of instance.entry) }
-{
-    match instance {
-        Instance::Name(_) => None,
-        Instance::Value(value) => value.as_object(),
-    }
-}
 
 /// The names of an object's members.
 fn names_in(alloc: Global, members: &Map<String, Value>) -> Result<NamesLeft, OutOfMemory>

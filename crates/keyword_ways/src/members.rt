@@ -1,11 +1,11 @@
 //! Members of instances.
-ghost use Rattle.std.specs.Prelude.{◌≡◌, [], IfSome, is_some, slice_index_or};
+ghost use Rattle.std.specs.Prelude.{◌≡◌, [], IfSome, is_some, option_map, slice_index_or};
 ghost use Rattle.serde_json.specs.Data.{object};
 ghost use Rattle.serde_json.specs.Find.{get_member};
 ghost use Rattle.serde_json.specs.View.{members_view};
 ghost use Rattle.schema_definitions.specs.Instance.{a_value};
 ghost use Rattle.schema_reports.specs.InstanceViews.{subject_of};
-ghost use Rattle.keyword_ways.specs.Members.{has_member, is_object, member_count, name_at, names_in};
+ghost use Rattle.keyword_ways.specs.Members.{has_member, is_object, member_count, name_at, names_in, names_of_any, subject_names};
 
 use schema_reports::instance::Instance;
 use serde_json::{Map, Value};
@@ -87,6 +87,7 @@ pub fn name_at<'i>(instance: Instance<'i>, number: usize) -> &'i str
 #[inline(always)]
 pub fn members_of<'i>(instance: Instance<'i>) -> Option<&'i Map<String, Value>>
     ensures members { IfSome result (λ members. subject_of instance.entry ≡ a_value (object (members_view members.now.entries))) }
+    ensures names { names_of_any (option_map (λ m. members_view m.now.entries) result) ≡ subject_names (subject_of instance.entry) }
 {
     match instance {
         Instance::Name(_) => None,

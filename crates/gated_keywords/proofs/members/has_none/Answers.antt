@@ -8,5 +8,5 @@ use Rattle.gated_keywords.proofs.members.has_none.Goals as goal
 pub returns-in-Some : goal.returns-in-Some
 returns-in-Some c = record {
   none = empty_names c.in-Some.members.now.entries c.is_empty.result c.is_empty.ensures
-      ∙ ap is_nil (ap (λ o. names_of_any (option_map (λ m. members_view m.now.entries) o)) (sym c.in-Some.is) ∙ c.members_of.ensures.members);
+      ∙ ap is_nil (ap (λ o. names_of_any (option_map (λ m. members_view m.now.entries) o)) (sym c.in-Some.is) ∙ c.members_of.ensures.names);
 }
