@@ -1,7 +1,7 @@
 -- What a keyword tells at once that its run for the verdict asks of an instance, and how its verdict follows from the answers and from
 -- matches.
 use Rattle.std.specs.List.{list_all, list_any}
-use Rattle.std.specs.Prelude.{Bool, List, None, Option, Some, [], false, is_some, length, map, min, not, string_bytes, suc, true, zero, ℕ, ◌&&◌, ◌+◌, ◌-◌, ◌||◌, ◌∷◌, ◌≡◌}
+use Rattle.std.specs.Prelude.{Bool, List, [], false, is_some, length, map, min, not, string_bytes, suc, true, zero, ℕ, ◌&&◌, ◌+◌, ◌-◌, ◌||◌, ◌∷◌, ◌≡◌}
 use Rattle.serde_json.specs.Data.{array, object}
 use Rattle.serde_json.specs.View.{items_view, members_view}
 use Rattle.schema_definitions.specs.Instance.{Subject, Text, a_value, after_step, to_item, to_member, to_name}

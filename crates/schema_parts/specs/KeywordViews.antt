@@ -8,7 +8,6 @@ use Rattle.schema_reports.specs.UnitViews.{unit_of}
 use Rattle.schema_reports.specs.EvaluationResults.{gives_with}
 use Rattle.schema_definitions.specs.Keywords as spec
 use Rattle.schema_definitions.specs.Laws.{steps_below}
-use Rattle.schema_definitions.specs.Matching.{Pair}
 use Rattle.schema_parts.specs.declared.keyword.Mode.{Mode}
 use Rattle.schema_parts.specs.declared.keyword.Mode.TheVariants as mode
 use Rattle.schema_parts.specs.declared.keyword.Below.{Below}

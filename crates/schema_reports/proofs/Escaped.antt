@@ -4,7 +4,7 @@ use Rattle.std.proofs.lemmas.Bool.{cases_lt}
 use Rattle.std.proofs.lemmas.Bool.Decides.{nat_tests}
 use Rattle.std.proofs.lemmas.Str.{inside_one, encode_ascii, chars-encodes}
 use Rattle.std.specs.Str.{chars, IsUtf8}
-use Rattle.std.proofs.lemmas.List.{at_drop_more, at_drop_all, take_more, take_all}
+use Rattle.std.proofs.lemmas.List.{at_drop_more, at_drop_all, take_more}
 use lib.Utf8.{encode, encodes}
 use Rattle.schema_definitions.specs.Pointer.{escaped}
 
