@@ -5,7 +5,7 @@ ghost use Rattle.schema_parts.specs.KeywordViews.{reply_of};
 ghost use Rattle.law_tests.specs.BothOnce.{says_yes};
 
 use crate::refusals::tell;
-use schema_node::context::keyword::{Answer, Below, Marked, Mode, Reply, Step, Validate};
+use schema_parts::keyword::{Answer, Below, Marked, Mode, Reply, Step, Validate};
 use schema_reports::instance::Instance;
 use schema_reports::location::OutOfMemory;
 use std::alloc::Global;

@@ -6,7 +6,7 @@ ghost use Rattle.law_tests.specs.EachItem.{says_no};
 
 use crate::refusals::tell;
 use keyword_ways::items::item_count;
-use schema_node::context::keyword::{Answer, Below, Mode, Reply, Step, Validate};
+use schema_parts::keyword::{Answer, Below, Mode, Reply, Step, Validate};
 use schema_reports::instance::Instance;
 use schema_reports::location::OutOfMemory;
 use std::alloc::Global;

@@ -9,7 +9,7 @@ ghost use Rattle.law_tests.specs.EachName.{first_name, names_from};
 use crate::each_item::says_no;
 use crate::own_spot::OwnSpot;
 use crate::refusals::tell;
-use schema_node::context::keyword::{Answer, Mode, Reply, Step, Validate};
+use schema_parts::keyword::{Answer, Mode, Reply, Step, Validate};
 use schema_reports::instance::Instance;
 use schema_reports::location::OutOfMemory;
 use serde_json::{Map, Value};

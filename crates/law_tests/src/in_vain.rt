@@ -1,6 +1,6 @@
 //! A keyword that accepts every instance, and first asks its only child in vain: it drops what is replied. So its verdicts, errors
 //! and units are right whatever it asks for, and what it may ask for is left to the laws on that.
-use schema_node::context::keyword::{Answer, Below, Mode, Reply, Step, Validate};
+use schema_parts::keyword::{Answer, Below, Mode, Reply, Step, Validate};
 use schema_reports::instance::Instance;
 use schema_reports::location::OutOfMemory;
 use std::alloc::Global;

@@ -8,11 +8,9 @@ ghost use Rattle.law_tests.specs.ItemsTable.{AsksValue, Given, own_name};
 use crate::items::{ItemsKeyword, ItemsPlan};
 use keyword_ways::planned::Planned;
 use schema_keywords::keywords::{Draft, VocabularySet};
-use schema_node::context::schema_place::{SchemaPath, SchemaStep};
-use schema_node::context::table::{
-    KeywordOrigin, KeywordTable, MakerReply, MakerStep, PendingKind,
-};
-use schema_node::node::PendingSchemaNode;
+use schema_parts::numbers::PendingSchemaNode;
+use schema_parts::schema_place::{SchemaPath, SchemaStep};
+use schema_parts::table::{KeywordOrigin, KeywordTable, MakerReply, MakerStep, PendingKind};
 use schema_reports::location::OutOfMemory;
 use serde_json::{Map, Value};
 use std::alloc::Global;

@@ -3,7 +3,7 @@ ghost use Rattle.std.specs.Prelude.{◌≡◌};
 ghost use Rattle.schema_parts.specs.KeywordViews.{turn_of};
 ghost use Rattle.law_tests.specs.Marking.{after, first, shown};
 
-use schema_node::context::keyword::Step;
+use schema_parts::keyword::Step;
 
 /// What a run does in its next turn: it marks the number; it begins to work, as its mark was answered; it works; or it is over.
 #[derive(Clone, Copy)]

@@ -4,7 +4,7 @@ ghost use Rattle.schema_definitions.specs.Keywords.{match_text};
 ghost use Rattle.schema_parts.specs.KeywordViews.{turn_of};
 ghost use Rattle.law_tests.specs.OwnSpot.{is_plain, name_point};
 
-use schema_node::context::keyword::{Below, Spot, SpotMatch, Step};
+use schema_parts::keyword::{Below, Spot, SpotMatch, Step};
 use std::alloc::Global;
 
 /// A match at the keyword itself, shown with evaluation path and place. Its spot owns all that it holds.

@@ -5,7 +5,7 @@ ghost use Rattle.schema_parts.specs.FaultViews.{faults_in, PassesBorrowed};
 ghost use Rattle.schema_parts.specs.KeywordViews.{answer_of, fault_of};
 ghost use Rattle.law_tests.specs.Refusals.{refusal, refused_in, told};
 
-use schema_node::context::keyword::{Answer, Fault, Found, OwnError};
+use schema_parts::keyword::{Answer, Fault, Found, OwnError};
 use schema_reports::evaluation::ErrorDescription;
 use schema_reports::evaluation_result::EvaluationResult;
 use schema_reports::location::OutOfMemory;

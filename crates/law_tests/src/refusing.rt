@@ -1,6 +1,6 @@
 //! A keyword that refuses every instance. Its run has no state at all: a turn reads the mode off the answer.
 use crate::refusals::tell;
-use schema_node::context::keyword::{Answer, Mode, Reply, Step, Validate};
+use schema_parts::keyword::{Answer, Mode, Reply, Step, Validate};
 use schema_reports::instance::Instance;
 use schema_reports::location::OutOfMemory;
 use std::alloc::Global;
