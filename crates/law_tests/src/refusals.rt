@@ -17,12 +17,14 @@ fn refusal<'i>(alloc: Global) -> Result<Fault<'i>, OutOfMemory>
     ensures refusal { IfOk result (λ fault. (texts : Bool) → fault_of texts fault ≡ refusal texts) }
     ensures borrows { IfOk result (λ fault. (root : Data) → PassesBorrowed root fault) }
 {
+    let keyword = String::from_str(alloc, "refusal")?;
+    let text = String::from_str(alloc, "is refused")?;
     Ok(Fault::Own(OwnError {
         absorbed: None,
         path: String::new(alloc),
         below: Vec::new(alloc),
-        keyword: String::from_str(alloc, "refusal")?,
-        text: String::from_str(alloc, "is refused")?,
+        keyword,
+        text,
     }))
 }
 
