@@ -4,7 +4,8 @@ use crate::asking::tell_by;
 use crate::failing_matcher_tests::{FAILURES, WANTING, tell_failure, tell_wanting};
 use crate::growing_tests::{GROWING, tell_growing};
 use crate::leaf_tests::{LEAVES, tell_leaf};
-use crate::mark_tests::{MARKS, MarkingTable};
+use crate::mark_tests::MARKS;
+use crate::program_tests::{ANSWERS, FAULTS, WRITES, tell_program};
 use crate::reservation_tests::{RESERVATIONS, tell_numbers};
 use crate::vocabulary_tests::{VOCABULARIES, tell_names};
 use bench_keywords::keyword::BenchKeyword;
@@ -17,6 +18,7 @@ use law_tests::items_table::ItemsTable;
 use schema_reports::location::OutOfMemory;
 use serde_json::Value;
 use std::alloc::Global;
+use test_parts::marking_table::MarkingTable;
 
 /// What the rows of a table are about.
 #[derive(Clone, Copy)]
@@ -25,6 +27,7 @@ pub(crate) enum Rows {
     Growing,
     Leaves,
     Marks,
+    Program,
     Reservations,
     Retries,
     Vocabularies,
@@ -45,6 +48,7 @@ fn tell(alloc: Global, rows: Rows, row: &Value, log: &mut String) -> Result<(), 
             row,
             log,
         ),
+        Rows::Program => tell_program(alloc, row, log),
         Rows::Reservations => {
             tell_numbers::<ItemsKeyword, ItemsTable>(alloc, &ItemsTable {}, row, log)
         }
@@ -73,11 +77,14 @@ pub(crate) fn wrong(
 }
 
 /// The tables, each with what its rows are about, and with its name. Each says why its rows are none of `check_rows`.
-const TABLES: [(Rows, &str, &str); 7] = [
+const TABLES: [(Rows, &str, &str); 10] = [
     (Rows::Failures, "failures", FAILURES),
     (Rows::Growing, "growing", GROWING),
     (Rows::Leaves, "leaves", LEAVES),
     (Rows::Marks, "marks", MARKS),
+    (Rows::Program, "answers", ANSWERS),
+    (Rows::Program, "faults", FAULTS),
+    (Rows::Program, "writes", WRITES),
     (Rows::Reservations, "reservations", RESERVATIONS),
     (Rows::Vocabularies, "vocabularies", VOCABULARIES),
     (Rows::Wanting, "wanting", WANTING),

@@ -1,6 +1,6 @@
-//! Tests that ask no validator, of what no clause says: what the program `engine_bench` writes, what a `Context` tells a table's makers,
-//! how many evaluation paths are kept, the standard's keywords as they are published, numbers and equality of values, sizes in bytes, and
-//! public calls that nothing else makes. A row begins with the text that is to be told of it.
+//! Tests that need no engine, of what no clause says: what a `Context` tells a table's makers, how many evaluation paths are kept, the
+//! standard's keywords as they are published, numbers and equality of values, sizes in bytes, and public calls that nothing else makes.
+//! A row begins with the text that is to be told of it.
 #![tactic(auto)]
 
 #[cfg(test)]
@@ -13,8 +13,6 @@ mod json_value_tests;
 mod kept_path_tests;
 #[cfg(test)]
 mod keyword_table_tests;
-#[cfg(test)]
-mod program_tests;
 #[cfg(test)]
 mod rows;
 #[cfg(test)]

@@ -4,7 +4,6 @@ use crate::context_tests::{CONTEXTS, tell_context};
 use crate::json_value_tests::{VALUES, tell_values};
 use crate::kept_path_tests::{KEPT, tell_kept};
 use crate::keyword_table_tests::{KEYWORDS, tell_keyword};
-use crate::program_tests::{ANSWERS, FAULTS, WRITES, tell_program};
 use case_rows::tables::{wanted_of, wrong_row};
 use schema_reports::location::OutOfMemory;
 use serde_json::Value;
@@ -16,7 +15,6 @@ enum Rows {
     Contexts,
     Kept,
     Keywords,
-    Program,
     Values,
 }
 
@@ -26,7 +24,6 @@ fn tell(alloc: Global, rows: Rows, row: &Value, log: &mut String) -> Result<(), 
         Rows::Contexts => tell_context(alloc, row, log),
         Rows::Kept => tell_kept(alloc, row, log),
         Rows::Keywords => tell_keyword(alloc, row, log),
-        Rows::Program => tell_program(alloc, row, log),
         Rows::Values => tell_values(alloc, row, log),
     }
 }
@@ -41,13 +38,10 @@ fn is_right(alloc: Global, rows: Rows, row: &Value) -> Result<bool, OutOfMemory>
 }
 
 /// The tables, each with what its rows are about, and with its name.
-const TABLES: [(Rows, &str, &str); 7] = [
+const TABLES: [(Rows, &str, &str); 4] = [
     (Rows::Contexts, "contexts", CONTEXTS),
     (Rows::Kept, "kept paths", KEPT),
     (Rows::Keywords, "keywords", KEYWORDS),
-    (Rows::Program, "answers", ANSWERS),
-    (Rows::Program, "faults", FAULTS),
-    (Rows::Program, "writes", WRITES),
     (Rows::Values, "values", VALUES),
 ];
 

@@ -37,15 +37,24 @@ fn is_valid_of_one(alloc: Global) -> Result<bool, OutOfMemory> {
 }
 
 /// Whether a match that was met is known, and comes out as no where it is met again.
-fn is_known_then(alloc: Global) -> Result<bool, OutOfMemory> {
-    let mut met = MatchAssumptions::new(alloc);
-    let site = MatchSite::schema(Location::new(alloc));
-    met.resolve("p", "s", Reason::Engine, site)?;
+fn comes_out_again(alloc: Global, met: &mut MatchAssumptions<'_>) -> Result<bool, OutOfMemory> {
     if !met.is_unfinished("p", "s") {
         return Ok(false);
     }
     let again = MatchSite::schema(Location::new(alloc));
     Ok(!met.resolve_unfinished("p", "s", again)?)
+}
+
+/// The same, once it has been met.
+fn is_known_then(alloc: Global) -> Result<bool, OutOfMemory> {
+    let mut met = MatchAssumptions::new(alloc);
+    let site = MatchSite::schema(Location::new(alloc));
+    let known = match met.resolve("p", "s", Reason::Engine, site) {
+        Ok(_) => comes_out_again(alloc, &mut met),
+        Err(failed) => Err(failed),
+    };
+    drop(met);
+    known
 }
 
 #[test]

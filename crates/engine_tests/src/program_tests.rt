@@ -7,42 +7,13 @@ use case_rows::tables::{column, list_at, number_at};
 use schema_reports::location::OutOfMemory;
 use serde_json::Value;
 use std::alloc::Global;
-use std::env::{Env, FillError};
-use std::io;
-use std::io::{ErrorKind, Write};
 use std::slice::from_ref;
-
-/// A writer that takes so many bytes, one at a time, and then refuses; its flush refuses where that is said.
-#[derive(Drop)]
-struct Narrow {
-    taken: Vec<u8>,
-    room: usize,
-    flushes: bool,
-}
-
-impl Write for Narrow {
-    fn write(&mut self, buf: &[u8]) -> io::Result<usize> {
-        let Some(byte) = buf.first() else {
-            return Ok(0);
-        };
-        if self.taken.len() >= self.room || self.taken.push(*byte).is_err() {
-            return Err(io::Error::from(ErrorKind::BrokenPipe));
-        }
-        Ok(1)
-    }
-
-    fn flush(&mut self) -> io::Result<()> {
-        if self.flushes {
-            Ok(())
-        } else {
-            Err(io::Error::from(ErrorKind::BrokenPipe))
-        }
-    }
-}
+use test_parts::narrow_writer::NarrowWriter;
+use test_parts::two_words::TwoWords;
 
 /// The writer of a row: column 3 is how many bytes it takes, if they are not all, and column 4 whether its flush refuses.
-fn writer_of(alloc: Global, row: &Value) -> Narrow {
-    Narrow {
+fn writer_of(alloc: Global, row: &Value) -> NarrowWriter {
+    NarrowWriter {
         taken: Vec::new(alloc),
         room: number_at(row, 3).unwrap_or(usize::MAX),
         flushes: column(row, 4).as_bool() != Some(false),
@@ -119,35 +90,6 @@ pub(crate) fn tell_program(
         push_run(alloc, row, words.as_slice(), log)?;
     }
     Ok(())
-}
-
-/// A process that is given its name and two words, the second long and not UTF-8.
-#[derive(Drop)]
-struct TwoWords {}
-
-impl Env for TwoWords {
-    fn arg(&self, i: usize, buf: &mut [u8]) -> Result<usize, FillError> {
-        if i == 1 && buf.len() >= 1 {
-            buf[0] = 97;
-            return Ok(1);
-        }
-        if i == 2 {
-            if buf.len() < 300 {
-                return Err(FillError::TooLong);
-            }
-            buf[299] = 255;
-            return Ok(300);
-        }
-        Err(FillError::NotPresent)
-    }
-
-    fn var(&self, _name: &str, _buf: &mut [u8]) -> Result<usize, FillError> {
-        Err(FillError::NotPresent)
-    }
-
-    fn var_at(&self, _i: usize, _buf: &mut [u8]) -> Result<usize, FillError> {
-        Err(FillError::NotPresent)
-    }
 }
 
 #[test]

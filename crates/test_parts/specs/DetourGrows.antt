@@ -6,7 +6,7 @@ use Rattle.bench_keywords.specs.BenchShape.{says_monotone}
 use Rattle.bench_keywords.specs.Grows.{bench_grows, bench_hands_units_on}
 use Rattle.bench_keywords.specs.Laws.{none_absorbed}
 use Rattle.bench_keywords.specs.Words.{words}
-use Rattle.engine_tests.specs.Detours.{Detour, detour_words, nothing_absorbed}
+use Rattle.test_parts.specs.Detours.{Detour, detour_words, nothing_absorbed}
 
 pub detour_grows : (texts : Bool) (m : Detour) → says_monotone m.1 ≡ true → IsMonotone (detour_words texts) m
 detour_grows texts m h s matches a b where_yes holds = bench_grows texts m.1 h s matches a b where_yes holds

@@ -5,7 +5,7 @@ use Rattle.schema_definitions.specs.Keywords.{Answer, Reply, for_verdict, no_rep
 use Rattle.schema_definitions.specs.Remembering.{AlwaysAsksVerdict, EachAsksVerdicts}
 use Rattle.schema_parts.specs.KeywordViews.{fresh}
 use Rattle.bench_keywords.specs.declared.names.NamesRun.{NamesRun}
-use Rattle.engine_tests.specs.Detours.{Detour, detour_words, matches_before}
+use Rattle.test_parts.specs.Detours.{Detour, detour_words, matches_before}
 use Rattle.bench_keywords.specs.Words.{run_way, words}
 use Rattle.keyword_ways.specs.WayVerdicts.{WantsVerdict, step_for_verdict}
 

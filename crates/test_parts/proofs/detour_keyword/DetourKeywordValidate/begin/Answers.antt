@@ -1,8 +1,8 @@
 use Rattle.std.proofs.Common.{ℕ, ◌≡◌}
 use Rattle.schema_definitions.specs.Keywords.{Answer}
 use Rattle.bench_keywords.specs.declared.names.NamesRun.{NamesRun}
-use Rattle.engine_tests.specs.Detours.{Detouring}
-use Rattle.engine_tests.proofs.leaf_tests.DetourKeywordValidate.begin.Goals as goal
+use Rattle.test_parts.specs.Detours.{Detouring}
+use Rattle.test_parts.proofs.detour_keyword.DetourKeywordValidate.begin.Goals as goal
 
 both : (left before : ℕ) (run own : NamesRun × Answer) → before ≡ left → run ≡ own → ◌≡◌ {A = Detouring × Answer} ((left, run.0), run.1) ((before, own.0), own.1)
 both left before run own e f = cc

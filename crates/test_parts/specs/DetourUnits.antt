@@ -5,7 +5,7 @@ use Rattle.schema_definitions.specs.Keywords.{Answer, Reply, no_reply}
 use Rattle.schema_parts.specs.KeywordViews.{fresh}
 use Rattle.schema_parts.specs.UnitQuestions.{AlwaysAsksForLess, AsksNoUnits}
 use Rattle.bench_keywords.specs.declared.names.NamesRun.{NamesRun}
-use Rattle.engine_tests.specs.Detours.{Detour, detour_words, matches_before}
+use Rattle.test_parts.specs.Detours.{Detour, detour_words, matches_before}
 use Rattle.bench_keywords.specs.Words.{run_way, words}
 use Rattle.keyword_ways.specs.WayUnits.{WantsNone, mode-kept, step_for_less}
 

@@ -1,0 +1,159 @@
+//! A keyword that asks for more matches when it is asked for errors than when it is asked for the verdict.
+ghost use Rattle.std.specs.Prelude.{◌≡◌, map, string_bytes};
+ghost use Rattle.schema_reports.specs.InstanceViews.{subject_of};
+ghost use Rattle.schema_parts.specs.KeywordViews.{mode_of, turn_of};
+ghost use Rattle.test_parts.specs.Detours.{match_at, matches_before, pattern_at, text_in};
+
+use bench_keywords::keyword::BenchKeyword;
+use bench_keywords::names::NamesRun;
+use bench_keywords::texts::text_of;
+use schema_parts::keyword::{Answer, Mode, Reply, Step, Validate};
+use schema_reports::instance::Instance;
+use schema_reports::location::OutOfMemory;
+use std::alloc::Global;
+use std::marker::Model;
+
+/// A keyword that goes a detour: where errors are wanted, it first asks whether each of these patterns matches the instance,
+/// and drops the replies. Then it goes on as the keyword that it stands for.
+#[derive(Drop)]
+pub struct DetourKeyword {
+    /// The patterns of the detour; the last is asked first.
+    pub patterns: Vec<String>,
+    /// The keyword that it stands for.
+    pub keyword: BenchKeyword,
+}
+
+/// What is known of a keyword apart from its representation; it holds no value.
+#[derive(Drop)]
+pub struct DetourShape {}
+
+impl Model for DetourShape {
+    ghost use Rattle.std.specs.Prelude.{[]};
+    ghost use Rattle.bench_keywords.specs.BenchShape.{requires};
+    ghost use Rattle.test_parts.specs.Detours.{Detour};
+
+    ghost Value = { Detour };
+
+    ghost view = { λ _. ([], requires []) };
+}
+
+/// How many matches come first.
+fn matches_before(patterns: &[String], mode: Mode) -> usize
+    ensures before { result ≡ matches_before (map string_bytes patterns.now) (mode_of mode) }
+{
+    match mode {
+        Mode::Verdict => 0,
+        Mode::First => patterns.len(),
+        Mode::All => patterns.len(),
+        Mode::Evaluate => 0,
+    }
+}
+
+/// The pattern of this place.
+fn pattern_at(patterns: &[String], index: usize) -> &str
+    ensures pattern { result.now ≡ pattern_at (map string_bytes patterns.now) index }
+{
+    match patterns.get(index) {
+        Some(pattern) => pattern.as_str(),
+        None => "",
+    }
+}
+
+/// The text that an instance is, or else an empty one.
+fn text_or_empty<'i>(instance: Instance<'i>) -> &'i str
+    ensures text { result.now ≡ text_in (subject_of instance.entry) }
+{
+    match text_of(instance) {
+        Some(text) => text,
+        None => "",
+    }
+}
+
+/// The match where so many are left after it.
+fn match_at<'s>(patterns: &'s [String], text: &'s str, left: usize) -> Step<'s>
+    ensures asks { turn_of result ≡ match_at (map string_bytes patterns.now) text.now left }
+{
+    let pattern = pattern_at(patterns, left);
+    Step::Match(pattern, text, true)
+}
+
+impl Validate for DetourKeyword {
+    ghost use Rattle.test_parts.specs.DetourGrows.{detour_grows, detour_hands_on};
+    ghost use Rattle.test_parts.specs.DetourUnits.{detour_asks_no_units};
+    ghost use Rattle.test_parts.specs.DetourVerdicts.{detour_asks_verdicts};
+    ghost use Rattle.std.specs.Prelude.{map, refl, string_bytes};
+    ghost use Rattle.bench_keywords.specs.BenchShape.{is_whole, says_monotone};
+    ghost use Rattle.bench_keywords.specs.Shapes.{shape_of};
+    ghost use Rattle.test_parts.specs.Detours.{detour_ends, detour_fits, detour_functions, detour_left, detour_turns, detour_words};
+    ghost use Rattle.test_parts.specs.Detours.{detour_can, nothing_absorbed};
+
+    type Run = (usize, NamesRun);
+
+    type Shape = DetourShape;
+
+    ghost words = { detour_words };
+
+    ghost shape = { λ k. (map string_bytes k.patterns.items, shape_of k.keyword) };
+
+    ghost absorbed = { nothing_absorbed };
+
+    ghost is_whole = { λ m. is_whole m.1 };
+
+    ghost says_monotone = { λ m. says_monotone m.1 };
+
+    ghost remaining = { detour_left };
+
+    ghost can_be = { detour_can };
+
+    ghost ends = { detour_ends };
+
+    ghost fits = { detour_fits };
+
+    fn begin(
+        &self,
+        alloc: Global,
+        instance: Instance,
+        mode: Mode,
+    ) -> Result<(usize, NamesRun), OutOfMemory> {
+        let own = self.keyword.begin(alloc, instance, mode)?;
+        Ok((matches_before(self.patterns.as_slice(), mode), own))
+    }
+
+    fn turn<'s, 'i: 's>(
+        &'s self,
+        alloc: Global,
+        run: &mut (usize, NamesRun),
+        instance: Instance<'i>,
+        reply: Reply<'i>,
+        answer: &mut Answer<'i>,
+    ) -> Result<Step<'s>, OutOfMemory> {
+        if run.0 == 0 {
+            return self
+                .keyword
+                .turn(alloc, &mut run.1, instance, reply, answer);
+        }
+        run.0 -= 1;
+        let text = text_or_empty(instance);
+        Ok(match_at(self.patterns.as_slice(), text, run.0))
+    }
+
+    fn monotone(&self) -> bool {
+        self.keyword.monotone()
+    }
+
+    ghost speaks = { λ texts. refl };
+
+    ghost answers = { λ texts run a. refl };
+
+    ghost turn_laws = { detour_turns };
+
+    ghost function_laws = { detour_functions };
+
+    ghost grows = { detour_grows };
+
+    ghost hands_units_on = { detour_hands_on };
+
+    ghost asks_no_units = { detour_asks_no_units };
+
+    ghost asks_verdicts = { detour_asks_verdicts };
+}

@@ -1,0 +1,65 @@
+//! A matcher whose engine fails, and which once wants memory, at a question of its own choice.
+use schema_matches::site::{Match, Reason};
+use schema_parts::matcher::Matcher;
+use schema_reports::location::OutOfMemory;
+use std::alloc::{AllocError, Global};
+use std::cell::Cell;
+
+/// A matcher that leaves every match unfinished, since its engine fails. It counts down to the question at which it wants memory, where
+/// that is not 0, and once it has wanted memory it fails as before.
+#[derive(Drop)]
+pub struct FailingMatcher {
+    /// How many questions are left until memory is wanted, the one at which it is wanted counted too; 0 where it is wanted at none.
+    pub left: Cell<usize>,
+}
+
+impl FailingMatcher {
+    /// Whether memory is wanted at this question.
+    fn wants_memory(&self) -> bool {
+        let left = self.left.get();
+        self.left.set(left.saturating_sub(1));
+        left == 1
+    }
+}
+
+impl Clone for FailingMatcher {
+    ghost use Rattle.std.specs.Prelude.{⊤};
+
+    // (how far it has counted down is nothing that contracts see)
+    ghost is_clone = { λ m n. ⊤ };
+
+    fn clone(&self) -> Result<FailingMatcher, AllocError> {
+        Ok(FailingMatcher {
+            left: Cell::new(self.left.get()),
+        })
+    }
+}
+
+impl Matcher for FailingMatcher {
+    ghost use Rattle.std.specs.Prelude.{refl, true};
+    ghost use Rattle.schema_definitions.specs.Matching.{engine, unfinished};
+
+    ghost matching = { λ _. record { is_match = λ p s. unfinished engine; is_ecma = λ p. true } };
+
+    fn is_match(
+        &self,
+        _alloc: Global,
+        _pattern: &str,
+        _subject: &str,
+    ) -> Result<Match, OutOfMemory> {
+        if self.wants_memory() {
+            return Err(AllocError);
+        }
+        Ok(Match::Unfinished(Reason::Engine))
+    }
+
+    fn is_valid_ecma_regex(&self, _alloc: Global, _pattern: &str) -> Result<bool, OutOfMemory> {
+        Ok(true)
+    }
+
+    fn finishes(&self) -> bool {
+        false
+    }
+
+    ghost cloned = { λ m n same. refl };
+}
