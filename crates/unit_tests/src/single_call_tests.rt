@@ -9,12 +9,21 @@ use schema_reports::location::{Location, OutOfMemory};
 use serde_json::Value;
 use std::alloc::Global;
 
-/// How many nodes there are once one refuses and one has no entry.
-fn count_nodes(alloc: Global) -> Result<usize, OutOfMemory> {
-    let mut nodes: Nodes<usize> = Nodes::new(alloc);
+/// Adds a node that refuses, and one that has no entry.
+fn add_two(alloc: Global, nodes: &mut Nodes<usize>) -> Result<(), OutOfMemory> {
     let _never = nodes.from_boolean(Location::new(alloc), None, 0, false)?;
     let _empty = nodes.from_array(Location::new(alloc), None, 0, Vec::new(alloc))?;
-    Ok(nodes.len())
+    Ok(())
+}
+
+/// How many nodes there are then.
+fn count_nodes(alloc: Global) -> Result<usize, OutOfMemory> {
+    let mut nodes: Nodes<usize> = Nodes::new(alloc);
+    let added = add_two(alloc, &mut nodes);
+    let count = nodes.len();
+    drop(nodes);
+    added?;
+    Ok(count)
 }
 
 /// Whether the result of one valid unit is valid.
