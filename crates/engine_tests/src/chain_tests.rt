@@ -6,22 +6,34 @@ use serde_json::Value;
 use std::alloc::Global;
 
 /// Adds the definitions of a chain: each refers to the next, and the last is of texts.
-fn push_chain(alloc: Global, count: u16, text: &mut String) -> Result<(), OutOfMemory> {
+fn push_chain(count: u16, text: &mut String) -> Result<(), OutOfMemory> {
     for number in 0..count {
         let next = number.saturating_add(1);
-        let link = format!(in alloc; r##""c{number}":{{"$ref":"#/$defs/c{next}"}},"##)?;
-        text.push_str(link.as_str())?;
+        write!(text, r##""c{number}":{{"$ref":"#/$defs/c{next}"}},"##)?;
     }
-    let end = format!(in alloc; r##""c{count}":{{"type":"string"}}"##)?;
-    text.push_str(end.as_str())
+    write!(text, r##""c{count}":{{"type":"string"}}"##)
 }
 
-/// A row that asks a chain of so many references of the number 1.
+/// Adds a row that asks a chain of so many references of the number 1.
+fn push_row(references: u16, text: &mut String) -> Result<(), OutOfMemory> {
+    text.push_str(r##"["",{"$ref":"#/$defs/c0","$defs":{"##)?;
+    push_chain(references, text)?;
+    text.push_str("}},1]")
+}
+
+/// The row.
 fn row_of(alloc: Global, references: u16) -> Result<Value, serde_json::Error> {
-    let mut text = String::from_str(alloc, r##"["",{"$ref":"#/$defs/c0","$defs":{"##)?;
-    push_chain(alloc, references, &mut text)?;
-    text.push_str("}},1]")?;
+    let mut text = String::new(alloc);
+    push_row(references, &mut text)?;
     Value::from_str(alloc, text.as_str())
+}
+
+/// The list of such a chain.
+fn list_of_chain(alloc: Global, references: u16) -> Result<Value, serde_json::Error> {
+    let row = row_of(alloc, references)?;
+    let list = listed(alloc, &row);
+    drop(row);
+    Ok(list?)
 }
 
 /// The units of a list.
@@ -42,13 +54,18 @@ fn tells(units: &[Value], count: usize, path: &str) -> bool {
     units.len() == count && refused.count() == 1 && last == Some(path)
 }
 
-#[test]
-fn a_thousand_references_are_listed(rt: HostRuntime) -> Result<(), serde_json::Error> {
-    let alloc = rt.alloc();
+/// Whether 1002 units are listed, the last of them below a thousand references.
+fn tells_chain(alloc: Global, list: &Value) -> Result<bool, OutOfMemory> {
     let mut path = "/$ref".repeat(alloc, 1000)?;
     path.push_str("/type")?;
-    let row = row_of(alloc, 999)?;
-    let list = listed(alloc, &row)?;
-    assert!(rt; tells(units_of(&list), 1002, path.as_str()));
+    Ok(tells(units_of(list), 1002, path.as_str()))
+}
+
+#[test]
+fn a_thousand_references_are_listed(rt: HostRuntime) -> Result<(), serde_json::Error> {
+    let list = list_of_chain(rt.alloc(), 999)?;
+    let told = tells_chain(rt.alloc(), &list);
+    drop(list);
+    assert!(rt; told?);
     Ok(())
 }

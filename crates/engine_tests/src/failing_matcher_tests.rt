@@ -1,6 +1,6 @@
 //! A matcher whose engine fails, and which once wants memory, at a question of its own choice. The matcher of the rows of `check_rows`
 //! does neither.
-use crate::asking::{push_answers, push_refusal};
+use crate::asking::{built, push_answers, push_refusal};
 use bench_keywords::keyword::BenchKeyword;
 use bench_parts::meta::BenchMeta;
 use bench_parts::table::BenchTable;
@@ -97,8 +97,22 @@ fn push_again<K: Validate, M: Matcher>(
     push_four(alloc, validator, instance, log)
 }
 
-/// Adds what the validator of a row's schema answers of its instance, with the matcher that wants memory at the question whose number
-/// is in column 3, and then again.
+/// Adds what the validator of a row's schema answers so of its instance, or why there is none.
+fn tell_again<K: Validate, T: KeywordTable<K>, R: Resolver, M: Matcher>(
+    alloc: Global,
+    table: &T,
+    resolver: &R,
+    matcher: &M,
+    row: &Value,
+    log: &mut String,
+) -> Result<(), OutOfMemory> {
+    match built::<K, T, R, M>(alloc, table, resolver, matcher, row) {
+        Ok(validator) => push_again(alloc, &validator, column(row, 2), log),
+        Err(error) => push_refusal(&error, log),
+    }
+}
+
+/// The same with the matcher that wants memory at the question whose number is in column 4.
 pub(crate) fn tell_wanting(
     alloc: Global,
     row: &Value,
@@ -106,59 +120,55 @@ pub(crate) fn tell_wanting(
 ) -> Result<(), OutOfMemory> {
     let resolver = BenchResolver::new(alloc, column(row, 1), VocabularySet::new(alloc))?;
     let matcher = FailingMatcher {
-        left: Cell::new(number_at(row, 3).unwrap_or(0)),
+        left: Cell::new(number_at(row, 4).unwrap_or(0)),
     };
-    let built = Validator::<BenchKeyword, FailingMatcher>::new(
+    let told = tell_again::<BenchKeyword, BenchTable, BenchResolver, FailingMatcher>(
         alloc,
-        column(row, 1),
         &BenchTable {},
         &resolver,
         &matcher,
-        &BenchMeta {},
+        row,
+        log,
     );
-    let told = match built {
-        Ok(validator) => push_again(alloc, &validator, column(row, 2), log),
-        Err(error) => push_refusal(&error, log),
-    };
     drop(resolver);
     told
 }
 
-// What is answered until memory is wanted, and then when it is asked again; schema, instance, and the question at which it is wanted. Of
-// the list the verdict takes 8 questions, the first error 21, all errors 23 and the evaluation 21; of the first text each call takes 5. Of
-// the second each run asks for all six matches, which come out in more ways than a call looks at: so each call takes 384 questions
-// exactly if it makes 64 runs.
+// What is answered until memory is wanted, and then when it is asked again; schema, instance, nothing, and the question at which it is
+// wanted. Of the list the verdict takes 8 questions, the first error 21, all errors 23 and the evaluation 21; of the first text each call
+// takes 5. Of the second each run asks for all six matches, which come out in more ways than a call looks at: so each call takes 384
+// questions exactly if it makes 64 runs.
 pub(crate) const WANTING: &str = r##"[
 ["!no: Regex engine failed to evaluate pattern 'q'; Regex engine failed to evaluate pattern 'q'; invalid",
- {"items":{"pattern":"q"}}, ["a", "b"], 1],
+ {"items":{"pattern":"q"}}, ["a", "b"], null, 1],
 ["!no: Regex engine failed to evaluate pattern 'q'; Regex engine failed to evaluate pattern 'q'; invalid",
- {"items":{"pattern":"q"}}, ["a", "b"], 8],
+ {"items":{"pattern":"q"}}, ["a", "b"], null, 8],
 ["no!no: Regex engine failed to evaluate pattern 'q'; Regex engine failed to evaluate pattern 'q'; invalid",
- {"items":{"pattern":"q"}}, ["a", "b"], 9],
+ {"items":{"pattern":"q"}}, ["a", "b"], null, 9],
 ["no!no: Regex engine failed to evaluate pattern 'q'; Regex engine failed to evaluate pattern 'q'; invalid",
- {"items":{"pattern":"q"}}, ["a", "b"], 29],
+ {"items":{"pattern":"q"}}, ["a", "b"], null, 29],
 ["no: Regex engine failed to evaluate pattern 'q'; Regex engine failed to evaluate pattern 'q'; invalid",
- {"items":{"pattern":"q"}}, ["a", "b"], 74],
-["!yes; valid", {"anyOf":[{"pattern":"q"},{"not":{"pattern":"q"}}]}, "a", 1],
-["!yes; valid", {"anyOf":[{"pattern":"q"},{"not":{"pattern":"q"}}]}, "a", 5],
-["yes!yes; valid", {"anyOf":[{"pattern":"q"},{"not":{"pattern":"q"}}]}, "a", 6],
-["yes!yes; valid", {"anyOf":[{"pattern":"q"},{"not":{"pattern":"q"}}]}, "a", 10],
-["yes!yes; valid", {"anyOf":[{"pattern":"q"},{"not":{"pattern":"q"}}]}, "a", 11],
-["yes!yes; valid", {"anyOf":[{"pattern":"q"},{"not":{"pattern":"q"}}]}, "a", 15],
-["yes!yes; valid", {"anyOf":[{"pattern":"q"},{"not":{"pattern":"q"}}]}, "a", 16],
-["yes!yes; valid", {"anyOf":[{"pattern":"q"},{"not":{"pattern":"q"}}]}, "a", 20],
-["yes; valid", {"anyOf":[{"pattern":"q"},{"not":{"pattern":"q"}}]}, "a", 21],
+ {"items":{"pattern":"q"}}, ["a", "b"], null, 74],
+["!yes; valid", {"anyOf":[{"pattern":"q"},{"not":{"pattern":"q"}}]}, "a", null, 1],
+["!yes; valid", {"anyOf":[{"pattern":"q"},{"not":{"pattern":"q"}}]}, "a", null, 5],
+["yes!yes; valid", {"anyOf":[{"pattern":"q"},{"not":{"pattern":"q"}}]}, "a", null, 6],
+["yes!yes; valid", {"anyOf":[{"pattern":"q"},{"not":{"pattern":"q"}}]}, "a", null, 10],
+["yes!yes; valid", {"anyOf":[{"pattern":"q"},{"not":{"pattern":"q"}}]}, "a", null, 11],
+["yes!yes; valid", {"anyOf":[{"pattern":"q"},{"not":{"pattern":"q"}}]}, "a", null, 15],
+["yes!yes; valid", {"anyOf":[{"pattern":"q"},{"not":{"pattern":"q"}}]}, "a", null, 16],
+["yes!yes; valid", {"anyOf":[{"pattern":"q"},{"not":{"pattern":"q"}}]}, "a", null, 20],
+["yes; valid", {"anyOf":[{"pattern":"q"},{"not":{"pattern":"q"}}]}, "a", null, 21],
 ["!no: Regex engine failed to evaluate pattern 'd'; Regex engine failed to evaluate pattern 'd'; invalid",
  {"allOf":[{"anyOf":[{"pattern":"d"},true]}, {"anyOf":[{"pattern":"e"},true]}, {"anyOf":[{"pattern":"f"},true]},
-  {"anyOf":[{"pattern":"g"},true]}, {"anyOf":[{"pattern":"h"},true]}, {"anyOf":[{"pattern":"i"},true]}]}, "abc", 384],
+  {"anyOf":[{"pattern":"g"},true]}, {"anyOf":[{"pattern":"h"},true]}, {"anyOf":[{"pattern":"i"},true]}]}, "abc", null, 384],
 ["no!no: Regex engine failed to evaluate pattern 'd'; Regex engine failed to evaluate pattern 'd'; invalid",
  {"allOf":[{"anyOf":[{"pattern":"d"},true]}, {"anyOf":[{"pattern":"e"},true]}, {"anyOf":[{"pattern":"f"},true]},
-  {"anyOf":[{"pattern":"g"},true]}, {"anyOf":[{"pattern":"h"},true]}, {"anyOf":[{"pattern":"i"},true]}]}, "abc", 385],
+  {"anyOf":[{"pattern":"g"},true]}, {"anyOf":[{"pattern":"h"},true]}, {"anyOf":[{"pattern":"i"},true]}]}, "abc", null, 385],
 [["no: Regex engine failed to evaluate pattern 'd'; Regex engine failed to evaluate pattern 'd'!",
   "no: Regex engine failed to evaluate pattern 'd'; Regex engine failed to evaluate pattern 'd'; invalid"],
  {"allOf":[{"anyOf":[{"pattern":"d"},true]}, {"anyOf":[{"pattern":"e"},true]}, {"anyOf":[{"pattern":"f"},true]},
-  {"anyOf":[{"pattern":"g"},true]}, {"anyOf":[{"pattern":"h"},true]}, {"anyOf":[{"pattern":"i"},true]}]}, "abc", 1536],
+  {"anyOf":[{"pattern":"g"},true]}, {"anyOf":[{"pattern":"h"},true]}, {"anyOf":[{"pattern":"i"},true]}]}, "abc", null, 1536],
 ["no: Regex engine failed to evaluate pattern 'd'; Regex engine failed to evaluate pattern 'd'; invalid",
  {"allOf":[{"anyOf":[{"pattern":"d"},true]}, {"anyOf":[{"pattern":"e"},true]}, {"anyOf":[{"pattern":"f"},true]},
-  {"anyOf":[{"pattern":"g"},true]}, {"anyOf":[{"pattern":"h"},true]}, {"anyOf":[{"pattern":"i"},true]}]}, "abc", 1537]
+  {"anyOf":[{"pattern":"g"},true]}, {"anyOf":[{"pattern":"h"},true]}, {"anyOf":[{"pattern":"i"},true]}]}, "abc", null, 1537]
 ]"##;

@@ -90,15 +90,18 @@ const TABLES: [(Rows, &str, &str); 10] = [
     (Rows::Wanting, "wanting", WANTING),
 ];
 
+/// The name of the first table in which a row is wrong, and the number of the row.
+fn first_wrong(alloc: Global) -> Result<Option<(&'static str, usize)>, serde_json::Error> {
+    for (rows, name, table) in &TABLES {
+        if let Some(number) = wrong(alloc, *rows, table)? {
+            return Ok(Some((*name, number)));
+        }
+    }
+    Ok(None)
+}
+
 #[test]
 fn rows_hold(rt: HostRuntime) -> Result<(), serde_json::Error> {
-    let alloc = rt.alloc();
-    for (rows, name, table) in &TABLES {
-        assert_eq!(rt;
-            wrong(alloc, *rows, table)?,
-            None,
-            "a row of {name} is wrong"
-        );
-    }
+    assert_eq!(rt; first_wrong(rt.alloc())?, None);
     Ok(())
 }
