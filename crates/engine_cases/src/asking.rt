@@ -1,10 +1,10 @@
 //! What a validator answers of an instance.
 
-use crate::answers::{Answers, agreed};
-use crate::showing::{counted, errors_in, first_in, list_in, shown_in, units_counted};
 use bench_parts::matcher::BenchMatcher;
+use case_rows::answers::{Answers, agreed};
 use case_rows::call::Question;
 use case_rows::case::number_of;
+use case_rows::showing::{counted, errors_in, first_in, list_in, shown_in, units_counted};
 use schema_engine::context::keyword::Validate;
 use schema_engine::location::OutOfMemory;
 use schema_engine::validator::Validator;

@@ -1,10 +1,11 @@
 //! The check of a schema by the meta validators alone.
 
-use crate::refusals::{refusal, text_or_null};
+use crate::refusals::refusal;
 use crate::setting::{default_draft, resolver_of};
 use bench_parts::meta::BenchMeta;
 use bench_resolver::resolver::places::root_place;
 use case_rows::case::Case;
+use case_rows::showing::text_or_null;
 use schema_engine::location::OutOfMemory;
 use schema_keys::check::validate_schema;
 use schema_keys::error::BuildError;

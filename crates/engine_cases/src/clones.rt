@@ -1,12 +1,12 @@
 //! Clones of validators, which answer as their sources do, and each of which still answers where the other is dropped.
 
-use crate::answers::disagreement;
 use crate::asking::asked;
 use crate::building::built;
 use crate::refusals::refusal;
 use bench_keywords::keyword::BenchKeyword;
 use bench_parts::matcher::BenchMatcher;
 use bench_parts::table::BenchTable;
+use case_rows::answers::disagreement;
 use case_rows::call::Question;
 use case_rows::case::Case;
 use schema_engine::location::OutOfMemory;

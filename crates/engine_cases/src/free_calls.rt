@@ -1,11 +1,11 @@
 //! The four calls that build by the default options and ask in one.
 
-use crate::answers::{Answers, agreed};
 use crate::refusals::refusal;
 use crate::setting::Setting;
-use crate::showing::{errors_in, first_in};
 use bench_parts::meta::BenchMeta;
+use case_rows::answers::{Answers, agreed};
 use case_rows::case::Case;
+use case_rows::showing::{errors_in, first_in};
 use schema_engine::context::keyword::Validate;
 use schema_engine::context::table::KeywordTable;
 use schema_engine::location::OutOfMemory;

@@ -6,7 +6,6 @@
 #![tactic(auto)]
 
 pub mod answering;
-mod answers;
 mod asking;
 mod building;
 mod checking;
@@ -15,6 +14,5 @@ mod free_calls;
 mod maps;
 mod refusals;
 mod setting;
-mod showing;
 
 pub use crate::answering::answer;

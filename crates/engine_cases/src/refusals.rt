@@ -1,5 +1,6 @@
 //! Why there is no validator.
 
+use case_rows::showing::text_or_null;
 use schema_engine::location::OutOfMemory;
 use schema_keys::error::BuildError;
 use serde_json::{Value, json};
@@ -14,14 +15,6 @@ fn place_of(error: &BuildError) -> Option<&str> {
         BuildError::KeywordRefused(error) => Some(error.schema_path.as_str()),
         BuildError::MetaSchema(error) => Some(error.instance_path.as_str()),
         _ => None,
-    }
-}
-
-// A text, or `null` where there is none.
-pub(crate) fn text_or_null(alloc: Global, text: Option<&str>) -> Result<Value, OutOfMemory> {
-    match text {
-        Some(text) => Value::try_from_str(alloc, text),
-        None => Ok(Value::Null),
     }
 }
 

@@ -1,12 +1,13 @@
 //! What the four calls answer of one instance, and whether they agree.
 
-use schema_engine::location::OutOfMemory;
+use schema_reports::location::OutOfMemory;
 use serde_json::{Value, json};
 use std::alloc::Global;
 
 /// What the four calls answer of one instance, each a value: what the call gives, or its refusal.
 #[derive(Drop)]
-pub(crate) struct Answers {
+pub struct Answers {
+    /// The verdict.
     pub valid: Value,
     /// The first error, or `null`.
     pub first: Value,
@@ -44,8 +45,8 @@ impl Answers {
     }
 }
 
-// The errors, if the calls agree, or the refusal, if all have the same. Else what each answers.
-pub(crate) fn agreed(alloc: Global, answers: Answers) -> Result<Value, OutOfMemory> {
+/// The errors, if the calls agree, or the refusal, if all have the same. Else what each answers.
+pub fn agreed(alloc: Global, answers: Answers) -> Result<Value, OutOfMemory> {
     let agreed = answers.is_agreed() || answers.is_refused();
     let Answers {
         valid,
@@ -60,11 +61,7 @@ pub(crate) fn agreed(alloc: Global, answers: Answers) -> Result<Value, OutOfMemo
     disagreement(alloc, "is_valid, validate, iter_errors, evaluate", answers)
 }
 
-// What calls answer that are to agree, and do not, after their names.
-pub(crate) fn disagreement(
-    alloc: Global,
-    calls: &str,
-    answers: Vec<Value>,
-) -> Result<Value, OutOfMemory> {
+/// What calls answer that are to agree, and do not, after their names.
+pub fn disagreement(alloc: Global, calls: &str, answers: Vec<Value>) -> Result<Value, OutOfMemory> {
     json!(in alloc; {"disagree": calls, "answers": answers})
 }

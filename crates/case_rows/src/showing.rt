@@ -1,11 +1,18 @@
 //! What the engine gives, as values.
 
-use crate::refusals::text_or_null;
-use schema_engine::location::OutOfMemory;
-use schema_engine::reports::{ErrorIterator, ValidationError};
 use schema_output::evaluation::Evaluation;
+use schema_reports::location::OutOfMemory;
+use schema_reports::reports::{ErrorIterator, ValidationError};
 use serde_json::{Value, json};
 use std::alloc::Global;
+
+/// A text, or `null` where there is none.
+pub fn text_or_null(alloc: Global, text: Option<&str>) -> Result<Value, OutOfMemory> {
+    match text {
+        Some(text) => Value::try_from_str(alloc, text),
+        None => Ok(Value::Null),
+    }
+}
 
 // These texts, as values.
 fn texts_of(alloc: Global, texts: &[&str]) -> Result<Vec<Value>, OutOfMemory> {
@@ -48,8 +55,8 @@ fn columns_of(alloc: Global, error: &ValidationError<'_>) -> Result<Value, OutOf
     Ok(Value::Array(columns))
 }
 
-// The error by which an instance is refused, or `null`.
-pub(crate) fn first_in(
+/// The error by which an instance is refused, or `null`.
+pub fn first_in(
     alloc: Global,
     verdict: Result<(), ValidationError<'_>>,
 ) -> Result<Value, OutOfMemory> {
@@ -59,11 +66,8 @@ pub(crate) fn first_in(
     }
 }
 
-// All errors.
-pub(crate) fn errors_in(
-    alloc: Global,
-    errors: ErrorIterator<'_>,
-) -> Result<Vec<Value>, OutOfMemory> {
+/// All errors.
+pub fn errors_in(alloc: Global, errors: ErrorIterator<'_>) -> Result<Vec<Value>, OutOfMemory> {
     let mut values = Vec::new(alloc);
     for error in errors {
         values.push(columns_of(alloc, &error)?)?;
@@ -71,12 +75,8 @@ pub(crate) fn errors_in(
     Ok(values)
 }
 
-// The list of an evaluation, if its verdict is this one. Else both.
-pub(crate) fn list_in(
-    alloc: Global,
-    evaluation: &Evaluation,
-    valid: bool,
-) -> Result<Value, OutOfMemory> {
+/// The list of an evaluation, if its verdict is this one. Else both.
+pub fn list_in(alloc: Global, evaluation: &Evaluation, valid: bool) -> Result<Value, OutOfMemory> {
     let evaluated = evaluation.is_valid();
     if evaluated == valid {
         return evaluation.list(alloc);
@@ -84,8 +84,8 @@ pub(crate) fn list_in(
     json!(in alloc; {"disagree": {"is_valid": valid, "evaluate": evaluated}})
 }
 
-// The errors that an evaluation shows one by one, each its unit's evaluation path and its text.
-pub(crate) fn shown_in(alloc: Global, evaluation: &Evaluation) -> Result<Value, OutOfMemory> {
+/// The errors that an evaluation shows one by one, each its unit's evaluation path and its text.
+pub fn shown_in(alloc: Global, evaluation: &Evaluation) -> Result<Value, OutOfMemory> {
     let mut errors = Vec::new(alloc);
     for entry in evaluation.iter_errors(alloc)? {
         let path = entry.unit.evaluation_path.as_str();
@@ -103,8 +103,8 @@ fn copy_of(value: Option<&Value>) -> Result<Value, OutOfMemory> {
     }
 }
 
-// How many errors there are, and the first and the last of them, or `null`.
-pub(crate) fn counted(alloc: Global, errors: &[Value]) -> Result<Value, OutOfMemory> {
+/// How many errors there are, and the first and the last of them, or `null`.
+pub fn counted(alloc: Global, errors: &[Value]) -> Result<Value, OutOfMemory> {
     let mut parts = Vec::new(alloc);
     parts.push(Value::from(errors.len()))?;
     parts.push(copy_of(errors.first())?)?;
@@ -120,8 +120,8 @@ fn units_of(list: &Value) -> &[Value] {
     }
 }
 
-// How many units a list has, how many of them have errors, and the evaluation path of the last one, or `null`.
-pub(crate) fn units_counted(alloc: Global, list: &Value) -> Result<Value, OutOfMemory> {
+/// How many units a list has, how many of them have errors, and the evaluation path of the last one, or `null`.
+pub fn units_counted(alloc: Global, list: &Value) -> Result<Value, OutOfMemory> {
     let units = units_of(list);
     let refused = units
         .iter()
