@@ -9,18 +9,21 @@ use case_rows::showing::{errors_in, first_in};
 use schema_engine::context::keyword::Validate;
 use schema_engine::context::table::KeywordTable;
 use schema_engine::location::OutOfMemory;
+use schema_engine::reports::{ErrorIterator, ValidationError};
 use schema_engine::{evaluate, is_valid, iter_errors, validate};
+use schema_keys::error::BuildError;
+use schema_output::evaluation::Evaluation;
 use serde_json::Value;
 use std::alloc::Global;
 
-// The verdict, or why the schema is refused.
-fn verdict<K: Validate, T: KeywordTable<K>>(
+// Whether the schema accepts the instance.
+fn accepts<K: Validate, T: KeywordTable<K>>(
     alloc: Global,
     case: &Case<'_>,
     setting: &Setting<'_>,
     table: &T,
-) -> Result<Value, OutOfMemory> {
-    match is_valid::<_, T, K, _, _>(
+) -> Result<bool, BuildError> {
+    is_valid::<_, T, K, _, _>(
         alloc,
         case.schema,
         case.instance,
@@ -28,70 +31,99 @@ fn verdict<K: Validate, T: KeywordTable<K>>(
         &setting.resolver,
         &setting.matcher,
         &BenchMeta {},
-    ) {
+    )
+}
+
+// The error by which the schema refuses the instance.
+fn refuses<'c, K: Validate, T: KeywordTable<K>>(
+    alloc: Global,
+    case: &Case<'c>,
+    setting: &Setting<'_>,
+    table: &T,
+) -> Result<Result<(), ValidationError<'c>>, BuildError> {
+    validate::<_, T, K, _, _>(
+        alloc,
+        case.schema,
+        case.instance,
+        table,
+        &setting.resolver,
+        &setting.matcher,
+        &BenchMeta {},
+    )
+}
+
+// All errors.
+fn all_errors<'c, K: Validate, T: KeywordTable<K>>(
+    alloc: Global,
+    case: &Case<'c>,
+    setting: &Setting<'_>,
+    table: &T,
+) -> Result<ErrorIterator<'c>, BuildError> {
+    iter_errors::<_, T, K, _, _>(
+        alloc,
+        case.schema,
+        case.instance,
+        table,
+        &setting.resolver,
+        &setting.matcher,
+        &BenchMeta {},
+    )
+}
+
+// The evaluation.
+fn evaluation<K: Validate, T: KeywordTable<K>>(
+    alloc: Global,
+    case: &Case<'_>,
+    setting: &Setting<'_>,
+    table: &T,
+) -> Result<Evaluation, BuildError> {
+    evaluate::<_, T, K, _, _>(
+        alloc,
+        case.schema,
+        case.instance,
+        table,
+        &setting.resolver,
+        &setting.matcher,
+        &BenchMeta {},
+    )
+}
+
+// A verdict, or why the schema is refused.
+fn verdict(alloc: Global, valid: Result<bool, BuildError>) -> Result<Value, OutOfMemory> {
+    match valid {
         Ok(valid) => Ok(Value::Bool(valid)),
         Err(error) => refusal(alloc, &error),
     }
 }
 
 // The first error, or `null`, or why the schema is refused.
-fn first_error<K: Validate, T: KeywordTable<K>>(
+fn first(
     alloc: Global,
-    case: &Case<'_>,
-    setting: &Setting<'_>,
-    table: &T,
+    verdict: Result<Result<(), ValidationError<'_>>, BuildError>,
 ) -> Result<Value, OutOfMemory> {
-    match validate::<_, T, K, _, _>(
-        alloc,
-        case.schema,
-        case.instance,
-        table,
-        &setting.resolver,
-        &setting.matcher,
-        &BenchMeta {},
-    ) {
+    match verdict {
         Ok(verdict) => first_in(alloc, verdict),
         Err(error) => refusal(alloc, &error),
     }
 }
 
 // All errors, or why the schema is refused.
-fn all_errors<K: Validate, T: KeywordTable<K>>(
+fn list(
     alloc: Global,
-    case: &Case<'_>,
-    setting: &Setting<'_>,
-    table: &T,
+    errors: Result<ErrorIterator<'_>, BuildError>,
 ) -> Result<Value, OutOfMemory> {
-    match iter_errors::<_, T, K, _, _>(
-        alloc,
-        case.schema,
-        case.instance,
-        table,
-        &setting.resolver,
-        &setting.matcher,
-        &BenchMeta {},
-    ) {
+    match errors {
         Ok(errors) => Ok(Value::Array(errors_in(alloc, errors)?)),
         Err(error) => refusal(alloc, &error),
     }
 }
 
 // The verdict of the evaluation, or why the schema is refused.
-fn evaluated<K: Validate, T: KeywordTable<K>>(
+fn evaluated(
     alloc: Global,
-    case: &Case<'_>,
-    setting: &Setting<'_>,
-    table: &T,
+    evaluation: Result<Evaluation, BuildError>,
 ) -> Result<Value, OutOfMemory> {
-    match evaluate::<_, T, K, _, _>(
-        alloc,
-        case.schema,
-        case.instance,
-        table,
-        &setting.resolver,
-        &setting.matcher,
-        &BenchMeta {},
-    ) {
+    match evaluation {
         Ok(evaluation) => Ok(Value::Bool(evaluation.is_valid())),
         Err(error) => refusal(alloc, &error),
     }
@@ -105,10 +137,10 @@ fn four_answers<K: Validate, T: KeywordTable<K>>(
     table: &T,
 ) -> Result<Answers, OutOfMemory> {
     Ok(Answers {
-        valid: verdict(alloc, case, setting, table)?,
-        first: first_error(alloc, case, setting, table)?,
-        errors: all_errors(alloc, case, setting, table)?,
-        evaluated: evaluated(alloc, case, setting, table)?,
+        valid: verdict(alloc, accepts(alloc, case, setting, table))?,
+        first: first(alloc, refuses(alloc, case, setting, table))?,
+        errors: list(alloc, all_errors(alloc, case, setting, table))?,
+        evaluated: evaluated(alloc, evaluation(alloc, case, setting, table))?,
     })
 }
 

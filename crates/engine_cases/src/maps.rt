@@ -16,6 +16,21 @@ use schema_keys::error::BuildError;
 use serde_json::{Value, json};
 use std::alloc::Global;
 
+// The map of a schema by a setting and a table.
+fn map_by<K: Validate, T: KeywordTable<K>>(
+    alloc: Global,
+    schema: &Value,
+    setting: &Setting<'_>,
+    table: &T,
+) -> Result<ValidatorMap<K, BenchMatcher>, BuildError> {
+    let resolver = &setting.resolver;
+    let matcher = &setting.matcher;
+    let metas = &BenchMeta {};
+    setting
+        .options
+        .build_map(alloc, schema, table, resolver, matcher, metas)
+}
+
 // The map of a case's schema.
 fn mapped<K: Validate, T: KeywordTable<K>>(
     alloc: Global,
@@ -23,14 +38,7 @@ fn mapped<K: Validate, T: KeywordTable<K>>(
     table: &T,
 ) -> Result<ValidatorMap<K, BenchMatcher>, BuildError> {
     let setting = Setting::of(alloc, case)?;
-    let map = setting.options.build_map(
-        alloc,
-        case.schema,
-        table,
-        &setting.resolver,
-        &setting.matcher,
-        &BenchMeta {},
-    );
+    let map = map_by(alloc, case.schema, &setting, table);
     drop(setting);
     map
 }

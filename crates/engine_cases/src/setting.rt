@@ -59,22 +59,39 @@ fn plain_options_of(alloc: Global, case: &Case<'_>) -> ValidationOptions {
     options
 }
 
+// The options with a limit of nodes, where the case has one.
+fn with_nodes(options: ValidationOptions, limit: Option<usize>) -> ValidationOptions {
+    match limit {
+        Some(limit) => options.with_node_limit(limit),
+        None => options,
+    }
+}
+
+// The same of targets that are open.
+fn with_nested(options: ValidationOptions, limit: Option<usize>) -> ValidationOptions {
+    match limit {
+        Some(limit) => options.with_nested_limit(limit),
+        None => options,
+    }
+}
+
+// The same of steps.
+fn with_work(options: ValidationOptions, limit: Option<usize>) -> ValidationOptions {
+    match limit {
+        Some(limit) => options.with_work_limit(limit as u64),
+        None => options,
+    }
+}
+
 // The options of a case that are limits.
 fn limits_of(alloc: Global, case: &Case<'_>) -> ValidationOptions {
-    let mut options = ValidationOptions::new(alloc);
-    if let Some(limit) = case.count("limit") {
-        options = options.with_node_limit(limit);
+    let options = with_nodes(ValidationOptions::new(alloc), case.count("limit"));
+    let options = with_nested(options, case.count("nested_limit"));
+    let options = with_work(options, case.count("work_limit"));
+    match case.runs("run_limit") {
+        Some(limit) => options.with_run_limit(limit),
+        None => options,
     }
-    if let Some(limit) = case.count("nested_limit") {
-        options = options.with_nested_limit(limit);
-    }
-    if let Some(limit) = case.runs("run_limit") {
-        options = options.with_run_limit(limit);
-    }
-    if let Some(limit) = case.count("work_limit") {
-        options = options.with_work_limit(limit as u64);
-    }
-    options
 }
 
 // The vocabularies that the resolver requires, each a custom one.
