@@ -11,7 +11,8 @@ use schema_reports::instance::{InstanceStep, Place, push_step};
 use schema_reports::location::{Location, OutOfMemory};
 use std::alloc::Global;
 
-// How many bytes a pointer gets room for at once. Most are no longer, and to reckon how long one is takes as long as to make it.
+// How many bytes a pointer that is not empty gets room for at once. Most are no longer, and to reckon how long one is takes as long as
+// to make it.
 const ROOM_OF_POINTER: usize = 24;
 
 /// A place that was given, the place above a step and the step, or a place with its number in the instance.
@@ -119,11 +120,22 @@ impl<'p, 'i> EvaluationPlace<'p, 'i> {
         }
     }
 
+    // How many bytes the pointer gets room for: none where it is empty, as the name of a member stands where its object does.
+    fn pointer_room(&self) -> usize {
+        match self {
+            EvaluationPlace::Given(place) if place.len() == 0 => 0,
+            EvaluationPlace::Given(_) => ROOM_OF_POINTER,
+            EvaluationPlace::Below(above, InstanceStep::NameOf(_)) => above.pointer_room(),
+            EvaluationPlace::Below(_, _) => ROOM_OF_POINTER,
+            EvaluationPlace::Numbered(same, _) => same.pointer_room(),
+        }
+    }
+
     /// Returns the JSON Pointer of the place. Fails only if memory cannot be allocated.
     pub fn pointer(&self, alloc: Global) -> Result<Location, OutOfMemory>
         ensures pointer { IfOk result (λ l. l ≡ pointer_to (steps_to self.now)) }
     {
-        let mut pointer = Location::with_capacity(alloc, ROOM_OF_POINTER)?;
+        let mut pointer = Location::with_capacity(alloc, self.pointer_room())?;
         self.push_pointer(&mut pointer)?;
         Ok(pointer)
     }

@@ -61,7 +61,8 @@ fn is_bare(name: &[u8]) -> bool
 fn push_escaped(text: &mut String, name: &str) -> Result<(), OutOfMemory>
     ensures escaped { IfOk result (λ _. string_bytes text.new ≡ string_bytes text.old ++ escaped name.now) }
 {
-    if is_bare(name.as_bytes()) {
+    // (a single character is added sooner than it is looked at)
+    if name.len() > 1 && is_bare(name.as_bytes()) {
         return text.push_str(name);
     }
     for c in name.chars() {
