@@ -171,7 +171,11 @@ pub(crate) fn tell_with<K: Validate, T: KeywordTable<K>, R: Resolver, M: Matcher
     log: &mut String,
 ) -> Result<(), OutOfMemory> {
     match built::<K, T, R, M>(alloc, table, resolver, matcher, row) {
-        Ok(validator) => push_answers_again(alloc, &validator, column(row, 2), log),
+        Ok(validator) => {
+            let told = push_answers_again(alloc, &validator, column(row, 2), log);
+            drop(validator);
+            told
+        }
         Err(error) => push_refusal(&error, log),
     }
 }

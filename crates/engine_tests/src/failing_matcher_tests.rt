@@ -8,28 +8,29 @@ use bench_resolver::resolver::BenchResolver;
 use case_rows::tables::{column, number_at};
 use schema_engine::validate;
 use schema_engine::validator::Validator;
+use schema_keys::error::BuildError;
 use schema_keywords::keywords::VocabularySet;
 use schema_parts::keyword::Validate;
 use schema_parts::matcher::Matcher;
 use schema_parts::resolver::Resolver;
 use schema_parts::table::KeywordTable;
 use schema_reports::location::OutOfMemory;
+use schema_reports::reports::ValidationError;
 use serde_json::Value;
 use std::alloc::Global;
 use std::cell::Cell;
 use test_parts::failing_matcher::FailingMatcher;
 
-/// Adds the text of the first error of a row's instance, or why there is no validator, by the call that builds and asks.
-fn tell_first<K: Validate, T: KeywordTable<K>, R: Resolver, M: Matcher>(
+/// The first error of a row's instance, by the call that builds and asks.
+fn first_of<'r, K: Validate, T: KeywordTable<K>, R: Resolver, M: Matcher>(
     alloc: Global,
     table: &T,
     resolver: &R,
     matcher: &M,
-    row: &Value,
-    log: &mut String,
-) -> Result<(), OutOfMemory> {
+    row: &'r Value,
+) -> Result<Result<(), ValidationError<'r>>, BuildError> {
     let (schema, instance) = (column(row, 1), column(row, 2));
-    match validate::<R, T, K, M, BenchMeta>(
+    validate::<R, T, K, M, BenchMeta>(
         alloc,
         schema,
         instance,
@@ -37,7 +38,15 @@ fn tell_first<K: Validate, T: KeywordTable<K>, R: Resolver, M: Matcher>(
         resolver,
         matcher,
         &BenchMeta {},
-    ) {
+    )
+}
+
+/// Adds the text of an error, or why there is no validator.
+fn push_told(
+    told: Result<Result<(), ValidationError<'_>>, BuildError>,
+    log: &mut String,
+) -> Result<(), OutOfMemory> {
+    match told {
         Ok(Ok(())) => Ok(()),
         Ok(Err(error)) => log.push_str(error.text.as_str()),
         Err(error) => push_refusal(&error, log),
@@ -51,16 +60,15 @@ pub(crate) fn tell_failure(
     log: &mut String,
 ) -> Result<(), OutOfMemory> {
     let resolver = BenchResolver::new(alloc, column(row, 1), VocabularySet::new(alloc))?;
-    let told = tell_first::<BenchKeyword, BenchTable, BenchResolver, FailingMatcher>(
+    let told = first_of::<BenchKeyword, BenchTable, BenchResolver, FailingMatcher>(
         alloc,
         &BenchTable {},
         &resolver,
         &FailingMatcher { left: Cell::new(0) },
         row,
-        log,
     );
     drop(resolver);
-    told
+    push_told(told, log)
 }
 
 // The first error, schema, instance.
@@ -107,7 +115,11 @@ fn tell_again<K: Validate, T: KeywordTable<K>, R: Resolver, M: Matcher>(
     log: &mut String,
 ) -> Result<(), OutOfMemory> {
     match built::<K, T, R, M>(alloc, table, resolver, matcher, row) {
-        Ok(validator) => push_again(alloc, &validator, column(row, 2), log),
+        Ok(validator) => {
+            let told = push_again(alloc, &validator, column(row, 2), log);
+            drop(validator);
+            told
+        }
         Err(error) => push_refusal(&error, log),
     }
 }

@@ -92,16 +92,32 @@ pub(crate) fn tell_program(
     Ok(())
 }
 
+/// Whether these are the two words.
+fn are_two_words(words: &[Vec<u8>]) -> bool {
+    match words {
+        [first, second] => {
+            first.as_slice() == b"a".as_slice()
+                && second.len() == 300
+                && second.last().copied() == Some(255)
+        }
+        _ => false,
+    }
+}
+
+/// Whether want of memory is told by its line and its status.
+fn tells_want_of_memory(alloc: Global) -> bool {
+    let mut err = writer_of(alloc, &Value::Null);
+    let code = refuse(&mut err, Fault::OutOfMemory).code();
+    code == 4 && err.taken.as_slice() == b"out of memory\n".as_slice()
+}
+
 #[test]
 fn words_of_the_process_and_want_of_memory(rt: HostRuntime) -> Result<(), OutOfMemory> {
     let words = given_words(rt.alloc(), &TwoWords {})?;
-    assert_eq!(rt; words.len(), 2);
-    assert!(rt; words[0].as_slice() == b"a".as_slice());
-    assert_eq!(rt; words[1].len(), 300);
-    assert_eq!(rt; words[1].get(299).copied(), Some(255));
-    let mut err = writer_of(rt.alloc(), &Value::Null);
-    assert_eq!(rt; refuse(&mut err, Fault::OutOfMemory).code(), 4);
-    assert!(rt; err.taken.as_slice() == b"out of memory\n".as_slice());
+    let given = are_two_words(words.as_slice());
+    drop(words);
+    assert!(rt; given);
+    assert!(rt; tells_want_of_memory(rt.alloc()));
     Ok(())
 }
 

@@ -74,7 +74,11 @@ pub(crate) fn tell_numbers<K: Numbered, T: KeywordTable<K>>(
     log: &mut String,
 ) -> Result<(), OutOfMemory> {
     match built_by(alloc, table, row) {
-        Ok(validator) => push_nodes(validator.nodes(), log),
+        Ok(validator) => {
+            let told = push_nodes(validator.nodes(), log);
+            drop(validator);
+            told
+        }
         Err(error) => push_refusal(&error, log),
     }
 }

@@ -8,7 +8,9 @@ use bench_resolver::resolver::BenchResolver;
 use bench_resolver::resolver::vocabularies::DraftVocabularies;
 use case_rows::tables::{column, text_at};
 use schema_engine::keywords::{Vocabulary, VocabularySet};
+use schema_engine::map::ValidatorMap;
 use schema_engine::options::ValidationOptions;
+use schema_keys::error::BuildError;
 use schema_parts::keyword::Validate;
 use schema_parts::matcher::Matcher;
 use schema_parts::resolver::Resolver;
@@ -17,15 +19,51 @@ use schema_reports::location::OutOfMemory;
 use serde_json::Value;
 use std::alloc::Global;
 
+/// These vocabularies, and a custom one.
+fn with_custom(alloc: Global, usual: VocabularySet) -> Result<VocabularySet, OutOfMemory> {
+    let uri = String::from_str(alloc, "http://v/x");
+    usual.with(Vocabulary::Custom(uri?))
+}
+
 /// The usual vocabularies, and the custom one beside them in 2019-09 alone.
 fn requiring_in_2019_09(alloc: Global) -> Result<DraftVocabularies, OutOfMemory> {
-    let uri = String::from_str(alloc, "http://v/x")?;
     let usual = DraftVocabularies::with_required(VocabularySet::new(alloc))?;
-    Ok(DraftVocabularies {
-        early: usual.early,
-        of_2019_09: usual.of_2019_09.with(Vocabulary::Custom(uri))?,
-        late: usual.late,
-    })
+    let DraftVocabularies {
+        early,
+        of_2019_09,
+        late,
+    } = usual;
+    match with_custom(alloc, of_2019_09) {
+        Ok(of_2019_09) => Ok(DraftVocabularies {
+            early,
+            of_2019_09,
+            late,
+        }),
+        Err(failed) => {
+            drop(early);
+            drop(late);
+            Err(failed)
+        }
+    }
+}
+
+/// The map of a row's schema.
+fn map_of<K: Validate, T: KeywordTable<K>, R: Resolver, M: Matcher>(
+    alloc: Global,
+    table: &T,
+    resolver: &R,
+    matcher: &M,
+    row: &Value,
+) -> Result<ValidatorMap<K, M>, BuildError> {
+    let options = ValidationOptions::new(alloc);
+    options.build_map::<R, T, K, M, BenchMeta>(
+        alloc,
+        column(row, 1),
+        table,
+        resolver,
+        matcher,
+        &BenchMeta {},
+    )
 }
 
 /// Adds whether the map of a row's schema has the name in column 2, or why there is no map.
@@ -37,21 +75,12 @@ fn tell_name<K: Validate, T: KeywordTable<K>, R: Resolver, M: Matcher>(
     row: &Value,
     log: &mut String,
 ) -> Result<(), OutOfMemory> {
-    let options = ValidationOptions::new(alloc);
-    let schema = column(row, 1);
-    match options.build_map::<R, T, K, M, BenchMeta>(
-        alloc,
-        schema,
-        table,
-        resolver,
-        matcher,
-        &BenchMeta {},
-    ) {
-        Ok(map) => log.push_str(if map.contains_key(text_at(row, 2)) {
-            "yes"
-        } else {
-            "no"
-        }),
+    match map_of::<K, T, R, M>(alloc, table, resolver, matcher, row) {
+        Ok(map) => {
+            let has = map.contains_key(text_at(row, 2));
+            drop(map);
+            log.push_str(if has { "yes" } else { "no" })
+        }
         Err(error) => push_refusal(&error, log),
     }
 }
