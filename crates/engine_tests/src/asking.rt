@@ -82,8 +82,10 @@ pub(crate) fn built_by<K: Validate, T: KeywordTable<K>>(
 }
 
 /// Adds that the schema was refused, and that it was by the limit.
-pub(crate) fn push_refusal(error: &BuildError, log: &mut String) -> Result<(), OutOfMemory> {
-    match error.number() {
+pub(crate) fn push_refusal(error: BuildError, log: &mut String) -> Result<(), OutOfMemory> {
+    let number = error.number();
+    drop(error);
+    match number {
         8 => log.push_str("refused by the limit"),
         9 => Err(AllocError),
         _ => log.push_str("refused"),
@@ -113,7 +115,11 @@ fn push_first<K: Validate, M: Matcher>(
 ) -> Result<(), OutOfMemory> {
     match validator.validate(alloc, instance)? {
         Ok(()) => Ok(()),
-        Err(error) => push_all(log, &[": ", error.text.as_str()]),
+        Err(error) => {
+            let pushed = push_all(log, &[": ", error.text.as_str()]);
+            drop(error);
+            pushed
+        }
     }
 }
 
@@ -176,7 +182,7 @@ pub(crate) fn tell_with<K: Validate, T: KeywordTable<K>, R: Resolver, M: Matcher
             drop(validator);
             told
         }
-        Err(error) => push_refusal(&error, log),
+        Err(error) => push_refusal(error, log),
     }
 }
 
@@ -215,7 +221,14 @@ fn list_of<K: Validate, M: Matcher>(
 /// The list of the instance in column 2, by the bench's table and a row's schema and parts, or null where the schema is refused.
 pub(crate) fn listed(alloc: Global, row: &Value) -> Result<Value, OutOfMemory> {
     match built_by::<BenchKeyword, BenchTable>(alloc, &BenchTable {}, row) {
-        Ok(validator) => list_of(alloc, &validator, column(row, 2)),
-        Err(_) => Ok(Value::Null),
+        Ok(validator) => {
+            let list = list_of(alloc, &validator, column(row, 2));
+            drop(validator);
+            list
+        }
+        Err(error) => {
+            drop(error);
+            Ok(Value::Null)
+        }
     }
 }

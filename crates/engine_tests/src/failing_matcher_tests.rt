@@ -48,8 +48,12 @@ fn push_told(
 ) -> Result<(), OutOfMemory> {
     match told {
         Ok(Ok(())) => Ok(()),
-        Ok(Err(error)) => log.push_str(error.text.as_str()),
-        Err(error) => push_refusal(&error, log),
+        Ok(Err(error)) => {
+            let pushed = log.push_str(error.text.as_str());
+            drop(error);
+            pushed
+        }
+        Err(error) => push_refusal(error, log),
     }
 }
 
@@ -60,13 +64,15 @@ pub(crate) fn tell_failure(
     log: &mut String,
 ) -> Result<(), OutOfMemory> {
     let resolver = BenchResolver::new(alloc, column(row, 1), VocabularySet::new(alloc))?;
+    let matcher = FailingMatcher { left: Cell::new(0) };
     let told = first_of::<BenchKeyword, BenchTable, BenchResolver, FailingMatcher>(
         alloc,
         &BenchTable {},
         &resolver,
-        &FailingMatcher { left: Cell::new(0) },
+        &matcher,
         row,
     );
+    drop(matcher);
     drop(resolver);
     push_told(told, log)
 }
@@ -84,11 +90,10 @@ fn push_four<K: Validate, M: Matcher>(
     log: &mut String,
 ) -> Result<(), OutOfMemory> {
     push_answers(alloc, validator, instance, log)?;
-    log.push_str(if validator.evaluate(alloc, instance)?.is_valid() {
-        "; valid"
-    } else {
-        "; invalid"
-    })
+    let evaluation = validator.evaluate(alloc, instance)?;
+    let valid = evaluation.is_valid();
+    drop(evaluation);
+    log.push_str(if valid { "; valid" } else { "; invalid" })
 }
 
 /// Adds what a validator answers until memory is wanted, and then, after `!`, what it answers when it is asked again.
@@ -120,7 +125,7 @@ fn tell_again<K: Validate, T: KeywordTable<K>, R: Resolver, M: Matcher>(
             drop(validator);
             told
         }
-        Err(error) => push_refusal(&error, log),
+        Err(error) => push_refusal(error, log),
     }
 }
 
@@ -142,6 +147,7 @@ pub(crate) fn tell_wanting(
         row,
         log,
     );
+    drop(matcher);
     drop(resolver);
     told
 }

@@ -1,5 +1,7 @@
 //! A leaf is asked for its verdict before it is asked for errors: by a keyword type of its own, which asks for more matches when
 //! it is asked for errors. The rows of `check_rows` have no such keyword.
+ghost use Rattle.std.specs.Prelude.{◌<◌, IfOk, length};
+
 use crate::asking::{push_answers_again, texts_of};
 use bench_keywords::keyword::BenchKeyword;
 use bench_parts::matcher::BenchMatcher;
@@ -8,6 +10,7 @@ use node_table::node::{Entry, EntryForm, NodeForm, Nodes};
 use schema_engine::validator::Validator;
 use schema_keywords::keywords::Draft;
 use schema_parts::keyword::Validate;
+use schema_parts::numbers::SchemaNode;
 use schema_reports::location::{Location, OutOfMemory};
 use serde_json::Value;
 use std::alloc::Global;
@@ -23,13 +26,14 @@ fn keyword_of(alloc: Global, row: &Value) -> Result<DetourKeyword, OutOfMemory> 
     })
 }
 
-/// The validator of a schema that has this keyword alone.
-fn validator_of(
+/// The nodes of a schema that has this keyword alone.
+fn nodes_of(
     alloc: Global,
     keyword: DetourKeyword,
-    matcher: BenchMatcher,
     is_leaf: bool,
-) -> Result<Validator<DetourKeyword, BenchMatcher>, OutOfMemory> {
+) -> Result<Nodes<DetourKeyword>, OutOfMemory>
+    ensures root { IfOk result (λ nodes. 0 < length nodes) }
+{
     let name = String::from_str(alloc, "pattern")?;
     let mut entries = Vec::new(alloc);
     entries.push(Entry {
@@ -41,7 +45,23 @@ fn validator_of(
     let mut nodes = Nodes::new(alloc);
     let root = nodes.reserve(Location::new(alloc), None, 0, 0)?;
     nodes.fill(root, NodeForm::Keywords(entries), None, false);
-    Ok(Validator::of_nodes(nodes, root, Draft::Draft202012, matcher))
+    Ok(nodes)
+}
+
+/// The validator of this schema.
+fn validator_of(
+    alloc: Global,
+    keyword: DetourKeyword,
+    matcher: BenchMatcher,
+    is_leaf: bool,
+) -> Result<Validator<DetourKeyword, BenchMatcher>, OutOfMemory> {
+    match nodes_of(alloc, keyword, is_leaf) {
+        Ok(nodes) => Ok(Validator::of_nodes(nodes, SchemaNode(0), Draft::Draft202012, matcher)),
+        Err(failed) => {
+            drop(matcher);
+            Err(failed)
+        }
+    }
 }
 
 /// Adds what a validator answers of the instance.

@@ -79,7 +79,7 @@ pub(crate) fn tell_numbers<K: Numbered, T: KeywordTable<K>>(
             drop(validator);
             told
         }
-        Err(error) => push_refusal(&error, log),
+        Err(error) => push_refusal(error, log),
     }
 }
 

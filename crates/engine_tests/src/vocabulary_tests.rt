@@ -56,14 +56,16 @@ fn map_of<K: Validate, T: KeywordTable<K>, R: Resolver, M: Matcher>(
     row: &Value,
 ) -> Result<ValidatorMap<K, M>, BuildError> {
     let options = ValidationOptions::new(alloc);
-    options.build_map::<R, T, K, M, BenchMeta>(
+    let map = options.build_map::<R, T, K, M, BenchMeta>(
         alloc,
         column(row, 1),
         table,
         resolver,
         matcher,
         &BenchMeta {},
-    )
+    );
+    drop(options);
+    map
 }
 
 /// Adds whether the map of a row's schema has the name in column 2, or why there is no map.
@@ -81,7 +83,7 @@ fn tell_name<K: Validate, T: KeywordTable<K>, R: Resolver, M: Matcher>(
             drop(map);
             log.push_str(if has { "yes" } else { "no" })
         }
-        Err(error) => push_refusal(&error, log),
+        Err(error) => push_refusal(error, log),
     }
 }
 
@@ -89,14 +91,21 @@ fn tell_name<K: Validate, T: KeywordTable<K>, R: Resolver, M: Matcher>(
 pub(crate) fn tell_names(alloc: Global, row: &Value, log: &mut String) -> Result<(), OutOfMemory> {
     let by_draft = requiring_in_2019_09(alloc)?;
     match BenchResolver::new(alloc, column(row, 1), VocabularySet::new(alloc)) {
-        Ok(plain) => tell_name::<BenchKeyword, BenchTable, BenchResolver, BenchMatcher>(
-            alloc,
-            &BenchTable {},
-            &plain.with_draft_vocabularies(by_draft),
-            &BenchMatcher::new(Vec::new(alloc)),
-            row,
-            log,
-        ),
+        Ok(plain) => {
+            let resolver = plain.with_draft_vocabularies(by_draft);
+            let matcher = BenchMatcher::new(Vec::new(alloc));
+            let told = tell_name::<BenchKeyword, BenchTable, BenchResolver, BenchMatcher>(
+                alloc,
+                &BenchTable {},
+                &resolver,
+                &matcher,
+                row,
+                log,
+            );
+            drop(matcher);
+            drop(resolver);
+            told
+        }
         Err(failed) => {
             drop(by_draft);
             Err(failed)
