@@ -35,7 +35,10 @@ fn evaluated<K: Validate>(
     validator: &Validator<K, BenchMatcher>,
     instance: &Value,
 ) -> Result<bool, OutOfMemory> {
-    Ok(validator.evaluate(alloc, instance)?.is_valid())
+    let evaluation = validator.evaluate(alloc, instance)?;
+    let valid = evaluation.is_valid();
+    drop(evaluation);
+    Ok(valid)
 }
 
 // The list of the evaluation, if its verdict is the validator's. Else both.
@@ -69,15 +72,15 @@ fn four_answers<K: Validate>(
     validator: &Validator<K, BenchMatcher>,
     instance: &Value,
 ) -> Result<Answers, OutOfMemory> {
-    let valid = Value::Bool(validator.is_valid(alloc, instance)?);
-    let evaluated = Value::Bool(evaluated(alloc, validator, instance)?);
+    let valid = validator.is_valid(alloc, instance)?;
+    let evaluated = evaluated(alloc, validator, instance)?;
     let first = first_error(alloc, validator, instance)?;
     let errors = Value::Array(all_errors(alloc, validator, instance)?);
     Ok(Answers {
-        valid,
+        valid: Value::Bool(valid),
         first,
         errors,
-        evaluated,
+        evaluated: Value::Bool(evaluated),
     })
 }
 

@@ -60,6 +60,6 @@ pub(crate) fn answered<K: Validate, T: KeywordTable<K>>(
             drop(validator);
             answer
         }
-        Err(error) => refusal(alloc, &error),
+        Err(error) => refusal(alloc, error),
     }
 }

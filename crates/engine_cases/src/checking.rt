@@ -24,8 +24,10 @@ pub(crate) fn checked(alloc: Global, case: &Case<'_>) -> Result<Value, OutOfMemo
     match check_of(alloc, case) {
         Ok(()) => Ok(Value::Null),
         Err(BuildError::MetaSchema(error)) => {
-            text_or_null(alloc, Some(error.instance_path.as_str()))
+            let path = text_or_null(alloc, Some(error.instance_path.as_str()));
+            drop(error);
+            path
         }
-        Err(error) => refusal(alloc, &error),
+        Err(error) => refusal(alloc, error),
     }
 }

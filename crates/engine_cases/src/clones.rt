@@ -114,6 +114,6 @@ pub(crate) fn answered_alike(
 ) -> Result<Value, OutOfMemory> {
     match built(alloc, case, &BenchTable {}) {
         Ok(source) => answered_by_each(alloc, source, question, case.instance),
-        Err(error) => refusal(alloc, &error),
+        Err(error) => refusal(alloc, error),
     }
 }

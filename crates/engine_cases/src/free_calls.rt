@@ -92,7 +92,7 @@ fn evaluation<K: Validate, T: KeywordTable<K>>(
 fn verdict(alloc: Global, valid: Result<bool, BuildError>) -> Result<Value, OutOfMemory> {
     match valid {
         Ok(valid) => Ok(Value::Bool(valid)),
-        Err(error) => refusal(alloc, &error),
+        Err(error) => refusal(alloc, error),
     }
 }
 
@@ -103,7 +103,7 @@ fn first(
 ) -> Result<Value, OutOfMemory> {
     match verdict {
         Ok(verdict) => first_in(alloc, verdict),
-        Err(error) => refusal(alloc, &error),
+        Err(error) => refusal(alloc, error),
     }
 }
 
@@ -114,7 +114,7 @@ fn list(
 ) -> Result<Value, OutOfMemory> {
     match errors {
         Ok(errors) => Ok(Value::Array(errors_in(alloc, errors)?)),
-        Err(error) => refusal(alloc, &error),
+        Err(error) => refusal(alloc, error),
     }
 }
 
@@ -124,8 +124,12 @@ fn evaluated(
     evaluation: Result<Evaluation, BuildError>,
 ) -> Result<Value, OutOfMemory> {
     match evaluation {
-        Ok(evaluation) => Ok(Value::Bool(evaluation.is_valid())),
-        Err(error) => refusal(alloc, &error),
+        Ok(evaluation) => {
+            let valid = evaluation.is_valid();
+            drop(evaluation);
+            Ok(Value::Bool(valid))
+        }
+        Err(error) => refusal(alloc, error),
     }
 }
 

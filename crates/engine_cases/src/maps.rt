@@ -43,16 +43,16 @@ fn mapped<K: Validate, T: KeywordTable<K>>(
     map
 }
 
-// The names of a map.
-fn names_in<K: Validate>(
+// Adds the names of a map.
+fn push_names<K: Validate>(
     alloc: Global,
     map: &ValidatorMap<K, BenchMatcher>,
-) -> Result<Vec<Value>, OutOfMemory> {
-    let mut names = Vec::new(alloc);
+    names: &mut Vec<Value>,
+) -> Result<(), OutOfMemory> {
     for name in map.keys() {
         names.push(Value::try_from_str(alloc, name.as_str())?)?;
     }
-    Ok(names)
+    Ok(())
 }
 
 // Whether a map says of each of its names that it is in it.
@@ -84,7 +84,8 @@ fn names<K: Validate>(
     alloc: Global,
     map: &ValidatorMap<K, BenchMatcher>,
 ) -> Result<Value, OutOfMemory> {
-    let names = names_in(alloc, map)?;
+    let mut names = Vec::new(alloc);
+    push_names(alloc, map, &mut names)?;
     names_beside(alloc, names, contains_each(map), map.len(), map.is_empty())
 }
 
@@ -130,6 +131,6 @@ pub(crate) fn answered_by_map<K: Validate, T: KeywordTable<K>>(
             drop(map);
             answer
         }
-        Err(error) => refusal(alloc, &error),
+        Err(error) => refusal(alloc, error),
     }
 }

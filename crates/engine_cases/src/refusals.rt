@@ -18,8 +18,8 @@ fn place_of(error: &BuildError) -> Option<&str> {
     }
 }
 
-// A refusal as a value: its number, its place and its text.
-pub(crate) fn refusal(alloc: Global, error: &BuildError) -> Result<Value, OutOfMemory> {
+// The number, the place and the text of a refusal.
+fn parts_of(alloc: Global, error: &BuildError) -> Result<Value, OutOfMemory> {
     if matches!(error, BuildError::OutOfMemory) {
         return Err(AllocError);
     }
@@ -27,4 +27,11 @@ pub(crate) fn refusal(alloc: Global, error: &BuildError) -> Result<Value, OutOfM
     let place = text_or_null(alloc, place_of(error))?;
     let text = format!(in alloc; "{error}")?;
     json!(in alloc; {"refused": number, "at": place, "text": text})
+}
+
+// A refusal as a value.
+pub(crate) fn refusal(alloc: Global, error: BuildError) -> Result<Value, OutOfMemory> {
+    let parts = parts_of(alloc, &error);
+    drop(error);
+    parts
 }
