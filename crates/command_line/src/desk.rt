@@ -1,5 +1,5 @@
 //! Where answers are written.
-ghost use Rattle.std.specs.Prelude.{◌≡◌, false, is_some};
+ghost use Rattle.std.specs.Prelude.{◌≡◌, IsSome, false, is_some};
 ghost use Rattle.command_line.specs.Outcomes.{outcome_told};
 
 use crate::outcomes::Outcome;
@@ -66,6 +66,18 @@ impl Desk {
             page: Page::new(out),
             paint,
         }
+    }
+
+    /// Writes what is printed of an instance, if anything is, and says how the instance comes out.
+    pub fn write(&mut self, answer: (Outcome, String)) -> Outcome
+        ensures outcome { result ≡ answer.0 }
+        ensures stopped { IsSome self.old.page.fault → self.new ≡ self.old }
+    {
+        let (outcome, text) = answer;
+        if !text.is_empty() {
+            self.page.put(text.as_str());
+        }
+        outcome
     }
 
     /// How a run comes out that answered so, or was stopped. It tells what was not told yet: that memory could not be had, or

@@ -2,9 +2,12 @@
 //! instance and of a line, how it counts lines, and the status that it ends with.
 #![tactic(auto)]
 
+pub mod answerer;
 pub mod desk;
 pub mod documents;
 pub mod envelopes;
+pub mod files;
+pub mod line_files;
 pub mod lines;
 pub mod options;
 pub mod outcomes;

@@ -13,16 +13,23 @@ pub enum Paint {
     Coloured,
 }
 
-/// Adds a word, green or red where it is coloured.
-fn push_verdict(text: &mut String, paint: Paint, accepted: bool) -> Result<(), OutOfMemory>
-    ensures verdict { IfOk result (λ _. string_bytes text.new ≡ string_bytes text.old ++ verdict_text paint accepted) }
+/// The word for a verdict, green or red where it is coloured.
+fn verdict_word(paint: Paint, accepted: bool) -> &'static str
+    ensures word { result.now ≡ verdict_text paint accepted }
 {
-    text.push_str(match (paint, accepted) {
+    match (paint, accepted) {
         (Paint::Plain, true) => "VALID",
         (Paint::Plain, false) => "INVALID",
         (Paint::Coloured, true) => "\u{1b}[32mVALID\u{1b}[0m",
         (Paint::Coloured, false) => "\u{1b}[31mINVALID\u{1b}[0m",
-    })
+    }
+}
+
+/// Adds a word, green or red where it is coloured.
+fn push_verdict(text: &mut String, paint: Paint, accepted: bool) -> Result<(), OutOfMemory>
+    ensures verdict { IfOk result (λ _. string_bytes text.new ≡ string_bytes text.old ++ verdict_text paint accepted) }
+{
+    text.push_str(verdict_word(paint, accepted))
 }
 
 /// Adds a character, or, if it is one that rules a terminal or ends a line, its number: `\u{a}`.

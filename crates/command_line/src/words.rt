@@ -233,6 +233,18 @@ fn checked_options<'w>(
     }
 }
 
+/// What the words ask for, as the command reads them.
+fn options_by<'w>(
+    alloc: Global,
+    command: &mut Command<'w>,
+    words: &'w [String],
+) -> Result<Options<'w>, Error> {
+    let matches = command.try_get_matches_from_mut(words)?;
+    let options = checked_options(alloc, command, &matches);
+    drop(matches);
+    options
+}
+
 /// What the words ask for, of which the first is the program's name.
 ///
 /// # Errors
@@ -240,8 +252,9 @@ fn checked_options<'w>(
 /// Fails if the words are wrong, if they ask for help or the version, or out of memory; the error prints what to say.
 pub fn options_in<'w>(alloc: Global, words: &'w [String]) -> Result<Options<'w>, Error> {
     let mut command = command(alloc)?;
-    let matches = command.try_get_matches_from_mut(words)?;
-    checked_options(alloc, &mut command, &matches)
+    let options = options_by(alloc, &mut command, words);
+    drop(command);
+    options
 }
 
 /// The words of the call, the program's name first.

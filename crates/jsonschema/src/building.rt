@@ -1,7 +1,7 @@
 //! Builds the validator of the schema.
 
-use crate::files::answer_files;
-use crate::lines::answer_lines;
+use crate::engine::Engine;
+use command_line::answerer::answer_by;
 use command_line::desk::{Desk, Stop};
 use command_line::documents::{Document, documents_of};
 use command_line::options::Options;
@@ -144,11 +144,8 @@ fn answer_all(
     options: &Options<'_>,
     validator: &StandardValidator<'_>,
 ) -> Result<Outcome, Stop> {
-    let files = answer_files(rt, desk, options, validator)?;
-    match options.lines {
-        Some(file) => Ok(files.and(answer_lines(rt, desk, options, validator, file)?)),
-        None => Ok(files),
-    }
+    let engine = Engine { validator };
+    answer_by(rt, desk, options, &engine)
 }
 
 /// Answers by the validator of the sources and their patterns.

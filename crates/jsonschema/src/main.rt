@@ -4,8 +4,7 @@
 #![tactic(auto)]
 
 mod building;
-mod files;
-mod lines;
+mod engine;
 
 use crate::building::answer;
 use command_line::desk::Desk;

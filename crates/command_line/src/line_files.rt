@@ -1,0 +1,176 @@
+//! Answers of files of an instance a line, which are read line by line.
+
+use crate::answerer::Answerer;
+use crate::desk::{Desk, Stop};
+use crate::envelopes::{Subject, unread};
+use crate::lines::{cut_ending, is_blank};
+use crate::options::{Options, Output, STANDARD_INPUT};
+use crate::outcomes::Outcome;
+use crate::reports::unread_report;
+use crate::tally::Tally;
+use crate::telling::tell_unread;
+use crate::watch::Watch;
+use schema_reports::location::OutOfMemory;
+use serde_json::Value;
+use std::alloc::AllocError;
+use std::fs;
+use std::io::{BufRead, BufReader, Read};
+
+/// How much of a file is read at once, in bytes.
+const AT_ONCE: usize = 65536;
+
+/// A file of lines, and who asks it.
+#[derive(Clone, Copy)]
+struct Asked<'a, 'w> {
+    rt: &'a HostRuntime,
+    options: &'a Options<'w>,
+    file: &'a str,
+}
+
+impl<'a, 'w> Asked<'a, 'w> {
+    /// What a line is asked as.
+    fn subject(&self, number: u64) -> Subject<'a> {
+        Subject {
+            schema: self.options.schema,
+            instance: self.file,
+            line: Some(number),
+        }
+    }
+
+    /// Answers the instance of a line.
+    fn answer<A: Answerer>(
+        &self,
+        answerer: &A,
+        desk: &mut Desk,
+        number: u64,
+        instance: &Value,
+    ) -> Result<Outcome, OutOfMemory> {
+        let subject = self.subject(number);
+        let alloc = self.rt.alloc();
+        let answer = answerer.answer(alloc, desk.paint, self.options.output, subject, instance)?;
+        Ok(desk.write(answer))
+    }
+
+    /// What is printed of a line that is not JSON.
+    fn unread(&self, number: u64, fault: &serde_json::Error) -> Result<String, OutOfMemory> {
+        let alloc = self.rt.alloc();
+        match self.options.output {
+            Output::Text => unread_report(alloc, self.file, number, fault),
+            output => unread(alloc, output, self.subject(number), fault),
+        }
+    }
+
+    /// Answers a line.
+    fn take<A: Answerer>(
+        &self,
+        answerer: &A,
+        desk: &mut Desk,
+        number: u64,
+        line: &[u8],
+    ) -> Result<Outcome, OutOfMemory> {
+        match Value::from_slice(self.rt.alloc(), line) {
+            Ok(instance) => {
+                let outcome = self.answer(answerer, desk, number, &instance);
+                drop(instance);
+                outcome
+            }
+            Err(fault) if fault.is_memory() => Err(AllocError),
+            Err(fault) => Ok(desk.write((Outcome::Unanswered, self.unread(number, &fault)?))),
+        }
+    }
+
+    /// Answers a line and counts it, unless it is blank.
+    fn count<A: Answerer>(
+        &self,
+        answerer: &A,
+        desk: &mut Desk,
+        number: u64,
+        line: &[u8],
+        tally: &mut Tally,
+    ) -> Result<(), OutOfMemory> {
+        if !is_blank(line) {
+            tally.count(self.take(answerer, desk, number, line)?);
+        }
+        Ok(())
+    }
+
+    /// Reads the next line into `line`, answers it and counts it, and returns whether there was one.
+    fn answer_next<A: Answerer, R: BufRead>(
+        &self,
+        answerer: &A,
+        desk: &mut Desk,
+        reader: &mut R,
+        line: &mut Vec<u8>,
+        number: u64,
+        tally: &mut Tally,
+    ) -> Result<bool, Stop> {
+        line.clear();
+        match reader.read_until(b'\n', line) {
+            Ok(0) => Ok(false),
+            Ok(_) => {
+                cut_ending(line);
+                self.count(answerer, desk, number, line.as_slice(), tally)?;
+                Ok(true)
+            }
+            Err(fault) => Err(tell_unread(self.rt, self.file, &fault)),
+        }
+    }
+
+    /// Answers each line of a reader.
+    fn answer_each<A: Answerer, R: BufRead>(
+        &self,
+        answerer: &A,
+        desk: &mut Desk,
+        reader: &mut R,
+        tally: &mut Tally,
+        watch: &mut Watch,
+    ) -> Result<(), Stop> {
+        let mut line = Vec::new(self.rt.alloc());
+        for number in 1..u64::MAX {
+            if !self.answer_next(answerer, desk, reader, &mut line, number, tally)? {
+                break;
+            }
+            if self.options.progress {
+                watch.tell(self.rt, self.file, tally);
+            }
+        }
+        Ok(())
+    }
+
+    /// Answers the lines of a reader, and sums up, also where the reading ends before its time.
+    fn answer_reader<A: Answerer, R: Read + Drop>(
+        &self,
+        answerer: &A,
+        desk: &mut Desk,
+        reader: R,
+    ) -> Result<Outcome, Stop> {
+        let Ok(mut reader) = BufReader::with_capacity(self.rt.alloc(), AT_ONCE, reader) else {
+            return Err(Stop::OutOfMemory);
+        };
+        let mut tally = Tally::new();
+        let mut watch = Watch::new(self.rt);
+        let ended = self.answer_each(answerer, desk, &mut reader, &mut tally, &mut watch);
+        drop(reader);
+        watch.sum_up(self.rt, desk, self.options.output, self.file, &tally)?;
+        ended?;
+        Ok(tally.outcome())
+    }
+}
+
+/// Answers the lines of a file, or of standard input.
+pub(crate) fn answer_lines<A: Answerer>(
+    rt: &HostRuntime,
+    desk: &mut Desk,
+    options: &Options<'_>,
+    answerer: &A,
+    file: &str,
+) -> Result<Outcome, Stop> {
+    let asked = Asked { rt, options, file };
+    if file == STANDARD_INPUT {
+        return asked.answer_reader(answerer, desk, rt.stdin());
+    }
+    match fs::open(rt, file) {
+        Ok(opened) => asked.answer_reader(answerer, desk, opened),
+        Err(fault) => Err(tell_unread(rt, file, &fault)),
+    }
+}
