@@ -1,10 +1,11 @@
-//! What the command `jsonschema` is made of beside the engine: its words, how it reads files and tells of faults, what it prints of an
-//! instance and of a line, how it counts lines, and the status that it ends with.
+//! The command `jsonschema` over an engine: its words, how it reads files and lines and tells of faults, what it prints of an instance and
+//! of a line, how it counts lines, and the status that it ends with.
 #![tactic(auto)]
 
 pub mod answerer;
 pub mod desk;
 pub mod documents;
+pub mod engine;
 pub mod envelopes;
 pub mod files;
 pub mod line_files;
