@@ -29,6 +29,7 @@ ROOT = Path(__file__).resolve().parent.parent
 SCOPE = (
     "schema_engine",
     "schema_validator",
+    "schema_answers::stopping",
     "schema_parts::cloning",
     "schema_parts::keyword::Validate",
     "schema_parts::matcher",

@@ -50,6 +50,7 @@ WAYS = [
         [
             "schema_engine",
             "schema_validator",
+            "schema_answers",
             "schema_node",
             "run_steps",
             "schema_contexts",

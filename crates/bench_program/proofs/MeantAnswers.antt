@@ -8,7 +8,7 @@ use Rattle.schema_definitions.specs.Making.{Table}
 use Rattle.schema_definitions.specs.Matching.{Matcher}
 use Rattle.schema_definitions.specs.Resolving.{Resolver}
 use Rattle.schema_validator.specs.Handed.{Options}
-use Rattle.schema_validator.specs.Program.{OfEverySense, Program}
+use Rattle.schema_answers.specs.Program.{OfEverySense, Program}
 use Rattle.bench_parts.specs.BenchMatching.{bench_matcher}
 use Rattle.bench_resolver.specs.BenchStates.{Point}
 use Rattle.bench_keywords.specs.BenchShape.{BenchShape, is_whole}

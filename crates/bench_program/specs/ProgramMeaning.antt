@@ -15,7 +15,7 @@ use Rattle.schema_keys.specs.declared.error.BuildError.{BuildError}
 use Rattle.schema_validator.specs.Checked.{FailsCheck, PassesCheck}
 use Rattle.schema_validator.specs.Handed.{default_nested, default_runs, Options, default_options, parts_of, table_of}
 use Rattle.schema_calls.specs.Evaluated.{UnitsAnswered}
-use Rattle.schema_validator.specs.Program.{FromSomeDepth, HasUnits, OfEveryEvaluation, OfEverySense, Program}
+use Rattle.schema_answers.specs.Program.{FromSomeDepth, HasUnits, OfEveryEvaluation, OfEverySense, Program}
 use Rattle.schema_validator.specs.ProgramOf.{IsProgramOf}
 use Rattle.schema_validator.specs.Promised.{HasSchemasUnits, MeansSchema, OfSchema}
 use Rattle.schema_validator.specs.Roots.{Builds, RefusesBuild}

@@ -10,9 +10,9 @@ use Rattle.schema_reports.specs.declared.reports.ValidationError.{ValidationErro
 use Rattle.schema_parts.specs.declared.keyword.Validate.{Ghosts as KeywordMembers}
 use Rattle.schema_parts.specs.declared.matcher.Matcher.{Ghosts as MatcherMembers}
 use Rattle.node_table.specs.NodeTable.{numbered}
-use Rattle.schema_validator.specs.Asked.{FirstFromSomeDepth}
-use Rattle.schema_validator.specs.Program.{Program}
-use Rattle.schema_validator.specs.Stopped.{UnlessStopped}
+use Rattle.schema_answers.specs.Asked.{FirstFromSomeDepth}
+use Rattle.schema_answers.specs.Program.{Program}
+use Rattle.schema_answers.specs.Stopped.{UnlessStopped}
 use Rattle.schema_calls.specs.Spoken.{FirstAnswered}
 use Rattle.schema_calls.proofs.Searches.{finishes_of}
 use Rattle.first_errors.specs.FirstErrors.{FirstAlone}

@@ -8,7 +8,7 @@ use Rattle.schema_parts.specs.MatcherViews.{FinishesEach}
 use Rattle.schema_parts.specs.declared.keyword.Validate.{Ghosts as KeywordMembers}
 use Rattle.schema_parts.specs.declared.matcher.Matcher.{Ghosts as MatcherMembers}
 use Rattle.node_table.specs.NodeTable.{numbered}
-use Rattle.schema_validator.specs.Program.{Program}
+use Rattle.schema_answers.specs.Program.{Program}
 use Rattle.first_errors.specs.FirstErrors.{first_told}
 
 -- C is a keyword of the code, K what is known of it, M a matcher of the code

@@ -5,7 +5,7 @@ use Rattle.schema_definitions.specs.Drafts.{Draft, draft_2019_09, draft_2020_12,
 use Rattle.schema_definitions.specs.Reports.{Error}
 use Rattle.schema_parts.specs.declared.keyword.Validate.{Ghosts as KeywordMembers}
 use Rattle.schema_parts.specs.declared.matcher.Matcher.{Ghosts as MatcherMembers}
-use Rattle.schema_validator.specs.Program.{Program}
+use Rattle.schema_answers.specs.Program.{Program}
 use Rattle.first_checker.specs.Checks.{first_by}
 
 pub record DraftPrograms (C M : Type 0) : Type 0 where

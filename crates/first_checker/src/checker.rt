@@ -4,7 +4,7 @@ ghost use Rattle.serde_json.specs.Written.{has_float};
 ghost use Rattle.serde_json.specs.View.{view};
 ghost use Rattle.schema_parts.specs.MatcherViews.{FinishesEach};
 ghost use Rattle.schema_reports.specs.ReportViews.{BorrowsItsPlace, error_of};
-ghost use Rattle.schema_validator.specs.Answers.{refusal_of};
+ghost use Rattle.schema_answers.specs.Answers.{refusal_of};
 ghost use Rattle.first_checker.specs.Checks.{Checks, first_by};
 
 use schema_parts::keyword::Validate;
@@ -27,7 +27,7 @@ pub struct Checker<K: Validate, M: Matcher> {
 impl<K: Validate, M: Matcher> Model for Checker<K, M> {
     ghost use Rattle.std.specs.Coded.{codes};
     ghost use Rattle.serde_json.specs.contracts.value.Value as value;
-    ghost use Rattle.schema_validator.specs.Program.{Program};
+    ghost use Rattle.schema_answers.specs.Program.{Program};
     ghost use Rattle.first_checker.specs.Checks.{Checks};
 
     ghost Value = { Program K M };

@@ -2,7 +2,7 @@
 ghost use Rattle.std.specs.Prelude.{◌≡◌, IfOk};
 ghost use Rattle.schema_definitions.specs.Drafts as drafts;
 ghost use Rattle.schema_keywords.specs.KeywordViews.{draft_of};
-ghost use Rattle.schema_validator.specs.Program.{Program};
+ghost use Rattle.schema_answers.specs.Program.{Program};
 ghost use Rattle.first_checker.specs.DraftChecks.{EachChecks, program_of};
 
 use crate::checker::Checker;

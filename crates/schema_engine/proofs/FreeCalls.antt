@@ -20,7 +20,7 @@ use Rattle.schema_parts.specs.declared.matcher.Matcher.{Ghosts as MatcherMembers
 use Rattle.schema_validator.specs.Called.{GuardedlyOf, IsCompiledFrom, UnitsGuardedly}
 use Rattle.schema_calls.specs.Evaluated.{EvaluationAnswered, verdict_in}
 use Rattle.schema_validator.specs.Handed.{Handed, Options}
-use Rattle.schema_validator.specs.Program.{FromSomeDepth, Program}
+use Rattle.schema_answers.specs.Program.{FromSomeDepth, Program}
 use Rattle.schema_calls.specs.Spoken.{ErrorsAnswered, FirstAnswered}
 use Rattle.schema_engine.specs.FreeCalls as calls
 use Rattle.schema_engine.specs.FreeCalls.{OfAllCompiled}

@@ -16,7 +16,7 @@ use Rattle.node_table.specs.NodeTable.{numbered}
 use Rattle.schema_validator.specs.Called.{IsCompiledFrom, MeansPlainly}
 use Rattle.schema_validator.specs.Greatest.{NodesAccept, NodesAreMonotone}
 use Rattle.schema_validator.specs.Handed.{Handed, Options}
-use Rattle.schema_validator.specs.Program.{FromSomeDepth, Program}
+use Rattle.schema_answers.specs.Program.{FromSomeDepth, Program}
 use Rattle.schema_engine.specs.GreatestCalls.{FinishingAccepts, FinishingGreatest, GreatestAnswersAgree, GreatestVerdictsAgree, SaysGreatest}
 use Rattle.schema_validator.proofs.Greatest.{accepts_as_schema, through}
 

@@ -24,7 +24,7 @@ use Rattle.schema_compiler.proofs.TablesAgree.{tables_agree}
 use Rattle.schema_validator.specs.Called.{IsCompiledFrom}
 use Rattle.schema_validator.specs.Compiled.{IsWhole}
 use Rattle.schema_validator.specs.Handed.{Handed, Options, parts_of}
-use Rattle.schema_validator.specs.Program.{Program}
+use Rattle.schema_answers.specs.Program.{Program}
 use Rattle.schema_engine.specs.FreeCalls.{SpeakAlike}
 use Rattle.schema_validator.proofs.Built.{in_map}
 use Rattle.schema_validator.proofs.Compilations.{whole_too}

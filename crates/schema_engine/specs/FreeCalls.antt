@@ -16,11 +16,11 @@ use Rattle.schema_reports.specs.declared.reports.ValidationError.{ValidationErro
 use Rattle.node_table.specs.NodeTable.{numbered}
 use Rattle.schema_parts.specs.declared.keyword.Validate.{Ghosts as KeywordMembers}
 use Rattle.schema_parts.specs.declared.matcher.Matcher.{Ghosts as MatcherMembers}
-use Rattle.schema_validator.specs.Asked.{DecidesFromSomeDepth, ErrorsFromSomeDepth, EvaluatesFromSomeDepth, FirstFromSomeDepth, UnitsFromSomeDepth}
+use Rattle.schema_answers.specs.Asked.{DecidesFromSomeDepth, ErrorsFromSomeDepth, EvaluatesFromSomeDepth, FirstFromSomeDepth, UnitsFromSomeDepth}
 use Rattle.schema_validator.specs.Called.{DecidesGuardedly, ErrorsGuardedly, EvaluatesGuardedly, FirstGuardedly, IsCompiledFrom, UnitsGuardedly}
 use Rattle.schema_validator.specs.Handed.{Handed, Options}
 use Rattle.schema_calls.specs.Evaluated.{verdict_in}
-use Rattle.schema_validator.specs.Program.{FromSomeDepth, Program, Speaks}
+use Rattle.schema_answers.specs.Program.{FromSomeDepth, Program, Speaks}
 use Rattle.schema_engine.specs.Nesting.{ErrorsAgree, EvaluationsAgree, FirstsAgree}
 
 -- what is handed in

@@ -23,12 +23,12 @@ use Rattle.schema_output.specs.ErrorUnits.{errors_unit}
 use Rattle.schema_keys.specs.Checking.{MetaChecks}
 use Rattle.schema_keys.specs.declared.error.BuildError.{BuildError}
 use Rattle.schema_keys.specs.declared.error.BuildError.TheVariants.{OutOfMemory}
-use Rattle.schema_validator.specs.Asked.{DecidesInEverySense, ErrorsInEverySense, EvaluatesInEverySense, FirstInEverySense, UnitsInEverySense}
+use Rattle.schema_answers.specs.Asked.{DecidesInEverySense, ErrorsInEverySense, EvaluatesInEverySense, FirstInEverySense, UnitsInEverySense}
 use Rattle.schema_validator.specs.Called.{BuildRefused, HasPlainUnits, MeansPlainly, PlainlyOf, SchemaBuilds}
 use Rattle.schema_validator.specs.Checked.{PassesCheck}
 use Rattle.schema_calls.specs.Evaluated.{verdict_in}
 use Rattle.schema_validator.specs.Handed.{Handed, Options, handed, limited}
-use Rattle.schema_validator.specs.Program.{Program}
+use Rattle.schema_answers.specs.Program.{Program}
 
 -- ---- two answers about one sense
 

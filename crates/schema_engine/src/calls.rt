@@ -2,7 +2,7 @@
 ghost use Rattle.std.specs.Prelude.{Bool, IfOk, IfErr, IfSome, All};
 ghost use Rattle.serde_json.specs.View.{view};
 ghost use Rattle.schema_reports.specs.ReportViews.{BorrowsItsPlace};
-ghost use Rattle.schema_validator.specs.Answers.{refusal_of};
+ghost use Rattle.schema_answers.specs.Answers.{refusal_of};
 ghost use Rattle.schema_validator.specs.Checked.{PassesCheck};
 ghost use Rattle.schema_validator.specs.Called.{DecidesGuardedly, DecidesPlainly, BuildRefused, SchemaBuilds};
 ghost use Rattle.schema_validator.specs.Called.{EvaluatesGuardedly, EvaluatesPlainly, UnitsGuardedly, UnitsPlainly};

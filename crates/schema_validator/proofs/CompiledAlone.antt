@@ -20,7 +20,7 @@ use Rattle.schema_keys.specs.Compiling.{no_keywords, no_matcher}
 use Rattle.schema_keys.specs.declared.error.BuildError.{BuildError}
 use Rattle.schema_validator.specs.Compiled.{IsCompiled, IsWhole}
 use Rattle.schema_validator.specs.Handed.{Options, parts_of, table_of}
-use Rattle.schema_validator.specs.Program.{Program}
+use Rattle.schema_answers.specs.Program.{Program}
 use Rattle.schema_validator.specs.ProgramOf.{IsProgramFrom}
 use Rattle.schema_validator.specs.Roots.{IsRootKey, root_parts}
 use Rattle.schema_validator.proofs.Compilations.{compiled_in, compiled_too, whole_in, whole_too}

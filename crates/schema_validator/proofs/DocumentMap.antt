@@ -20,7 +20,7 @@ use Rattle.schema_validator.specs.Entries.{HoldsPlaces, IsCompiledAlone, IsEntry
 use Rattle.schema_validator.specs.Handed.{Handed, Options, parts_of}
 use Rattle.schema_validator.specs.MapViews.{Entries, at_pointer}
 use Rattle.schema_validator.specs.Mapped.{HoldsCompiled, HoldsEach, IsNameOfCompiled, IsValidatorOf, OfEach, name_of}
-use Rattle.schema_validator.specs.Program.{Program}
+use Rattle.schema_answers.specs.Program.{Program}
 use Rattle.schema_validator.specs.Roots.{IsRootKey}
 use Rattle.schema_keys.proofs.DocumentPlaces.{document_schema}
 use Rattle.schema_keys.proofs.PlaceNames.{one_place}

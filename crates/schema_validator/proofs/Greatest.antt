@@ -30,13 +30,13 @@ use Rattle.schema_parts.specs.declared.keyword.Validate.{Ghosts as KeywordMember
 use Rattle.schema_parts.specs.declared.matcher.Matcher.{Ghosts as MatcherMembers}
 use Rattle.node_table.specs.NodeTable.{NodeEntry, numbered}
 use Rattle.schema_keys.specs.Compiling.{no_keywords, no_matcher}
-use Rattle.schema_validator.specs.Asked.{DecidesFromSomeDepth, ErrorsFromSomeDepth, EvaluatesFromSomeDepth, FirstFromSomeDepth}
+use Rattle.schema_answers.specs.Asked.{DecidesFromSomeDepth, ErrorsFromSomeDepth, EvaluatesFromSomeDepth, FirstFromSomeDepth}
 use Rattle.schema_validator.specs.Called.{IsCompiledFrom}
 use Rattle.schema_validator.specs.Compiled.{IsCompiled}
 use Rattle.schema_validator.specs.Greatest.{AcceptAlike, AcceptsAsKey, AcceptsAsSchema, DecidesAccepted, ErrorsAccepted, EvaluatesAccepted, FirstAccepted, SaysAccepted}
 use Rattle.schema_validator.specs.Handed.{Handed, Options, parts_of}
 use Rattle.schema_calls.specs.Evaluated.{verdict_in}
-use Rattle.schema_validator.specs.Program.{FromSomeDepth, Program}
+use Rattle.schema_answers.specs.Program.{FromSomeDepth, Program}
 use Rattle.schema_validator.specs.ProgramOf.{IsProgramFrom}
 use Rattle.schema_validator.proofs.Built.{in_map}
 use Rattle.schema_calls.proofs.Verdicts.{errors_verdict, first_verdict}

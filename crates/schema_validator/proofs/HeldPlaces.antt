@@ -11,7 +11,7 @@ use Rattle.schema_validator.specs.Entries.{HoldsPlaces, IsEntry, IsLeftOut, IsPu
 use Rattle.schema_validator.specs.Handed.{Handed, Options}
 use Rattle.schema_validator.specs.MapViews.{Entries, at_pointer}
 use Rattle.schema_validator.specs.Mapped.{name_of}
-use Rattle.schema_validator.specs.Program.{Program}
+use Rattle.schema_answers.specs.Program.{Program}
 
 module _ {S K R C M : Type 0} (h : Handed S K R C M) (options : Options) (schema : Data) (root : Key S) where
   -- what is held under a name

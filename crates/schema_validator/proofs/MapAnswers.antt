@@ -15,7 +15,7 @@ use Rattle.schema_validator.specs.Entries.{HoldsPlaces, RefusesOneOf}
 use Rattle.schema_validator.specs.Handed.{Handed, Options, parts_of}
 use Rattle.schema_validator.specs.MapViews.{Entries}
 use Rattle.schema_validator.specs.Mapped.{EachAcceptsGreatest, EachHasPlainUnits, EachIsCompiledFrom, EachMeansPlainly, EachPointsPlainly, EachHasSolver, EachsUnitsPoint, HoldsCompiled, HoldsEach, MapIsBuilt, MapRefused, no_root, not_accepted, not_declared, past_limit}
-use Rattle.schema_validator.specs.Program.{Program}
+use Rattle.schema_answers.specs.Program.{Program}
 use Rattle.schema_validator.specs.Roots.{IsRootKey, RefusesKey, root_parts}
 use Rattle.schema_validator.proofs.DocumentMap.{holds_compiled, holds_each, of_each}
 use Rattle.schema_validator.proofs.RootKeys.{one_root_key, root_key_too}

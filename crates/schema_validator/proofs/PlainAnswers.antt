@@ -13,7 +13,7 @@ use Rattle.schema_definitions.specs.Reports.{Unit_}
 use Rattle.schema_definitions.specs.Units.{plain_units}
 use Rattle.schema_reports.specs.declared.evaluation.EvaluationNode.{EvaluationNode}
 use Rattle.schema_calls.specs.Evaluated.{UnitsAnswered}
-use Rattle.schema_validator.specs.Program.{HasUnits, OfEveryEvaluation, OfEverySense, Program}
+use Rattle.schema_answers.specs.Program.{HasUnits, OfEveryEvaluation, OfEverySense, Program}
 use Rattle.schema_validator.specs.Handed.{Options, parts_of}
 use Rattle.schema_validator.specs.Promised.{HasSchemasUnits, MeansSchema, OfSchema}
 

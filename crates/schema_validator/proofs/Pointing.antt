@@ -29,7 +29,7 @@ use Rattle.schema_meaning.proofs.ListedLead.{of_failure, of_first, of_found, of_
 use Rattle.node_table.specs.NodeTable.{numbered}
 use Rattle.schema_parts.proofs.PartLaws.{makes_absorbed}
 use Rattle.schema_calls.specs.Evaluated.{EvaluationAnswered, IsOfErrors}
-use Rattle.schema_validator.specs.Program.{FromSomeDepth, HasUnits, Program}
+use Rattle.schema_answers.specs.Program.{FromSomeDepth, HasUnits, Program}
 use Rattle.schema_calls.specs.Spoken.{EachIsGiven, ErrorsAnswered, FirstAnswered, FirstIsGiven, IsGiven}
 use Rattle.schema_validator.specs.Compiled.{IsWhole}
 use Rattle.schema_validator.specs.ProgramOf.{IsProgramFrom, IsProgramOf}

@@ -18,7 +18,7 @@ use Rattle.schema_keys.specs.Compiling.{no_keywords, no_matcher}
 use Rattle.schema_validator.specs.Handed.{Handed, Options, parts_of}
 use Rattle.schema_validator.specs.Pointing.{EachPoints, EvaluationPoints, FirstPoints}
 use Rattle.schema_calls.specs.Evaluated.{EvaluationAnswered, UnitsAnswered}
-use Rattle.schema_validator.specs.Program.{FromSomeDepth, HasUnits, Program}
+use Rattle.schema_answers.specs.Program.{FromSomeDepth, HasUnits, Program}
 use Rattle.schema_validator.specs.ProgramOf.{IsProgramOf}
 use Rattle.schema_validator.specs.Promised.{HasKeysUnits, HasSchemasUnits, MeansKey, MeansSchema, OfSchema, PointsIntoSchema, UnitsPointIntoSchema}
 use Rattle.schema_validator.specs.Roots.{Builds, RefusesBuild}

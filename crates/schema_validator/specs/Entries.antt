@@ -18,9 +18,9 @@ use Rattle.schema_validator.specs.Greatest.{AcceptsAsKey}
 use Rattle.schema_validator.specs.Handed.{Handed, Options, parts_of}
 use Rattle.schema_validator.specs.MapViews.{Entries, at_pointer}
 use Rattle.schema_validator.specs.Mapped.{RefusesLimit, name_of}
-use Rattle.schema_validator.specs.Program.{Program}
+use Rattle.schema_answers.specs.Program.{Program}
 use Rattle.schema_validator.specs.ProgramOf.{IsProgramFrom}
-use Rattle.schema_validator.specs.Solved.{HasSolver}
+use Rattle.schema_answers.specs.Solved.{HasSolver}
 use Rattle.schema_validator.specs.Promised.{HasKeysUnits, MeansKey, PointsFromKey, UnitsPointFromKey}
 
 module _ {S K R C M : Type 0} (h : Handed S K R C M) (options : Options) where

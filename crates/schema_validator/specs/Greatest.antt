@@ -20,7 +20,7 @@ use Rattle.schema_parts.specs.declared.matcher.Matcher.{Ghosts as MatcherMembers
 use Rattle.node_table.specs.NodeTable.{numbered}
 use Rattle.schema_validator.specs.Handed.{Handed, Options, parts_of}
 use Rattle.schema_calls.specs.Evaluated.{verdict_in}
-use Rattle.schema_validator.specs.Program.{FromSomeDepth, Program}
+use Rattle.schema_answers.specs.Program.{FromSomeDepth, Program}
 
 -- ---- a validator
 

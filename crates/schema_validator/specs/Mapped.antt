@@ -18,9 +18,9 @@ use Rattle.schema_keys.specs.DocumentSchemas.{schemas_in}
 use Rattle.schema_validator.specs.Greatest.{AcceptsAsKey}
 use Rattle.schema_validator.specs.Handed.{Handed, Options, parts_of}
 use Rattle.schema_validator.specs.MapViews.{Entries, at_pointer}
-use Rattle.schema_validator.specs.Program.{Program}
+use Rattle.schema_answers.specs.Program.{Program}
 use Rattle.schema_validator.specs.ProgramOf.{IsProgramFrom}
-use Rattle.schema_validator.specs.Solved.{HasSolver}
+use Rattle.schema_answers.specs.Solved.{HasSolver}
 use Rattle.schema_validator.specs.Promised.{HasKeysUnits, MeansKey, PointsFromKey, UnitsPointFromKey}
 use Rattle.schema_validator.specs.Roots.{IsRootKey, RefusesKey}
 

@@ -9,7 +9,7 @@ use Rattle.schema_definitions.specs.Making.{Table}
 use Rattle.schema_definitions.specs.Plan.{Key}
 use Rattle.schema_meaning.specs.Refusals.{Compiles}
 use Rattle.schema_meaning.specs.Root.{root_draft}
-use Rattle.schema_validator.specs.Program.{Program}
+use Rattle.schema_answers.specs.Program.{Program}
 use Rattle.schema_validator.specs.Compiled.{IsWhole}
 use Rattle.schema_keys.specs.Compiling.{no_keywords, no_matcher}
 use Rattle.schema_validator.specs.Handed.{Options, parts_of}

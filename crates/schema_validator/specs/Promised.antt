@@ -16,7 +16,7 @@ use Rattle.schema_meaning.specs.UnitsLead.{UnitsPoint}
 use Rattle.schema_definitions.specs.Guarded.{guarded_sense, guarded_within, node_unit, yes_unit}
 use Rattle.schema_meaning.specs.Numbered.{subject_in}
 use Rattle.node_table.specs.NodeTable.{numbered}
-use Rattle.schema_validator.specs.Program.{HaveUnits, Program, Speaks, Means}
+use Rattle.schema_answers.specs.Program.{HaveUnits, Program, Speaks, Means}
 use Rattle.schema_validator.specs.Handed.{Options, parts_of}
 
 -- S is what a state stands for, K what is known of a keyword, R a run with its answer so far

@@ -7,7 +7,7 @@ ghost use Rattle.schema_validator.specs.Checked.{PassesCheck};
 ghost use Rattle.schema_validator.specs.FirstCauses.{FirstOfBuild};
 ghost use Rattle.schema_validator.specs.Greatest.{AcceptsAsSchema};
 ghost use Rattle.schema_validator.specs.Handed.{default_nested, default_options, handed};
-ghost use Rattle.schema_validator.specs.Solved.{HasSolver};
+ghost use Rattle.schema_answers.specs.Solved.{HasSolver};
 
 use crate::options::ValidationOptions;
 use crate::validator::Validator;

@@ -1,9 +1,10 @@
-//! The options and the build of validators, the map of a document's validators, and what validators answer of instances.
+//! The options and the build of validators, the map of a document's validators, and the calls of validators.
 #![tactic(auto)]
 
 pub mod building;
 pub mod compiled;
 pub mod map;
 pub mod options;
-pub mod stopping;
 pub mod validator;
+
+pub use schema_answers::stopping;

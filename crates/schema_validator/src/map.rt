@@ -21,7 +21,7 @@ pub struct ValidatorMap<K: Validate, M> {
 }
 
 impl<K: Validate, M> Model for ValidatorMap<K, M> {
-    ghost use Rattle.schema_validator.specs.Program.{Program};
+    ghost use Rattle.schema_answers.specs.Program.{Program};
     ghost use Rattle.schema_validator.specs.MapViews.{Entries, entries_of};
     ghost use Rattle.serde_json.specs.contracts.value.Value as value;
     ghost use Rattle.std.specs.Coded.{codes};

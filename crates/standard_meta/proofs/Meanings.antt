@@ -12,7 +12,7 @@ use Rattle.schema_parts.specs.declared.table.KeywordTable.{Ghosts as TableMember
 use Rattle.regex_matcher.specs.RegexMatching.{Kept}
 use Rattle.schema_validator.specs.Called.{IsCompiledFrom, MeansPlainly}
 use Rattle.schema_validator.specs.Handed.{Handed, Options, handed}
-use Rattle.schema_validator.specs.Program.{Program}
+use Rattle.schema_answers.specs.Program.{Program}
 use Rattle.bench_resolver.specs.BenchDocuments.{BenchDocument, GivenDocument}
 use Rattle.standard_keywords.specs.declared.patterns.UnreadablePatterns.TheVariants as unreadable
 use Rattle.standard_keywords.specs.declared.table.StandardTable.{StandardTable}

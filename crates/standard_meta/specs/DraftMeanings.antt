@@ -13,7 +13,7 @@ use Rattle.regex_matcher.specs.RegexMatching.{Kept, finishes_each, regex_matcher
 use Rattle.bench_resolver.specs.BenchDocuments.{BenchDocument, GivenDocument}
 use Rattle.schema_validator.specs.Called.{IsCompiledFrom, MeansPlainly}
 use Rattle.schema_validator.specs.Handed.{Handed, Options, default_options, handed}
-use Rattle.schema_validator.specs.Program.{Program}
+use Rattle.schema_answers.specs.Program.{Program}
 use Rattle.standard_keywords.specs.declared.patterns.UnreadablePatterns.TheVariants as unreadable
 use Rattle.standard_keywords.specs.declared.table.StandardTable.{StandardTable}
 use Rattle.meta_schemas.specs.MetaUris.{uri_of}

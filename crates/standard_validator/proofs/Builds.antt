@@ -16,8 +16,8 @@ use Rattle.schema_validator.specs.Checked.{PassesCheck}
 use Rattle.schema_validator.specs.FirstCauses.{FirstOfBuild}
 use Rattle.schema_validator.specs.Greatest.{AcceptsAsSchema}
 use Rattle.schema_validator.specs.Handed.{Handed, Options, handed}
-use Rattle.schema_validator.specs.Program.{Program}
-use Rattle.schema_validator.specs.Solved.{HasSolver}
+use Rattle.schema_answers.specs.Program.{Program}
+use Rattle.schema_answers.specs.Solved.{HasSolver}
 use Rattle.bench_resolver.specs.BenchDocuments.{BenchDocument}
 use Rattle.standard_keywords.specs.declared.patterns.UnreadablePatterns.TheVariants as unreadable
 use Rattle.standard_keywords.specs.declared.table.StandardTable.{StandardTable}

@@ -10,7 +10,7 @@ ghost use Rattle.schema_validator.specs.Checked.{PassesCheck};
 ghost use Rattle.schema_validator.specs.FirstCauses.{FirstOfBuild};
 ghost use Rattle.schema_validator.specs.Greatest.{AcceptsAsSchema};
 ghost use Rattle.schema_validator.specs.Handed.{handed};
-ghost use Rattle.schema_validator.specs.Solved.{HasSolver};
+ghost use Rattle.schema_answers.specs.Solved.{HasSolver};
 
 use crate::compiled::of_compiled_within;
 use crate::options::ValidationOptions;

@@ -2,18 +2,18 @@
 ghost use Rattle.std.specs.Prelude.{◌≡◌, All, IfOk, IfSome, Some, false, true};
 ghost use Rattle.serde_json.specs.View.{view};
 ghost use Rattle.schema_reports.specs.ReportViews.{BorrowsItsPlace};
-ghost use Rattle.schema_validator.specs.Answers.{refusal_of};
-ghost use Rattle.schema_validator.specs.Asked.{DecidesFromSomeDepth, ErrorsFromSomeDepth, FirstFromSomeDepth};
-ghost use Rattle.schema_validator.specs.Asked.{DecidesInEverySense, ErrorsInEverySense, FirstInEverySense};
-ghost use Rattle.schema_validator.specs.Asked.{ErrorsPointAsNodes, FirstPointsAsNodes};
-ghost use Rattle.schema_validator.specs.Asked.{EvaluatesFromSomeDepth, EvaluatesInEverySense};
-ghost use Rattle.schema_validator.specs.Asked.{UnitsFromSomeDepth, UnitsInEverySense};
+ghost use Rattle.schema_answers.specs.Answers.{refusal_of};
+ghost use Rattle.schema_answers.specs.Asked.{DecidesFromSomeDepth, ErrorsFromSomeDepth, FirstFromSomeDepth};
+ghost use Rattle.schema_answers.specs.Asked.{DecidesInEverySense, ErrorsInEverySense, FirstInEverySense};
+ghost use Rattle.schema_answers.specs.Asked.{ErrorsPointAsNodes, FirstPointsAsNodes};
+ghost use Rattle.schema_answers.specs.Asked.{EvaluatesFromSomeDepth, EvaluatesInEverySense};
+ghost use Rattle.schema_answers.specs.Asked.{UnitsFromSomeDepth, UnitsInEverySense};
 ghost use Rattle.schema_validator.specs.Greatest.{DecidesAccepted, ErrorsAccepted, EvaluatesAccepted, FirstAccepted};
-ghost use Rattle.schema_validator.specs.Solved.{IsDecidedWithin};
-ghost use Rattle.schema_validator.specs.Stopped.{FirstTellsLimit, GivesLimit, OnlyTellsLimit, UnlessStopped};
+ghost use Rattle.schema_answers.specs.Solved.{IsDecidedWithin};
+ghost use Rattle.schema_answers.specs.Stopped.{FirstTellsLimit, GivesLimit, OnlyTellsLimit, UnlessStopped};
 
-use crate::stopping::{limit_failure, limit_failure_alone};
 use crate::validator::Validator;
+use schema_answers::stopping::{limit_failure, limit_failure_alone};
 use schema_contexts::work::Work;
 use schema_output::error_units::unit_of_errors;
 use schema_output::evaluation::Evaluation;

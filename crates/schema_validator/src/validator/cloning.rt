@@ -1,7 +1,7 @@
 //! Clones of validators.
 ghost use Rattle.std.specs.Prelude.{◌≡◌, IfOk};
 ghost use Rattle.node_table.specs.Cloned.{shaped_nodes};
-ghost use Rattle.schema_validator.specs.Cloned.{AnswerSame, SaySame};
+ghost use Rattle.schema_answers.specs.Cloned.{AnswerSame, SaySame};
 
 use crate::validator::Validator;
 use schema_parts::cloning::CloneKeyword;
@@ -28,13 +28,7 @@ impl<K: CloneKeyword, M: Matcher> Validator<K, M> {
         ensures answers { IfOk result (λ copy. AnswerSame K.Validate M.Matcher.own copy self.now) }
     {
         Ok(Validator {
-            nodes: self.nodes.clone(alloc)?,
-            root: self.root,
-            draft: self.draft,
-            matcher: self.matcher.clone()?,
-            run_limit: self.run_limit,
-            work_limit: self.work_limit,
-            finder: self.finder.clone()?,
+            schema: self.schema.clone(alloc)?,
         })
     }
 }

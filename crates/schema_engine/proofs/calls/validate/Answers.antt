@@ -5,7 +5,7 @@ use Rattle.schema_keywords.specs.KeywordTable.{builtin_in}
 use Rattle.schema_definitions.specs.Cover.{validate}
 use Rattle.schema_definitions.specs.Laws.{EachKeeps}
 use Rattle.schema_meaning.proofs.TurnsGiveRuns.{keeps_of_turns}
-use Rattle.schema_validator.specs.Answers.{refusal_of}
+use Rattle.schema_answers.specs.Answers.{refusal_of}
 use Rattle.schema_calls.specs.Spoken.{FirstAnswered}
 use Rattle.schema_validator.specs.Handed.{default_options, default_runs, handed, table_of}
 use Rattle.schema_validator.proofs.Pointing.{first_points}

@@ -6,7 +6,7 @@ use Rattle.schema_meaning.specs.Means as means
 use Rattle.schema_meaning.proofs.TurnsGiveRuns.{keeps_of_turns}
 use Rattle.node_table.specs.NodeTable.{numbered}
 use Rattle.schema_meaning.specs.Fractions.{AreWhole}
-use Rattle.schema_validator.specs.Program.{HaveUnits, Program, Means}
+use Rattle.schema_answers.specs.Program.{HaveUnits, Program, Means}
 use Rattle.schema_validator.specs.Handed.{table_of, parts_of}
 use Rattle.schema_validator.proofs.Built.{whole_from, means_from, units_from}
 use Rattle.schema_validator.proofs.compiled.of_compiled_within.Goals as goal

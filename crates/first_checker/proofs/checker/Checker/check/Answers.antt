@@ -4,8 +4,8 @@ use Rattle.serde_json.specs.View.{view}
 use Rattle.schema_definitions.specs.Laws.{EachKeeps}
 use Rattle.schema_meaning.proofs.TurnsGiveRuns.{keeps_of_turns}
 use Rattle.schema_reports.specs.ReportViews.{error_of}
-use Rattle.schema_validator.specs.Answers.{refusal_of}
-use Rattle.schema_validator.specs.Program.{Program}
+use Rattle.schema_answers.specs.Answers.{refusal_of}
+use Rattle.schema_answers.specs.Program.{Program}
 use Rattle.first_checker.specs.Checks.{first_by}
 use Rattle.first_checker.proofs.FirstChecked.{first_checked, unstopped}
 use Rattle.first_checker.proofs.checker.Checker.check.Goals as goal

@@ -20,7 +20,7 @@ use Rattle.schema_meaning.specs.ErrorsLead.{EachKeepsAbsorbing}
 use Rattle.schema_meaning.proofs.TurnsGiveRuns.{keeps_of_turns}
 use Rattle.schema_validator.proofs.Greatest.{accepts_as_schema}
 use Rattle.schema_validator.proofs.Pointing.{points_into, units_point_into}
-use Rattle.schema_validator.proofs.Solved.{solves_made}
+use Rattle.schema_answers.proofs.Solved.{solves_made}
 use Rattle.schema_validator.proofs.OtherParts.{compiles_too}
 use Rattle.schema_validator.proofs.RootKeys.{one_root_key, root_key_too, root_too}
 use Rattle.schema_validator.proofs.FirstCauses.{compiled_first, document_first}

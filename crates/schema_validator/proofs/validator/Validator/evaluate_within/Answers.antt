@@ -7,26 +7,27 @@ use Rattle.schema_reports.specs.declared.evaluation.EvaluationNode.{EvaluationNo
 use Rattle.schema_meaning.proofs.SensesMeant.{of_every_sense}
 use Rattle.schema_meaning.proofs.TurnsGiveRuns.{keeps_of_turns}
 use Rattle.node_table.specs.NodeTable.{numbered}
+use Rattle.schema_answers.specs.Asked.{EvaluatesFromSomeDepth}
 use Rattle.schema_calls.specs.Evaluated.{EvaluationAnswered}
-use Rattle.schema_validator.specs.Program.{HasUnits}
+use Rattle.schema_answers.specs.Program.{HasUnits, Program}
 use Rattle.schema_validator.proofs.Greatest.{evaluates_accepted}
 use Rattle.schema_validator.proofs.PlainAnswers.{units_in_every_sense}
 use Rattle.schema_validator.proofs.validator.Validator.evaluate_within.Goals as goal
 
 pub returns-clause-depth : goal.returns-clause-depth
-returns-clause-depth g c = λ texts speaks.
-    let p = c.args.self.now in
-    subst (λ (u : EvaluationNode). FromSomeDepth (g.K.Validate.words texts) (g.M.Matcher.matching p.matcher) (numbered g.K.Validate.shape p.nodes) p.root (view c.args.instance.now) (λ (v : Sense). EvaluationAnswered v p.runs texts u)) (sym c.new.ensures.root) (c.in_ok-answer.ensures.depth texts speaks)
+returns-clause-depth g c =
+    subst (λ (p : Program g.row.K.Denot g.row.M.Denot). EvaluatesFromSomeDepth g.K.Validate g.M.Matcher p (view c.args.instance.now) c.new.result) c.self.view_is
+    (subst (λ (u : EvaluationNode). EvaluatesFromSomeDepth g.K.Validate g.M.Matcher c.self.inside.schema (view c.args.instance.now) u) (sym c.new.ensures.root) c.in_ok-answer.ensures.depth)
 
 pub returns-clause-senses : goal.returns-clause-senses
 returns-clause-senses g c = λ texts speaks.
     let p = c.args.self.now in
-    of_every_sense (g.K.Validate.words texts) (g.M.Matcher.matching p.matcher) (numbered g.K.Validate.shape p.nodes) p.root (view c.args.instance.now) (λ (v : Sense). EvaluationAnswered v p.runs texts _)
-    (subst (λ (u : EvaluationNode). FromSomeDepth (g.K.Validate.words texts) (g.M.Matcher.matching p.matcher) (numbered g.K.Validate.shape p.nodes) p.root (view c.args.instance.now) (λ (v : Sense). EvaluationAnswered v p.runs texts u)) (sym c.new.ensures.root) (c.in_ok-answer.ensures.depth texts speaks))
+    of_every_sense (g.K.Validate.words texts) (g.M.Matcher.matching p.matcher) (numbered g.K.Validate.shape p.nodes) p.root (view c.args.instance.now) (λ (v : Sense). EvaluationAnswered v p.runs texts _) (returns-clause-depth g c texts speaks)
 
 pub returns-clause-units : goal.returns-clause-units
 returns-clause-units g c =
-    subst (λ (u : EvaluationNode). HasUnits g.K.Validate.shape g.K.Validate.words g.K.Validate.is_whole g.M.Matcher.matching c.args.self.now (view c.args.instance.now) u) (sym c.new.ensures.root) c.in_ok-answer.ensures.units
+    subst (λ (p : Program g.row.K.Denot g.row.M.Denot). HasUnits g.K.Validate.shape g.K.Validate.words g.K.Validate.is_whole g.M.Matcher.matching p (view c.args.instance.now) c.new.result) c.self.view_is
+    (subst (λ (u : EvaluationNode). HasUnits g.K.Validate.shape g.K.Validate.words g.K.Validate.is_whole g.M.Matcher.matching c.self.inside.schema (view c.args.instance.now) u) (sym c.new.ensures.root) c.in_ok-answer.ensures.units)
 
 pub returns-clause-plain : goal.returns-clause-plain
 returns-clause-plain g c =

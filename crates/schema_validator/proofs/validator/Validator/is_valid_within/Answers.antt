@@ -1,4 +1,4 @@
-use Rattle.std.proofs.Common.{Bool}
+use Rattle.std.proofs.Common.{Bool, subst}
 use Rattle.serde_json.specs.View.{view}
 use Rattle.schema_definitions.specs.Cover.{Sense, is_valid}
 use Rattle.schema_definitions.specs.Laws.{EachKeeps}
@@ -6,16 +6,23 @@ use Rattle.schema_meaning.specs.Headline.{VerdictSays}
 use Rattle.schema_meaning.proofs.SensesMeant.{of_every_sense}
 use Rattle.schema_meaning.proofs.TurnsGiveRuns.{keeps_of_turns}
 use Rattle.node_table.specs.NodeTable.{numbered}
+use Rattle.schema_answers.specs.Asked.{DecidesFromSomeDepth}
+use Rattle.schema_answers.specs.Program.{Program}
+use Rattle.schema_answers.specs.Solved.{IsDecidedWithin}
+use Rattle.std.specs.Prelude.{OnErr, false, ◌≡◌}
 use Rattle.schema_validator.proofs.Greatest.{decides_accepted}
 use Rattle.schema_validator.proofs.validator.Validator.is_valid_within.Goals as goal
+
+pub returns-clause-depth : goal.returns-clause-depth
+returns-clause-depth g c = subst (λ (p : Program g.row.K.Denot g.row.M.Denot). DecidesFromSomeDepth g.K.Validate g.M.Matcher p (view c.args.instance.now) c.in_ok-answer.field-0) c.self.view_is c.in_ok-answer.ensures.depth
 
 pub returns-clause-senses : goal.returns-clause-senses
 returns-clause-senses g c = λ texts speaks.
     let p = c.args.self.now in
-    of_every_sense (g.K.Validate.words texts) (g.M.Matcher.matching p.matcher) (numbered g.K.Validate.shape p.nodes) p.root (view c.args.instance.now) (λ (v : Sense). VerdictSays v p.runs is_valid c.in_ok-answer.field-0) (c.in_ok-answer.ensures.depth texts speaks)
+    of_every_sense (g.K.Validate.words texts) (g.M.Matcher.matching p.matcher) (numbered g.K.Validate.shape p.nodes) p.root (view c.args.instance.now) (λ (v : Sense). VerdictSays v p.runs is_valid c.in_ok-answer.field-0) (returns-clause-depth g c texts speaks)
 
 pub returns-clause-greatest : goal.returns-clause-greatest
 returns-clause-greatest g c =
     let k = g.K.Validate in
     let keeps : (texts : Bool) → EachKeeps (k.words texts) = λ texts s. (k.absorbed s, keeps_of_turns (k.words texts) s (k.absorbed s) (k.remaining s) (k.can_be texts s) (k.ends texts s) (k.fits texts s) (g.met.K.Validate.turn_laws texts s) (g.met.K.Validate.function_laws texts s)) in
-    decides_accepted k g.M.Matcher keeps c.args.self.now c.node_count-ranked.ensures.ranked c.node_count-ranked.ensures.inside (view c.args.instance.now) c.in_ok-answer.field-0 c.in_ok-answer.ensures.depth
+    decides_accepted k g.M.Matcher keeps c.args.self.now c.node_count-ranked.ensures.ranked c.node_count-ranked.ensures.inside (view c.args.instance.now) c.in_ok-answer.field-0 (returns-clause-depth g c)

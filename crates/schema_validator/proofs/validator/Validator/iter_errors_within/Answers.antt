@@ -11,21 +11,22 @@ use Rattle.schema_reports.specs.declared.reports.ValidationError.{ValidationErro
 use Rattle.schema_meaning.proofs.SensesMeant.{of_every_sense}
 use Rattle.schema_meaning.proofs.TurnsGiveRuns.{keeps_of_turns}
 use Rattle.node_table.specs.NodeTable.{numbered}
+use Rattle.schema_answers.specs.Asked.{ErrorsFromSomeDepth}
+use Rattle.schema_answers.specs.Program.{Program}
 use Rattle.schema_calls.specs.Spoken.{EachIsGiven, ErrorsAnswered}
 use Rattle.schema_validator.proofs.Greatest.{errors_accepted}
 use Rattle.schema_validator.proofs.Pointing.{each_is_given}
 use Rattle.schema_validator.proofs.validator.Validator.iter_errors_within.Goals as goal
 
 pub returns-clause-depth : goal.returns-clause-depth
-returns-clause-depth g c = λ texts speaks.
-    let p = c.args.self.now in
-    subst (λ (es : List ValidationError). FromSomeDepth (g.K.Validate.words texts) (g.M.Matcher.matching p.matcher) (numbered g.K.Validate.shape p.nodes) p.root (view c.args.instance.now) (λ (v : Sense). ErrorsAnswered v p.runs texts es)) (sym c.new.ensures.errors) (c.in_ok-answer.ensures.depth texts speaks)
+returns-clause-depth g c =
+    subst (λ (p : Program g.row.K.Denot g.row.M.Denot). ErrorsFromSomeDepth g.K.Validate g.M.Matcher p (view c.args.instance.now) c.new.result) c.self.view_is
+    (subst (λ (es : List ValidationError). ErrorsFromSomeDepth g.K.Validate g.M.Matcher c.self.inside.schema (view c.args.instance.now) es) (sym c.new.ensures.errors) c.in_ok-answer.ensures.depth)
 
 pub returns-clause-senses : goal.returns-clause-senses
 returns-clause-senses g c = λ texts speaks.
     let p = c.args.self.now in
-    of_every_sense (g.K.Validate.words texts) (g.M.Matcher.matching p.matcher) (numbered g.K.Validate.shape p.nodes) p.root (view c.args.instance.now) (λ (v : Sense). ErrorsAnswered v p.runs texts _)
-    (subst (λ (es : List ValidationError). FromSomeDepth (g.K.Validate.words texts) (g.M.Matcher.matching p.matcher) (numbered g.K.Validate.shape p.nodes) p.root (view c.args.instance.now) (λ (v : Sense). ErrorsAnswered v p.runs texts es)) (sym c.new.ensures.errors) (c.in_ok-answer.ensures.depth texts speaks))
+    of_every_sense (g.K.Validate.words texts) (g.M.Matcher.matching p.matcher) (numbered g.K.Validate.shape p.nodes) p.root (view c.args.instance.now) (λ (v : Sense). ErrorsAnswered v p.runs texts _) (returns-clause-depth g c texts speaks)
 
 pub returns-clause-borrows : goal.returns-clause-borrows
 returns-clause-borrows g c = subst (λ (es : List ValidationError). All (BorrowsItsPlace (view c.args.instance.now)) es) (sym c.new.ensures.errors) c.in_ok-answer.ensures.borrows
@@ -33,7 +34,7 @@ returns-clause-borrows g c = subst (λ (es : List ValidationError). All (Borrows
 pub returns-clause-points : goal.returns-clause-points
 returns-clause-points g c = λ texts speaks.
     let p = c.args.self.now in
-    let deep = c.in_ok-answer.ensures.depth texts speaks in
+    let deep = subst (λ (p : Program g.row.K.Denot g.row.M.Denot). ErrorsFromSomeDepth g.K.Validate g.M.Matcher p (view c.args.instance.now) c.in_ok-answer.field-0.items) c.self.view_is c.in_ok-answer.ensures.depth texts speaks in
     subst (λ (es : List ValidationError). FromSomeDepth (g.K.Validate.words texts) (g.M.Matcher.matching p.matcher) (numbered g.K.Validate.shape p.nodes) p.root (view c.args.instance.now) (λ (v : Sense). EachIsGiven v p.runs texts es)) (sym c.new.ensures.errors)
     (deep.0, λ n more. each_is_given (guarded_sense (g.K.Validate.words texts) (g.M.Matcher.matching p.matcher) (numbered g.K.Validate.shape p.nodes) (subject_in (view c.args.instance.now)) n p.root) p.runs texts c.in_ok-answer.field-0.items (deep.1 n more))
 

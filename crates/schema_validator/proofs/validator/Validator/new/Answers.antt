@@ -7,7 +7,7 @@ use Rattle.schema_validator.specs.Called.{BuildRefused, IsCompiledFrom}
 use Rattle.schema_validator.specs.FirstCauses.{FirstOfBuild}
 use Rattle.schema_validator.specs.Greatest.{AcceptsAsSchema}
 use Rattle.schema_validator.specs.Handed.{Options, handed, parts_of, table_of}
-use Rattle.schema_validator.specs.Program.{Program}
+use Rattle.schema_answers.specs.Program.{Program}
 use Rattle.schema_validator.specs.Promised.{HasSchemasUnits, MeansSchema, PointsIntoSchema, UnitsPointIntoSchema}
 use Rattle.schema_validator.specs.Roots.{Builds}
 use Rattle.schema_validator.proofs.validator.Validator.new.Goals as goal

@@ -16,7 +16,7 @@ use Rattle.schema_validator.specs.Handed.{Options, handed, table_of}
 use Rattle.schema_validator.proofs.CompiledAlone.{alone_in, compiled_alone, program_alone, refuses_alone_in, within_alone}
 use Rattle.schema_validator.proofs.Greatest.{accepts_as_key}
 use Rattle.schema_validator.proofs.Pointing.{points_from_key, units_point_from_key}
-use Rattle.schema_validator.proofs.Solved.{solves_made}
+use Rattle.schema_answers.proofs.Solved.{solves_made}
 use Rattle.schema_validator.proofs.options.map.MapBuilding.compiled.Goals as goal
 
 pub of_compiled_within-requires : goal.of_compiled_within-requires

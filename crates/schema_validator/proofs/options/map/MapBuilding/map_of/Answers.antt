@@ -8,7 +8,7 @@ use Rattle.schema_keys.proofs.Lists.{in_of}
 use Rattle.schema_validator.specs.Entries.{HoldsPlaces}
 use Rattle.schema_validator.specs.Handed.{handed}
 use Rattle.schema_validator.specs.MapViews.{Entries}
-use Rattle.schema_validator.specs.Program.{Program}
+use Rattle.schema_answers.specs.Program.{Program}
 use Rattle.schema_validator.proofs.HeldPlaces.{holds_more, holds_none}
 use Rattle.schema_validator.proofs.options.map.MapBuilding.map_of.Goals as goal
 

@@ -1,0 +1,4 @@
+pub mod Solved
+mod SharedErrors
+mod ClonedValidators
+pub mod AtLimits

@@ -1,0 +1,63 @@
+use Rattle.std.proofs.Common.{◌∙◌, suc, List, [], refl, sym, ap, subst, arith, length}
+use Rattle.serde_json.specs.View.{view}
+use Rattle.schema_definitions.specs.Cover.{iter_errors}
+use Rattle.schema_definitions.specs.Keywords.{for_all}
+use Rattle.schema_definitions.specs.Laws.{EachKeeps}
+use Rattle.schema_meaning.specs.Numbered.{left, subject_in}
+use Rattle.schema_definitions.specs.Unfinished.{Remembered}
+use Rattle.schema_meaning.proofs.TurnsGiveRuns.{keeps_of_turns}
+use Rattle.node_table.specs.NodeTable.{numbered}
+use Rattle.schema_contexts.proofs.Matches.{nothing_twice}
+use Rattle.schema_reports.specs.declared.reports.ValidationError.{ValidationError}
+use Rattle.schema_parts.proofs.Replies.{if_ok_mono}
+use Rattle.schema_answers.specs.Answers.{MeetsMatches, SaysErrors}
+use Rattle.schema_answers.specs.Asked.{ErrorsFromSomeDepth}
+use Rattle.schema_calls.proofs.ErrorSearches.{errors_first}
+use Rattle.schema_calls.proofs.Searches.{none_of}
+use Rattle.schema_node.proofs.Spending.{asks_spends, spends_on}
+use Rattle.schema_answers.proofs.compiled_schema.CompiledSchema.all_under_each.Goals as goal
+
+pub returns-then-accepts-clause-depth : goal.returns-then-accepts-clause-depth
+returns-then-accepts-clause-depth g c =
+    subst (λ (es : List ValidationError). ErrorsFromSomeDepth g.K.Validate g.M.Matcher c.args.self.now (view c.args.instance.now) es) (sym c.new.ensures.items)
+    (c.in_ok-accepts.ensures.errors c.if-accepts.true)
+
+pub returns-then-not-met_unassumed-clause-depth : goal.returns-then-not-met_unassumed-clause-depth
+returns-then-not-met_unassumed-clause-depth g c = λ texts speaks.
+    let w = g.K.Validate in
+    let p = c.args.self.now in
+    let d = view c.args.instance.now in
+    let nodes = numbered w.shape p.nodes in
+    let deep = left nodes (length p.nodes) p.root (subject_in d []) [] in
+    let each : EachKeeps (w.words texts) = λ m. (w.absorbed m, keeps_of_turns (w.words texts) m (w.absorbed m) (w.remaining m) (w.can_be texts m) (w.ends texts m) (w.fits texts m) (g.met.K.Validate.turn_laws texts m) (g.met.K.Validate.function_laws texts m)) in
+    let says = subst (λ (r : Remembered). SaysErrors w.shape w.words w.is_whole g.M.Matcher.matching p d r.assumptions c.in_ok-met.errors.items) c.new-2.ensures.starts c.in_ok-met.ensures.says in
+    let meets = subst (λ (r : Remembered). MeetsMatches w.shape w.words w.is_whole g.M.Matcher.matching p d for_all r c.in_ok-met.met) c.new-2.ensures.starts c.in_ok-met.ensures.meets in
+    let none = none_of c.in_ok-met.met.unassumed (sym c.met_unassumed.ensures.met ∙ c.if-not-met_unassumed.true) in (
+      suc deep,
+      λ n more. errors_first (w.words texts) each (g.M.Matcher.matching p.matcher) nodes d p.root n p.runs c.in_ok-met.ensures.makes_one texts c.in_ok-met.errors.items c.in_ok-met.met (says texts speaks nothing_twice n (omega (arith, more))) (meets texts speaks nothing_twice n (omega (arith, more))) none,
+    )
+
+pub shared_errors-requires-clause-none : goal.shared_errors-requires-clause-none
+shared_errors-requires-clause-none g c = c.in_ok-met.ensures.assumes ∙ ap (λ (r : Remembered). r.assumptions) c.new-2.ensures.starts
+
+pub returns-clause-depth : goal.returns-clause-depth
+returns-clause-depth g c =
+    let w = g.K.Validate in
+    let p = c.args.self.now in
+    let d = view c.args.instance.now in
+    let meets = subst (λ (r : Remembered). MeetsMatches w.shape w.words w.is_whole g.M.Matcher.matching p d for_all r c.in_ok-met.met) c.new-2.ensures.starts c.in_ok-met.ensures.meets in
+    if_ok_mono c.shared_errors.result _ _ (λ es shared. shared.errors meets) c.shared_errors.ensures.shares
+
+pub returns-clause-borrows : goal.returns-clause-borrows
+returns-clause-borrows g c =
+    let w = g.K.Validate in
+    let p = c.args.self.now in
+    let d = view c.args.instance.now in
+    let meets = subst (λ (r : Remembered). MeetsMatches w.shape w.words w.is_whole g.M.Matcher.matching p d for_all r c.in_ok-met.met) c.new-2.ensures.starts c.in_ok-met.ensures.meets in
+    if_ok_mono c.shared_errors.result _ _ (λ es shared. shared.borrows iter_errors (λ as' k. refl) meets) c.shared_errors.ensures.shares
+
+pub returns-then-not-met_unassumed-clause-works : goal.returns-then-not-met_unassumed-clause-works
+returns-then-not-met_unassumed-clause-works g c = spends_on _ _ _ c.in_ok-accepts.ensures.works (asks_spends _ _ c.in_ok-met.ensures.works)
+
+pub returns-clause-works : goal.returns-clause-works
+returns-clause-works g c = if_ok_mono c.shared_errors.result _ _ (λ es spends. spends_on _ _ _ c.in_ok-accepts.ensures.works (spends_on _ _ _ (asks_spends _ _ c.in_ok-met.ensures.works) spends)) c.shared_errors.ensures.works
