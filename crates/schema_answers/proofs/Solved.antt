@@ -1,5 +1,5 @@
 -- What a solver says of the root's number is what the run of the root's node decides; and that a validator that is made has a solver.
-use Rattle.std.proofs.Common.{◌&&◌, ◌*◌, ◌∙◌, ◌≡◌, ◌≤◌, Bool, List, [], ap, arith, false, length, refl, subst, suc, sym, true, ℕ}
+use Rattle.std.proofs.Common.{◌&&◌, ◌∙◌, ◌≡◌, Bool, List, [], ap, arith, false, length, refl, subst, sym, true, ℕ}
 use Rattle.std.specs.Prelude.{Err, IfOk, IfSome, None, Ok, OnErr, Option, Result, Some, is_some}
 use Rattle.serde_json.specs.Data.{Data}
 use Rattle.serde_json.specs.declared.value.Value.{Value}

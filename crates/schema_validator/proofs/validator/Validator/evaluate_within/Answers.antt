@@ -2,7 +2,6 @@ use Rattle.std.proofs.Common.{Bool, subst, sym}
 use Rattle.serde_json.specs.View.{view}
 use Rattle.schema_definitions.specs.Cover.{Sense}
 use Rattle.schema_definitions.specs.Laws.{EachKeeps}
-use Rattle.schema_meaning.specs.Means.{FromSomeDepth}
 use Rattle.schema_reports.specs.declared.evaluation.EvaluationNode.{EvaluationNode}
 use Rattle.schema_meaning.proofs.SensesMeant.{of_every_sense}
 use Rattle.schema_meaning.proofs.TurnsGiveRuns.{keeps_of_turns}

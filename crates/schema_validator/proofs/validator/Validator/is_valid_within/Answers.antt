@@ -8,8 +8,6 @@ use Rattle.schema_meaning.proofs.TurnsGiveRuns.{keeps_of_turns}
 use Rattle.node_table.specs.NodeTable.{numbered}
 use Rattle.schema_answers.specs.Asked.{DecidesFromSomeDepth}
 use Rattle.schema_answers.specs.Program.{Program}
-use Rattle.schema_answers.specs.Solved.{IsDecidedWithin}
-use Rattle.std.specs.Prelude.{OnErr, false, ◌≡◌}
 use Rattle.schema_validator.proofs.Greatest.{decides_accepted}
 use Rattle.schema_validator.proofs.validator.Validator.is_valid_within.Goals as goal
 
