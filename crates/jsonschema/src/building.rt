@@ -1,12 +1,12 @@
 //! Builds the validator of the schema.
 
-use crate::engine::Engine;
+use crate::validating::Validating;
 use command_line::answerer::answer_by;
 use command_line::desk::{Desk, Stop};
-use command_line::documents::{Document, documents_of};
+use command_line::documents::Document;
+use command_line::engine::Engine;
 use command_line::options::Options;
 use command_line::outcomes::Outcome;
-use command_line::reading::value_of;
 use command_line::telling::tell;
 use schema_engine::keywords::Draft;
 use schema_engine::location::OutOfMemory;
@@ -137,17 +137,6 @@ fn refuse_metas(rt: &HostRuntime, fault: &MetaError) -> Stop {
     }
 }
 
-/// Answers by a validator.
-fn answer_all(
-    rt: &HostRuntime,
-    desk: &mut Desk,
-    options: &Options<'_>,
-    validator: &StandardValidator<'_>,
-) -> Result<Outcome, Stop> {
-    let engine = Engine { validator };
-    answer_by(rt, desk, options, &engine)
-}
-
 /// Answers by the validator of the sources and their patterns.
 fn answer_built(
     rt: &HostRuntime,
@@ -160,7 +149,10 @@ fn answer_built(
     let chosen = engine_options(rt.alloc(), options);
     match build(rt.alloc(), sources, patterns, metas, chosen) {
         Ok(validator) => {
-            let answered = answer_all(rt, desk, options, &validator);
+            let asked = Validating {
+                validator: &validator,
+            };
+            let answered = answer_by(rt, desk, options, &asked);
             drop(validator);
             answered
         }
@@ -186,24 +178,6 @@ fn answer_by_sources(
     }
 }
 
-/// Answers by the validator of a schema.
-fn answer_by_schema(
-    rt: &HostRuntime,
-    desk: &mut Desk,
-    options: &Options<'_>,
-    schema: &Value,
-    documents: &[Document<'_>],
-) -> Result<Outcome, Stop> {
-    match MetaDocuments::new(rt.alloc()) {
-        Ok(metas) => {
-            let answered = answer_by_metas(rt, desk, options, schema, documents, &metas);
-            drop(metas);
-            answered
-        }
-        Err(fault) => Err(refuse_metas(rt, &fault)),
-    }
-}
-
 /// Answers by the validator of a schema, with the meta-schemas at hand.
 fn answer_by_metas(
     rt: &HostRuntime,
@@ -226,23 +200,25 @@ fn answer_by_metas(
     }
 }
 
-/// Answers as the options ask.
-pub(crate) fn answer(
-    rt: &HostRuntime,
-    desk: &mut Desk,
-    options: &Options<'_>,
-) -> Result<Outcome, Stop> {
-    let schema = value_of(rt, options.schema)?;
-    match documents_of(rt, options.resources.as_slice()) {
-        Ok(documents) => {
-            let answered = answer_by_schema(rt, desk, options, &schema, documents.as_slice());
-            drop(documents);
-            drop(schema);
-            answered
-        }
-        Err(stop) => {
-            drop(schema);
-            Err(stop)
+/// The engine with the standard's keywords.
+pub(crate) struct Standard;
+
+impl Engine for Standard {
+    fn answer(
+        &self,
+        rt: &HostRuntime,
+        desk: &mut Desk,
+        options: &Options<'_>,
+        schema: &Value,
+        documents: &[Document<'_>],
+    ) -> Result<Outcome, Stop> {
+        match MetaDocuments::new(rt.alloc()) {
+            Ok(metas) => {
+                let answered = answer_by_metas(rt, desk, options, schema, documents, &metas);
+                drop(metas);
+                answered
+            }
+            Err(fault) => Err(refuse_metas(rt, &fault)),
         }
     }
 }

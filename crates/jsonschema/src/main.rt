@@ -4,49 +4,13 @@
 #![tactic(auto)]
 
 mod building;
-mod engine;
+mod validating;
 
-use crate::building::answer;
-use command_line::desk::Desk;
-use command_line::options::Options;
-use command_line::outcomes::Outcome;
-use command_line::words::{given_words, options_in, say};
+use crate::building::Standard;
+use command_line::engine::answer_call;
 use std::process::ExitCode;
 
-/// Answers as the options ask, and tells why there is no answer.
-fn run(rt: &HostRuntime, options: &Options<'_>) -> Outcome {
-    let mut desk = Desk::new(rt);
-    let outcome = answer(rt, &mut desk, options);
-    let outcome = desk.outcome_of(rt, outcome);
-    drop(desk);
-    outcome
-}
-
-/// Reads the words, and answers as they ask.
-fn obey(rt: &HostRuntime, words: &[String]) -> Outcome {
-    match options_in(rt.alloc(), words) {
-        Ok(options) => {
-            let outcome = run(rt, &options);
-            drop(options);
-            outcome
-        }
-        Err(told) => say(rt, told),
-    }
-}
-
 fn main(rt: HostRuntime) -> ExitCode {
-    let outcome = match given_words(&rt) {
-        Ok(words) => {
-            let outcome = obey(&rt, words.as_slice());
-            drop(words);
-            outcome
-        }
-        Err(fault) => {
-            let _ = eprintln!(rt;
-                "the words of the call cannot be read: {fault}\nhint: give them in UTF-8"
-            );
-            Outcome::Unanswered
-        }
-    };
+    let outcome = answer_call(&rt, &Standard);
     ExitCode::from(outcome.code())
 }

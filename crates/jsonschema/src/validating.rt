@@ -13,11 +13,11 @@ use std::alloc::Global;
 
 /// A validator that is asked.
 #[derive(Clone, Copy)]
-pub(crate) struct Engine<'v, 'p> {
+pub(crate) struct Validating<'v, 'p> {
     pub(crate) validator: &'v StandardValidator<'p>,
 }
 
-impl Engine<'_, '_> {
+impl Validating<'_, '_> {
     /// All errors of an instance, as text.
     fn errors(&self, alloc: Global, paint: Paint, file: &str, instance: &Value) -> Answer
         ensures answered { IfOk result (λ a. code_of a.0 ≤ 1) }
@@ -71,7 +71,7 @@ impl Engine<'_, '_> {
     }
 }
 
-impl Answerer for Engine<'_, '_> {
+impl Answerer for Validating<'_, '_> {
     fn answer(
         &self,
         alloc: Global,
