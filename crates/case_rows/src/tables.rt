@@ -51,6 +51,15 @@ pub fn push_all(log: &mut String, words: &[&str]) -> Result<(), AllocError> {
     Ok(())
 }
 
+/// The texts in a list; an empty one for what is none.
+pub fn texts_of(alloc: Global, list: &[Value]) -> Result<Vec<String>, AllocError> {
+    let mut texts = Vec::new(alloc);
+    for text in list {
+        texts.push(String::from_str(alloc, text.as_str().unwrap_or(""))?)?;
+    }
+    Ok(texts)
+}
+
 /// What is to be told of a row.
 pub fn wanted_of(alloc: Global, row: &Value) -> Result<String, AllocError> {
     let mut wanted = String::from_str(alloc, text_at(row, 0))?;

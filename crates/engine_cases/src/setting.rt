@@ -4,6 +4,7 @@ use bench_parts::matcher::BenchMatcher;
 use bench_resolver::resolver::BenchResolver;
 use bench_resolver::resolver::documents::Document;
 use case_rows::case::Case;
+use case_rows::tables::texts_of;
 use schema_engine::keywords::{Draft, Vocabulary, VocabularySet};
 use schema_engine::location::OutOfMemory;
 use schema_engine::options::ValidationOptions;
@@ -146,9 +147,5 @@ pub(crate) fn resolver_of<'c>(
 
 // The matcher that leaves a case's patterns unfinished.
 fn matcher_of(alloc: Global, case: &Case<'_>) -> Result<BenchMatcher, OutOfMemory> {
-    let mut unfinished = Vec::new(alloc);
-    for pattern in case.list("unfinished") {
-        unfinished.push(String::from_str(alloc, pattern.as_str().unwrap_or(""))?)?;
-    }
-    Ok(BenchMatcher::new(unfinished))
+    Ok(BenchMatcher::new(texts_of(alloc, case.list("unfinished"))?))
 }

@@ -4,7 +4,7 @@ use bench_parts::matcher::BenchMatcher;
 use bench_parts::meta::BenchMeta;
 use bench_parts::table::BenchTable;
 use bench_resolver::resolver::BenchResolver;
-use case_rows::tables::{column, list_at, number_at, push_all};
+use case_rows::tables::{column, list_at, number_at, push_all, texts_of};
 use schema_engine::options::ValidationOptions;
 use schema_engine::validator::Validator;
 use schema_keys::error::BuildError;
@@ -23,15 +23,6 @@ use std::alloc::{AllocError, Global};
 pub(crate) struct Parts<'r> {
     pub resolver: BenchResolver<'r>,
     pub matcher: BenchMatcher,
-}
-
-/// The texts in a list.
-pub(crate) fn texts_of(alloc: Global, list: &[Value]) -> Result<Vec<String>, OutOfMemory> {
-    let mut texts = Vec::new(alloc);
-    for text in list {
-        texts.push(String::from_str(alloc, text.as_str().unwrap_or(""))?)?;
-    }
-    Ok(texts)
 }
 
 /// The parts of a row, of which column 1 is the schema, and column 4 the list of the patterns.

@@ -1,20 +1,17 @@
 //! A leaf is asked for its verdict before it is asked for errors: by a keyword type of its own, which asks for more matches when
 //! it is asked for errors. The rows of `check_rows` have no such keyword.
-ghost use Rattle.std.specs.Prelude.{◌<◌, IfOk, length};
-
-use crate::asking::{push_answers_again, texts_of};
+use crate::asking::push_answers_again;
 use bench_keywords::keyword::BenchKeyword;
 use bench_parts::matcher::BenchMatcher;
-use case_rows::tables::{column, list_at, text_at};
-use node_table::node::{Entry, EntryForm, NodeForm, Nodes};
+use case_rows::tables::{column, list_at, text_at, texts_of};
 use schema_engine::validator::Validator;
 use schema_keywords::keywords::Draft;
 use schema_parts::keyword::Validate;
 use schema_parts::numbers::SchemaNode;
-use schema_reports::location::{Location, OutOfMemory};
+use schema_reports::location::OutOfMemory;
 use serde_json::Value;
 use std::alloc::Global;
-use test_parts::detour_keyword::DetourKeyword;
+use test_parts::detour_keyword::{DetourKeyword, nodes_of};
 
 /// The keyword `pattern` of a row, whose value is column 1. It goes a detour over the patterns in column 4.
 fn keyword_of(alloc: Global, row: &Value) -> Result<DetourKeyword, OutOfMemory> {
@@ -26,29 +23,7 @@ fn keyword_of(alloc: Global, row: &Value) -> Result<DetourKeyword, OutOfMemory> 
     })
 }
 
-/// The nodes of a schema that has this keyword alone.
-fn nodes_of(
-    alloc: Global,
-    keyword: DetourKeyword,
-    is_leaf: bool,
-) -> Result<Nodes<DetourKeyword>, OutOfMemory>
-    ensures root { IfOk result (λ nodes. 0 < length nodes) }
-{
-    let name = String::from_str(alloc, "pattern")?;
-    let mut entries = Vec::new(alloc);
-    entries.push(Entry {
-        name,
-        priority: 30,
-        is_leaf,
-        form: EntryForm::Keyword(keyword, Vec::new(alloc)),
-    })?;
-    let mut nodes = Nodes::new(alloc);
-    let root = nodes.reserve(Location::new(alloc), None, 0, 0)?;
-    nodes.fill(root, NodeForm::Keywords(entries), None, false);
-    Ok(nodes)
-}
-
-/// The validator of this schema.
+/// The validator of a schema that has this keyword alone.
 fn validator_of(
     alloc: Global,
     keyword: DetourKeyword,

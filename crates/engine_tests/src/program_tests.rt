@@ -9,7 +9,7 @@ use serde_json::Value;
 use std::alloc::Global;
 use std::slice::from_ref;
 use test_parts::narrow_writer::NarrowWriter;
-use test_parts::two_words::TwoWords;
+use test_parts::words::{TwoWords, with_words};
 
 /// The writer of a row: column 3 is how many bytes it takes, if they are not all, and column 4 whether its flush refuses.
 fn writer_of(alloc: Global, row: &Value) -> NarrowWriter {
@@ -49,28 +49,6 @@ fn push_run(
 /// These bytes as a text, if they are one.
 fn text_of(bytes: &[u8]) -> &str {
     str::from_utf8(bytes).unwrap_or("no text")
-}
-
-/// The bytes of a word: a text's own, some that are not UTF-8 of `null`, or else those of its JSON text.
-fn word_of(alloc: Global, word: &Value) -> Result<Vec<u8>, OutOfMemory> {
-    match word {
-        Value::Null => Vec::from_slice(alloc, &[34, 255, 34]),
-        Value::String(text) => Vec::from_slice(alloc, text.as_bytes()),
-        _ => word.to_vec(alloc),
-    }
-}
-
-/// The words in a list, after these.
-fn with_words(
-    alloc: Global,
-    words: Vec<Vec<u8>>,
-    list: &[Value],
-) -> Result<Vec<Vec<u8>>, OutOfMemory> {
-    let mut words = words;
-    for word in list {
-        words.push(word_of(alloc, word)?)?;
-    }
-    Ok(words)
 }
 
 /// Adds what the program writes for a row's words: by each mode in column 1, or where there is none by the words alone.

@@ -5,9 +5,8 @@ use bench_parts::matcher::BenchMatcher;
 use bench_parts::meta::BenchMeta;
 use bench_parts::table::BenchTable;
 use bench_resolver::resolver::BenchResolver;
-use bench_resolver::resolver::vocabularies::DraftVocabularies;
 use case_rows::tables::{column, text_at};
-use schema_engine::keywords::{Vocabulary, VocabularySet};
+use schema_engine::keywords::VocabularySet;
 use schema_engine::map::ValidatorMap;
 use schema_engine::options::ValidationOptions;
 use schema_keys::error::BuildError;
@@ -18,34 +17,7 @@ use schema_parts::table::KeywordTable;
 use schema_reports::location::OutOfMemory;
 use serde_json::Value;
 use std::alloc::Global;
-
-/// These vocabularies, and a custom one.
-fn with_custom(alloc: Global, usual: VocabularySet) -> Result<VocabularySet, OutOfMemory> {
-    let uri = String::from_str(alloc, "http://v/x");
-    usual.with(Vocabulary::Custom(uri?))
-}
-
-/// The usual vocabularies, and the custom one beside them in 2019-09 alone.
-fn requiring_in_2019_09(alloc: Global) -> Result<DraftVocabularies, OutOfMemory> {
-    let usual = DraftVocabularies::with_required(VocabularySet::new(alloc))?;
-    let DraftVocabularies {
-        early,
-        of_2019_09,
-        late,
-    } = usual;
-    match with_custom(alloc, of_2019_09) {
-        Ok(of_2019_09) => Ok(DraftVocabularies {
-            early,
-            of_2019_09,
-            late,
-        }),
-        Err(failed) => {
-            drop(early);
-            drop(late);
-            Err(failed)
-        }
-    }
-}
+use test_parts::draft_vocabularies::requiring_in_2019_09;
 
 /// The map of a row's schema.
 fn map_of<K: Validate, T: KeywordTable<K>, R: Resolver, M: Matcher>(

@@ -1,5 +1,5 @@
 //! A keyword that asks for more matches when it is asked for errors than when it is asked for the verdict.
-ghost use Rattle.std.specs.Prelude.{◌≡◌, map, string_bytes};
+ghost use Rattle.std.specs.Prelude.{◌≡◌, ◌<◌, IfOk, length, map, string_bytes};
 ghost use Rattle.schema_reports.specs.InstanceViews.{subject_of};
 ghost use Rattle.schema_parts.specs.KeywordViews.{mode_of, turn_of};
 ghost use Rattle.test_parts.specs.Detours.{match_at, matches_before, pattern_at, text_in};
@@ -7,9 +7,10 @@ ghost use Rattle.test_parts.specs.Detours.{match_at, matches_before, pattern_at,
 use bench_keywords::keyword::BenchKeyword;
 use bench_keywords::names::NamesRun;
 use bench_keywords::texts::text_of;
+use node_table::node::{Entry, EntryForm, NodeForm, Nodes};
 use schema_parts::keyword::{Answer, Mode, Reply, Step, Validate};
 use schema_reports::instance::Instance;
-use schema_reports::location::OutOfMemory;
+use schema_reports::location::{Location, OutOfMemory};
 use std::alloc::Global;
 use std::marker::Model;
 
@@ -156,4 +157,30 @@ impl Validate for DetourKeyword {
     ghost asks_no_units = { detour_asks_no_units };
 
     ghost asks_verdicts = { detour_asks_verdicts };
+}
+
+/// The nodes of a schema that has this keyword alone.
+///
+/// # Errors
+///
+/// Fails only if memory cannot be allocated.
+pub fn nodes_of(
+    alloc: Global,
+    keyword: DetourKeyword,
+    is_leaf: bool,
+) -> Result<Nodes<DetourKeyword>, OutOfMemory>
+    ensures root { IfOk result (λ nodes. 0 < length nodes) }
+{
+    let name = String::from_str(alloc, "pattern")?;
+    let mut entries = Vec::new(alloc);
+    entries.push(Entry {
+        name,
+        priority: 30,
+        is_leaf,
+        form: EntryForm::Keyword(keyword, Vec::new(alloc)),
+    })?;
+    let mut nodes = Nodes::new(alloc);
+    let root = nodes.reserve(Location::new(alloc), None, 0, 0)?;
+    nodes.fill(root, NodeForm::Keywords(entries), None, false);
+    Ok(nodes)
 }

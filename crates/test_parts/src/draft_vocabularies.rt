@@ -1,0 +1,37 @@
+//! Vocabularies of which one draft alone requires more.
+use bench_resolver::resolver::vocabularies::DraftVocabularies;
+use schema_keywords::keywords::{Vocabulary, VocabularySet};
+use schema_reports::location::OutOfMemory;
+use std::alloc::Global;
+
+/// These vocabularies, and a custom one.
+fn with_custom(alloc: Global, usual: VocabularySet) -> Result<VocabularySet, OutOfMemory> {
+    let uri = String::from_str(alloc, "http://v/x");
+    usual.with(Vocabulary::Custom(uri?))
+}
+
+/// The usual vocabularies, and the custom one beside them in 2019-09 alone.
+///
+/// # Errors
+///
+/// Fails only if memory cannot be allocated.
+pub fn requiring_in_2019_09(alloc: Global) -> Result<DraftVocabularies, OutOfMemory> {
+    let usual = DraftVocabularies::with_required(VocabularySet::new(alloc))?;
+    let DraftVocabularies {
+        early,
+        of_2019_09,
+        late,
+    } = usual;
+    match with_custom(alloc, of_2019_09) {
+        Ok(of_2019_09) => Ok(DraftVocabularies {
+            early,
+            of_2019_09,
+            late,
+        }),
+        Err(failed) => {
+            drop(early);
+            drop(late);
+            Err(failed)
+        }
+    }
+}

@@ -1,0 +1,60 @@
+//! Words of a program.
+use schema_reports::location::OutOfMemory;
+use serde_json::Value;
+use std::alloc::Global;
+use std::env::{Env, FillError};
+
+/// The bytes of a word: a text's own, some that are not UTF-8 of `null`, or else those of its JSON text.
+fn word_of(alloc: Global, word: &Value) -> Result<Vec<u8>, OutOfMemory> {
+    match word {
+        Value::Null => Vec::from_slice(alloc, &[34, 255, 34]),
+        Value::String(text) => Vec::from_slice(alloc, text.as_bytes()),
+        _ => word.to_vec(alloc),
+    }
+}
+
+/// The words in a list, after these.
+///
+/// # Errors
+///
+/// Fails only if memory cannot be allocated.
+pub fn with_words(
+    alloc: Global,
+    words: Vec<Vec<u8>>,
+    list: &[Value],
+) -> Result<Vec<Vec<u8>>, OutOfMemory> {
+    let mut words = words;
+    for word in list {
+        words.push(word_of(alloc, word)?)?;
+    }
+    Ok(words)
+}
+
+/// A process that is given its name and two words, the second long and not UTF-8.
+#[derive(Drop)]
+pub struct TwoWords {}
+
+impl Env for TwoWords {
+    fn arg(&self, i: usize, buf: &mut [u8]) -> Result<usize, FillError> {
+        if i == 1 && buf.len() >= 1 {
+            buf[0] = 97;
+            return Ok(1);
+        }
+        if i == 2 {
+            if buf.len() < 300 {
+                return Err(FillError::TooLong);
+            }
+            buf[299] = 255;
+            return Ok(300);
+        }
+        Err(FillError::NotPresent)
+    }
+
+    fn var(&self, _name: &str, _buf: &mut [u8]) -> Result<usize, FillError> {
+        Err(FillError::NotPresent)
+    }
+
+    fn var_at(&self, _i: usize, _buf: &mut [u8]) -> Result<usize, FillError> {
+        Err(FillError::NotPresent)
+    }
+}
