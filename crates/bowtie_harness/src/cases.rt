@@ -1,122 +1,137 @@
 //! Cases: a schema, documents that its references may lead to, and instances.
 
-use crate::commands::Harness;
-use crate::replies::{answered, fault, fault_of_test};
-use anyhow::Result;
-use serde_json::{Value, json};
+use harness_commands::cases::{Case, Engine, Judge};
+use schema_engine::keywords::Draft;
+use schema_engine::location::OutOfMemory;
+use serde_json::Value;
 use standard_validator::{
-    BuildError, Patterns, Sources, StandardValidator, ValidationOptions, build,
+    BuildError, MetaDocuments, PatternError, Patterns, Sources, StandardMeta, StandardValidator,
+    ValidationOptions, build,
 };
 use std::alloc::Global;
 
-/// The schema of a case, the documents of its registry, and the meta-schemas.
-fn sources_of<'c>(
+/// The meta-schemas, and the check by them.
+#[derive(Clone, Copy)]
+pub(crate) struct Harness<'h, 'm> {
+    pub documents: &'h MetaDocuments,
+    pub metas: &'h StandardMeta<'m>,
+}
+
+/// The validator of a case.
+#[derive(Clone, Copy)]
+struct Asked<'v, 'p> {
+    validator: &'v StandardValidator<'p>,
+}
+
+impl Judge for Asked<'_, '_> {
+    fn accepts(&self, alloc: Global, instance: &Value) -> Result<bool, OutOfMemory> {
+        self.validator.is_valid(alloc, instance)
+    }
+}
+
+/// Sources with the documents of the registry of a case too.
+fn with_registry<'c>(
     alloc: Global,
-    harness: Harness<'c, '_>,
-    case: &'c Value,
-    schema: &'c Value,
-) -> Result<Sources<'c>> {
-    let mut sources = Sources::new(alloc, schema).with_default_draft(harness.draft);
-    if let Some(registry) = case.get("registry").and_then(Value::as_object) {
+    sources: Sources<'c>,
+    body: &'c Value,
+) -> Result<Sources<'c>, OutOfMemory> {
+    let mut sources = sources;
+    if let Some(registry) = body.get("registry").and_then(Value::as_object) {
         for (uri, document) in registry.iter() {
             sources = sources.with_document(alloc, uri.as_str(), document)?;
         }
     }
-    Ok(sources.with_meta_schemas(alloc, harness.documents)?)
+    Ok(sources)
 }
 
-/// Whether the validator accepts the instance of a test.
-fn result_of(alloc: Global, validator: &StandardValidator<'_>, test: &Value) -> Result<Value> {
-    match test.get("instance") {
-        Some(instance) => {
-            let valid = validator.is_valid(alloc, instance)?;
-            Ok(json!(in alloc; {"valid": valid})?)
-        }
-        None => fault_of_test(alloc, "the test has no instance"),
-    }
-}
-
-/// What is answered of each test.
-fn results_of(alloc: Global, validator: &StandardValidator<'_>, tests: &[Value]) -> Result<Value> {
-    let mut results = Vec::new(alloc);
-    for test in tests {
-        results.push(result_of(alloc, validator, test)?)?;
-    }
-    Ok(Value::Array(results))
-}
-
-/// What the validator of a case answers of its tests, or why there is none.
-fn answer_of_build(
+/// The schema of a case, the documents of its registry, and the meta-schemas.
+fn sources_of<'c>(
     alloc: Global,
-    seq: Option<&Value>,
-    case: &Value,
-    built: Result<StandardValidator<'_>, BuildError>,
-) -> Result<Value> {
-    match built {
-        Ok(validator) => {
-            let tests = case.get("tests").and_then(Value::as_array);
-            let results = match tests {
-                Some(tests) => results_of(alloc, &validator, tests.as_slice()),
-                None => Ok(Value::Array(Vec::new(alloc))),
-            };
-            drop(validator);
-            answered(alloc, seq, results?)
-        }
-        Err(refused) => {
-            let text = format!(in alloc; "{refused}")?;
-            drop(refused);
-            fault(alloc, seq, text.as_str())
-        }
-    }
+    documents: &'c MetaDocuments,
+    draft: Draft,
+    case: Case<'c>,
+) -> Result<Sources<'c>, OutOfMemory> {
+    let sources = Sources::new(alloc, case.schema).with_default_draft(draft);
+    with_registry(alloc, sources, case.body)?.with_meta_schemas(alloc, documents)
+}
+
+/// What is answered of a case whose schema is refused.
+fn refuse(alloc: Global, case: Case<'_>, refused: &BuildError) -> Result<Value, OutOfMemory> {
+    let text = format!(in alloc; "{refused}")?;
+    case.fault(alloc, text.as_str())
+}
+
+/// What is answered of a case that has a pattern which is not compiled.
+fn refuse_pattern(
+    alloc: Global,
+    case: Case<'_>,
+    error: &PatternError,
+) -> Result<Value, OutOfMemory> {
+    let text = format!(in alloc; "{error}")?;
+    case.fault(alloc, text.as_str())
+}
+
+/// Builds the validator of a case.
+fn built<'p>(
+    alloc: Global,
+    metas: &StandardMeta<'_>,
+    sources: Sources<'_>,
+    patterns: &'p Patterns,
+) -> Result<StandardValidator<'p>, BuildError> {
+    let options = ValidationOptions::new(alloc);
+    build(alloc, sources, patterns, metas, options)
 }
 
 /// What is answered of a case whose patterns are compiled.
-fn answer_by_patterns<'c>(
+fn answer_by_patterns(
     alloc: Global,
-    harness: Harness<'c, '_>,
-    seq: Option<&Value>,
-    case: &'c Value,
-    sources: Sources<'c>,
+    metas: &StandardMeta<'_>,
+    case: Case<'_>,
+    sources: Sources<'_>,
     patterns: &Patterns,
-) -> Result<Value> {
-    let options = ValidationOptions::new(alloc);
-    let built = build(alloc, sources, patterns, harness.metas, options);
-    answer_of_build(alloc, seq, case, built)
+) -> Result<Value, OutOfMemory> {
+    match built(alloc, metas, sources, patterns) {
+        Ok(validator) => {
+            let asked = Asked {
+                validator: &validator,
+            };
+            let answer = case.results(alloc, &asked);
+            drop(validator);
+            answer
+        }
+        Err(refused) => {
+            let answer = refuse(alloc, case, &refused);
+            drop(refused);
+            answer
+        }
+    }
 }
 
-/// What is answered of a case with a schema.
-fn answer_of_schema<'c>(
+/// What is answered of a case with these sources.
+fn answer_by_sources(
     alloc: Global,
-    harness: Harness<'c, '_>,
-    seq: Option<&Value>,
-    case: &'c Value,
-    schema: &'c Value,
-) -> Result<Value> {
-    let sources = sources_of(alloc, harness, case, schema)?;
+    metas: &StandardMeta<'_>,
+    case: Case<'_>,
+    sources: Sources<'_>,
+) -> Result<Value, OutOfMemory> {
     match sources.patterns(alloc) {
         Ok(patterns) => {
-            let answer = answer_by_patterns(alloc, harness, seq, case, sources, &patterns);
+            let answer = answer_by_patterns(alloc, metas, case, sources, &patterns);
             drop(patterns);
             answer
         }
         Err(error) => {
             drop(sources);
-            let text = format!(in alloc; "{error}")?;
+            let answer = refuse_pattern(alloc, case, &error);
             drop(error);
-            fault(alloc, seq, text.as_str())
+            answer
         }
     }
 }
 
-/// What is answered of a case.
-pub(crate) fn answer_of_case<'c>(
-    alloc: Global,
-    harness: Harness<'c, '_>,
-    seq: Option<&Value>,
-    case: &'c Value,
-) -> Result<Value> {
-    match case.get("schema") {
-        Some(schema) => answer_of_schema(alloc, harness, seq, case, schema),
-        None => fault(alloc, seq, "the case has no schema"),
+impl Engine for Harness<'_, '_> {
+    fn answer(&self, alloc: Global, draft: Draft, case: Case<'_>) -> Result<Value, OutOfMemory> {
+        let sources = sources_of(alloc, self.documents, draft, case)?;
+        answer_by_sources(alloc, self.metas, case, sources)
     }
 }

@@ -5,27 +5,12 @@
 #![tactic(auto)]
 
 mod cases;
-mod commands;
-mod replies;
 
-use crate::commands::{Harness, Turn};
+use crate::cases::Harness;
 use anyhow::Result;
+use harness_commands::lines::answer_lines;
 use schema_engine::keywords::Draft;
 use standard_validator::{MetaDocuments, StandardMeta};
-use std::io::{BufRead, BufReader};
-
-/// Reads lines until `stop` or the end, and answers each.
-fn answer_lines(rt: &HostRuntime, harness: Harness<'_, '_>) -> Result<()> {
-    let mut harness = harness;
-    let reader = BufReader::new(rt.alloc(), rt.reader())?;
-    for line in reader.split(rt.alloc(), b'\n') {
-        match harness.take(rt.alloc(), line?.as_slice())? {
-            Turn::Reply(reply) => println!(rt; "{}", reply.as_str())?,
-            Turn::Stop => return Ok(()),
-        }
-    }
-    Ok(())
-}
 
 /// Compiles the meta-schemas, and answers the lines.
 fn serve(rt: &HostRuntime, documents: &MetaDocuments) -> Result<()> {
@@ -33,9 +18,8 @@ fn serve(rt: &HostRuntime, documents: &MetaDocuments) -> Result<()> {
     let harness = Harness {
         documents,
         metas: &metas,
-        draft: Draft::Draft202012,
     };
-    let ended = answer_lines(rt, harness);
+    let ended = answer_lines(rt, &harness, Draft::Draft202012);
     drop(metas);
     ended
 }
