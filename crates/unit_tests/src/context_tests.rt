@@ -60,7 +60,11 @@ fn key_of<R: Resolver>(
 fn push_located<R: Resolver>(context: &Context<R>, log: &mut String) -> Result<(), OutOfMemory> {
     match context.absolute_location(context.location())? {
         None => log.push_str("none"),
-        Some(absolute) => log.push_str(absolute.as_str()),
+        Some(absolute) => {
+            let pushed = log.push_str(absolute.as_str());
+            drop(absolute);
+            pushed
+        }
     }
 }
 
@@ -73,7 +77,9 @@ fn push_located_later<R: Resolver>(
         None => log.push_str(" none"),
         Some(kept) => {
             let absolute = kept.resolve(context.location())?;
-            push_all(log, &[" ", absolute.as_str()])
+            let pushed = push_all(log, &[" ", absolute.as_str()]);
+            drop(absolute);
+            pushed
         }
     }
 }
@@ -104,6 +110,13 @@ fn push_known<R: Resolver>(context: &Context<R>, log: &mut String) -> Result<(),
     push_all(log, &words)
 }
 
+/// Adds what a context answers.
+fn push_told<R: Resolver>(context: &Context<R>, log: &mut String) -> Result<(), OutOfMemory> {
+    push_located(context, log)?;
+    push_located_later(context, log)?;
+    push_known(context, log)
+}
+
 /// Adds what the context of a key answers, under this option for formats.
 fn push_context<R: Resolver>(
     alloc: Global,
@@ -123,9 +136,9 @@ fn push_context<R: Resolver>(
         options: &options,
         key,
     };
-    push_located(&context, log)?;
-    push_located_later(&context, log)?;
-    push_known(&context, log)
+    let told = push_told(&context, log);
+    drop(options);
+    told
 }
 
 /// Adds what the context of a row's key answers.
@@ -137,7 +150,11 @@ fn tell_of<R: Resolver>(
 ) -> Result<(), OutOfMemory> {
     match key_of(alloc, resolver, row)? {
         None => log.push_str("no document"),
-        Some(key) => push_context(alloc, resolver, &key, column(row, 5).as_bool(), log),
+        Some(key) => {
+            let told = push_context(alloc, resolver, &key, column(row, 5).as_bool(), log);
+            drop(key);
+            told
+        }
     }
 }
 

@@ -18,8 +18,8 @@ fn push_kept(
     for _ in 0..column(turn, 2).as_u64().unwrap_or(0) {
         let _path = kept.evaluation_path(alloc, path, text_at(turn, 1), "/0")?;
     }
-    let count = format!(in alloc; "{};", kept.len())?;
-    log.push_str(count.as_str())
+    let count = kept.len();
+    write!(log, "{count};")
 }
 
 /// The same of the path that a turn names, which goes on from this one.

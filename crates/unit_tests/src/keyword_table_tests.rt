@@ -97,19 +97,31 @@ fn keyword_named(alloc: Global, name: &str) -> Result<Keyword, OutOfMemory> {
     })
 }
 
-/// Adds the keyword of a row's name, with a word before it where it is not as the row says.
+/// Adds this keyword of a row's name, with a word before it where it is not as the row says.
+fn push_keyword(
+    alloc: Global,
+    keyword: &Keyword,
+    row: &Value,
+    log: &mut String,
+) -> Result<(), OutOfMemory> {
+    let is_of_row = column(row, 1).as_u64() == Some(u64::from(keyword_priority(keyword)))
+        && column(row, 2).as_bool() == Some(keyword_is_leaf(keyword));
+    if !is_of_row || !is_in_drafts(alloc, row)? {
+        log.push_str("another ")?;
+    }
+    log.push_str(keyword.as_str())
+}
+
+/// The same by the row alone.
 pub(crate) fn tell_keyword(
     alloc: Global,
     row: &Value,
     log: &mut String,
 ) -> Result<(), OutOfMemory> {
     let keyword = keyword_named(alloc, text_at(row, 0))?;
-    let is_of_row = column(row, 1).as_u64() == Some(u64::from(keyword_priority(&keyword)))
-        && column(row, 2).as_bool() == Some(keyword_is_leaf(&keyword));
-    if !is_of_row || !is_in_drafts(alloc, row)? {
-        log.push_str("another ")?;
-    }
-    log.push_str(keyword.as_str())
+    let told = push_keyword(alloc, &keyword, row, log);
+    drop(keyword);
+    told
 }
 
 #[test]
