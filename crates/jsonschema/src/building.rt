@@ -13,7 +13,7 @@ use schema_engine::location::OutOfMemory;
 use serde_json::Value;
 use standard_validator::{
     BuildError, MetaDocuments, MetaError, PatternError, Patterns, Sources, StandardMeta,
-    StandardValidator, ValidationOptions, build,
+    ValidationOptions, build,
 };
 use std::alloc::Global;
 
