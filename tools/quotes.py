@@ -3,8 +3,8 @@
 
 A quoted file is a block of code whose first line names the file after the language, as in ```rust crates/NAME/src/main.rt. Where the word
 `part` follows, the block is a part of that file: lines that stand there one after the other, or several such pieces in the file's order, with
-a line `..` between them. Each block of README.md, docs/*.md and crates/*/CALLING.md that names a file is compared with it. Prints a line for
-each; ends with 1 where one differs.
+a line `..` between them. The file may be another page, which has the whole program. Each block of README.md, docs/*.md and crates/*/CALLING.md
+that names a file is compared with it. Prints a line for each; ends with 1 where one differs.
 
 A whole program is a block that begins with ```rust whole program. The block before it is its line of crates.txt, the block after it what it
 prints. By --try each program of these pages (else of all documents) is run unproved, in a copy of the repository, some two minutes each.
