@@ -241,7 +241,7 @@ module _ {K R : Type 0} (keywords : Keywords K R) (each : EachKeeps keywords) (m
       spoken_runs runs = search_runs keywords each matcher nodes instance root n Step start Has begins keeps call for_all later errors_in (errors_of v) first none met
           (λ s as' r es end has step once. let h = runs s as' r es end has step once in (told as' _ h.0, h.1))
 
-      none_runs : (texts : Bool) → AreRuns texts → IsRunOf v call Step first start none_in (λ m. is_nil (errors_of v m))
+      pub none_runs : (texts : Bool) → AreRuns texts → IsRunOf v call Step first start none_in (λ m. is_nil (errors_of v m))
       none_runs texts runs = search_runs keywords each matcher nodes instance root n Step start Has begins keeps call for_all later none_in (λ m. is_nil (errors_of v m)) first none met
           (λ s as' r es end has step once. let h = runs s as' r es end has step once in (nil_told texts es.items ∙ ap is_nil (told as' _ h.0), h.1))
 

@@ -8,3 +8,4 @@ mod SearchedSays
 mod SearchedErrors
 pub mod KeysIndexed
 mod Reached
+mod MadeRuns

@@ -3,7 +3,7 @@ use Rattle.std.proofs.Common.{◌≡◌, ◌+◌, ◌<◌, ◌≤◌, ℕ, zero,
 use Rattle.schema_meaning.specs.Search.{Uses, UsesBelow}
 
 module _ {S X Y : Type 0} (Use : S → X → Y → S → Type 0) where
-  more_uses : (start : S) (n m : ℕ) (middle end : S) → Uses Use start n middle → Uses Use middle m end → Uses Use start (m + n) end
+  pub more_uses : (start : S) (n m : ℕ) (middle end : S) → Uses Use start n middle → Uses Use middle m end → Uses Use start (m + n) end
   more_uses start n zero middle end a b = let e : n ≡ zero + n = omega arith in subst (λ k. Uses Use start k end) e (subst (Uses Use start n) b a)
   more_uses start n (suc m) middle end a (s, given, answer, b, last) =
       let e : suc (m + n) ≡ suc m + n = omega arith in

@@ -2,3 +2,4 @@ pub mod SharedResults
 pub mod SearchGives
 pub mod Outcomes
 pub mod KeyHashes
+pub mod RunCounts

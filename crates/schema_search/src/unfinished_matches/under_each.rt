@@ -8,6 +8,7 @@ ghost use Rattle.schema_search.specs.Outcomes.{errors_in, none_in};
 ghost use Rattle.schema_definitions.specs.Runs.{first_error};
 ghost use Rattle.schema_meaning.specs.Search.{UsesBelow};
 ghost use Rattle.schema_meaning.specs.Searched.{IsRunOf, Reaches, WantsAllLater};
+ghost use Rattle.schema_search.specs.RunCounts.{MakesFurther};
 ghost use Rattle.schema_search.specs.SearchGives.{GivesErrors};
 ghost use Rattle.schema_meaning.specs.Shared.{EachAccepts, errors_of};
 
@@ -21,8 +22,8 @@ use std::alloc::Global;
 
 /// Returns `true` if the instance is valid however the unfinished matches come out, and `false` if it is not, or if the call
 /// cannot decide within so many runs, the first one among them. The first run has been made, and met an unfinished match. With it no
-/// more runs are made than the limit says, also where it fails. It leaves the run as these runs do, one after another. Fails if a run
-/// fails, or if memory cannot be allocated.
+/// more runs are made than the limit says, also where it fails. It makes as many as the call does for the sense whose runs these are,
+/// and leaves the run as they do, one after another. Fails if a run fails, or if memory cannot be allocated.
 pub fn validity_under_each<
     'i,
     F: FnMut(MatchAssumptions<'i>) -> Result<(MatchAssumptions<'i>, bool), OutOfMemory>,
@@ -41,6 +42,9 @@ pub fn validity_under_each<
     ensures exactly { (v : Sense) (call : Call) → Follows v
         → IsRunOf v call (λ s x m t end. F.step s x (Ok (m, t)) end) first.entry.0 run.old (λ (b : Bool). b) (verdict_of v)
         → IfOk result (λ b. (b ≡ true) ↔ (Decides v run_limit call × EachAccepts v)) }
+    ensures makes { (v : Sense) (call : Call)
+        → IsRunOf v call (λ s x m t end. F.step s x (Ok (m, t)) end) first.entry.0 run.old (λ (b : Bool). b) (verdict_of v)
+        → IfOk result (λ _. MakesFurther v run_limit call (λ s x m t end. F.step s x (Ok (m, t)) end) run.old run.new) }
     ensures reaches { IfOk result (λ _. Reaches (λ s x m t end. F.step s x (Ok (m, t)) end) run.old run.new) }
     ensures uses { UsesBelow run_limit F.step run.old run.new }
 {
@@ -50,7 +54,8 @@ pub fn validity_under_each<
 /// Returns the errors that the instance has however the unfinished matches come out; if there is no such error although the
 /// instance is not always valid, or if the call cannot decide within so many runs, the first one among them, it returns one failure.
 /// The first run has been made, and met an unfinished match. With it no more runs are made than the limit says, also where it fails.
-/// It leaves the run as these runs do, one after another. Fails if a run fails, or if memory cannot be allocated.
+/// It makes as many as the call does for the sense whose runs these are, and leaves the run as they do, one after another. Fails if a
+/// run fails, or if memory cannot be allocated.
 pub fn errors_under_each<
     'i,
     F: FnMut(
@@ -78,6 +83,9 @@ pub fn errors_under_each<
     ensures gives { (v : Sense) (call : Call)
         → IsRunOf v call (λ s x m t end. F.step s x (Ok (m, t)) end) first.entry.0 run.old none_in (λ m. is_nil (errors_of v m))
         → IfOk result (λ es. GivesErrors v call run_limit (λ s x m t end. F.step s x (Ok (m, t)) end) run.old (view root.now) es.items) }
+    ensures makes { (v : Sense) (call : Call)
+        → IsRunOf v call (λ s x m t end. F.step s x (Ok (m, t)) end) first.entry.0 run.old none_in (λ m. is_nil (errors_of v m))
+        → IfOk result (λ _. MakesFurther v run_limit call (λ s x m t end. F.step s x (Ok (m, t)) end) run.old run.new) }
     ensures reaches { IfOk result (λ _. Reaches (λ s x m t end. F.step s x (Ok (m, t)) end) run.old run.new) }
     ensures uses { UsesBelow run_limit F.step run.old run.new }
 {

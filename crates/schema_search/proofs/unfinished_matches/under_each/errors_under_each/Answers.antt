@@ -1,5 +1,6 @@
 use Rattle.std.proofs.Common.{Ok}
 use Rattle.serde_json.specs.View.{view}
+use Rattle.schema_search.proofs.MadeRuns.{makes_further}
 use Rattle.schema_search.proofs.Reached.{reached}
 use Rattle.schema_search.proofs.SearchedErrors.{all_errors_say, errors_given, first_error_says, none_says}
 use Rattle.schema_search.proofs.unfinished_matches.under_each.errors_under_each.Goals as goal
@@ -18,3 +19,6 @@ returns-clause-gives g c = λ v call is. errors_given v call (view c.args.root.n
 
 pub returns-clause-reaches : goal.returns-clause-reaches
 returns-clause-reaches g c = reached (λ s x m t end. goal.F-step g s x (Ok (m, t)) end) c.args.run.now c.args.first.0 c.args.run_limit c.assume_each_outcome.new.run c.in_ok-outcomes.outcomes c.in_ok-outcomes.ensures.outcomes
+
+pub returns-clause-makes : goal.returns-clause-makes
+returns-clause-makes g c = λ v call is. makes_further v call (λ s x m t end. goal.F-step g s x (Ok (m, t)) end) c.args.first.0 c.args.run.now _ _ is c.args.run_limit c.assume_each_outcome.new.run c.in_ok-outcomes.outcomes c.in_ok-outcomes.ensures.outcomes

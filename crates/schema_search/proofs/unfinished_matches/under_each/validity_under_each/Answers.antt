@@ -1,4 +1,5 @@
 use Rattle.std.proofs.Common.{Ok}
+use Rattle.schema_search.proofs.MadeRuns.{makes_further}
 use Rattle.schema_search.proofs.Reached.{reached}
 use Rattle.schema_search.proofs.SearchedSays.{validity_exactly, validity_says}
 use Rattle.schema_search.proofs.unfinished_matches.under_each.validity_under_each.Goals as goal
@@ -11,3 +12,6 @@ returns-clause-exactly g c = λ v call follows is. rw c.validity.ensures.yes (va
 
 pub returns-clause-reaches : goal.returns-clause-reaches
 returns-clause-reaches g c = reached (λ s x m t end. goal.F-step g s x (Ok (m, t)) end) c.args.run.now c.args.first.0 c.args.run_limit c.assume_each_outcome.new.run c.in_ok-assume_each_outcome.field-0 c.in_ok-assume_each_outcome.ensures.outcomes
+
+pub returns-clause-makes : goal.returns-clause-makes
+returns-clause-makes g c = λ v call is. makes_further v call (λ s x m t end. goal.F-step g s x (Ok (m, t)) end) c.args.first.0 c.args.run.now _ _ is c.args.run_limit c.assume_each_outcome.new.run c.in_ok-assume_each_outcome.field-0 c.in_ok-assume_each_outcome.ensures.outcomes
