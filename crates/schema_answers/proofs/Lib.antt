@@ -2,3 +2,5 @@ pub mod Solved
 mod SharedErrors
 mod ClonedValidators
 pub mod AtLimits
+mod Taken
+mod VerdictsSearched

@@ -14,20 +14,25 @@ use Rattle.schema_definitions.specs.Unfinished.{Remembered, starting}
 use Rattle.schema_meaning.specs.Headline.{ErrorsOf, FirstSays, VerdictSays}
 use Rattle.schema_meaning.specs.Members.{Follows, is_nil}
 use Rattle.schema_meaning.specs.Numbered.{left, subject_in}
-use Rattle.schema_meaning.specs.Searched.{IsRunOf, WantsAllLater}
+use Rattle.schema_meaning.specs.Searched.{IsRunOf, Reaches, WantsAllLater}
 use Rattle.schema_meaning.specs.Shared.{errors_of}
 use Rattle.schema_search.specs.Outcomes.{errors_in, none_in}
+use Rattle.schema_search.specs.RunCounts.{MakesFurther}
 use Rattle.schema_search.specs.SearchGives.{GivesErrors}
 use Rattle.schema_reports.specs.ReportViews.{BorrowsItsPlace}
 use Rattle.schema_reports.specs.declared.reports.ValidationError.{ValidationError}
 use Rattle.node_table.specs.NodeTable.{numbered}
+use Rattle.schema_contexts.specs.Works.{Asks, Budget}
 use Rattle.schema_contexts.proofs.Matches.{nothing_twice}
 use Rattle.schema_parts.specs.declared.keyword.Validate.{Ghosts as KeywordMembers}
 use Rattle.schema_parts.specs.declared.matcher.Matcher.{Ghosts as MatcherMembers}
 use Rattle.schema_answers.specs.Asked.{RunListsErrors, RunMeets}
 use Rattle.schema_answers.specs.Program.{Program, Speaks}
-use Rattle.schema_answers.specs.SharedErrors.{AreShared}
-use Rattle.schema_calls.proofs.ErrorSearches.{AreRuns, borrowed, errors_searched, evaluated_searched, first_searched}
+use Rattle.schema_answers.specs.SharedErrors.{AreShared, Begins}
+use Rattle.schema_answers.specs.Taken.{TakesByRuns}
+use Rattle.schema_answers.proofs.Taken.{takes_searched}
+use Rattle.schema_calls.proofs.Searches.{sense}
+use Rattle.schema_calls.proofs.ErrorSearches.{AreRuns, borrowed, errors_searched, evaluated_searched, first_searched, none_runs}
 
 -- what two values have stays so of what they become
 pub both_on : {A B : Type 0} {x y p : A} {u v q : B} → x ≡ y → u ≡ v → (y ≡ p) × (v ≡ q) → (x ≡ p) × (u ≡ q)
@@ -86,3 +91,16 @@ module _ {C Run K M : Type 0} (keywords : KeywordMembers C Run K) (matchers : Ma
               let enough : deep < n = omega arith in
               borrowed (keywords.words false) (each false) matcher nodes instance p.root n p.runs some_run Step start Has begins keeps first none call later (began false speaks nothing_twice n enough) false (runs false speaks n enough) (λ s as' r es end has step. (told s as' r es end has step).2) es.items gives;
         }
+
+    -- what such a search takes of a budget, of which its states hold what is left
+    pub shared_takes : IsToldRun → (work : S → Budget) → ((s : S) (given r : Remembered) (es : Vec ValidationError) (end : S) → Step s given r es end → Asks (work s) (work end))
+        → (end : S) → Reaches Step start end
+        → ((u : Sense) (call : Call) → IsRunOf u call Step first start none_in (λ m. is_nil (errors_of u m)) → MakesFurther u p.runs call Step start end)
+        → (call : Call) → WantsAllLater call → Begins keywords matchers p instance first call → TakesByRuns keywords matchers p instance call (work start) (work end)
+    shared_takes told work asks end reaches makes call later began =
+        let matcher = matchers.matching p.matcher in
+        let nodes = numbered keywords.shape p.nodes in
+        takes_searched keywords matchers p instance call Step work asks start end reaches (λ texts speaks n enough.
+        makes (sense (keywords.words texts) (each texts) matcher nodes instance p.root n) call
+        (none_runs (keywords.words texts) (each texts) matcher nodes instance p.root n p.runs some_run Step start Has begins keeps first none call later (began texts speaks nothing_twice n enough) texts
+        (λ s as' r es end has step once. let h = told s as' r es end has step in (h.0 texts speaks once n enough, h.1 texts speaks once n enough))))

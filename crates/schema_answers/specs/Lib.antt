@@ -5,3 +5,4 @@ pub mod Asked
 pub mod Cloned
 pub mod SharedErrors
 pub mod Stopped
+pub mod Taken

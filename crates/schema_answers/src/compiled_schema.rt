@@ -10,15 +10,18 @@ ghost use Rattle.schema_parts.specs.FaultViews.{errors_in};
 ghost use Rattle.schema_parts.specs.KeywordViews.{mode_of, reply_of};
 ghost use Rattle.schema_parts.specs.MatcherViews.{FinishesEach};
 ghost use Rattle.run_steps.specs.ReplyModes.{reply_by};
+ghost use Rattle.schema_definitions.specs.Cover.{Call, evaluate, is_valid, iter_errors, validate};
 ghost use Rattle.schema_definitions.specs.Reports.{Outcome};
 ghost use Rattle.schema_definitions.specs.Keywords.{for_all, for_first, for_units, for_verdict};
 ghost use Rattle.schema_answers.specs.Asked.{DecidesFromSomeDepth, ErrorsFromSomeDepth, FirstFromSomeDepth};
 ghost use Rattle.schema_answers.specs.Asked.{EvaluatesFromSomeDepth};
 ghost use Rattle.schema_answers.specs.Asked.{RunGivesUnit, UnitsFromSomeDepth};
-ghost use Rattle.schema_answers.specs.SharedErrors.{AreShared};
+ghost use Rattle.schema_answers.specs.SharedErrors.{AreShared, Begins};
 ghost use Rattle.schema_answers.specs.Solved.{BeganFew, IsCountedIn, IsDecidedWithin, RestsOnContext, StopsLate};
+ghost use Rattle.schema_answers.specs.Taken.{TakesByRuns};
 ghost use Rattle.schema_answers.specs.Asked.{RunDecides, RunFindsFirst, RunListsErrors, RunMeets, RunReplies};
 ghost use Rattle.schema_meaning.specs.Numbered.{Ranked};
+ghost use Rattle.schema_meaning.specs.Searched.{WantsAllLater};
 ghost use Rattle.schema_verdicts.specs.Saying.{EachSays};
 ghost use Rattle.node_table.specs.NodeTable.{numbered};
 
@@ -301,7 +304,8 @@ impl<K: Validate, M: Matcher> CompiledSchema<K, M> {
         instance: &Value,
         work: &mut Work,
     ) -> Result<bool, OutOfMemory>
-        ensures works { IfOk result (λ _. Spends work.old work.new) }
+        ensures works { IfOk result (λ _. TakesByRuns
+            K.Validate M.Matcher.own self.now (view instance.now) is_valid work.old work.new) }
         ensures depth { IfOk result (λ valid. DecidesFromSomeDepth
             K.Validate M.Matcher.own self.now (view instance.now) valid) }
         ensures decides { IsDecidedWithin K.Validate M.Matcher.own self.now instance.now work.old.left
@@ -331,6 +335,7 @@ impl<K: Validate, M: Matcher> CompiledSchema<K, M> {
         work: &mut Work,
     ) -> Result<bool, OutOfMemory>
         ensures works { IfOk result (λ _. Spends work.old work.new) }
+        ensures finishes { IfOk result (λ accepts. accepts ≡ true → FinishesEach (M.matching self.now.matcher) × (1 ≤ self.now.runs)) }
         ensures first { IfOk result (λ accepts. accepts ≡ true → FirstFromSomeDepth
             K.Validate M.Matcher.own self.now (view instance.now) None) }
         ensures errors { IfOk result (λ accepts. accepts ≡ true → ErrorsFromSomeDepth
@@ -409,7 +414,9 @@ impl<K: Validate, M: Matcher> CompiledSchema<K, M> {
         requires met { IsSome first.0.unassumed }
         ensures shares { IfOk result (λ es. AreShared
             K.Validate M.Matcher.own self.now (view instance.now) first.entry.0 es.items) }
-        ensures works { IfOk result (λ _. Spends work.old work.new) }
+        ensures works { IfOk result (λ _. (call : Call)
+            → WantsAllLater call → Begins K.Validate M.Matcher.own self.now (view instance.now) first.entry.0 call
+            → TakesByRuns K.Validate M.Matcher.own self.now (view instance.now) call work.old work.new) }
     {
         let shared = errors_under_each(
             alloc,
@@ -436,7 +443,8 @@ impl<K: Validate, M: Matcher> CompiledSchema<K, M> {
         ensures depth { IfOk result (λ e. FirstFromSomeDepth
             K.Validate M.Matcher.own self.now (view instance.now) e) }
         ensures borrows { IfOk result (λ e. IfSome e (BorrowsItsPlace (view instance.now))) }
-        ensures works { IfOk result (λ _. Spends work.old work.new) }
+        ensures works { IfOk result (λ _. TakesByRuns
+            K.Validate M.Matcher.own self.now (view instance.now) validate work.old work.new) }
     {
         let accepts = self.accepts_at_once(alloc, instance, work)?;
         if accepts {
@@ -467,7 +475,8 @@ impl<K: Validate, M: Matcher> CompiledSchema<K, M> {
         ensures depth { IfOk result (λ es. ErrorsFromSomeDepth
             K.Validate M.Matcher.own self.now (view instance.now) es.items) }
         ensures borrows { IfOk result (λ es. All (BorrowsItsPlace (view instance.now)) es.items) }
-        ensures works { IfOk result (λ _. Spends work.old work.new) }
+        ensures works { IfOk result (λ _. TakesByRuns
+            K.Validate M.Matcher.own self.now (view instance.now) iter_errors work.old work.new) }
     {
         let accepts = self.accepts_at_once(alloc, instance, work)?;
         if accepts {
@@ -536,7 +545,8 @@ impl<K: Validate, M: Matcher> CompiledSchema<K, M> {
             K.Validate M.Matcher.own self.now (view instance.now) u) }
         ensures units { IfOk result (λ u. UnitsFromSomeDepth
             K.Validate M.Matcher.own self.now (view instance.now) u) }
-        ensures works { IfOk result (λ _. Spends work.old work.new) }
+        ensures works { IfOk result (λ _. TakesByRuns
+            K.Validate M.Matcher.own self.now (view instance.now) evaluate work.old work.new) }
     {
         let (met, unit) = self.unit(alloc, instance, work)?;
         if !met.met_unassumed() {

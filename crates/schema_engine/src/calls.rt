@@ -1,5 +1,5 @@
 //! One instance asked of a schema: built by the default options and asked in one call.
-ghost use Rattle.std.specs.Prelude.{Bool, IfOk, IfErr, IfSome, All};
+ghost use Rattle.std.specs.Prelude.{IfOk, IfErr, IfSome, All};
 ghost use Rattle.serde_json.specs.View.{view};
 ghost use Rattle.schema_reports.specs.ReportViews.{BorrowsItsPlace};
 ghost use Rattle.schema_answers.specs.Answers.{refusal_of};

@@ -2,6 +2,7 @@
 ghost use Rattle.std.specs.Prelude.{◌≡◌, ◌↔◌, ◌<◌, ◌≤◌, false, true, Bool, None, Option, IfOk, All, IfSome, OnErr};
 ghost use Rattle.std.specs.Prelude.{is_some, length};
 ghost use Rattle.serde_json.specs.View.{view};
+ghost use Rattle.schema_definitions.specs.Cover.{evaluate, is_valid, iter_errors, validate};
 ghost use Rattle.schema_keywords.specs.KeywordViews.{draft_of};
 ghost use Rattle.schema_contexts.specs.Works.{IsSpent, Spends};
 ghost use Rattle.schema_reports.specs.ReportViews.{BorrowsItsPlace};
@@ -15,6 +16,7 @@ ghost use Rattle.schema_answers.specs.Asked.{UnitsFromSomeDepth, UnitsInEverySen
 ghost use Rattle.schema_validator.specs.Greatest.{DecidesAccepted, ErrorsAccepted, EvaluatesAccepted, FirstAccepted, NodesAreMonotone};
 ghost use Rattle.schema_validator.specs.Handed.{default_runs};
 ghost use Rattle.schema_answers.specs.Solved.{AreEnough, BeganFew, IsCountedIn, IsDecidedWithin, RestsOnContext, StopsLate};
+ghost use Rattle.schema_answers.specs.Taken.{TakesByRuns};
 ghost use Rattle.schema_meaning.specs.Numbered.{Ranked};
 ghost use Rattle.schema_verdicts.specs.Saying.{EachSays};
 ghost use Rattle.node_table.specs.NodeTable.{numbered};
@@ -177,9 +179,9 @@ impl<K: Validate, M: Matcher> Validator<K, M> {
         self.schema.node_count()
     }
 
-    /// Returns what `is_valid` does, but takes no more steps than `work` allows, and counts them there (`with_work_limit`). It is not
-    /// stopped where the matcher says that it finishes every match, each keyword says that it is monotone, and there is a solver for
-    /// which so many pairs are enough (`solve_within`).
+    /// Returns what `is_valid` does, but takes no more steps than `work` allows, and counts them there (`with_work_limit`): one at least
+    /// for each run that it makes for unfinished matches after the first run. It is not stopped where the matcher says that it finishes
+    /// every match, each keyword says that it is monotone, and there is a solver for which so many pairs are enough (`solve_within`).
     ///
     /// # Errors
     ///
@@ -196,7 +198,8 @@ impl<K: Validate, M: Matcher> Validator<K, M> {
             K.Validate M.Matcher.own self.now (view instance.now) valid) }
         ensures greatest { IfOk result (λ valid. DecidesAccepted
             K.Validate M.Matcher.own self.now (view instance.now) valid) }
-        ensures works { IfOk result (λ _. Spends work.old work.new) }
+        ensures works { IfOk result (λ _. TakesByRuns
+            K.Validate M.Matcher.own self.now (view instance.now) is_valid work.old work.new) }
         ensures stopped { OnErr result (work.new.stopped ≡ true → IsSpent work.new) }
         ensures decides { IsDecidedWithin K.Validate M.Matcher.own self.now instance.now work.old.left
             → OnErr result (work.old.stopped ≡ false → work.new.stopped ≡ false) }
@@ -274,7 +277,8 @@ impl<K: Validate, M: Matcher> Validator<K, M> {
         self.schema.solved(alloc, true, instance, work)
     }
 
-    /// Returns what `validate` does, but takes no more steps than `work` allows, and counts them there (`with_work_limit`).
+    /// Returns what `validate` does, but takes no more steps than `work` allows, and counts them there: one at least for each run that it
+    /// makes for unfinished matches after the first run.
     ///
     /// # Errors
     ///
@@ -294,7 +298,8 @@ impl<K: Validate, M: Matcher> Validator<K, M> {
         ensures points { IfOk result (λ r. FirstPointsAsNodes
             K.Validate M.Matcher.own self.now (view instance.now) (refusal_of r)) }
         ensures borrows { IfOk result (λ r. IfSome (refusal_of r) (BorrowsItsPlace (view instance.now))) }
-        ensures works { IfOk result (λ _. Spends work.old work.new) }
+        ensures works { IfOk result (λ _. TakesByRuns
+            K.Validate M.Matcher.own self.now (view instance.now) validate work.old work.new) }
         ensures stopped { OnErr result (work.new.stopped ≡ true → IsSpent work.new) }
     {
         let _ranked = self.node_count();
@@ -303,7 +308,8 @@ impl<K: Validate, M: Matcher> Validator<K, M> {
         Ok(unless_refused(answer?))
     }
 
-    /// Returns what `iter_errors` does, but takes no more steps than `work` allows, and counts them there (`with_work_limit`).
+    /// Returns what `iter_errors` does, but takes no more steps than `work` allows, and counts them there: one at least for each run that
+    /// it makes for unfinished matches after the first run.
     ///
     /// # Errors
     ///
@@ -323,7 +329,8 @@ impl<K: Validate, M: Matcher> Validator<K, M> {
         ensures points { IfOk result (λ es. ErrorsPointAsNodes
             K.Validate M.Matcher.own self.now (view instance.now) es) }
         ensures borrows { IfOk result (λ es. All (BorrowsItsPlace (view instance.now)) es) }
-        ensures works { IfOk result (λ _. Spends work.old work.new) }
+        ensures works { IfOk result (λ _. TakesByRuns
+            K.Validate M.Matcher.own self.now (view instance.now) iter_errors work.old work.new) }
         ensures stopped { OnErr result (work.new.stopped ≡ true → IsSpent work.new) }
     {
         let _ranked = self.node_count();
@@ -332,7 +339,8 @@ impl<K: Validate, M: Matcher> Validator<K, M> {
         Ok(ErrorIterator::new(answer?))
     }
 
-    /// Returns what `evaluate` does, but takes no more steps than `work` allows, and counts them there (`with_work_limit`).
+    /// Returns what `evaluate` does, but takes no more steps than `work` allows, and counts them there: one at least for each run that it
+    /// makes for unfinished matches after the first run.
     ///
     /// # Errors
     ///
@@ -353,7 +361,8 @@ impl<K: Validate, M: Matcher> Validator<K, M> {
             K.Validate M.Matcher.own self.now (view instance.now) u) }
         ensures plain { IfOk result (λ u. UnitsInEverySense
             K.Validate M.Matcher.own self.now (view instance.now) u) }
-        ensures works { IfOk result (λ _. Spends work.old work.new) }
+        ensures works { IfOk result (λ _. TakesByRuns
+            K.Validate M.Matcher.own self.now (view instance.now) evaluate work.old work.new) }
         ensures stopped { OnErr result (work.new.stopped ≡ true → IsSpent work.new) }
     {
         let _ranked = self.node_count();

@@ -80,3 +80,16 @@ returns-then-finishes-clause-errors g c = λ accepts texts speaks.
 
 pub returns-then-finishes-clause-works : goal.returns-then-finishes-clause-works
 returns-then-finishes-clause-works g c = spends_on _ _ _ c.in_ok-solved.ensures.works (asks_spends _ _ c.in_ok-met.ensures.works)
+
+pub returns-in-Some-clause-finishes : goal.returns-in-Some-clause-finishes
+returns-in-Some-clause-finishes g c = λ yes.
+    let p = c.args.self.now in (
+      of_some _ c.in-Some.solved (λ _. FinishesEach (g.M.Matcher.matching p.matcher)) c.in-Some.is c.in_ok-solved.ensures.finishes,
+      subst (λ (p : Program g.row.K.Denot g.row.M.Denot). 1 ≤ p.runs) c.self.view_is c.self.invariant.1,
+    )
+
+pub returns-then-finishes-clause-finishes : goal.returns-then-finishes-clause-finishes
+returns-then-finishes-clause-finishes g c = λ yes. (
+  subst (λ (p : Program g.row.K.Denot g.row.M.Denot). FinishesEach (g.M.Matcher.matching p.matcher)) c.self.view_is (c.finishes.ensures.finishes c.if-finishes.true),
+  c.in_ok-met.ensures.makes_one,
+)

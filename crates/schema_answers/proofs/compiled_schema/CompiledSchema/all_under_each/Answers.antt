@@ -13,8 +13,9 @@ use Rattle.schema_parts.proofs.Replies.{if_ok_mono}
 use Rattle.schema_answers.specs.Answers.{MeetsMatches, SaysErrors}
 use Rattle.schema_answers.specs.Asked.{ErrorsFromSomeDepth}
 use Rattle.schema_calls.proofs.ErrorSearches.{errors_first}
-use Rattle.schema_calls.proofs.Searches.{none_of}
+use Rattle.schema_calls.proofs.Searches.{finishes_of, none_of}
 use Rattle.schema_node.proofs.Spending.{asks_spends, spends_on}
+use Rattle.schema_answers.proofs.Taken.{takes_after, takes_finished, takes_first}
 use Rattle.schema_answers.proofs.compiled_schema.CompiledSchema.all_under_each.Goals as goal
 
 pub returns-then-accepts-clause-depth : goal.returns-then-accepts-clause-depth
@@ -56,8 +57,25 @@ returns-clause-borrows g c =
     let meets = subst (λ (r : Remembered). MeetsMatches w.shape w.words w.is_whole g.M.Matcher.matching p d for_all r c.in_ok-met.met) c.new-2.ensures.starts c.in_ok-met.ensures.meets in
     if_ok_mono c.shared_errors.result _ _ (λ es shared. shared.borrows iter_errors (λ as' k. refl) meets) c.shared_errors.ensures.shares
 
+pub returns-then-accepts-clause-works : goal.returns-then-accepts-clause-works
+returns-then-accepts-clause-works g c =
+    let (finishes, one) = c.in_ok-accepts.ensures.finishes c.if-accepts.true in
+    takes_finished g.K.Validate g.M.Matcher c.args.self.now (view c.args.instance.now) iter_errors _ _ one (finishes_of (g.M.Matcher.matching c.args.self.now.matcher) finishes) c.in_ok-accepts.ensures.works
+
 pub returns-then-not-met_unassumed-clause-works : goal.returns-then-not-met_unassumed-clause-works
-returns-then-not-met_unassumed-clause-works g c = spends_on _ _ _ c.in_ok-accepts.ensures.works (asks_spends _ _ c.in_ok-met.ensures.works)
+returns-then-not-met_unassumed-clause-works g c =
+    let w = g.K.Validate in
+    let p = c.args.self.now in
+    let d = view c.args.instance.now in
+    let meets = subst (λ (r : Remembered). MeetsMatches w.shape w.words w.is_whole g.M.Matcher.matching p d for_all r c.in_ok-met.met) c.new-2.ensures.starts c.in_ok-met.ensures.meets in
+    takes_first w g.M.Matcher p d iter_errors _ _ c.in_ok-met.met c.in_ok-met.ensures.makes_one meets
+    (none_of c.in_ok-met.met.unassumed (sym c.met_unassumed.ensures.met ∙ c.if-not-met_unassumed.true)) (spends_on _ _ _ c.in_ok-accepts.ensures.works (asks_spends _ _ c.in_ok-met.ensures.works))
 
 pub returns-clause-works : goal.returns-clause-works
-returns-clause-works g c = if_ok_mono c.shared_errors.result _ _ (λ es spends. spends_on _ _ _ c.in_ok-accepts.ensures.works (spends_on _ _ _ (asks_spends _ _ c.in_ok-met.ensures.works) spends)) c.shared_errors.ensures.works
+returns-clause-works g c =
+    let w = g.K.Validate in
+    let p = c.args.self.now in
+    let d = view c.args.instance.now in
+    let meets = subst (λ (r : Remembered). MeetsMatches w.shape w.words w.is_whole g.M.Matcher.matching p d for_all r c.in_ok-met.met) c.new-2.ensures.starts c.in_ok-met.ensures.meets in
+    if_ok_mono c.shared_errors.result _ _ (λ es takes. takes_after w g.M.Matcher p d iter_errors _ _ _ (spends_on _ _ _ c.in_ok-accepts.ensures.works (asks_spends _ _ c.in_ok-met.ensures.works))
+    (takes iter_errors (λ as' k. refl) meets)) c.shared_errors.ensures.works

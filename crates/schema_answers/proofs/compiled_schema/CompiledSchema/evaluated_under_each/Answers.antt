@@ -9,7 +9,10 @@ use Rattle.schema_contexts.proofs.Matches.{nothing_twice}
 use Rattle.schema_parts.proofs.Replies.{if_ok_always, if_ok_mono}
 use Rattle.schema_calls.proofs.ErrorSearches.{evaluated_first, units_first, units_searched}
 use Rattle.schema_calls.proofs.Searches.{none_of}
-use Rattle.schema_node.proofs.Spending.{asks_spends, spends_on}
+use Rattle.schema_node.proofs.Spending.{asks_spends}
+use Rattle.schema_answers.proofs.Taken.{takes_after, takes_first}
+use Rattle.schema_meaning.proofs.Sentences.{evaluate_later}
+use Rattle.schema_definitions.specs.Cover.{evaluate}
 use Rattle.schema_answers.proofs.compiled_schema.CompiledSchema.evaluated_under_each.Goals as goal
 
 pub returns-then-not-met_unassumed-clause-depth : goal.returns-then-not-met_unassumed-clause-depth
@@ -59,7 +62,10 @@ pub returns-clause-depth : goal.returns-clause-depth
 returns-clause-depth g c = if_ok_mono c.unit_of_errors.result _ _ (λ u made. c.in_ok-shared.ensures.shares.units c.in_ok-met.ensures.meets u made) c.unit_of_errors.ensures.unit
 
 pub returns-then-not-met_unassumed-clause-works : goal.returns-then-not-met_unassumed-clause-works
-returns-then-not-met_unassumed-clause-works g c = asks_spends _ _ c.in_ok-met.ensures.works
+returns-then-not-met_unassumed-clause-works g c =
+    takes_first g.K.Validate g.M.Matcher c.args.self.now (view c.args.instance.now) evaluate _ _ c.in_ok-met.met c.in_ok-met.ensures.makes_one c.in_ok-met.ensures.meets
+    (none_of c.in_ok-met.met.unassumed (sym c.met_unassumed.ensures.met ∙ c.if-not-met_unassumed.true)) (asks_spends _ _ c.in_ok-met.ensures.works)
 
 pub returns-clause-works : goal.returns-clause-works
-returns-clause-works g c = if_ok_always c.unit_of_errors.result _ (spends_on _ _ _ (asks_spends _ _ c.in_ok-met.ensures.works) c.in_ok-shared.ensures.works)
+returns-clause-works g c = if_ok_always c.unit_of_errors.result _
+    (takes_after g.K.Validate g.M.Matcher c.args.self.now (view c.args.instance.now) evaluate _ _ _ (asks_spends _ _ c.in_ok-met.ensures.works) (c.in_ok-shared.ensures.works evaluate evaluate_later c.in_ok-met.ensures.meets))

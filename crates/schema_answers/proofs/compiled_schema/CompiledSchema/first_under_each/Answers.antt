@@ -12,8 +12,9 @@ use Rattle.node_table.specs.NodeTable.{numbered}
 use Rattle.schema_contexts.proofs.Matches.{nothing_twice}
 use Rattle.schema_answers.specs.Asked.{FirstFromSomeDepth}
 use Rattle.schema_calls.proofs.ErrorSearches.{first_first, first_has}
-use Rattle.schema_calls.proofs.Searches.{none_of}
+use Rattle.schema_calls.proofs.Searches.{finishes_of, none_of}
 use Rattle.schema_node.proofs.Spending.{asks_spends, spends_on}
+use Rattle.schema_answers.proofs.Taken.{takes_after, takes_finished, takes_first}
 use Rattle.schema_answers.proofs.compiled_schema.CompiledSchema.first_under_each.Goals as goal
 
 pub returns-then-not-met_unassumed-clause-depth : goal.returns-then-not-met_unassumed-clause-depth
@@ -42,8 +43,17 @@ returns-clause-borrows g c =
     subst (λ (o : Option ValidationError). IfSome o (BorrowsItsPlace d)) (sym c.first_of.ensures.first)
     (first_has (BorrowsItsPlace d) c.in_ok-shared.shared.items (c.in_ok-shared.ensures.shares.borrows validate validate_later c.in_ok-met.ensures.meets))
 
+pub returns-then-accepts-clause-works : goal.returns-then-accepts-clause-works
+returns-then-accepts-clause-works g c =
+    let (finishes, one) = c.in_ok-accepts.ensures.finishes c.if-accepts.true in
+    takes_finished g.K.Validate g.M.Matcher c.args.self.now (view c.args.instance.now) validate _ _ one (finishes_of (g.M.Matcher.matching c.args.self.now.matcher) finishes) c.in_ok-accepts.ensures.works
+
 pub returns-then-not-met_unassumed-clause-works : goal.returns-then-not-met_unassumed-clause-works
-returns-then-not-met_unassumed-clause-works g c = spends_on _ _ _ c.in_ok-accepts.ensures.works (asks_spends _ _ c.in_ok-met.ensures.works)
+returns-then-not-met_unassumed-clause-works g c =
+    takes_first g.K.Validate g.M.Matcher c.args.self.now (view c.args.instance.now) validate _ _ c.in_ok-met.met c.in_ok-met.ensures.makes_one c.in_ok-met.ensures.meets
+    (none_of c.in_ok-met.met.unassumed (sym c.met_unassumed.ensures.met ∙ c.if-not-met_unassumed.true)) (spends_on _ _ _ c.in_ok-accepts.ensures.works (asks_spends _ _ c.in_ok-met.ensures.works))
 
 pub returns-clause-works : goal.returns-clause-works
-returns-clause-works g c = spends_on _ _ _ c.in_ok-accepts.ensures.works (spends_on _ _ _ (asks_spends _ _ c.in_ok-met.ensures.works) c.in_ok-shared.ensures.works)
+returns-clause-works g c =
+    takes_after g.K.Validate g.M.Matcher c.args.self.now (view c.args.instance.now) validate _ _ _ (spends_on _ _ _ c.in_ok-accepts.ensures.works (asks_spends _ _ c.in_ok-met.ensures.works))
+    (c.in_ok-shared.ensures.works validate validate_later c.in_ok-met.ensures.meets)

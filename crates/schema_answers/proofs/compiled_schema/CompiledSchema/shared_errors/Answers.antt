@@ -3,11 +3,11 @@ use Rattle.serde_json.specs.View.{view}
 use Rattle.schema_definitions.specs.Laws.{EachKeeps}
 use Rattle.schema_meaning.proofs.TurnsGiveRuns.{keeps_of_turns}
 use Rattle.node_table.specs.NodeTable.{numbered}
-use Rattle.schema_contexts.specs.Works.{Asks, Spends}
-use Rattle.schema_node.proofs.Spending.{asks_spends, spends_none, spends_on}
+use Rattle.schema_contexts.specs.Works.{Asks}
 use Rattle.schema_calls.proofs.Searches.{reached_has}
 use Rattle.schema_answers.specs.Program.{Program}
-use Rattle.schema_answers.proofs.SharedErrors.{both_on, shared_of, told_of}
+use Rattle.schema_answers.specs.Taken.{TakesByRuns}
+use Rattle.schema_answers.proofs.SharedErrors.{both_on, shared_of, shared_takes, told_of}
 use Rattle.schema_answers.proofs.compiled_schema.CompiledSchema.shared_errors.Goals as goal
 
 pub returns : goal.returns
@@ -27,13 +27,23 @@ returns g c =
           first c.requires.none c.requires.met
           (λ z as' r es end has step. told_of w g.M.Matcher z.0.now c.args.self.now z.2.now c.args.instance.now as' r es.items (search rules) (search rules) (search rules) has)
           c.in_ok-shared.shared (rw same at found.errors) (rw same at found.first) (rw same at found.verdict) (rw same at found.gives);
-      works =
+      works = λ call later began.
           let name = c.errors_under_each-arg-1.given in
           let before = c.args.work.now in
-          let kept : (c.errors_under_each.new.run.3.ghost_name ≡ name) × Spends before c.errors_under_each.new.run.3.now = reached_has (w.words false) (each false) (g.M.Matcher.matching c.args.self.now.matcher) (numbered w.shape c.args.self.now.nodes) d c.args.self.now.root 0 _ _ (λ z. (z.3.ghost_name ≡ name) × Spends before z.3.now) (refl, spends_none before)
+          let named : c.errors_under_each.new.run.3.ghost_name ≡ name = reached_has (w.words false) (each false) (g.M.Matcher.matching c.args.self.now.matcher) (numbered w.shape c.args.self.now.nodes) d c.args.self.now.root 0 _ _ (λ z. z.3.ghost_name ≡ name) refl
           (λ z given r es end has step.
-          let named : end.3.ghost_name ≡ z.3.ghost_name = search rules in
+          let same : end.3.ghost_name ≡ z.3.ghost_name = search rules in
+          same ∙ has) c.errors_under_each.new.run found.reaches in
+          subst (TakesByRuns w g.M.Matcher c.args.self.now d call before) (sym (c.work-1.given.1 (sym named)))
+          (shared_takes w g.M.Matcher c.args.self.now d (subst (λ most. 1 ≤ most) same c.self.invariant.1) each _ _ (λ z. (z.0.now ≡ c.args.self.now) × (z.2.now ≡ c.args.instance.now)) (refl, refl)
+          (λ z given r es end has step.
+          let self : end.0 ≡ z.0 = search rules in
+          let instance : end.2 ≡ z.2 = search rules in
+          both_on (ap (λ b. b.now) self) (ap (λ b. b.now) instance) has)
+          first c.requires.none
+          (λ z as' r es end has step. told_of w g.M.Matcher z.0.now c.args.self.now z.2.now c.args.instance.now as' r es.items (search rules) (search rules) (search rules) has)
+          (λ z. z.3.now)
+          (λ z given r es end step.
           let asks : Asks z.3.now end.3.now = search rules in
-          (named ∙ has.0, spends_on _ _ _ has.1 (asks_spends _ _ asks))) c.errors_under_each.new.run found.reaches in
-          subst (Spends before) (sym (c.work-1.given.1 (sym kept.0))) kept.1;
+          asks) c.errors_under_each.new.run found.reaches (rw same at found.makes) call later began);
     }

@@ -1,26 +1,28 @@
-use Rattle.std.proofs.Common.{rules, ◌≡◌, ◌∙◌, ◌≤◌, ◌<◌, ℕ, Bool, false, suc, [], refl, sym, ap, subst, arith, length}
+use Rattle.std.proofs.Common.{rules, ◌≡◌, ◌∙◌, ◌≤◌, ℕ, Bool, suc, [], refl, sym, ap, subst, arith, length}
 use Rattle.std.specs.Prelude.{Err}
 use Rattle.serde_json.specs.View.{view}
 use Rattle.serde_json.specs.declared.value.Value.{Value}
 use Rattle.schema_definitions.specs.Cover.{is_valid}
-use Rattle.schema_meaning.specs.Headline.{VerdictSays}
 use Rattle.schema_definitions.specs.Keywords.{for_verdict}
 use Rattle.schema_definitions.specs.Laws.{EachKeeps}
 use Rattle.schema_meaning.specs.Numbered.{left, subject_in}
 use Rattle.schema_definitions.specs.Unfinished.{Remembered, starting}
 use Rattle.schema_meaning.proofs.TurnsGiveRuns.{keeps_of_turns}
 use Rattle.node_table.specs.NodeTable.{numbered}
-use Rattle.schema_contexts.specs.Works.{Asks, Spends}
+use Rattle.schema_contexts.specs.Works.{Asks}
 use Rattle.schema_contexts.proofs.Matches.{nothing_twice}
 use Rattle.schema_parts.proofs.Replies.{if_ok_mono}
-use Rattle.schema_node.proofs.Spending.{asks_spends, spends_none, spends_on}
+use Rattle.schema_parts.specs.MatcherViews.{FinishesEach}
+use Rattle.schema_node.proofs.Spending.{asks_spends, spends_on}
 use Rattle.schema_verdicts.specs.declared.eligible.SolvedVerdict.{SolvedVerdict}
 use Rattle.schema_answers.specs.Answers.{MeetsMatches, SaysVerdict}
 use Rattle.schema_answers.specs.Asked.{DecidesFromSomeDepth}
-use Rattle.schema_answers.specs.Program.{Program, Speaks}
-use Rattle.schema_answers.proofs.SharedErrors.{both_on}
+use Rattle.schema_answers.specs.Program.{Program}
+use Rattle.schema_answers.specs.Taken.{TakesByRuns}
 use Rattle.schema_answers.proofs.Solved.{enough_decide, gives_a_verdict, of_some, on_err}
-use Rattle.schema_calls.proofs.Searches.{follows, if_ok_each, none_of, reached_has, sense, verdict_first, verdict_runs}
+use Rattle.schema_answers.proofs.Taken.{takes_after, takes_finished, takes_first}
+use Rattle.schema_answers.proofs.VerdictsSearched.{is_searched}
+use Rattle.schema_calls.proofs.Searches.{finishes_of, none_of, verdict_first}
 use Rattle.schema_answers.proofs.compiled_schema.CompiledSchema.valid_under_each.Goals as goal
 
 pub returns-in-Some : goal.returns-in-Some
@@ -29,7 +31,10 @@ returns-in-Some g c =
     let p = c.args.self.now in
     record {
       depth = of_some _ c.in-Some.solved (λ (v : SolvedVerdict). DecidesFromSomeDepth w g.M.Matcher p (view c.args.instance.now) v.valid) c.in-Some.is c.in_ok-solved.ensures.depth;
-      works = c.in_ok-solved.ensures.works;
+      works =
+          let one = subst (λ (p : Program g.row.K.Denot g.row.M.Denot). 1 ≤ p.runs) c.self.view_is c.self.invariant.1 in
+          let none_left = of_some _ c.in-Some.solved (λ _. FinishesEach (g.M.Matcher.matching p.matcher)) c.in-Some.is c.in_ok-solved.ensures.finishes in
+          takes_finished w g.M.Matcher p (view c.args.instance.now) is_valid _ _ one (finishes_of (g.M.Matcher.matching p.matcher) none_left) c.in_ok-solved.ensures.works;
       decides = λ decided. tt;
     }
 
@@ -55,7 +60,7 @@ returns-then-not-met_unassumed g c =
       depth = λ texts speaks.
           let each : EachKeeps (w.words texts) = λ m. (w.absorbed m, keeps_of_turns (w.words texts) m (w.absorbed m) (w.remaining m) (w.can_be texts m) (w.ends texts m) (w.fits texts m) (g.met.K.Validate.turn_laws texts m) (g.met.K.Validate.function_laws texts m)) in
           (suc deep, λ n more. verdict_first (w.words texts) each (g.M.Matcher.matching p.matcher) nodes d p.root n p.runs c.in_ok-first.ensures.makes_one c.in_ok-first.first.1 c.in_ok-first.first.0 (says texts speaks nothing_twice n (omega (arith, more))) (meets texts speaks nothing_twice n (omega (arith, more))) none);
-      works = spends_on _ _ _ c.in_ok-solved.ensures.works (asks_spends _ _ c.in_ok-first.ensures.works);
+      works = takes_first w g.M.Matcher p d is_valid _ _ c.in_ok-first.first.0 c.in_ok-first.ensures.makes_one meets none (spends_on _ _ _ c.in_ok-solved.ensures.works (asks_spends _ _ c.in_ok-first.ensures.works));
       decides = λ decided. tt;
     }
 
@@ -64,40 +69,33 @@ returns g c =
     let w = g.K.Validate in
     let p = c.args.self.now in
     let d = view c.args.instance.now in
-    let nodes = numbered w.shape p.nodes in
-    let deep = left nodes (length p.nodes) p.root (subject_in d []) [] in
+    let name = c.validity_under_each-arg-1.given in
+    let each : (texts : Bool) → EachKeeps (w.words texts) = λ texts m. (w.absorbed m, keeps_of_turns (w.words texts) m (w.absorbed m) (w.remaining m) (w.can_be texts m) (w.ends texts m) (w.fits texts m) (g.met.K.Validate.turn_laws texts m) (g.met.K.Validate.function_laws texts m)) in
     let meets = subst (λ (r : Remembered). MeetsMatches w.shape w.words w.is_whole g.M.Matcher.matching p d for_verdict r c.in_ok-first.first.0) c.new.ensures.starts c.in_ok-first.ensures.meets in
     let same : c.self.inside.run_limit ≡ p.runs = ap (λ (v : Program g.row.K.Denot g.row.M.Denot). v.runs) c.self.view_is in
     let none : c.in_ok-first.first.0.assumptions ≡ [] = c.in_ok-first.ensures.assumes ∙ ap (λ (r : Remembered). r.assumptions) c.new.ensures.starts in
+    let searched = is_searched w g.M.Matcher p d each _ _ (λ z. (z.0.now ≡ p) × (z.2.now ≡ c.args.instance.now) × (z.3.ghost_name ≡ name)) (refl, refl, refl)
+    (λ z given r b end has step.
+    let self : end.0 ≡ z.0 = search rules in
+    let instance : end.2 ≡ z.2 = search rules in
+    let named : end.3.ghost_name ≡ z.3.ghost_name = search rules in
+    (ap (λ b. b.now) self ∙ has.0, ap (λ b. b.now) instance ∙ has.1, named ∙ has.2))
+    (λ z. z.3.now)
+    (λ z given r b end step.
+    let asks : Asks z.3.now end.3.now = search rules in
+    asks)
+    c.in_ok-first.first.0 none meets
+    (λ z as' r b end has step.
+    let fact : SaysVerdict w.shape w.words w.is_whole g.M.Matcher.matching z.0.now (view z.2.now) as' b = search rules in
+    let met : MeetsMatches w.shape w.words w.is_whole g.M.Matcher.matching z.0.now (view z.2.now) for_verdict (starting as') r = search rules in (
+      subst (λ q. SaysVerdict w.shape w.words w.is_whole g.M.Matcher.matching q d as' b) has.0 (subst (λ (v : Value). SaysVerdict w.shape w.words w.is_whole g.M.Matcher.matching z.0.now (view v) as' b) has.1 fact),
+      subst (λ q. MeetsMatches w.shape w.words w.is_whole g.M.Matcher.matching q d for_verdict (starting as') r) has.0 (subst (λ (v : Value). MeetsMatches w.shape w.words w.is_whole g.M.Matcher.matching z.0.now (view v) for_verdict (starting as') r) has.1 met),
+    ))
+    c.validity_under_each.result c.validity_under_each.new.run (rw same at c.validity_under_each.ensures.says) (rw same at c.validity_under_each.ensures.makes) c.validity_under_each.ensures.reaches in
     record {
-      depth = if_ok_mono c.validity_under_each.result _ _ (λ b each texts speaks. (suc deep, λ n more. each (texts, speaks, n, more)))
-          (if_ok_each {A = (texts : Bool) × (Speaks w.shape w.words w.is_whole g.M.Matcher.matching p d texts) × (n : ℕ) × (suc deep ≤ n)} c.validity_under_each.result (λ x b. VerdictSays (sense (w.words x.0) (λ m. (w.absorbed m, keeps_of_turns (w.words x.0) m (w.absorbed m) (w.remaining m) (w.can_be x.0 m) (w.ends x.0 m) (w.fits x.0 m) (g.met.K.Validate.turn_laws x.0 m) (g.met.K.Validate.function_laws x.0 m))) (g.M.Matcher.matching p.matcher) nodes d p.root x.2) p.runs is_valid b)
-          (λ x.
-          let each : EachKeeps (w.words x.0) = λ m. (w.absorbed m, keeps_of_turns (w.words x.0) m (w.absorbed m) (w.remaining m) (w.can_be x.0 m) (w.ends x.0 m) (w.fits x.0 m) (g.met.K.Validate.turn_laws x.0 m) (g.met.K.Validate.function_laws x.0 m)) in
-          let enough : deep < x.2 = omega (arith, x.3) in
-          (rw same at c.validity_under_each.ensures.says) (sense (w.words x.0) each (g.M.Matcher.matching p.matcher) nodes d p.root x.2) is_valid (follows (w.words x.0) each (g.M.Matcher.matching p.matcher) nodes d p.root x.2)
-          (verdict_runs (w.words x.0) each (g.M.Matcher.matching p.matcher) nodes d p.root x.2 _ _ (λ z. (z.0.now ≡ p) × (z.2.now ≡ c.args.instance.now)) (refl, refl)
-          (λ z given r b end has step.
-          let self : end.0 ≡ z.0 = search rules in
-          let instance : end.2 ≡ z.2 = search rules in
-          both_on (ap (λ b. b.now) self) (ap (λ b. b.now) instance) has)
-          (λ (b : Bool). b) c.in_ok-first.first.0 none (meets x.0 x.1 nothing_twice x.2 enough)
-          (λ z as' r b end has step once.
-          let fact : SaysVerdict w.shape w.words w.is_whole g.M.Matcher.matching z.0.now (view z.2.now) as' b = search rules in
-          let met : MeetsMatches w.shape w.words w.is_whole g.M.Matcher.matching z.0.now (view z.2.now) for_verdict (starting as') r = search rules in
-          let fact' = subst (λ q. SaysVerdict w.shape w.words w.is_whole g.M.Matcher.matching q d as' b) has.0 (subst (λ (v : Value). SaysVerdict w.shape w.words w.is_whole g.M.Matcher.matching z.0.now (view v) as' b) has.1 fact) in
-          let met' = subst (λ q. MeetsMatches w.shape w.words w.is_whole g.M.Matcher.matching q d for_verdict (starting as') r) has.0 (subst (λ (v : Value). MeetsMatches w.shape w.words w.is_whole g.M.Matcher.matching z.0.now (view v) for_verdict (starting as') r) has.1 met) in
-          (fact' x.0 x.1 once x.2 enough, met' x.0 x.1 once x.2 enough)))));
-      works =
-          let name = c.validity_under_each-arg-1.given in
-          let before = c.verdict.new.work in
-          let told : EachKeeps (w.words false) = λ m. (w.absorbed m, keeps_of_turns (w.words false) m (w.absorbed m) (w.remaining m) (w.can_be false m) (w.ends false m) (w.fits false m) (g.met.K.Validate.turn_laws false m) (g.met.K.Validate.function_laws false m)) in
-          if_ok_mono c.validity_under_each.result _ _ (λ b reaches.
-          let kept : (c.validity_under_each.new.run.3.ghost_name ≡ name) × Spends before c.validity_under_each.new.run.3.now = reached_has (w.words false) told (g.M.Matcher.matching p.matcher) nodes d p.root 0 _ _ (λ z. (z.3.ghost_name ≡ name) × Spends before z.3.now) (refl, spends_none before)
-          (λ z given r b' end has step.
-          let named : end.3.ghost_name ≡ z.3.ghost_name = search rules in
-          let asks : Asks z.3.now end.3.now = search rules in
-          (named ∙ has.0, spends_on _ _ _ has.1 (asks_spends _ _ asks))) c.validity_under_each.new.run reaches in
-          spends_on _ _ _ c.in_ok-solved.ensures.works (spends_on _ _ _ (asks_spends _ _ c.in_ok-first.ensures.works) (subst (Spends before) (sym (c.work-1.given.1 (sym kept.0))) kept.1))) c.validity_under_each.ensures.reaches;
+      depth = if_ok_mono c.validity_under_each.result _ _ (λ b h. h.decides) searched;
+      works = if_ok_mono c.validity_under_each.result _ _ (λ b h.
+          takes_after w g.M.Matcher p d is_valid _ _ _ (spends_on _ _ _ c.in_ok-solved.ensures.works (asks_spends _ _ c.in_ok-first.ensures.works))
+          (subst (TakesByRuns w g.M.Matcher p d is_valid c.verdict.new.work) (sym (c.work-1.given.1 (sym h.has.2))) h.takes)) searched;
       decides = λ decided. absurd (gives_a_verdict w g.M.Matcher p c.args.instance.now _ c.finishes.result _ (c.finishes.ensures.says ∙ ap (λ (v : Program g.row.K.Denot g.row.M.Denot). g.M.Matcher.finishing v.matcher) c.self.view_is) c.in_ok-solved.ensures.exactly (λ x. c.in_default.not-Some x) decided);
     }
