@@ -54,6 +54,11 @@ module _ {C Run K M : Type 0} (keywords : KeywordMembers C Run K) (matchers : Ma
     IsToldRun = (s : S) (as' : Assumptions) (r : Remembered) (es : Vec ValidationError) (end : S) → Has s → Step s (starting as') r es end
         → RunListsErrors keywords matchers p instance as' es.items × RunMeets keywords matchers p instance for_all (starting as') r × All (BorrowsItsPlace instance) es.items
 
+    -- each step is the run for all errors
+    are_runs : IsToldRun → (texts : Bool) → Speaks keywords.shape keywords.words keywords.is_whole matchers.matching p instance texts → (n : ℕ) → left (numbered keywords.shape p.nodes) (length p.nodes) p.root (subject_in instance []) [] < n
+        → AreRuns (keywords.words texts) (each texts) (matchers.matching p.matcher) (numbered keywords.shape p.nodes) instance p.root n p.runs some_run Step start Has begins keeps first none texts
+    are_runs told texts speaks n enough s as' r es end has step once = let h = told s as' r es end has step in (h.0 texts speaks once n enough, h.1 texts speaks once n enough)
+
     pub shared_of : is_some first.unassumed ≡ true → IsToldRun → (es : Vec ValidationError)
         → ((u : Sense) (call : Call) → WantsAllLater call → Follows u → IsRunOf u call Step first start errors_in (errors_of u) → ErrorsOf u p.runs call (errors_in es))
         → ((u : Sense) → Follows u → IsRunOf u validate Step first start errors_in (errors_of u) → FirstSays u p.runs (first_error (errors_in es)))
@@ -64,8 +69,7 @@ module _ {C Run K M : Type 0} (keywords : KeywordMembers C Run K) (matchers : Ma
         let matcher = matchers.matching p.matcher in
         let nodes = numbered keywords.shape p.nodes in
         let deep = left nodes (length p.nodes) p.root (subject_in instance []) [] in
-        let runs : (texts : Bool) → Speaks keywords.shape keywords.words keywords.is_whole matchers.matching p instance texts → (n : ℕ) → deep < n → AreRuns (keywords.words texts) (each texts) matcher nodes instance p.root n p.runs some_run Step start Has begins keeps first none texts =
-        λ texts speaks n enough s as' r es end has step once. let h = told s as' r es end has step in (h.0 texts speaks once n enough, h.1 texts speaks once n enough) in
+        let runs = are_runs told in
         record {
           errors = λ began texts speaks. (
             suc deep,
@@ -103,4 +107,4 @@ module _ {C Run K M : Type 0} (keywords : KeywordMembers C Run K) (matchers : Ma
         takes_searched keywords matchers p instance call Step work asks start end reaches (λ texts speaks n enough.
         makes (sense (keywords.words texts) (each texts) matcher nodes instance p.root n) call
         (none_runs (keywords.words texts) (each texts) matcher nodes instance p.root n p.runs some_run Step start Has begins keeps first none call later (began texts speaks nothing_twice n enough) texts
-        (λ s as' r es end has step once. let h = told s as' r es end has step in (h.0 texts speaks once n enough, h.1 texts speaks once n enough))))
+        (are_runs told texts speaks n enough)))

@@ -56,7 +56,7 @@ module _ {C Run K M : Type 0} (keywords : KeywordMembers C Run K) (matchers : Ma
       suc (left (numbered keywords.shape p.nodes) (length p.nodes) p.root (subject_in instance []) []),
       λ n more. (
         0,
-        inl (record { members = [] ∷ []; cover = whole (none texts speaks n (omega (arith, more))); few = omega (arith, some); are = refl }),
+        inl (([] ∷ [], whole (none texts speaks n (omega (arith, more))), omega (arith, some)), refl),
         let less = spends.left in omega (arith, less),
       ),
     );

@@ -41,7 +41,7 @@ module _ (v : Sense) (call : Call) {S T V : Type 0} (Step : S → Remembered →
       let (n, uses, all) = further_uses Step first start tree end made.grows in
       let m = are_few v call Step first start view says is limit tree failure made whole in
       let counted : length (lists_of [] tree) ≡ ends tree = subst (λ z. length (lists_of z tree) ≡ ends tree) is.assumes_none whole.counted in
-      (n, uses, inl (record { members = lists_of [] tree; cover = m.cover; few = m.few; are = omega (arith, all, counted, whole.runs_are) }))
+      (n, uses, inl ((lists_of [] tree, m.cover, m.few), omega (arith, all, counted, whole.runs_are)))
   makes_further limit end (Undecided failure) (tree, made, cut) =
       let (n, uses, all) = further_uses Step first start tree end made.grows in
       (n, uses, inr (not_decided v call Step first start view says is limit tree failure made cut, all ∙ cut.runs_are))
