@@ -15,7 +15,7 @@ use schema_parts::asking::Asking;
 use schema_reports::instance::{Instance, InstanceStep};
 use serde_json::{Map, Value};
 use std::collections::btree_map::Iter;
-use std::marker::Model;
+use std::marker::{Model, PhantomData};
 
 /// A question: which child is asked, and where: at the keyword's own place, or what stands one step below, and the step.
 #[derive(Clone, Copy)]
@@ -73,13 +73,15 @@ enum Walk<'s, 'i> {
     Names(NamesWalk<'i>),
 }
 
-/// The questions that are left of those that a keyword tells at once. Contracts see the subject, and the questions that are left.
+/// The questions that are left of those that a keyword tells at once. Contracts see the subject, and the questions that are left. `U` is a
+/// name of who asks them, so that each has functions of its own here, which a compiler puts where they are called from one place.
 #[derive(Drop)]
-pub struct AskedQuestions<'s, 'i> {
+pub struct AskedQuestions<'s, 'i, U> {
     walk: Walk<'s, 'i>,
+    user: PhantomData<U>,
 }
 
-impl<'s, 'i> Model for AskedQuestions<'s, 'i> {
+impl<'s, 'i, U> Model for AskedQuestions<'s, 'i, U> {
     ghost use Rattle.std.specs.Coded.{codes};
     ghost use Rattle.json_values.specs.Coding.{data_code};
     ghost use Rattle.asked_questions.specs.Walks.{QuestionsLeft, IsOnItsWay, left_in, subject_in};
@@ -93,10 +95,10 @@ impl<'s, 'i> Model for AskedQuestions<'s, 'i> {
     ghost invariant = { λ q. IsOnItsWay q.walk };
 }
 
-impl<'s, 'i> AskedQuestions<'s, 'i> {
+impl<'s, 'i, U> AskedQuestions<'s, 'i, U> {
     /// Returns the questions of an asking; `None` where turns say the verdict, or a match does. It allocates nothing.
     #[inline(always)]
-    pub fn of(asking: Asking<'s, 'i>, instance: Instance<'i>) -> Option<AskedQuestions<'s, 'i>>
+    pub fn of(asking: Asking<'s, 'i>, instance: Instance<'i>) -> Option<AskedQuestions<'s, 'i, U>>
         requires own { AreOwn asking (subject_of instance) }
         ensures asked { IfSome result (λ q. (q.subject ≡ subject_of instance.entry)
             × (q.left ≡ questions_of asking.entry (subject_of instance.entry))) }
@@ -127,7 +129,10 @@ impl<'s, 'i> AskedQuestions<'s, 'i> {
                 members: object.iter(),
             }),
         };
-        Some(AskedQuestions { walk })
+        Some(AskedQuestions {
+            walk,
+            user: PhantomData,
+        })
     }
 
     /// Returns the next question; `None` where none is left. It allocates nothing.
@@ -142,7 +147,9 @@ impl<'s, 'i> AskedQuestions<'s, 'i> {
             Walk::Here(walk) => next_here(&mut walk.next, walk.end),
             Walk::Items(walk) => next_item(walk.items, &mut walk.next),
             Walk::Listed(walk) => next_listed(walk.items, &mut walk.next, walk.end),
-            Walk::Members(walk) => next_member(walk.names, &mut walk.next, &mut walk.members),
+            Walk::Members(walk) => {
+                next_member::<U>(walk.names, &mut walk.next, &mut walk.members)
+            },
             Walk::Names(walk) => next_name(&mut walk.members),
         }
     }
@@ -199,9 +206,10 @@ fn next_listed<'i>(items: &'i [Value], next: &mut usize, end: usize) -> Option<A
     })
 }
 
-// The next child that has the name of a member, at it. Names and members ascend, so each member is looked for behind the one before.
+// The next child that has the name of a member, at it, for this user. Names and members ascend, so each member is looked for behind the one
+// before.
 #[inline(always)]
-fn next_member<'i>(
+fn next_member<'i, U>(
     names: &AscendingNames,
     next: &mut usize,
     members: &mut Iter<'i, String, Value>,

@@ -15,3 +15,6 @@ mod Shared
 pub mod Spending
 mod Counted
 mod FreeEdges
+mod Finishing
+mod Children
+mod AskedAtOnce

@@ -9,11 +9,12 @@ use Rattle.serde_json.specs.View.{view}
 use Rattle.serde_json.specs.declared.value.Value.{Value}
 use Rattle.schema_definitions.specs.Instance.{Place, Step, Subject, a_value, after_step, subject_at}
 use Rattle.schema_meaning.proofs.Falls.{from_below}
-use Rattle.schema_contexts.specs.Progress.{Context, Pairs, busy_at, root_places}
+use Rattle.schema_contexts.specs.Progress.{Context, NoDeeper, Pairs, busy_at, root_places}
 use Rattle.schema_contexts.specs.Verdicts.{read_verdict, verdict_of}
 use Rattle.run_steps.specs.Askings.{Asking, IsAskedOf}
 use Rattle.run_steps.specs.EvaluationPlaces.{CarriesItsNumber}
 use Rattle.run_steps.specs.declared.evaluation_place.EvaluationPlace.{EvaluationPlace}
+use Rattle.schema_node.specs.RunStates.{Keeps, MayRun, Setting, StaysRight}
 
 -- one step below
 pub stands_below : (root : Data) (p : Place) (s t : Subject) (step : Step) (lower : Place) → subject_at root p ≡ Some s → lower ≡ p ++ step ∷ [] → after_step step s ≡ Some t → subject_at root lower ≡ Some t
@@ -26,6 +27,28 @@ stands_on v w q e = subst (λ (u : Value). IsAskedOf (view u) q) (sym e)
 
 pub carries_on : (v w : Value) (p : EvaluationPlace) → w ≡ v → CarriesItsNumber (root_places v) p → CarriesItsNumber (root_places w) p
 carries_on v w p e = subst (λ (u : Value). CarriesItsNumber (root_places u) p) (sym e)
+
+-- nor does one run after another change what each of them keeps
+pub keeps_on : (a b c : Context) → Keeps a b → Keeps b c → Keeps a c
+keeps_on a b c h k = record {
+  root = k.root ∙ h.root;
+  in_progress = k.in_progress ∙ h.in_progress;
+  assumptions = k.assumptions ∙ h.assumptions;
+  marking = k.marking ∙ h.marking;
+}
+
+-- what might be asked before a run may be asked after it
+pub may_on : {K R : Type 0} (g : Setting K R) (q : Asking) (c c' : Context) (i : ℕ) → Keeps c c' → StaysRight g q c c' → MayRun g q c i → MayRun g q c' i
+may_on g q c c' i keeps stays may =
+    let (layout, laid, right) = may.goes_on in
+    record {
+      known = may.known;
+      ranked = may.ranked;
+      above = subst (NoDeeper q.place) (sym keeps.in_progress) may.above;
+      wanted = may.wanted;
+      stands = stands_on c.root c'.root q keeps.root may.stands;
+      goes_on = (layout, laid, stays layout laid right);
+    }
 
 -- there, at a place that is the same
 pub stands_at : (v w : Value) (q : Asking) (p : Place) → w ≡ v → p ≡ q.place → IsAskedOf (view v) q → subject_at (view w) p ≡ Some q.subject

@@ -32,3 +32,4 @@ pub mod Visits
 pub mod UnitStates
 pub mod VerdictTurns
 pub mod Answered
+pub mod AskedAtOnce

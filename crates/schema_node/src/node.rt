@@ -5,6 +5,7 @@ mod run;
 pub mod runs;
 mod turns;
 mod verdict;
+mod verdict_asking;
 mod verdict_turns;
 
 pub use crate::node::runs::RunNodes;

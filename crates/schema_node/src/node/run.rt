@@ -23,8 +23,9 @@ ghost use Rattle.schema_node.specs.RunStates.{NodeRemembers, StaysRight};
 ghost use Rattle.schema_node.specs.Visits.{LeadsNowhere, NodeCounts};
 
 use crate::node::turns::keyword_answer;
-use crate::node::verdict::{verdict_form, verdict_node};
+use crate::node::verdict::{verdict_edge, verdict_form, verdict_node};
 use node_table::node::{Entry, EntryForm, NodeForm};
+use run_steps::evaluation_place::EvaluationPlace;
 use run_steps::faults::finished;
 use run_steps::guarded::GuardedPair;
 use run_steps::question::{Engine, NamedKeyword, Question};
@@ -35,6 +36,7 @@ use schema_contexts::validation::ValidationContext;
 use schema_parts::keyword::{Below, Mode, Reply, Validate};
 use schema_parts::matcher::Matcher;
 use schema_parts::numbers::{Edge, SchemaNode};
+use schema_reports::instance::InstanceStep;
 use schema_reports::location::OutOfMemory;
 
 // The reply of a node at a place: its verdict where that is wanted, or else errors.
@@ -263,6 +265,7 @@ pub(crate) fn run_child<'i, K: Validate, M: Matcher>(
     children: &[Option<Edge>],
     child: usize,
     below: Below<'_>,
+    hopes: bool,
     question: &Question<'_, 'i>,
     context: &mut ValidationContext<'i>,
 ) -> Result<Reply<'i>, OutOfMemory>
@@ -288,10 +291,78 @@ pub(crate) fn run_child<'i, K: Validate, M: Matcher>(
                     path: question.path,
                     mode: question.mode,
                 };
+                if is_asked_first(engine, hopes, below, &lower) {
+                    return run_refused(engine, edge, &asked, context);
+                }
                 run_edge(engine, edge, &asked, context)
             }
         },
     }
+}
+
+// How many items lie on the way to a place from the one that was given, and so many more.
+fn items_above(place: &EvaluationPlace<'_, '_>, more: usize) -> usize {
+    match place {
+        EvaluationPlace::Given(_) => more,
+        EvaluationPlace::Below(above, step) => match step {
+            InstanceStep::Item(_) => items_above(above, more.saturating_add(1)),
+            _ => items_above(above, more),
+        },
+        EvaluationPlace::Numbered(same, _) => items_above(same, more),
+    }
+}
+
+// Whether what stands below is asked for its verdict before it is asked for errors: an item to which as many items lie on the way as a
+// power of two, where those before it let hope that it is accepted, and no match can stay unfinished. What is asked at these places alone
+// is asked anew at few of the places above one another.
+fn is_asked_first<K, M: Matcher>(
+    engine: &Engine<'_, K, M>,
+    hopes: bool,
+    below: Below<'_>,
+    place: &EvaluationPlace<'_, '_>,
+) -> bool {
+    if !hopes || !engine.matcher.finishes() {
+        return false;
+    }
+    match below {
+        Below::Item(_) => {
+            let items = items_above(place, 0);
+            items & items.saturating_sub(1) == 0
+        }
+        _ => false,
+    }
+}
+
+// The reply of the node that an edge leads to, by a run for errors only where it refuses: it is asked for its verdict first, where no match
+// can stay unfinished, so that the verdict meets what errors do.
+#[cycle(run)]
+fn run_refused<'i, K: Validate, M: Matcher>(
+    engine: &Engine<'_, K, M>,
+    edge: &Edge,
+    question: &Question<'_, 'i>,
+    context: &mut ValidationContext<'i>,
+) -> Result<Reply<'i>, OutOfMemory>
+    requires may { MayRun (setting_by K.Validate M.Matcher.own engine.now) (asking question.now)
+        context.old edge.now.node.0 }
+    requires carries { CarriesItsNumber (places_in context.old) question.now.place.now }
+    requires more { ¬ (mode_of question.now.mode ≡ for_verdict) }
+    ensures { EdgeReplied (setting_by K.Validate M.Matcher.own engine.now) question.now
+        (edge_of edge.now) context.old context.new result }
+{
+    if engine.matcher.finishes() {
+        let asked = Question {
+            instance: question.instance,
+            place: question.place,
+            path: question.path,
+            mode: Mode::Verdict,
+        };
+        let valid = verdict_edge(engine, edge, &asked, context)?;
+        if valid {
+            return Ok(accepted(engine.alloc, question.mode));
+        }
+        return run_edge(engine, edge, question, context);
+    }
+    run_edge(engine, edge, question, context)
 }
 
 // The reply of the node that an edge leads to; yes where the edge is guarded and the pair is in progress.

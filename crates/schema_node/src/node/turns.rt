@@ -114,7 +114,10 @@ fn run_turns<'i, K: Validate, M: Matcher>(
 {
     let children = keyword.children;
     let mut reply = Reply::Nothing;
+    // (from 2 on no verdict is asked first, so of children that are refused one after the other the first alone is asked twice)
+    let mut refusals = 1;
     'turns: loop {
+        refusals = refusals_after(refusals, &reply);
         let step = keyword
             .keyword
             .turn(engine.alloc, run, question.instance, reply, answer)?;
@@ -126,7 +129,8 @@ fn run_turns<'i, K: Validate, M: Matcher>(
                     path: question.path,
                     mode: wanted,
                 };
-                reply = ask_child(engine, node, children, child, below, &asked, context)?;
+                let hopes = refusals < 2;
+                reply = ask_child(engine, node, children, child, below, hopes, &asked, context)?;
             }
             Step::Done => return Ok(()),
             Step::Match(_, _, _) | Step::MatchAt(_, _, _) => {
@@ -150,6 +154,20 @@ fn run_turns<'i, K: Validate, M: Matcher>(
     }
 }
 
+// How much the errors of the children before speak against asking the next one for its verdict first, from 0 to 3: more after one that
+// has errors, and less after one that has none.
+fn refusals_after(refusals: usize, reply: &Reply<'_>) -> usize {
+    let refuses = match reply {
+        Reply::First(found) => found.is_some(),
+        Reply::All(errors) => !errors.is_empty(),
+        _ => return refusals,
+    };
+    if refuses {
+        return refusals.saturating_add(1).min(3);
+    }
+    refusals.saturating_sub(1)
+}
+
 // The reply of a keyword's child in the mode that it is asked in: its unit, or what a run says.
 #[cycle(run)]
 fn ask_child<'i, K: Validate, M: Matcher>(
@@ -158,6 +176,7 @@ fn ask_child<'i, K: Validate, M: Matcher>(
     children: &[Option<Edge>],
     child: usize,
     below: Below<'_>,
+    hopes: bool,
     question: &Question<'_, 'i>,
     context: &mut ValidationContext<'i>,
 ) -> Result<Reply<'i>, OutOfMemory>
@@ -183,8 +202,12 @@ fn ask_child<'i, K: Validate, M: Matcher>(
             let valid = verdict_child(engine, node, children, child, below, question, context)?;
             Ok(Reply::Truth(valid))
         }
-        Mode::First => run_child(engine, node, children, child, below, question, context),
-        Mode::All => run_child(engine, node, children, child, below, question, context),
+        Mode::First => run_child(
+            engine, node, children, child, below, hopes, question, context,
+        ),
+        Mode::All => run_child(
+            engine, node, children, child, below, hopes, question, context,
+        ),
         Mode::Evaluate => ask_unit(engine, node, children, child, below, question, context),
     }
 }

@@ -4,6 +4,7 @@ ghost use Rattle.schema_parts.specs.EdgeViews.{edge_of};
 ghost use Rattle.schema_node.specs.Answered.{Answers, IsAsked, a_guarded, a_node, a_plan, a_shared, an_edge, setting_by};
 ghost use Rattle.schema_node.specs.Answered.{the_child, the_entries, the_entry};
 
+use crate::node::verdict_asking::asked_verdict;
 use crate::node::verdict_turns::keyword_verdict;
 use node_table::node::{Entry, EntryForm, NodeForm};
 use run_steps::guarded::GuardedPair;
@@ -107,8 +108,9 @@ pub(crate) fn verdict_form<'i, K: Validate, M: Matcher>(
     }
 }
 
-// The verdict of an entry by a run. Its room on the stack is its own, so that a keyword that tells its verdict at once pays nothing
-// for it, and the call is the last that the caller makes, so that the caller's room is given back before.
+// The verdict of an entry by a run, or by what its keyword asks at once where no match can stay unfinished. Its room on the stack is its
+// own, so that a keyword that tells its verdict at once pays nothing for it, and the call is the last that the caller makes, so that the
+// caller's room is given back before.
 #[cycle(verdict)]
 #[inline(never)]
 fn verdict_keyword<'i, K: Validate, M: Matcher>(
@@ -129,6 +131,9 @@ fn verdict_keyword<'i, K: Validate, M: Matcher>(
                 keyword,
                 children: children.as_slice(),
             };
+            if engine.matcher.finishes() {
+                return asked_verdict(engine, node, &named, question, context);
+            }
             keyword_verdict(engine, node, &named, question, context)
         }
         EntryForm::Reference(edge) => verdict_reference(engine, edge, question, context),
@@ -196,7 +201,7 @@ pub(crate) fn verdict_child<'i, K: Validate, M: Matcher>(
 // The verdict of the node that an edge leads to; yes where the edge is guarded and the pair is in progress. A shared node is asked once a
 // place.
 #[cycle(verdict)]
-fn verdict_edge<'i, K: Validate, M: Matcher>(
+pub(crate) fn verdict_edge<'i, K: Validate, M: Matcher>(
     engine: &Engine<'_, K, M>,
     edge: &Edge,
     question: &Question<'_, 'i>,

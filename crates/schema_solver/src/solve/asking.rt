@@ -21,6 +21,9 @@ use schema_parts::matcher::Matcher;
 use schema_parts::numbers::{Edge, SchemaNode};
 use schema_reports::instance::Instance;
 
+// Who asks here.
+struct OfSolver {}
+
 // Whether each child that is asked has to accept, or one of them.
 #[inline(always)]
 fn has_to_be_each(asking: Asking<'_, '_>) -> bool
@@ -34,7 +37,10 @@ fn has_to_be_each(asking: Asking<'_, '_>) -> bool
 
 // The questions that an asking puts.
 #[inline(always)]
-fn put_questions<'s, 'i>(asking: Asking<'s, 'i>, instance: Instance<'i>) -> AskedQuestions<'s, 'i>
+fn put_questions<'s, 'i>(
+    asking: Asking<'s, 'i>,
+    instance: Instance<'i>,
+) -> AskedQuestions<'s, 'i, OfSolver>
     requires puts { puts_questions asking ≡ true }
     requires own { AreOwn asking (subject_of instance) }
     ensures there { result.subject ≡ subject_of instance.entry }

@@ -8,7 +8,7 @@ use Rattle.asked_questions.proofs.AskedQuestions.next.Goals as goal
 use Rattle.asked_questions.proofs.AskedQuestions.next.Goals.{in-Here, in-Items, in-Listed, in-Members, in-Names}
 
 pub invariant_of-self : goal.invariant_of-self
-invariant_of-self c = elim c.match-self.branch [
+invariant_of-self g c = elim c.match-self.branch [
   | in-Here w ↦ subst (λ q. IsOnItsWay q.walk) (sym w.self-inside-is) tt
   | in-Items w ↦ subst (λ q. IsOnItsWay q.walk) (sym w.self-inside-is) tt
   | in-Listed w ↦ subst (λ q. IsOnItsWay q.walk) (sym w.self-inside-is) (subst IsOnItsWay w.in-Listed.is c.self.invariant)
@@ -46,7 +46,7 @@ module _ (q : QuestionsLeft) (there before after now : Walk) (asked first : Opti
   says h = subst (λ r. Says q r now) (sym asks) (turned first h)
 
 pub returns : goal.returns
-returns c =
+returns g c =
     let it : Says c.args.self.now c.match-self.result c.match-self.self-inside.walk = elim c.match-self.branch [
       | in-Here w ↦ says c.args.self.now c.self.inside.walk (walk.Here w.in-Here.walk) _ c.match-self.self-inside.walk c.match-self.result w.next_here.result c.self.view_is w.in-Here.is (ap (λ q. q.walk) w.self-inside-is) w.result-is refl (w.next_here.ensures.asks (subject_in (walk.Here w.in-Here.walk)))
       | in-Items w ↦ says c.args.self.now c.self.inside.walk (walk.Items w.in-Items.walk) _ c.match-self.self-inside.walk c.match-self.result w.next_item.result c.self.view_is w.in-Items.is (ap (λ q. q.walk) w.self-inside-is) w.result-is refl w.next_item.ensures.asks

@@ -10,7 +10,7 @@ use Rattle.asked_questions.proofs.AskedQuestions.of.Goals as goal
 use Rattle.asked_questions.proofs.AskedQuestions.of.Goals.{in-Each2, in-Items, in-Listed, in-Members, in-Names}
 
 pub invariant_of-result : goal.invariant_of-result
-invariant_of-result c = elim c.match-asking.branch [
+invariant_of-result g c = elim c.match-asking.branch [
   | in-Items w ↦ subst IsOnItsWay (sym w.walk-is) tt
   | in-Listed w ↦ let within : w.min.result ≤ length w.in-Listed.items.now = omega (arith, w.min.ensures) in subst IsOnItsWay (sym w.walk-is) within
   | in-Members w ↦

@@ -8,7 +8,7 @@ use Rattle.schema_reports.specs.InstanceViews.{subject_of, step_of}
 use Rattle.schema_definitions.specs.Keywords.{Question, ask, ecma, mark, match_text, no_reply, truth, unmark}
 use Rattle.run_steps.specs.EvaluationPlaces.{steps_to}
 use Rattle.run_steps.specs.GuardedPairs.{place_of}
-use Rattle.schema_node.proofs.Placing.{carries_on, pair_busy, pair_entered, stands_at, stands_below, stands_on}
+use Rattle.schema_node.proofs.Placing.{carries_on, may_on, pair_busy, pair_entered, stands_at, stands_below, stands_on}
 use Rattle.schema_contexts.specs.Progress.{places_in}
 use Rattle.schema_parts.specs.declared.numbers.SchemaNode.{SchemaNode}
 use Rattle.std.specs.List.{list_any}
@@ -39,7 +39,7 @@ use Rattle.schema_contexts.proofs.Pairs.{busy-below, busy-pushed, deeper-below, 
 use Rattle.run_steps.proofs.KeywordTurns.{falls_turned, faults_lie, keyword_says, right_reply, silent, silent_reads, tells_nothing, asked_on, asks_there, begins_on, can_after, ended_on, mark_taken_on, marked_on, matched_on, matches_there, told_pattern_on, ask_goes_on, match_goes_on, ecma_goes_on, mark_goes_on, unmark_goes_on}
 use Rattle.schema_meaning.proofs.Alike.{asked_alike}
 use Rattle.schema_parts.proofs.Replies.{if_ok_always, if_ok_both, if_ok_mono}
-use Rattle.run_steps.proofs.NodeRuns.{agrees_answers, agrees_says, child_below, child_here, edge_busy, falls_below, falls_here, form_reference, leaf_accepts, needs_of_entered, node_by_plan, one_entry, settled_entries, stands_in, start_entries, where_is}
+use Rattle.run_steps.proofs.NodeRuns.{agrees_answers, agrees_says, child_here, edge_busy, falls_below, falls_here, form_reference, leaf_accepts, needs_of_entered, node_by_plan, one_entry, settled_entries, stands_in, start_entries, where_is}
 use Rattle.schema_contexts.proofs.Matches.{after_assumes, moved, meets_append, meets_same}
 use Rattle.run_steps.proofs.AskedMatches.{step_asks}
 use Rattle.schema_node.proofs.KeywordMeets.{meets_all, meets_asked, meets_begun, meets_mark_taken, meets_marked, meets_matched, meets_nothing}
@@ -59,7 +59,9 @@ use Rattle.schema_contexts.specs.Works.{Spends}
 use Rattle.schema_node.proofs.FreeEdges.{free_meets}
 use Rattle.schema_node.proofs.Counted.{carried, given, may_evaluate, may_run, replied}
 use Rattle.schema_node.proofs.Spending.{asks_spends, spends_between, spends_none, spends_on, spends_same}
-use Rattle.schema_node.proofs.Measures.{lower_same, lower_edge, lower_entered, no_deeper, as_many, no_fewer}
+use Rattle.schema_node.proofs.Children.{may_below, needs_below, replied_below}
+use Rattle.schema_node.proofs.Finishing.{edge_accepts, meets_after, verdict_meets}
+use Rattle.schema_node.proofs.Measures.{lower_same, lower_edge, lower_across, lower_entered, no_deeper, as_many, no_fewer}
 use Rattle.schema_node.proofs.node.+run.Goals as goal
 
 pub run::run_child-run_edge-requires : goal.run::run_child-run_edge-requires
@@ -68,23 +70,33 @@ run::run_child-run_edge-requires g t c =
     let e = edge_of c.in-Some.edge.now in
     let k = c.requires.children c.args.child e (sym c.in-Some.ensures.edge) in
     let l = falls_here g.K.Validate.words g.K.Validate.is_whole ns (length c.args.engine.now.nodes.now) (settling (g.M.Matcher.matching c.args.engine.now.matcher.now) c.args.context.now.remembered.assumptions) c.requires.may.ranked c.args.node.0 (subject_of c.args.question.now.instance) (busy_at (steps_to c.args.question.now.place.now) c.args.context.now.in_progress) e c.requires.may.known k in
-    λ κs h. (lower_edge _ _ _ t 0 refl l c.decreases, (h.0, (h.1.0, (h.1.1.0, (h.1.1.1, (record { known = (c.requires.may.ranked c.args.node.0 c.requires.may.known e k).0; ranked = c.requires.may.ranked; above = c.requires.may.above; wanted = c.requires.may.wanted; stands = c.requires.may.stands; goes_on = c.requires.may.goes_on }, (c.requires.carries, c.requires.more)))))))
+    λ κs h. (lower_edge _ _ _ t 1 refl l c.decreases, (h.0, (h.1.0, (h.1.1.0, (h.1.1.1, (record { known = (c.requires.may.ranked c.args.node.0 c.requires.may.known e k).0; ranked = c.requires.may.ranked; above = c.requires.may.above; wanted = c.requires.may.wanted; stands = c.requires.may.stands; goes_on = c.requires.may.goes_on }, (c.requires.carries, c.requires.more)))))))
+
+pub run::run_child-run_refused-requires : goal.run::run_child-run_refused-requires
+run::run_child-run_refused-requires g t c =
+    let set = setting g.K.Validate.words g.K.Validate.is_whole g.K.Validate.shape g.M.Matcher.matching c.args.engine.now in
+    let q = asking c.args.question.now in
+    let e = edge_of c.in-Some.edge.now in
+    let k : Question = record { child = c.args.child; below = below_of c.args.below } in
+    let step = step_of c.in-Some-one_below.step in
+    let inner = subject_of c.in-Some-one_below.inner in
+    let lower = steps_to c.below-lower.result in
+    let is = sym c.in-Some.ensures.edge in
+    let below = c.in-Some-one_below.ensures.below in
+    λ κs h. (lower_across _ _ _ t 0 refl (needs_below set q c.args.node.0 _ k e step inner lower c.args.context.now c.requires.may c.requires.children is below.1 c.below-lower.ensures.below) c.decreases, (h.0, (h.1.0, (h.1.1.0, (h.1.1.1, (may_below set q c.args.node.0 _ k e step inner lower c.args.context.now c.requires.may c.requires.children is below.1 c.below-lower.ensures.below, (c.below-lower.ensures.carries (places_in c.args.context.now) c.requires.carries, c.requires.more)))))))
 
 pub run::run_child-run_edge-requires-in-Some-one_below : goal.run::run_child-run_edge-requires-in-Some-one_below
 run::run_child-run_edge-requires-in-Some-one_below g t c =
-    let ns = numbered g.K.Validate.shape c.args.engine.now.nodes.now in
+    let set = setting g.K.Validate.words g.K.Validate.is_whole g.K.Validate.shape g.M.Matcher.matching c.args.engine.now in
+    let q = asking c.args.question.now in
     let e = edge_of c.in-Some.edge.now in
-    let k = c.requires.children c.args.child e (sym c.in-Some.ensures.edge) in
-    let p = steps_to c.args.question.now.place.now in
+    let k : Question = record { child = c.args.child; below = below_of c.args.below } in
     let step = step_of c.in-Some-one_below.step in
-    let es = c.args.context.now.in_progress in
-    let none : busy_at (steps_to c.below-lower.result) es ≡ [] = ap (λ q. busy_at q es) c.below-lower.ensures.below ∙ busy-below p step es c.requires.may.above in
-    let deeper = subst (λ q. NoDeeper q es) (sym c.below-lower.ensures.below) (deeper-below p step es c.requires.may.above) in
-    let l = falls_below g.K.Validate.words g.K.Validate.is_whole ns (length c.args.engine.now.nodes.now) (settling (g.M.Matcher.matching c.args.engine.now.matcher.now) c.args.context.now.remembered.assumptions) c.requires.may.ranked c.args.node.0 (subject_of c.args.question.now.instance) (subject_of c.in-Some-one_below.inner) step (busy_at p es) e c.requires.may.known k c.in-Some-one_below.ensures.below.1 in
-    let n = ap (edge_needs ns (length c.args.engine.now.nodes.now) e (subject_of c.in-Some-one_below.inner)) none in
-    let (layout, laid, right) = c.requires.may.goes_on in
-    let below = laid_below layout p (subject_of c.args.question.now.instance) (subject_of c.in-Some-one_below.inner) step (steps_to c.below-lower.result) laid c.below-lower.ensures.below c.in-Some-one_below.ensures.below.1 in
-    λ κs h. (lower_edge _ _ _ t 0 n l c.decreases, (h.0, (h.1.0, (h.1.1.0, (h.1.1.1, (record { known = (c.requires.may.ranked c.args.node.0 c.requires.may.known e k).0; ranked = c.requires.may.ranked; above = deeper; wanted = c.requires.may.wanted; stands = stands_below (view c.args.context.now.root) p (subject_of c.args.question.now.instance) (subject_of c.in-Some-one_below.inner) step (steps_to c.below-lower.result) c.requires.may.stands c.below-lower.ensures.below c.in-Some-one_below.ensures.below.1; goes_on = (layout, below, right) }, (c.below-lower.ensures.carries (places_in c.args.context.now) c.requires.carries, c.requires.more)))))))
+    let inner = subject_of c.in-Some-one_below.inner in
+    let lower = steps_to c.below-lower.result in
+    let is = sym c.in-Some.ensures.edge in
+    let below = c.in-Some-one_below.ensures.below in
+    λ κs h. (lower_edge _ _ _ t 1 refl (needs_below set q c.args.node.0 _ k e step inner lower c.args.context.now c.requires.may c.requires.children is below.1 c.below-lower.ensures.below) c.decreases, (h.0, (h.1.0, (h.1.1.0, (h.1.1.1, (may_below set q c.args.node.0 _ k e step inner lower c.args.context.now c.requires.may c.requires.children is below.1 c.below-lower.ensures.below, (c.below-lower.ensures.carries (places_in c.args.context.now) c.requires.carries, c.requires.more)))))))
 
 pub run::run_child-returns-in-None-one_below : goal.run::run_child-returns-in-None-one_below
 run::run_child-returns-in-None-one_below g t c = record {
@@ -112,47 +124,72 @@ run::run_child-returns-in-None-one_below g t c = record {
   stays = first_of (search rules, grind (arith, common_steps));
 }
 
-pub run::run_child-returns-in-Some-one_below : goal.run::run_child-returns-in-Some-one_below
-run::run_child-returns-in-Some-one_below g t c = record {
-  keeps = first_of (search rules, grind (arith, common_steps));
-  counts = first_of (search rules, grind (arith, common_steps));
-  works = first_of (search rules, grind (arith, common_steps));
-  quiet = if_ok_always c.run_edge-in-Some-one_below.result _ (λ none. absurd (none c.args.child (edge_of c.in-Some.edge.now) (sym c.in-Some.ensures.edge)));
-  says =
-      let ns = numbered g.K.Validate.shape c.args.engine.now.nodes.now in
-      let e = edge_of c.in-Some.edge.now in
-      let k = c.requires.children c.args.child e (sym c.in-Some.ensures.edge) in
-      let p = steps_to c.args.question.now.place.now in
-      let step = step_of c.in-Some-one_below.step in
-      let es = c.args.context.now.in_progress in
-      let s = subject_of c.args.question.now.instance in
-      let inner = subject_of c.in-Some-one_below.inner in
-      let none : busy_at (steps_to c.below-lower.result) es ≡ [] = ap (λ q. busy_at q es) c.below-lower.ensures.below ∙ busy-below p step es c.requires.may.above in
-      let l = falls_below g.K.Validate.words g.K.Validate.is_whole ns (length c.args.engine.now.nodes.now) (settling (g.M.Matcher.matching c.args.engine.now.matcher.now) c.args.context.now.remembered.assumptions) c.requires.may.ranked c.args.node.0 s inner step (busy_at p es) e c.requires.may.known k c.in-Some-one_below.ensures.below.1 in
-      if_ok_mono c.run_edge-in-Some-one_below.result _ _ (λ r says.
-      let answer = subst (λ busy. EdgeReplies g.K.Validate.words g.K.Validate.is_whole ns (length c.args.engine.now.nodes.now) (settling (g.M.Matcher.matching c.args.engine.now.matcher.now) c.args.context.now.remembered.assumptions) (mode_of c.args.question.now.mode) (path_of c.args.question.now.path.now) (steps_to c.below-lower.result) busy inner e r) none says in
-      child_below g.K.Validate.words g.K.Validate.is_whole ns (length c.args.engine.now.nodes.now) (settling (g.M.Matcher.matching c.args.engine.now.matcher.now) c.args.context.now.remembered.assumptions) (mode_of c.args.question.now.mode) (path_of c.args.question.now.path.now) p (busy_at p es) s c.args.node.0 _
-      (record { child = c.args.child; below = below_of c.args.below }) r e step (steps_to c.below-lower.result) inner (sym c.in-Some.ensures.edge) c.in-Some-one_below.ensures.below.0
-      c.below-lower.ensures.below c.in-Some-one_below.ensures.below.1 l answer) c.run_edge-in-Some-one_below.ensures.says;
-  meets =
-      let ns = numbered g.K.Validate.shape c.args.engine.now.nodes.now in
-      let w = settling (g.M.Matcher.matching c.args.engine.now.matcher.now) c.args.context.now.remembered.assumptions in
-      let p = steps_to c.args.question.now.place.now in
-      let s = subject_of c.args.question.now.instance in
-      let busy = busy_at p c.args.context.now.in_progress in
-      let e = edge_of c.in-Some.edge.now in
-      let k = c.requires.children c.args.child e (sym c.in-Some.ensures.edge) in
-      let step = step_of c.in-Some-one_below.step in
-      let es = c.args.context.now.in_progress in
-      let inner = subject_of c.in-Some-one_below.inner in
-      let none : busy_at (steps_to c.below-lower.result) es ≡ [] = ap (λ q. busy_at q es) c.below-lower.ensures.below ∙ busy-below p step es c.requires.may.above in
-      let l = falls_below g.K.Validate.words g.K.Validate.is_whole ns (length c.args.engine.now.nodes.now) w c.requires.may.ranked c.args.node.0 s inner step busy e c.requires.may.known k c.in-Some-one_below.ensures.below.1 in
-      if_ok_mono c.run_edge-in-Some-one_below.result _ _ (λ r says.
-      let met = subst (λ busy'. EdgeMeets g.K.Validate.words g.K.Validate.is_whole ns (length c.args.engine.now.nodes.now) w (mode_of c.args.question.now.mode) (path_of c.args.question.now.path.now) (steps_to c.below-lower.result) busy' inner c.args.context.now.remembered c.run_edge-in-Some-one_below.new.context.remembered e) none says in
-      meets_below g.K.Validate.words g.K.Validate.is_whole ns (length c.args.engine.now.nodes.now) w (mode_of c.args.question.now.mode) (path_of c.args.question.now.path.now) p busy s c.args.node.0 _ (record { child = c.args.child; below = below_of c.args.below }) _ _ e step (steps_to c.below-lower.result) inner (sym c.in-Some.ensures.edge) c.in-Some-one_below.ensures.below.0
-      c.below-lower.ensures.below c.in-Some-one_below.ensures.below.1 l met) c.run_edge-in-Some-one_below.ensures.meets;
-  stays = first_of (search rules, grind (arith, common_steps));
-}
+pub run::run_child-returns-then-is_asked_first : goal.run::run_child-returns-then-is_asked_first
+run::run_child-returns-then-is_asked_first g t c =
+    let set = setting g.K.Validate.words g.K.Validate.is_whole g.K.Validate.shape g.M.Matcher.matching c.args.engine.now in
+    let q = asking c.args.question.now in
+    let e = edge_of c.in-Some.edge.now in
+    let k : Question = record { child = c.args.child; below = below_of c.args.below } in
+    let step = step_of c.in-Some-one_below.step in
+    let inner = subject_of c.in-Some-one_below.inner in
+    let lower = steps_to c.below-lower.result in
+    let is = sym c.in-Some.ensures.edge in
+    let below = c.in-Some-one_below.ensures.below in
+    replied_below set q c.args.node.0 _ k e step inner lower c.args.context.now c.requires.may c.requires.children is below.1 c.below-lower.ensures.below below.0 c.run_refused.new.context c.run_refused.result c.run_refused.ensures
+
+pub run::run_child-returns-else-is_asked_first : goal.run::run_child-returns-else-is_asked_first
+run::run_child-returns-else-is_asked_first g t c =
+    let set = setting g.K.Validate.words g.K.Validate.is_whole g.K.Validate.shape g.M.Matcher.matching c.args.engine.now in
+    let q = asking c.args.question.now in
+    let e = edge_of c.in-Some.edge.now in
+    let k : Question = record { child = c.args.child; below = below_of c.args.below } in
+    let step = step_of c.in-Some-one_below.step in
+    let inner = subject_of c.in-Some-one_below.inner in
+    let lower = steps_to c.below-lower.result in
+    let is = sym c.in-Some.ensures.edge in
+    let below = c.in-Some-one_below.ensures.below in
+    replied_below set q c.args.node.0 _ k e step inner lower c.args.context.now c.requires.may c.requires.children is below.1 c.below-lower.ensures.below below.0 c.run_edge-in-Some-one_below.new.context c.run_edge-in-Some-one_below.result c.run_edge-in-Some-one_below.ensures
+
+pub run::run_refused-run_edge-requires : goal.run::run_refused-run_edge-requires
+run::run_refused-run_edge-requires g t c =
+    let set = setting g.K.Validate.words g.K.Validate.is_whole g.K.Validate.shape g.M.Matcher.matching c.args.engine.now in
+    let valid = c.in_ok-valid.ensures in
+    let l = ap (λ es. edge_needs (numbered g.K.Validate.shape c.args.engine.now.nodes.now) (length c.args.engine.now.nodes.now) (edge_of c.args.edge.now) (subject_of c.args.question.now.instance) (busy_at (steps_to c.args.question.now.place.now) es)) valid.keeps.in_progress in
+    let may = may_on set (asking c.args.question.now) c.args.context.now c.verdict_edge.new.context (edge_of c.args.edge.now).node valid.keeps valid.stays c.requires.may in
+    λ κs h. (lower_edge _ _ _ t 0 l (no_deeper _) c.decreases, (h.0, (h.1.0, (h.1.1.0, (h.1.1.1, (may, (carries_on c.args.context.now.root _ c.args.question.now.place.now valid.keeps.root c.requires.carries, c.requires.more)))))))
+
+pub run::run_refused-run_edge-requires-2 : goal.run::run_refused-run_edge-requires-2
+run::run_refused-run_edge-requires-2 g t c =
+    λ κs h. (lower_edge _ _ _ t 0 refl (no_deeper _) c.decreases, (h.0, (h.1.0, (h.1.1.0, (h.1.1.1, (c.requires.may, (c.requires.carries, c.requires.more)))))))
+
+pub run::run_refused-returns-then-valid : goal.run::run_refused-returns-then-valid
+run::run_refused-returns-then-valid g t c =
+    let set = setting g.K.Validate.words g.K.Validate.is_whole g.K.Validate.shape g.M.Matcher.matching c.args.engine.now in
+    let q = asking c.args.question.now in
+    let e = edge_of c.args.edge.now in
+    record {
+      keeps = first_of (search rules, grind (arith, common_steps));
+      counts = first_of (search rules, grind (arith, common_steps));
+      works = first_of (search rules, grind (arith, common_steps));
+      says = edge_accepts set q e (λ texts m s completion matcher a h. (g.met.K.Validate.function_laws texts m).agree s (matching matcher completion) a h) c.args.context.now c.in_ok-valid.valid c.accepted.result c.if-valid.true c.in_ok-valid.ensures.says c.accepted.ensures.accepts c.accepted.ensures.no_errors;
+      meets = verdict_meets set q e (c.finishes.ensures.finishes c.if-finishes.true) c.args.context.now c.verdict_edge.new.context c.in_ok-valid.ensures.meets;
+      stays = first_of (search rules, grind (arith, common_steps));
+    }
+
+pub run::run_refused-returns-then-finishes : goal.run::run_refused-returns-then-finishes
+run::run_refused-returns-then-finishes g t c =
+    let set = setting g.K.Validate.words g.K.Validate.is_whole g.K.Validate.shape g.M.Matcher.matching c.args.engine.now in
+    let q = asking c.args.question.now in
+    let e = edge_of c.args.edge.now in
+    let valid = c.in_ok-valid.ensures in
+    record {
+      keeps = first_of (search rules, grind (arith, common_steps));
+      counts = if_ok_mono c.run_edge.result _ _ (λ r more. no_fewer c.args.context.now.visits c.verdict_edge.new.context.visits c.run_edge.new.context.visits valid.counts more) c.run_edge.ensures.counts;
+      works = if_ok_mono c.run_edge.result _ _ (λ r more. spends_on _ _ _ valid.works more) c.run_edge.ensures.works;
+      says = rw (valid.keeps.in_progress, valid.keeps.assumptions) at c.run_edge.ensures.says;
+      meets = if_ok_mono c.run_edge.result _ _ (λ r met. meets_after set q e (c.finishes.ensures.finishes c.if-finishes.true) c.args.context.now c.verdict_edge.new.context c.run_edge.new.context valid.keeps valid.meets met) c.run_edge.ensures.meets;
+      stays = if_ok_mono c.run_edge.result _ _ (λ r stays layout laid right. stays layout laid (valid.stays layout laid right)) c.run_edge.ensures.stays;
+    }
 
 pub run::run_form-run_edge-requires : goal.run::run_form-run_edge-requires
 run::run_form-run_edge-requires g t c =

@@ -33,10 +33,13 @@ use Rattle.schema_node.specs.UnitStates.{child_unit, parts_units}
 use Rattle.schema_node.proofs.node.+run.Given as goal
 
 abbrev pub decreases-run::run_child : goal.decreases-run::run_child
-decreases-run::run_child g l = 20 * left (numbered g.K.Validate.shape l.engine.now.nodes.now) (length l.engine.now.nodes.now) l.node.0 (subject_of l.question.now.instance) (busy_at (steps_to l.question.now.place.now) l.context.now.in_progress) + 1
+decreases-run::run_child g l = 20 * left (numbered g.K.Validate.shape l.engine.now.nodes.now) (length l.engine.now.nodes.now) l.node.0 (subject_of l.question.now.instance) (busy_at (steps_to l.question.now.place.now) l.context.now.in_progress) + 2
 
 abbrev pub decreases-run::run_edge : goal.decreases-run::run_edge
 decreases-run::run_edge g l = 20 * edge_needs (numbered g.K.Validate.shape l.engine.now.nodes.now) (length l.engine.now.nodes.now) (edge_of l.edge.now) (subject_of l.question.now.instance) (busy_at (steps_to l.question.now.place.now) l.context.now.in_progress)
+
+abbrev pub decreases-run::run_refused : goal.decreases-run::run_refused
+decreases-run::run_refused g l = 20 * edge_needs (numbered g.K.Validate.shape l.engine.now.nodes.now) (length l.engine.now.nodes.now) (edge_of l.edge.now) (subject_of l.question.now.instance) (busy_at (steps_to l.question.now.place.now) l.context.now.in_progress) + 1
 
 abbrev pub decreases-run::run_entries : goal.decreases-run::run_entries
 decreases-run::run_entries g l = 20 * left (numbered g.K.Validate.shape l.engine.now.nodes.now) (length l.engine.now.nodes.now) l.node.0 (subject_of l.question.now.instance) (busy_at (steps_to l.question.now.place.now) l.context.now.in_progress) + 9

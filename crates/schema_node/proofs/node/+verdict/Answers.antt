@@ -4,7 +4,7 @@ use Rattle.schema_reports.specs.InstanceViews.{subject_of, step_of}
 use Rattle.schema_definitions.specs.Keywords.{Question, ask, ecma, for_verdict, mark, match_text, no_reply, truth, unmark}
 use Rattle.run_steps.specs.EvaluationPlaces.{steps_to}
 use Rattle.run_steps.specs.GuardedPairs.{place_of}
-use Rattle.schema_node.proofs.Placing.{carries_on, pair_entered, pair_known, pair_lasting, pair_unknown, stands_at, stands_below, stands_on}
+use Rattle.schema_node.proofs.Placing.{carries_on, keeps_on, may_on, pair_entered, pair_known, pair_lasting, pair_unknown, stands_at, stands_below, stands_on}
 use Rattle.schema_contexts.specs.Progress.{places_in}
 use Rattle.schema_parts.specs.declared.numbers.SchemaNode.{SchemaNode}
 use Rattle.std.specs.List.{list_any}
@@ -60,6 +60,10 @@ use Rattle.schema_node.proofs.Spending.{asks_spends, spends_between, spends_none
 use Rattle.schema_node.proofs.Shared.{meets_again, read_again, shared_counts, stays_kept}
 use Rattle.node_table.proofs.ClosedNumbers.{reaches_numbered}
 use Rattle.schema_definitions.specs.Laws.{EachKeeps}
+use Rattle.schema_definitions.specs.Instance.{after_step}
+use Rattle.asked_questions.specs.Questions.{StandsThere, below_in, question_in}
+use Rattle.schema_node.proofs.AskedAtOnce.{SaysByTheRest, likewise, match_says, meets_on, met_none, otherwise, present_there, question_ends, question_goes_on, questions_begin, questions_end, says_by_questions}
+use Rattle.schema_node.proofs.Children.{answered_below, answered_here, may_below, may_here, needs_below, needs_here}
 use Rattle.schema_node.proofs.node.+verdict.Goals as goal
 
 pub verdict::verdict_child-verdict_edge-requires : goal.verdict::verdict_child-verdict_edge-requires
@@ -207,7 +211,7 @@ verdict::verdict_form-verdict_reference-requires g t c =
     let e = edge_of c.in-Reference.edge in
     let k = reference_edge ns c.args.node.0 e (rw c.in-Reference.is at c.requires.stands) in
     let l = falls_here g.K.Validate.words g.K.Validate.is_whole ns (length c.args.engine.now.nodes.now) (settling (g.M.Matcher.matching c.args.engine.now.matcher.now) c.args.context.now.remembered.assumptions) c.requires.may.ranked c.args.node.0 (subject_of c.args.question.now.instance) (busy_at (steps_to c.args.question.now.place.now) c.args.context.now.in_progress) e c.requires.may.known k in
-    λ κs h. (lower_reference _ _ _ t 4 refl l c.decreases, (h.0, (h.1.0, (h.1.1.0, (h.1.1.1, record { may = record { known = (c.requires.may.ranked c.args.node.0 c.requires.may.known e k).0; ranked = c.requires.may.ranked; above = c.requires.may.above; wanted = c.requires.may.wanted; stands = c.requires.may.stands; goes_on = c.requires.may.goes_on }; carries = c.requires.carries; verdict = c.requires.verdict; stands = tt })))))
+    λ κs h. (lower_reference _ _ _ t 5 refl l c.decreases, (h.0, (h.1.0, (h.1.1.0, (h.1.1.1, record { may = record { known = (c.requires.may.ranked c.args.node.0 c.requires.may.known e k).0; ranked = c.requires.may.ranked; above = c.requires.may.above; wanted = c.requires.may.wanted; stands = c.requires.may.stands; goes_on = c.requires.may.goes_on }; carries = c.requires.carries; verdict = c.requires.verdict; stands = tt })))))
 
 pub verdict::verdict_form-returns-in-Reference : goal.verdict::verdict_form-returns-in-Reference
 verdict::verdict_form-returns-in-Reference g t c = record {
@@ -256,7 +260,7 @@ verdict::verdict_keyword-verdict_reference-requires g t c =
     let e = edge_of c.in-Reference.edge in
     let k = reference_edge ns c.args.node.0 e (rw c.in-Reference.is at c.requires.stands) in
     let l = falls_here g.K.Validate.words g.K.Validate.is_whole ns (length c.args.engine.now.nodes.now) (settling (g.M.Matcher.matching c.args.engine.now.matcher.now) c.args.context.now.remembered.assumptions) c.requires.may.ranked c.args.node.0 (subject_of c.args.question.now.instance) (busy_at (steps_to c.args.question.now.place.now) c.args.context.now.in_progress) e c.requires.may.known k in
-    λ κs h. (lower_reference _ _ _ t 3 refl l c.decreases, (h.0, (h.1.0, (h.1.1.0, (h.1.1.1, record { may = record { known = (c.requires.may.ranked c.args.node.0 c.requires.may.known e k).0; ranked = c.requires.may.ranked; above = c.requires.may.above; wanted = c.requires.may.wanted; stands = c.requires.may.stands; goes_on = c.requires.may.goes_on }; carries = c.requires.carries; verdict = c.requires.verdict; stands = tt })))))
+    λ κs h. (lower_reference _ _ _ t 4 refl l c.decreases, (h.0, (h.1.0, (h.1.1.0, (h.1.1.1, record { may = record { known = (c.requires.may.ranked c.args.node.0 c.requires.may.known e k).0; ranked = c.requires.may.ranked; above = c.requires.may.above; wanted = c.requires.may.wanted; stands = c.requires.may.stands; goes_on = c.requires.may.goes_on }; carries = c.requires.carries; verdict = c.requires.verdict; stands = tt })))))
 
 pub verdict::verdict_keyword-returns-in-Reference : goal.verdict::verdict_keyword-returns-in-Reference
 verdict::verdict_keyword-returns-in-Reference g t c = record {
@@ -301,10 +305,215 @@ verdict::verdict_keyword-returns-in-Reference g t c = record {
 
 pub verdict::verdict_keyword-keyword_verdict-requires : goal.verdict::verdict_keyword-keyword_verdict-requires
 verdict::verdict_keyword-keyword_verdict-requires g t c =
-    λ κs h. (lower_same _ _ t 5 0 refl c.decreases, (h.0, (h.1.0, (h.1.1.0, (h.1.1.1, record { may = c.requires.may; carries = c.requires.carries; verdict = c.requires.verdict; stands = rw (c.in-Keyword.is, ← c.as_slice.ensures.value) at c.requires.stands })))))
+    λ κs h. (lower_same _ _ t 5 1 refl c.decreases, (h.0, (h.1.0, (h.1.1.0, (h.1.1.1, record { may = c.requires.may; carries = c.requires.carries; verdict = c.requires.verdict; stands = rw (c.in-Keyword.is, ← c.as_slice.ensures.value) at c.requires.stands })))))
 
-pub verdict::verdict_keyword-returns-in-Keyword : goal.verdict::verdict_keyword-returns-in-Keyword
-verdict::verdict_keyword-returns-in-Keyword g t c = rw (c.in-Keyword.is, ← c.as_slice.ensures.value) c.keyword_verdict.ensures
+pub verdict::verdict_keyword-asked_verdict-requires : goal.verdict::verdict_keyword-asked_verdict-requires
+verdict::verdict_keyword-asked_verdict-requires g t c =
+    λ κs h. (lower_same _ _ t 6 0 refl c.decreases, (h.0, (h.1.0, (h.1.1.0, (h.1.1.1, (record { may = c.requires.may; carries = c.requires.carries; verdict = c.requires.verdict; stands = rw (c.in-Keyword.is, ← c.as_slice.ensures.value) at c.requires.stands }, c.finishes.ensures.finishes c.if-finishes.true))))))
+
+pub verdict::verdict_keyword-returns-then-finishes : goal.verdict::verdict_keyword-returns-then-finishes
+verdict::verdict_keyword-returns-then-finishes g t c = rw (c.in-Keyword.is, ← c.as_slice.ensures.value) c.asked_verdict.ensures
+
+pub verdict::verdict_keyword-returns-else-finishes : goal.verdict::verdict_keyword-returns-else-finishes
+verdict::verdict_keyword-returns-else-finishes g t c = rw (c.in-Keyword.is, ← c.as_slice.ensures.value) c.keyword_verdict.ensures
+
+-- ---- what a keyword asks at once
+
+pub verdict_asking::asked_verdict-finished_match-requires : goal.verdict_asking::asked_verdict-finished_match-requires
+verdict_asking::asked_verdict-finished_match-requires g t c = record { finishes = c.requires.finishes }
+
+pub verdict_asking::asked_verdict-returns-in-Match : goal.verdict_asking::asked_verdict-returns-in-Match
+verdict_asking::asked_verdict-returns-in-Match g t c =
+    let set = setting g.K.Validate.words g.K.Validate.is_whole g.K.Validate.shape g.M.Matcher.matching c.args.engine.now in
+    let q = asking c.args.question.now in
+    let old = c.args.context.now in
+    let m = g.K.Validate.shape c.args.keyword.now.keyword.now in
+    let es = map (option_map edge_of) c.args.keyword.now.children.now in
+    let name = string_bytes c.args.keyword.now.name.now in
+    let asks = rw c.in-Match.is at c.asking-asking.ensures.asks in
+    record {
+      keeps = search rules;
+      counts = search rules;
+      works = search rules;
+      visits = keyword_counts set.nodes q old old m es (λ none. refl);
+      says = match_says set q old c.args.node.0 m es c.requires.asked.may.known c.requires.asked.stands c.requires.asked.verdict name c.in-Match.pattern.now c.in-Match.subject.now c.in_ok-matches.matches c.in_ok-matches.ensures.answer (λ texts tells. (asks texts tells).says refl);
+      meets = met_none set q old c.args.node.0 m es c.requires.finishes old name (λ texts root depth reads l. refl);
+      stays = search rules;
+      remembers = search rules;
+    }
+
+pub verdict_asking::asked_verdict-of-requires : goal.verdict_asking::asked_verdict-of-requires
+verdict_asking::asked_verdict-of-requires g t c =
+    let s = subject_of c.args.question.now.instance in
+    let m = g.K.Validate.shape c.args.keyword.now.keyword.now in
+    record { own = (c.asking-asking.ensures.asks false (tells_nothing (g.K.Validate.is_whole m) s)).own }
+
+pub verdict_asking::asked_verdict-keyword_verdict-requires : goal.verdict_asking::asked_verdict-keyword_verdict-requires
+verdict_asking::asked_verdict-keyword_verdict-requires g t c =
+    λ κs h. (lower_same _ _ t 5 0 refl c.decreases, (h.0, (h.1.0, (h.1.1.0, (h.1.1.1, c.requires.asked)))))
+
+pub verdict_asking::asked_verdict-verdict_questions-requires : goal.verdict_asking::asked_verdict-verdict_questions-requires
+verdict_asking::asked_verdict-verdict_questions-requires g t c =
+    let set = setting g.K.Validate.words g.K.Validate.is_whole g.K.Validate.shape g.M.Matcher.matching c.args.engine.now in
+    let s = subject_of c.args.question.now.instance in
+    let m = g.K.Validate.shape c.args.keyword.now.keyword.now in
+    let asked = c.in-Some.ensures.asked in
+    let says = says_by_questions set s m c.asking-asking.result c.asking-asking.ensures.asks (sym c.in-Some.ensures.puts) c.has_to_be_each-all.result c.has_to_be_each-all.ensures.all c.in-Some.questions.left asked.1 in
+    λ κs h. (lower_same _ _ t 4 1 refl c.decreases, (h.0, (h.1.0, (h.1.1.0, (h.1.1.1, (c.requires.asked, (c.requires.finishes, (asked.0, says))))))))
+
+pub verdict_asking::verdict_questions-loop-asked-init : goal.verdict_asking::verdict_questions-loop-asked-init
+verdict_asking::verdict_questions-loop-asked-init g t c =
+    let set = setting g.K.Validate.words g.K.Validate.is_whole g.K.Validate.shape g.M.Matcher.matching c.args.engine.now in
+    let q = asking c.args.question.now in
+    let old = c.args.context.now in
+    let m = g.K.Validate.shape c.args.keyword.now.keyword.now in
+    let es = map (option_map edge_of) c.args.keyword.now.children.now in
+    record {
+      keeps = record { root = refl; in_progress = refl; assumptions = refl; marking = refl };
+      counted = as_many old.visits old.visits refl;
+      worked = spends_none old.work;
+      quiet = λ none. refl;
+      stays = λ layout laid right. right;
+      there = c.requires.there;
+      leads = questions_begin set q old c.args.node.0 m es c.requires.asked.may.known c.requires.asked.stands c.args.all c.args.questions.left c.requires.says;
+      met = λ texts root depth reads l. refl;
+    }
+
+pub verdict_asking::verdict_questions-verdict_there-requires : goal.verdict_asking::verdict_questions-verdict_there-requires
+verdict_asking::verdict_questions-verdict_there-requires g t c =
+    let set = setting g.K.Validate.words g.K.Validate.is_whole g.K.Validate.shape g.M.Matcher.matching c.args.engine.now in
+    let ns = numbered g.K.Validate.shape c.args.engine.now.nodes.now in
+    let q = asking c.args.question.now in
+    let m = g.K.Validate.shape c.args.keyword.now.keyword.now in
+    let es = map (option_map edge_of) c.args.keyword.now.children.now in
+    let so_far = c.loop-asked.invariant in
+    let l = ap (λ es. left ns (length c.args.engine.now.nodes.now) c.args.node.0 q.subject (busy_at q.place es)) so_far.keeps.in_progress in
+    let there = subst (λ z. StandsThere z c.in-Some.asked) so_far.there c.in-Some.ensures.there in
+    let may = may_on set q c.args.context.now c.loop-asked.context c.args.node.0 so_far.keeps so_far.stays c.requires.asked.may in
+    let carries = carries_on c.args.context.now.root c.loop-asked.context.root c.args.question.now.place.now so_far.keeps.root c.requires.asked.carries in
+    λ κs h. (lower_same _ _ t 3 0 l c.decreases, (h.0, (h.1.0, (h.1.1.0, (h.1.1.1, (record { may = may; carries = carries; verdict = c.requires.asked.verdict; stands = (keyword_children ns c.args.node.0 m es c.requires.asked.stands, present_there q.subject c.in-Some.asked there) }, there))))))
+
+pub verdict_asking::verdict_questions-returns-then-valid-all : goal.verdict_asking::verdict_questions-returns-then-valid-all
+verdict_asking::verdict_questions-returns-then-valid-all g t c =
+    let set = setting g.K.Validate.words g.K.Validate.is_whole g.K.Validate.shape g.M.Matcher.matching c.args.engine.now in
+    let q = asking c.args.question.now in
+    let i = c.args.node.0 in
+    let m = g.K.Validate.shape c.args.keyword.now.keyword.now in
+    let es = map (option_map edge_of) c.args.keyword.now.children.now in
+    let name = string_bytes c.args.keyword.now.name.now in
+    let old = c.args.context.now in
+    let now = c.loop-asked.context in
+    let new = c.verdict_there.new.context in
+    let so_far = c.loop-asked.invariant in
+    let valid = c.in_ok-valid.ensures in
+    let k = question_in c.in-Some.asked in
+    let rest = c.next.new.self.left in
+    let leads : SaysByTheRest set q old i m es c.args.all (k ∷ rest) = subst (SaysByTheRest set q old i m es c.args.all) c.in-Some.ensures.next so_far.leads in
+    record {
+      keeps = keeps_on old now new so_far.keeps valid.keeps;
+      counts = no_fewer old.visits now.visits new.visits so_far.counted valid.counts;
+      works = spends_on _ _ _ so_far.worked valid.works;
+      visits = keyword_counts set.nodes q old new m es (λ none. valid.visits none ∙ so_far.quiet none);
+      says = question_ends set q old i m es c.requires.asked.verdict now so_far.keeps c.args.all k rest leads c.in_ok-valid.valid valid.says (otherwise _ _ c.if-valid-all.true) name;
+      meets = met_none set q old i m es c.requires.finishes new name (meets_on set q old i m es c.requires.finishes now new so_far.keeps so_far.met k valid.meets);
+      stays = λ layout laid right. valid.stays layout laid (so_far.stays layout laid right);
+      remembers = search rules;
+    }
+
+pub verdict_asking::verdict_questions-loop-asked-preserved : goal.verdict_asking::verdict_questions-loop-asked-preserved
+verdict_asking::verdict_questions-loop-asked-preserved g t c =
+    let set = setting g.K.Validate.words g.K.Validate.is_whole g.K.Validate.shape g.M.Matcher.matching c.args.engine.now in
+    let q = asking c.args.question.now in
+    let i = c.args.node.0 in
+    let m = g.K.Validate.shape c.args.keyword.now.keyword.now in
+    let es = map (option_map edge_of) c.args.keyword.now.children.now in
+    let old = c.args.context.now in
+    let now = c.loop-asked.context in
+    let new = c.verdict_there.new.context in
+    let so_far = c.loop-asked.invariant in
+    let valid = c.in_ok-valid.ensures in
+    let k = question_in c.in-Some.asked in
+    let rest = c.next.new.self.left in
+    let leads : SaysByTheRest set q old i m es c.args.all (k ∷ rest) = subst (SaysByTheRest set q old i m es c.args.all) c.in-Some.ensures.next so_far.leads in
+    record {
+      keeps = keeps_on old now new so_far.keeps valid.keeps;
+      counted = no_fewer old.visits now.visits new.visits so_far.counted valid.counts;
+      worked = spends_on _ _ _ so_far.worked valid.works;
+      quiet = λ none. valid.visits none ∙ so_far.quiet none;
+      stays = λ layout laid right. valid.stays layout laid (so_far.stays layout laid right);
+      there = c.next.ensures.subject ∙ so_far.there;
+      leads = question_goes_on set q old i m es c.requires.asked.verdict now so_far.keeps c.args.all k rest leads c.in_ok-valid.valid valid.says (likewise _ _ c.if-valid-all.false);
+      met = meets_on set q old i m es c.requires.finishes now new so_far.keeps so_far.met k valid.meets;
+    }
+
+pub verdict_asking::verdict_questions-loop-asked-smaller : goal.verdict_asking::verdict_questions-loop-asked-smaller
+verdict_asking::verdict_questions-loop-asked-smaller g t c =
+    let one : length c.loop-asked.questions.left ≡ suc (length c.next.new.self.left) = ap length c.in-Some.ensures.next in
+    omega (arith, one)
+
+pub verdict_asking::verdict_questions-returns : goal.verdict_asking::verdict_questions-returns
+verdict_asking::verdict_questions-returns g t c =
+    let set = setting g.K.Validate.words g.K.Validate.is_whole g.K.Validate.shape g.M.Matcher.matching c.args.engine.now in
+    let q = asking c.args.question.now in
+    let i = c.args.node.0 in
+    let m = g.K.Validate.shape c.args.keyword.now.keyword.now in
+    let es = map (option_map edge_of) c.args.keyword.now.children.now in
+    let name = string_bytes c.args.keyword.now.name.now in
+    let old = c.args.context.now in
+    let now = c.loop-asked.context in
+    let so_far = c.loop-asked.invariant in
+    record {
+      keeps = so_far.keeps;
+      counts = so_far.counted;
+      works = so_far.worked;
+      visits = keyword_counts set.nodes q old now m es so_far.quiet;
+      says = questions_end set q old i m es c.requires.asked.verdict c.args.all (subst (SaysByTheRest set q old i m es c.args.all) c.in_default.ensures.next so_far.leads) name;
+      meets = met_none set q old i m es c.requires.finishes now name so_far.met;
+      stays = so_far.stays;
+      remembers = search rules;
+    }
+
+pub verdict_asking::verdict_there-verdict_edge-requires : goal.verdict_asking::verdict_there-verdict_edge-requires
+verdict_asking::verdict_there-verdict_edge-requires g t c =
+    let set = setting g.K.Validate.words g.K.Validate.is_whole g.K.Validate.shape g.M.Matcher.matching c.args.engine.now in
+    let q = asking c.args.question.now in
+    let e = edge_of c.in-Some.edge.now in
+    let k = question_in c.args.asked in
+    let is = sym c.in-Some.ensures.edge in
+    λ κs h. (lower_across _ _ _ t 1 refl (needs_here set q c.args.node.0 _ k e c.args.context.now c.requires.asked.may c.requires.asked.stands.0 is) c.decreases, (h.0, (h.1.0, (h.1.1.0, (h.1.1.1, record { may = may_here set q c.args.node.0 _ k e c.args.context.now c.requires.asked.may c.requires.asked.stands.0 is; carries = c.requires.asked.carries; verdict = c.requires.asked.verdict; stands = tt })))))
+
+pub verdict_asking::verdict_there-verdict_edge-requires-in-Some-below : goal.verdict_asking::verdict_there-verdict_edge-requires-in-Some-below
+verdict_asking::verdict_there-verdict_edge-requires-in-Some-below g t c =
+    let set = setting g.K.Validate.words g.K.Validate.is_whole g.K.Validate.shape g.M.Matcher.matching c.args.engine.now in
+    let q = asking c.args.question.now in
+    let e = edge_of c.in-Some.edge.now in
+    let k = question_in c.args.asked in
+    let step = step_of c.in-Some-below.step in
+    let inner = subject_of c.in-Some-below.inner in
+    let lower = steps_to c.below-lower.result in
+    let is = sym c.in-Some.ensures.edge in
+    let leads : after_step step q.subject ≡ Some inner = rw c.in-Some-below.is at c.requires.there in
+    λ κs h. (lower_across _ _ _ t 1 refl (needs_below set q c.args.node.0 _ k e step inner lower c.args.context.now c.requires.asked.may c.requires.asked.stands.0 is leads c.below-lower.ensures.below) c.decreases, (h.0, (h.1.0, (h.1.1.0, (h.1.1.1, record { may = may_below set q c.args.node.0 _ k e step inner lower c.args.context.now c.requires.asked.may c.requires.asked.stands.0 is leads c.below-lower.ensures.below; carries = c.below-lower.ensures.carries (places_in c.args.context.now) c.requires.asked.carries; verdict = c.requires.asked.verdict; stands = tt })))))
+
+pub verdict_asking::verdict_there-returns-in-None-below : goal.verdict_asking::verdict_there-returns-in-None-below
+verdict_asking::verdict_there-returns-in-None-below g t c =
+    let set = setting g.K.Validate.words g.K.Validate.is_whole g.K.Validate.shape g.M.Matcher.matching c.args.engine.now in
+    let q = asking c.args.question.now in
+    let e = edge_of c.in-Some.edge.now in
+    let k = question_in c.args.asked in
+    answered_here set q c.args.node.0 _ k e c.args.context.now c.requires.asked.may c.requires.asked.stands.0 (sym c.in-Some.ensures.edge) c.verdict_edge.new.context c.verdict_edge.result (ap below_in c.in-None-below.is) c.verdict_edge.ensures
+
+pub verdict_asking::verdict_there-returns-in-Some-below : goal.verdict_asking::verdict_there-returns-in-Some-below
+verdict_asking::verdict_there-returns-in-Some-below g t c =
+    let set = setting g.K.Validate.words g.K.Validate.is_whole g.K.Validate.shape g.M.Matcher.matching c.args.engine.now in
+    let q = asking c.args.question.now in
+    let e = edge_of c.in-Some.edge.now in
+    let k = question_in c.args.asked in
+    let step = step_of c.in-Some-below.step in
+    let inner = subject_of c.in-Some-below.inner in
+    let lower = steps_to c.below-lower.result in
+    let leads : after_step step q.subject ≡ Some inner = rw c.in-Some-below.is at c.requires.there in
+    answered_below set q c.args.node.0 _ k e step inner lower c.args.context.now c.requires.asked.may c.requires.asked.stands.0 (sym c.in-Some.ensures.edge) leads c.below-lower.ensures.below (ap below_in c.in-Some-below.is) c.verdict_edge-in-Some-below.new.context c.verdict_edge-in-Some-below.result c.verdict_edge-in-Some-below.ensures
 
 pub verdict::verdict_reference-returns : goal.verdict::verdict_reference-returns
 verdict::verdict_reference-returns g t c = record {
@@ -491,7 +700,7 @@ verdict::verdict_entries-verdict_form-requires g t c =
     let kept = c.loop-entry.invariant.kept in
     let l = ap (λ es. left ns (length c.args.engine.now.nodes.now) c.args.node.0 (subject_of c.args.question.now.instance) (busy_at p es)) kept in
     let here = part_at entry_of (shaped_part g.K.Validate.shape) c.args.entries.now c.loop-entry.entry-index c.entry-item.result c.loop-entry-test.true c.entry-item.is in
-    λ κs h. (lower_same _ _ t 7 1 l c.decreases, (h.0, (h.1.0, (h.1.1.0, (h.1.1.1, record { may = record { known = c.requires.may.known; ranked = c.requires.may.ranked; above = subst (NoDeeper p) (sym kept) c.requires.may.above; wanted = c.requires.may.wanted; stands = stands_on c.args.context.now.root _ (asking c.args.question.now) c.loop-entry.invariant.root c.requires.may.stands; goes_on = (c.requires.may.goes_on.0, c.requires.may.goes_on.1, c.loop-entry.invariant.stays c.requires.may.goes_on.0 c.requires.may.goes_on.1 c.requires.may.goes_on.2) }; carries = carries_on c.args.context.now.root _ c.args.question.now.place.now c.loop-entry.invariant.root c.requires.carries; verdict = c.requires.verdict; stands = (c.requires.stands.0, c.requires.stands.1, shaped_part g.K.Validate.shape (entry_of c.entry-item.result), c.requires.stands.2 _ here, refl) })))))
+    λ κs h. (lower_same _ _ t 8 0 l c.decreases, (h.0, (h.1.0, (h.1.1.0, (h.1.1.1, record { may = record { known = c.requires.may.known; ranked = c.requires.may.ranked; above = subst (NoDeeper p) (sym kept) c.requires.may.above; wanted = c.requires.may.wanted; stands = stands_on c.args.context.now.root _ (asking c.args.question.now) c.loop-entry.invariant.root c.requires.may.stands; goes_on = (c.requires.may.goes_on.0, c.requires.may.goes_on.1, c.loop-entry.invariant.stays c.requires.may.goes_on.0 c.requires.may.goes_on.1 c.requires.may.goes_on.2) }; carries = carries_on c.args.context.now.root _ c.args.question.now.place.now c.loop-entry.invariant.root c.requires.carries; verdict = c.requires.verdict; stands = (c.requires.stands.0, c.requires.stands.1, shaped_part g.K.Validate.shape (entry_of c.entry-item.result), c.requires.stands.2 _ here, refl) })))))
 
 pub verdict::verdict_entries-loop-entry-preserved : goal.verdict::verdict_entries-loop-entry-preserved
 verdict::verdict_entries-loop-entry-preserved g t c = record {

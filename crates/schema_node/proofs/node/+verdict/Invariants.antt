@@ -16,10 +16,11 @@ use Rattle.schema_contexts.specs.Matches.{MeetsEach, settling}
 use Rattle.schema_node.specs.NodeMeets.{child_run, parts_looked, reading}
 use Rattle.run_steps.specs.NodeRuns.{Reading, Reads, Replies, child_says, edge_needs, parts_say}
 use Rattle.run_steps.specs.Askings.{asking}
-use Rattle.schema_node.specs.RunStates.{PartsRemember, StaysRight, setting}
+use Rattle.schema_node.specs.RunStates.{Keeps, PartsRemember, StaysRight, setting}
 use Rattle.run_steps.specs.VerdictRuns.{told_reply}
 use Rattle.schema_node.specs.VerdictTurns.{AsksVerdictsOn}
 use Rattle.schema_node.specs.Visits.{LeadsNowhere, PartsCount}
+use Rattle.schema_node.proofs.AskedAtOnce.{MeetsNothing, SaysByTheRest}
 use Rattle.schema_node.proofs.KeywordMeets.{MeetsSoFar}
 use Rattle.schema_contexts.specs.Progress.{busy_at}
 use Rattle.schema_contexts.specs.Works.{Spends}
@@ -38,10 +39,42 @@ abbrev pub decreases-verdict::verdict_entries : goal.decreases-verdict::verdict_
 decreases-verdict::verdict_entries g l = 20 * left (numbered g.K.Validate.shape l.engine.now.nodes.now) (length l.engine.now.nodes.now) l.node.0 (subject_of l.question.now.instance) (busy_at (steps_to l.question.now.place.now) l.context.now.in_progress) + 9
 
 abbrev pub decreases-verdict::verdict_form : goal.decreases-verdict::verdict_form
-decreases-verdict::verdict_form g l = 20 * left (numbered g.K.Validate.shape l.engine.now.nodes.now) (length l.engine.now.nodes.now) l.node.0 (subject_of l.question.now.instance) (busy_at (steps_to l.question.now.place.now) l.context.now.in_progress) + 7
+decreases-verdict::verdict_form g l = 20 * left (numbered g.K.Validate.shape l.engine.now.nodes.now) (length l.engine.now.nodes.now) l.node.0 (subject_of l.question.now.instance) (busy_at (steps_to l.question.now.place.now) l.context.now.in_progress) + 8
 
 abbrev pub decreases-verdict::verdict_keyword : goal.decreases-verdict::verdict_keyword
-decreases-verdict::verdict_keyword g l = 20 * left (numbered g.K.Validate.shape l.engine.now.nodes.now) (length l.engine.now.nodes.now) l.node.0 (subject_of l.question.now.instance) (busy_at (steps_to l.question.now.place.now) l.context.now.in_progress) + 6
+decreases-verdict::verdict_keyword g l = 20 * left (numbered g.K.Validate.shape l.engine.now.nodes.now) (length l.engine.now.nodes.now) l.node.0 (subject_of l.question.now.instance) (busy_at (steps_to l.question.now.place.now) l.context.now.in_progress) + 7
+
+abbrev pub decreases-verdict_asking::asked_verdict : goal.decreases-verdict_asking::asked_verdict
+decreases-verdict_asking::asked_verdict g l = 20 * left (numbered g.K.Validate.shape l.engine.now.nodes.now) (length l.engine.now.nodes.now) l.node.0 (subject_of l.question.now.instance) (busy_at (steps_to l.question.now.place.now) l.context.now.in_progress) + 6
+
+abbrev pub decreases-verdict_asking::verdict_questions : goal.decreases-verdict_asking::verdict_questions
+decreases-verdict_asking::verdict_questions g l = 20 * left (numbered g.K.Validate.shape l.engine.now.nodes.now) (length l.engine.now.nodes.now) l.node.0 (subject_of l.question.now.instance) (busy_at (steps_to l.question.now.place.now) l.context.now.in_progress) + 4
+
+abbrev pub decreases-verdict_asking::verdict_there : goal.decreases-verdict_asking::verdict_there
+decreases-verdict_asking::verdict_there g l = 20 * left (numbered g.K.Validate.shape l.engine.now.nodes.now) (length l.engine.now.nodes.now) l.node.0 (subject_of l.question.now.instance) (busy_at (steps_to l.question.now.place.now) l.context.now.in_progress) + 3
+
+abbrev pub invariant-verdict_asking::verdict_questions-loop-asked :
+    goal.invariant-verdict_asking::verdict_questions-loop-asked
+invariant-verdict_asking::verdict_questions-loop-asked g l =
+    let set = setting g.K.Validate.words g.K.Validate.is_whole g.K.Validate.shape g.M.Matcher.matching l.engine in
+    let q = asking l.question in
+    let m = g.K.Validate.shape l.keyword.keyword.now in
+    let es = map (option_map edge_of) l.keyword.children.now in
+    let old = l.initial.context in
+    record {
+      keeps : Keeps old l.context;
+      counted : old.visits ≤ l.context.visits;
+      worked : Spends old.work l.context.work;
+      quiet : LeadsNowhere es → l.context.visits ≡ old.visits;
+      stays : StaysRight set q old l.context;
+      there : l.questions.subject ≡ subject_of l.question.instance;
+      leads : SaysByTheRest set q old l.node.0 m es l.all l.questions.left;
+      met : MeetsNothing set q old l.node.0 m es l.context;
+    }
+
+abbrev pub decreases-verdict_asking::verdict_questions-loop-asked :
+    goal.decreases-verdict_asking::verdict_questions-loop-asked
+decreases-verdict_asking::verdict_questions-loop-asked g l = length l.questions.left
 
 abbrev pub decreases-verdict::verdict_child : goal.decreases-verdict::verdict_child
 decreases-verdict::verdict_child g l = 20 * left (numbered g.K.Validate.shape l.engine.now.nodes.now) (length l.engine.now.nodes.now) l.node.0 (subject_of l.question.now.instance) (busy_at (steps_to l.question.now.place.now) l.context.now.in_progress) + 2

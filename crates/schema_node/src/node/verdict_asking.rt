@@ -1,0 +1,149 @@
+//! The verdict of a keyword that tells at once what it asks, where the matcher finishes every match.
+ghost use Rattle.std.specs.Prelude.{◌≡◌, IfOk};
+ghost use Rattle.schema_reports.specs.InstanceViews.{subject_of};
+ghost use Rattle.schema_definitions.specs.Matching.{finished};
+ghost use Rattle.schema_parts.specs.MatcherViews.{FinishesEach};
+ghost use Rattle.asked_questions.specs.Questions.{StandsThere, asks_for_all, question_in};
+ghost use Rattle.schema_node.specs.Answered.{Answers, IsAsked, setting_by, the_keyword, the_question};
+ghost use Rattle.schema_node.specs.AskedAtOnce.{SaysByQuestions};
+
+use crate::node::verdict::verdict_edge;
+use crate::node::verdict_turns::keyword_verdict;
+use asked_questions::{AskedQuestion, AskedQuestions};
+use run_steps::question::{Engine, NamedKeyword, Question};
+use schema_contexts::marks::child_edge;
+use schema_contexts::validation::ValidationContext;
+use schema_matches::site::Match;
+use schema_parts::asking::Asking;
+use schema_parts::keyword::Validate;
+use schema_parts::matcher::Matcher;
+use schema_parts::numbers::{Edge, SchemaNode};
+use schema_reports::location::OutOfMemory;
+
+// Who asks here.
+struct OfRun {}
+
+// Whether each child that is asked has to accept, or one of them.
+#[inline(always)]
+fn has_to_be_each(asking: Asking<'_, '_>) -> bool
+    ensures all { result ≡ asks_for_all asking.entry }
+{
+    match asking {
+        Asking::One(_) => false,
+        _ => true,
+    }
+}
+
+// How a match comes out, of a matcher that finishes each. Its room on the stack is its own, so that a keyword that asks for none pays
+// nothing.
+#[inline(never)]
+fn finished_match<K, M: Matcher>(
+    engine: &Engine<'_, K, M>,
+    pattern: &str,
+    subject: &str,
+) -> Result<bool, OutOfMemory>
+    requires finishes { FinishesEach (M.matching engine.now.matcher.now) }
+    ensures answer { IfOk result (λ b. (M.matching engine.now.matcher.now).is_match pattern.now subject.now ≡ finished b) }
+{
+    match engine.matcher.is_match(engine.alloc, pattern, subject)? {
+        Match::Finished(matches) => Ok(matches),
+        Match::Unfinished(_) => unreachable!(),
+    }
+}
+
+// The verdict of a keyword by what it asks at once, or else by its turns.
+#[cycle(verdict)]
+#[inline(always)]
+pub(crate) fn asked_verdict<'i, K: Validate, M: Matcher>(
+    engine: &Engine<'_, K, M>,
+    node: SchemaNode,
+    keyword: &NamedKeyword<'_, K>,
+    question: &Question<'_, 'i>,
+    context: &mut ValidationContext<'i>,
+) -> Result<bool, OutOfMemory>
+    requires asked { IsAsked (setting_by K.Validate M.Matcher.own engine.now) question.now
+        (the_keyword K.shape node.0 keyword.now) context.old }
+    requires finishes { FinishesEach (M.matching engine.now.matcher.now) }
+    ensures { Answers (setting_by K.Validate M.Matcher.own engine.now) question.now
+        (the_keyword K.shape node.0 keyword.now) context.old context.new result }
+{
+    let asking = keyword.keyword.asking(question.instance);
+    if let Asking::Match(pattern, subject) = asking {
+        let matches = finished_match(engine, pattern, subject)?;
+        return Ok(matches);
+    }
+    match AskedQuestions::of(asking, question.instance) {
+        None => keyword_verdict(engine, node, keyword, question, context),
+        Some(questions) => {
+            let all = has_to_be_each(asking);
+            verdict_questions(engine, node, keyword, all, questions, question, context)
+        }
+    }
+}
+
+// The verdict of a keyword by these questions: where each has to be accepted, no more of them are asked after a no, and where one of them
+// has to be, none after a yes.
+#[cycle(verdict)]
+#[inline(never)]
+fn verdict_questions<'i, K: Validate, M: Matcher>(
+    engine: &Engine<'_, K, M>,
+    node: SchemaNode,
+    keyword: &NamedKeyword<'_, K>,
+    all: bool,
+    mut questions: AskedQuestions<'_, 'i, OfRun>,
+    question: &Question<'_, 'i>,
+    context: &mut ValidationContext<'i>,
+) -> Result<bool, OutOfMemory>
+    requires asked { IsAsked (setting_by K.Validate M.Matcher.own engine.now) question.now
+        (the_keyword K.shape node.0 keyword.now) context.old }
+    requires finishes { FinishesEach (M.matching engine.now.matcher.now) }
+    requires there { questions.subject ≡ subject_of question.now.instance }
+    requires says { SaysByQuestions (setting_by K.Validate M.Matcher.own engine.now) (subject_of question.now.instance)
+        (K.shape keyword.now.keyword.now) all questions.left }
+    ensures { Answers (setting_by K.Validate M.Matcher.own engine.now) question.now
+        (the_keyword K.shape node.0 keyword.now) context.old context.new result }
+{
+    let children = keyword.children;
+    while let Some(asked) = questions.next() {
+        let valid = verdict_there(engine, node, children, asked, question, context)?;
+        if valid != all {
+            return Ok(valid);
+        }
+    }
+    Ok(all)
+}
+
+// The verdict of a keyword's child, at what stands here or below; yes where its request got none.
+#[cycle(verdict)]
+#[inline(always)]
+fn verdict_there<'i, K: Validate, M: Matcher>(
+    engine: &Engine<'_, K, M>,
+    node: SchemaNode,
+    children: &[Option<Edge>],
+    asked: AskedQuestion<'i>,
+    question: &Question<'_, 'i>,
+    context: &mut ValidationContext<'i>,
+) -> Result<bool, OutOfMemory>
+    requires asked { IsAsked (setting_by K.Validate M.Matcher.own engine.now) question.now
+        (the_question node.0 children.now (question_in asked)) context.old }
+    requires there { StandsThere (subject_of question.now.instance) asked }
+    ensures { Answers (setting_by K.Validate M.Matcher.own engine.now) question.now
+        (the_question node.0 children.now (question_in asked.entry)) context.old context.new result }
+{
+    match child_edge(children, asked.child) {
+        None => Ok(true),
+        Some(edge) => match asked.below {
+            None => verdict_edge(engine, edge, question, context),
+            Some((inner, step)) => {
+                let lower = question.place.below(step);
+                let there = Question {
+                    instance: inner,
+                    place: &lower,
+                    path: question.path,
+                    mode: question.mode,
+                };
+                verdict_edge(engine, edge, &there, context)
+            }
+        },
+    }
+}
