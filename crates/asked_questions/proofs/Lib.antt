@@ -2,3 +2,4 @@ pub mod Steps
 pub mod MemberWalks
 pub mod NameWalks
 pub mod AskedAtOnceBy
+pub mod AnswersSay

@@ -1,11 +1,14 @@
 -- The questions that a keyword tells at once, one by one, and where each of them is asked.
+use Rattle.std.specs.List.{list_all, list_any}
 use Rattle.std.specs.Prelude.{Bool, IfSome, List, MatchOption, None, Option, Some, [], cond, false, is_some, length, map, min, string_bytes, true, ℕ, ◌+◌, ◌-◌, ◌∷◌, ◌≡◌}
 use Rattle.schema_definitions.specs.Instance.{Subject, Text, after_step, to_member}
-use Rattle.schema_definitions.specs.Keywords.{Below, Question, down, here}
+use Rattle.schema_definitions.specs.Keywords.{Below, Keywords, Question, down, here}
+use Rattle.schema_definitions.specs.Matching.{Matching}
 use Rattle.schema_reports.specs.InstanceViews.{step_of, subject_of}
 use Rattle.schema_reports.specs.declared.instance.Instance.{Instance}
 use Rattle.schema_reports.specs.declared.instance.InstanceStep.{InstanceStep}
 use Rattle.schema_parts.specs.AskedAtOnce.{child_at, child_below, child_here, first_at_name, numbers_from}
+use Rattle.schema_parts.specs.KeywordViews.{Tells}
 use Rattle.schema_parts.specs.declared.asking.Asking.{Asking}
 use Rattle.schema_parts.specs.declared.asking.Asking.TheVariants as asking
 use Rattle.asked_questions.specs.declared.AskedQuestion.{AskedQuestion}
@@ -53,3 +56,13 @@ StandsThere s a = IfSome a.below (λ r. after_step (step_of r.1) s ≡ Some (sub
 -- the first of the questions that were left is asked and the others are left, or none was left and none is
 abbrev pub AsksFirst : Subject → List Question → Option AskedQuestion → List Question → Type 0
 AsksFirst s old asked new = MatchOption asked ((old ≡ []) × (new ≡ [])) (λ a. (old ≡ question_in a ∷ new) × StandsThere s a)
+
+-- what answers say of questions: whether all of them accept, or one of them does
+abbrev pub answers_say : Bool → (Question → Bool) → List Question → Bool
+answers_say true accepts qs = list_all accepts qs
+answers_say false accepts qs = list_any accepts qs
+
+-- wherever it may tell its texts, the keyword says of the subject what the answers of these questions say
+abbrev pub SaysByQuestions : {K R : Type 0} → (Bool → Keywords K R) → (K → Bool) → Subject → K → Bool → List Question → Type 0
+SaysByQuestions words is_whole s m all qs = (texts : Bool) → Tells texts (is_whole m) s → (matching : Matching) (accepts : Question → Bool)
+    → (words texts).holds m s matching accepts ≡ answers_say all accepts qs

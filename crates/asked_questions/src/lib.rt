@@ -8,7 +8,7 @@ ghost use Rattle.schema_definitions.specs.Instance.{Subject, a_value};
 ghost use Rattle.schema_reports.specs.InstanceViews.{subject_of};
 ghost use Rattle.schema_parts.specs.AskedAtOnce.{AreOwn, child_at, child_here, numbers_from};
 ghost use Rattle.asked_questions.specs.Members.{AreNamed, HaveAllOf, at_their_names};
-ghost use Rattle.asked_questions.specs.Questions.{AsksFirst, StandsThere, at_names, puts_questions, question_in, questions_of};
+ghost use Rattle.asked_questions.specs.Questions.{AsksFirst, StandsThere, asks_for_all, at_names, puts_questions, question_in, questions_of};
 
 use schema_parts::ascending::AscendingNames;
 use schema_parts::asking::Asking;
@@ -71,6 +71,17 @@ enum Walk<'s, 'i> {
     Listed(ListedWalk<'i>),
     Members(MembersWalk<'s, 'i>),
     Names(NamesWalk<'i>),
+}
+
+/// Returns whether each child that is asked has to accept; else one of them has to.
+#[inline(always)]
+pub fn has_to_be_each(asking: Asking<'_, '_>) -> bool
+    ensures all { result ≡ asks_for_all asking.entry }
+{
+    match asking {
+        Asking::One(_) => false,
+        _ => true,
+    }
 }
 
 /// The questions that are left of those that a keyword tells at once. Contracts see the subject, and the questions that are left. `U` is a

@@ -232,4 +232,4 @@ abbrev pub the_question : {K : Type 0} → ℕ → List (Option Edge) → ChildQ
 the_question i es k = a_child i (map (option_map edge_of) es) k
 
 abbrev pub the_child : {K : Type 0} → ℕ → List (Option Edge) → ℕ → Below → Wanted K
-the_child i es n below = a_child i (map (option_map edge_of) es) (record { child = n; below = below })
+the_child i es n below = the_question i es (record { child = n; below = below })

@@ -32,4 +32,3 @@ pub mod Visits
 pub mod UnitStates
 pub mod VerdictTurns
 pub mod Answered
-pub mod AskedAtOnce

@@ -1,26 +1,17 @@
 -- A keyword that tells at once what it asks, in each reading of texts: how it begins, goes on after each answer, and ends.
 use Rattle.std.proofs.Common.{◌≡◌, ◌∙◌, ◌||◌, ◌&&◌, not, Bool, true, false, List, [], ◌∷◌, ℕ, refl, sym, subst, ap, true≢false}
-use Rattle.std.specs.Prelude.{IfSome, None, Option, Some, is_some, option_and_then}
-use Rattle.std.specs.List.{list_all, list_any}
-use Rattle.std.proofs.Math.Bool.{beq}
 use Rattle.std.proofs.lemmas.Bool.{or_right}
 use Rattle.serde_json.specs.View.{view}
-use Rattle.schema_definitions.specs.Instance.{Place, Subject, Text, after_step, subject_from}
+use Rattle.schema_definitions.specs.Instance.{Place, Subject, Text}
 use Rattle.schema_definitions.specs.Guarded.{Children, node_keyword}
 use Rattle.schema_definitions.specs.Keywords.{Question}
-use Rattle.schema_definitions.specs.Laws.{EachKeeps, IsPresent, steps_below}
+use Rattle.schema_definitions.specs.Laws.{EachKeeps}
 use Rattle.schema_definitions.specs.Matching.{Matching, completed, completion_of, finished, matching, settled}
 use Rattle.schema_meaning.specs.Numbered.{Ranked, subject_in}
-use Rattle.schema_reports.specs.InstanceViews.{step_of, subject_of}
-use Rattle.schema_reports.specs.declared.instance.Instance.{Instance}
-use Rattle.schema_reports.specs.declared.instance.InstanceStep.{InstanceStep}
-use Rattle.schema_parts.specs.AskedAtOnce.{asked_holds, tells_at_once}
 use Rattle.schema_parts.specs.KeywordViews.{Tells as MayTell}
 use Rattle.schema_parts.specs.declared.asking.Asking.{Asking}
 use Rattle.schema_parts.specs.declared.asking.Asking.TheVariants as asking
-use Rattle.asked_questions.specs.Questions.{StandsThere, asks_for_all, below_in, puts_questions, question_in, questions_of}
-use Rattle.asked_questions.specs.declared.AskedQuestion.{AskedQuestion}
-use Rattle.asked_questions.proofs.AskedAtOnceBy.{asked_all, asked_one}
+use Rattle.asked_questions.specs.Questions.{SaysByQuestions, answers_say, puts_questions}
 use Rattle.run_steps.specs.NodeRuns.{HasForm}
 use Rattle.run_steps.proofs.NodeRuns.{stands_in}
 use Rattle.schema_greatest.specs.Under.{EdgeAnswers, Solving}
@@ -28,21 +19,14 @@ use Rattle.schema_greatest.specs.Stages.{ChildTells, Fits, FormTells, child_by, 
 use Rattle.schema_greatest.proofs.Between.{grows_fits, lean_less}
 use Rattle.schema_greatest.proofs.Says.{fits_consistent}
 use Rattle.schema_pairs.specs.Contexts.{Solver, found_of}
-use Rattle.schema_solver.specs.Needs.{SaysByQuestions, SaysByTheRest, TellsWhatItAsks, answers_say}
+use Rattle.asked_questions.proofs.AnswersSay.{first_as_it_has_to, first_otherwise, none_say}
+use Rattle.schema_solver.specs.Needs.{SaysByTheRest}
 use Rattle.schema_solver.specs.Solving.{Goes, InEach, MaySolve, Setting, solving_in}
 use Rattle.schema_solver.proofs.Turned.{solvable_in, tells_there}
 
 -- ---- what answers say, by the first of them
 
 module _ (accepts : Question → Bool) (q : Question) (rest : List Question) where
-  first_as_it_has_to : (all : Bool) → accepts q ≡ all → answers_say all accepts (q ∷ rest) ≡ answers_say all accepts rest
-  first_as_it_has_to true is = ap (λ b. b && list_all accepts rest) is
-  first_as_it_has_to false is = ap (λ b. b || list_any accepts rest) is
-
-  first_otherwise : (all : Bool) → accepts q ≡ not all → answers_say all accepts (q ∷ rest) ≡ not all
-  first_otherwise true is = ap (λ b. b && list_all accepts rest) is
-  first_otherwise false is = ap (λ b. b || list_any accepts rest) is
-
   later_otherwise : (all : Bool) → answers_say all accepts rest ≡ not all → answers_say all accepts (q ∷ rest) ≡ not all
   later_otherwise true is = no_after (accepts q) _ is
     where
@@ -50,19 +34,6 @@ module _ (accepts : Question → Bool) (q : Question) (rest : List Question) whe
       no_after true b h = h
       no_after false b h = refl
   later_otherwise false is = or_right (accepts q) _ is
-
--- by a test of two truth values
-pub otherwise : (a b : Bool) → not (beq a b) ≡ true → a ≡ not b
-otherwise true true other = absurd (true≢false (sym other))
-otherwise true false other = refl
-otherwise false true other = refl
-otherwise false false other = absurd (true≢false (sym other))
-
-pub likewise : (a b : Bool) → not (beq a b) ≡ false → a ≡ b
-likewise true true is = refl
-likewise true false is = absurd (true≢false is)
-likewise false true is = absurd (true≢false is)
-likewise false false is = refl
 
 -- ---- where a yes leans
 
@@ -80,23 +51,7 @@ leans_twice : (all l : Bool) → (all && l) ≡ true → (all && (all && l)) ≡
 leans_twice true l is = is
 leans_twice false l is = is
 
-none_say : (all : Bool) (accepts : Question → Bool) → answers_say all accepts [] ≡ all
-none_say true accepts = refl
-none_say false accepts = refl
-
 -- ---- what is asked
-
--- what is asked stands there
-pub present_there : (s : Subject) (a : AskedQuestion) → StandsThere s a → IsPresent s (steps_below (question_in a).below)
-present_there s a = go a.below
-  where
-    go : (b : Option (Instance × InstanceStep)) → IfSome b (λ r. after_step (step_of r.1) s ≡ Some (subject_of r.0)) → IsPresent s (steps_below (below_in b))
-    go None there = refl
-    go (Some r) there = ap (λ o. is_some (option_and_then (subject_from []) o)) there
-
-at_once : (a : Asking) → puts_questions a ≡ true → tells_at_once a ≡ true
-at_once asking.ByTurns puts = absurd (true≢false (sym puts))
-at_once a puts = refl
 
 -- an asking puts questions unless turns say the verdict, or a match does
 pub puts_unless : (a : Asking) → ¬ (a ≡ asking.ByTurns) → ((pattern : _) (text : _) → ¬ (a ≡ asking.Match pattern text)) → puts_questions a ≡ true
@@ -104,20 +59,8 @@ puts_unless asking.ByTurns turns matches = absurd (turns refl)
 puts_unless (asking.Match pattern text) turns matches = absurd (matches pattern text refl)
 puts_unless a turns matches = refl
 
--- what an asking says that puts questions, their answers say
-pub says_by_questions : {K R : Type 0} (g : Setting K R) (s : Subject) (m : K) (a : Asking) → TellsWhatItAsks g s m a → puts_questions a ≡ true
-    → (all : Bool) → all ≡ asks_for_all a → (left : List Question) → left ≡ questions_of a s → SaysByQuestions g s m all left
-says_by_questions g s m a asks puts all is left same texts tells matching accepts =
-    (asks texts tells).says (at_once a puts) matching accepts ∙ by_answers all (sym is) ∙ ap (answers_say all accepts) (sym same)
-  where
-    by_answers : (b : Bool) → asks_for_all a ≡ b → asked_holds a s matching accepts ≡ answers_say b accepts (questions_of a s)
-    by_answers true is = asked_all a s matching accepts puts is
-    by_answers false is = asked_one a s matching accepts is
-
--- ---- it begins, and what a match says
-
 module _ {K R : Type 0} (g : Setting K R) (c : Solver) (s : Subject) (p : Place) (i : ℕ) (may : MaySolve g c s p i) (m : K) (es : Children) (form : HasForm g.nodes i (node_keyword m es)) where
-  pub questions_begin : (all : Bool) (qs : List Question) → SaysByQuestions g s m all qs → InEach g (view c.root) (λ texts w. SaysByTheRest w p (found_of c) m es all false qs)
+  pub questions_begin : (all : Bool) (qs : List Question) → SaysByQuestions g.words g.is_whole s m all qs → InEach g (view c.root) (λ texts w. SaysByTheRest w p (found_of c) m es all false qs)
   questions_begin all qs says texts tells = record {
     same = λ answers fits. here (matching g.matcher (completion_of [])) (child_by w p (edges_by w p answers) es);
     ends = λ answers other. here (matching g.matcher (completion_of [])) (child_by w p (edges_by w p answers) es) ∙ other;

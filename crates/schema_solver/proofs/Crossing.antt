@@ -288,6 +288,17 @@ module _ {K R : Type 0} (g : Setting K R) (p : Place) (c d : Solver) (went : Goe
   pub entry_refuses : (k : Bool) → InEach g (view d.root) (λ texts w. FormTells w p (found_of d) x.form false k) → InEach g (view d.root) (λ texts w. PartsTell w p (found_of d) all false k)
   entry_refuses k says texts tells answers fits = (said_before texts tells).refuses answers (ap (λ b. b && parts_by (solving_in g (view d.root) texts) p answers rest) (says texts tells answers fits))
 
+-- those that are left say of all what they say, where those before say yes and lean on nothing
+module _ {K R : Type 0} (g : Setting K R) (p : Place) (c d : Solver) (went : Goes g p c d) (all rest : List (NodePart K))
+    (so_far : InEach g (view c.root) (λ texts w. SaysTheRest w p (found_of c) false all rest)) where
+  leans_on_nothing : (b : Bool) → false ≡ true → b ≡ true
+  leans_on_nothing b is = absurd (true≢false (sym is))
+
+  pub rest_says : (b k : Bool) → InEach g (view d.root) (λ texts w. PartsTell w p (found_of d) rest b k) → InEach g (view d.root) (λ texts w. PartsTell w p (found_of d) all b k)
+  rest_says b k says texts tells answers fits =
+      let before : SaysTheRest (solving_in g (view d.root) texts) p (found_of c) false all rest = subst (λ u. InEach g (view u) (λ texts w. SaysTheRest w p (found_of c) false all rest)) (sym went.root) so_far texts tells in
+      before.same answers (grows_fits p (found_of c) (found_of d) went.grew false (b && k) (leans_on_nothing (b && k)) answers fits) ∙ says texts tells answers fits
+
 -- ---- a keyword that tells its verdict at once
 
 module _ {K R : Type 0} (g : Setting K R) (laws : (texts : Bool) → EachKeeps (g.words texts)) (c : Solver) (s : Subject) (p : Place) (i : ℕ) (may : MaySolve g c s p i) where

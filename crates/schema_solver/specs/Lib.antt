@@ -3,3 +3,4 @@ pub mod Asked
 pub mod TurningOn
 pub mod Needs
 pub mod Solved
+pub mod ToldAtOnce

@@ -1,14 +1,14 @@
 -- How deep the questions of a solver have to go, how the entries of a node and what a keyword asks at once stand between two of them, and what
 -- a pair's run leaves.
-use Rattle.std.specs.List.{list_all, list_any}
+use Rattle.std.specs.List.{list_any}
 use Rattle.std.specs.Prelude.{Bool, List, [], false, length, not, suc, true, ℕ, ◌&&◌, ◌++◌, ◌==◌, ◌∷◌, ◌≡◌}
 use Rattle.serde_json.specs.View.{view}
 use Rattle.schema_definitions.specs.Instance.{Place, Subject}
 use Rattle.schema_definitions.specs.Guarded.{Children, NodeEdge, NodePart, Nodes, node_keyword}
 use Rattle.schema_definitions.specs.Keywords.{Question}
-use Rattle.schema_definitions.specs.Matching.{Matching}
 use Rattle.schema_meaning.specs.Numbered.{left}
 use Rattle.schema_parts.specs.AskedAtOnce.{HoldsAsTold}
+use Rattle.asked_questions.specs.Questions.{answers_say}
 use Rattle.schema_parts.specs.KeywordViews.{Tells as MayTell}
 use Rattle.schema_parts.specs.declared.asking.Asking.{Asking}
 use Rattle.schema_greatest.specs.Under.{EdgeAnswers, Solving}
@@ -32,19 +32,9 @@ pub record SaysTheRest {K R : Type 0} (w : Solving K R) (p : Place) (f : Found) 
   pub same : (answers : EdgeAnswers) → Fits f leans answers → parts_by w p answers all ≡ parts_by w p answers rest
   pub refuses : (answers : EdgeAnswers) → parts_by w p answers rest ≡ false → parts_by w p answers all ≡ false
 
--- what the answers of questions say: that all accept, or that one does
-abbrev pub answers_say : Bool → (Question → Bool) → List Question → Bool
-answers_say true accepts qs = list_all accepts qs
-answers_say false accepts qs = list_any accepts qs
-
 -- in each reading in which it may tell its texts, this is what the keyword asks of the subject, as it tells at once
 abbrev pub TellsWhatItAsks : {K R : Type 0} → Setting K R → Subject → K → Asking → Type 0
 TellsWhatItAsks g s m a = (texts : Bool) → MayTell texts (g.is_whole m) s → HoldsAsTold (g.words texts) m s a
-
--- and it says of the subject what the answers of these questions say
-abbrev pub SaysByQuestions : {K R : Type 0} → Setting K R → Subject → K → Bool → List Question → Type 0
-SaysByQuestions g s m all qs = (texts : Bool) → MayTell texts (g.is_whole m) s → (matching : Matching) (accepts : Question → Bool)
-    → (g.words texts).holds m s matching accepts ≡ answers_say all accepts qs
 
 -- the keyword says what the answers of those questions say that are left, where all have to accept leaning on what is answered yes for now
 -- where one of the others does; and once those say otherwise than they have to, so does it

@@ -106,8 +106,8 @@ the_entry shape i e = a_form i (shaped_form shape (form_of e.form))
 abbrev pub the_keyword : {C K : Type 0} → (C → K) → ℕ → NamedKeyword C → Wanted K
 the_keyword shape i k = a_form i (form_at_work shape k)
 
-abbrev pub the_child : {K : Type 0} → ℕ → List (Option Edge) → ℕ → Below → Wanted K
-the_child i es n below = a_child i (map (option_map edge_of) es) (record { child = n; below = below })
-
 abbrev pub the_question : {K : Type 0} → ℕ → List (Option Edge) → Question → Wanted K
 the_question i es q = a_child i (map (option_map edge_of) es) q
+
+abbrev pub the_child : {K : Type 0} → ℕ → List (Option Edge) → ℕ → Below → Wanted K
+the_child i es n below = the_question i es (record { child = n; below = below })

@@ -1,11 +1,12 @@
 //! Runs of nodes over instances, for the first error or for all of them.
-ghost use Rattle.std.specs.Prelude.{◌≡◌, ◌≤◌, IfOk};
+ghost use Rattle.std.specs.Prelude.{◌≡◌, ◌≤◌, IfOk, true};
 ghost use Rattle.std.specs.Prelude.{map, option_map, string_bytes};
 ghost use Rattle.schema_reports.specs.InstanceViews.{subject_of};
 ghost use Rattle.schema_definitions.specs.Keywords.{for_verdict};
 ghost use Rattle.schema_definitions.specs.Laws.{IsPresent, steps_below};
 ghost use Rattle.schema_parts.specs.KeywordViews.{below_of, mode_of};
 ghost use Rattle.node_table.specs.NodeTable.{numbered, shaped_form, shaped_part};
+ghost use Rattle.schema_parts.specs.MatcherViews.{FinishesEach};
 ghost use Rattle.schema_parts.specs.EdgeViews.{edge_of};
 ghost use Rattle.node_table.specs.NodeViews.{entry_of, form_of};
 ghost use Rattle.run_steps.specs.NodeRuns.{HasForm, HasParts, HasChildren, form_at_work};
@@ -320,7 +321,9 @@ fn is_asked_first<K, M: Matcher>(
     hopes: bool,
     below: Below<'_>,
     place: &EvaluationPlace<'_, '_>,
-) -> bool {
+) -> bool
+    ensures finishes { result ≡ true → FinishesEach (M.matching engine.now.matcher.now) }
+{
     if !hopes || !engine.matcher.finishes() {
         return false;
     }
@@ -346,21 +349,19 @@ fn run_refused<'i, K: Validate, M: Matcher>(
         context.old edge.now.node.0 }
     requires carries { CarriesItsNumber (places_in context.old) question.now.place.now }
     requires more { ¬ (mode_of question.now.mode ≡ for_verdict) }
+    requires finishes { FinishesEach (M.matching engine.now.matcher.now) }
     ensures { EdgeReplied (setting_by K.Validate M.Matcher.own engine.now) question.now
         (edge_of edge.now) context.old context.new result }
 {
-    if engine.matcher.finishes() {
-        let asked = Question {
-            instance: question.instance,
-            place: question.place,
-            path: question.path,
-            mode: Mode::Verdict,
-        };
-        let valid = verdict_edge(engine, edge, &asked, context)?;
-        if valid {
-            return Ok(accepted(engine.alloc, question.mode));
-        }
-        return run_edge(engine, edge, question, context);
+    let asked = Question {
+        instance: question.instance,
+        place: question.place,
+        path: question.path,
+        mode: Mode::Verdict,
+    };
+    let valid = verdict_edge(engine, edge, &asked, context)?;
+    if valid {
+        return Ok(accepted(engine.alloc, question.mode));
     }
     run_edge(engine, edge, question, context)
 }

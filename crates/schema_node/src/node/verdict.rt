@@ -98,11 +98,19 @@ pub(crate) fn verdict_form<'i, K: Validate, M: Matcher>(
         (the_entry K.shape node.0 entry.now) context.old context.new result }
 {
     match &entry.form {
-        EntryForm::Keyword(keyword, _) => {
+        EntryForm::Keyword(keyword, children) => {
             if let Some(valid) = keyword.is_valid_at_once(question.instance) {
                 return Ok(valid);
             }
-            verdict_keyword(engine, node, entry, question, context)
+            if engine.matcher.finishes() {
+                return verdict_keyword(engine, node, entry, question, context);
+            }
+            let named = NamedKeyword {
+                name: &entry.name,
+                keyword,
+                children: children.as_slice(),
+            };
+            keyword_verdict(engine, node, &named, question, context)
         }
         EntryForm::Reference(edge) => verdict_reference(engine, edge, question, context),
     }
@@ -131,10 +139,7 @@ fn verdict_keyword<'i, K: Validate, M: Matcher>(
                 keyword,
                 children: children.as_slice(),
             };
-            if engine.matcher.finishes() {
-                return asked_verdict(engine, node, &named, question, context);
-            }
-            keyword_verdict(engine, node, &named, question, context)
+            asked_verdict(engine, node, &named, question, context)
         }
         EntryForm::Reference(edge) => verdict_reference(engine, edge, question, context),
     }

@@ -1,15 +1,16 @@
 //! The verdict of a keyword that tells at once what it asks, where the matcher finishes every match.
-ghost use Rattle.std.specs.Prelude.{◌≡◌, IfOk};
+ghost use Rattle.std.specs.Prelude.{◌≡◌, Bool, IfOk, true};
 ghost use Rattle.schema_reports.specs.InstanceViews.{subject_of};
 ghost use Rattle.schema_definitions.specs.Matching.{finished};
+ghost use Rattle.schema_parts.specs.AskedAtOnce.{HoldsAsTold, tells_at_once};
+ghost use Rattle.schema_parts.specs.KeywordViews.{Tells};
 ghost use Rattle.schema_parts.specs.MatcherViews.{FinishesEach};
-ghost use Rattle.asked_questions.specs.Questions.{StandsThere, asks_for_all, question_in};
+ghost use Rattle.asked_questions.specs.Questions.{SaysByQuestions, StandsThere, question_in};
 ghost use Rattle.schema_node.specs.Answered.{Answers, IsAsked, setting_by, the_keyword, the_question};
-ghost use Rattle.schema_node.specs.AskedAtOnce.{SaysByQuestions};
 
 use crate::node::verdict::verdict_edge;
 use crate::node::verdict_turns::keyword_verdict;
-use asked_questions::{AskedQuestion, AskedQuestions};
+use asked_questions::{AskedQuestion, AskedQuestions, has_to_be_each};
 use run_steps::question::{Engine, NamedKeyword, Question};
 use schema_contexts::marks::child_edge;
 use schema_contexts::validation::ValidationContext;
@@ -18,21 +19,11 @@ use schema_parts::asking::Asking;
 use schema_parts::keyword::Validate;
 use schema_parts::matcher::Matcher;
 use schema_parts::numbers::{Edge, SchemaNode};
+use schema_reports::instance::Instance;
 use schema_reports::location::OutOfMemory;
 
 // Who asks here.
 struct OfRun {}
-
-// Whether each child that is asked has to accept, or one of them.
-#[inline(always)]
-fn has_to_be_each(asking: Asking<'_, '_>) -> bool
-    ensures all { result ≡ asks_for_all asking.entry }
-{
-    match asking {
-        Asking::One(_) => false,
-        _ => true,
-    }
-}
 
 // How a match comes out, of a matcher that finishes each. Its room on the stack is its own, so that a keyword that asks for none pays
 // nothing.
@@ -51,7 +42,25 @@ fn finished_match<K, M: Matcher>(
     }
 }
 
-// The verdict of a keyword by what it asks at once, or else by its turns.
+// What a keyword tells at once that it asks, of a matcher that finishes each match; of another one its turns say it.
+#[inline(always)]
+fn finished_asking<'s, 'i, K: Validate, M: Matcher>(
+    engine: &Engine<'_, K, M>,
+    keyword: &'s K,
+    instance: Instance<'i>,
+) -> Asking<'s, 'i>
+    ensures asks { (texts : Bool) → Tells texts (K.is_whole (K.shape keyword.now)) (subject_of instance.entry)
+        → HoldsAsTold (K.words texts) (K.shape keyword.now) (subject_of instance.entry) result }
+    ensures finishes { tells_at_once result ≡ true → FinishesEach (M.matching engine.now.matcher.now) }
+{
+    if engine.matcher.finishes() {
+        keyword.asking(instance)
+    } else {
+        Asking::ByTurns
+    }
+}
+
+// The verdict of a keyword by what it asks at once, where no match can stay unfinished, or else by its turns.
 #[cycle(verdict)]
 #[inline(always)]
 pub(crate) fn asked_verdict<'i, K: Validate, M: Matcher>(
@@ -61,13 +70,11 @@ pub(crate) fn asked_verdict<'i, K: Validate, M: Matcher>(
     question: &Question<'_, 'i>,
     context: &mut ValidationContext<'i>,
 ) -> Result<bool, OutOfMemory>
-    requires asked { IsAsked (setting_by K.Validate M.Matcher.own engine.now) question.now
-        (the_keyword K.shape node.0 keyword.now) context.old }
-    requires finishes { FinishesEach (M.matching engine.now.matcher.now) }
+    requires { IsAsked (setting_by K.Validate M.Matcher.own engine.now) question.now (the_keyword K.shape node.0 keyword.now) context.old }
     ensures { Answers (setting_by K.Validate M.Matcher.own engine.now) question.now
         (the_keyword K.shape node.0 keyword.now) context.old context.new result }
 {
-    let asking = keyword.keyword.asking(question.instance);
+    let asking = finished_asking(engine, keyword.keyword, question.instance);
     if let Asking::Match(pattern, subject) = asking {
         let matches = finished_match(engine, pattern, subject)?;
         return Ok(matches);
@@ -84,7 +91,7 @@ pub(crate) fn asked_verdict<'i, K: Validate, M: Matcher>(
 // The verdict of a keyword by these questions: where each has to be accepted, no more of them are asked after a no, and where one of them
 // has to be, none after a yes.
 #[cycle(verdict)]
-#[inline(never)]
+#[inline(always)]
 fn verdict_questions<'i, K: Validate, M: Matcher>(
     engine: &Engine<'_, K, M>,
     node: SchemaNode,
@@ -98,8 +105,8 @@ fn verdict_questions<'i, K: Validate, M: Matcher>(
         (the_keyword K.shape node.0 keyword.now) context.old }
     requires finishes { FinishesEach (M.matching engine.now.matcher.now) }
     requires there { questions.subject ≡ subject_of question.now.instance }
-    requires says { SaysByQuestions (setting_by K.Validate M.Matcher.own engine.now) (subject_of question.now.instance)
-        (K.shape keyword.now.keyword.now) all questions.left }
+    requires says { SaysByQuestions K.words K.is_whole (subject_of question.now.instance) (K.shape keyword.now.keyword.now)
+        all questions.left }
     ensures { Answers (setting_by K.Validate M.Matcher.own engine.now) question.now
         (the_keyword K.shape node.0 keyword.now) context.old context.new result }
 {

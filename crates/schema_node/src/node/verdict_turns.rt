@@ -23,6 +23,7 @@ use std::alloc::Global;
 
 // The verdict of a keyword by its run. The run begins with no marks; those of the run that asks are set aside until it has ended.
 #[cycle(verdict)]
+#[inline(never)]
 pub(crate) fn keyword_verdict<'i, K: Validate, M: Matcher>(
     engine: &Engine<'_, K, M>,
     node: SchemaNode,

@@ -2,7 +2,7 @@
 ghost use Rattle.std.specs.Prelude.{◌≡◌, true};
 ghost use Rattle.schema_reports.specs.InstanceViews.{subject_of};
 ghost use Rattle.schema_parts.specs.AskedAtOnce.{AreOwn};
-ghost use Rattle.asked_questions.specs.Questions.{StandsThere, asks_for_all, puts_questions, question_in, questions_of};
+ghost use Rattle.asked_questions.specs.Questions.{StandsThere, puts_questions, question_in, questions_of};
 ghost use Rattle.schema_solver.specs.Asked.{solver_by};
 ghost use Rattle.schema_solver.specs.Needs.{TellsWhatItAsks};
 ghost use Rattle.schema_solver.specs.Solved.{MayAsk, Solves, the_keyword, the_question};
@@ -10,7 +10,7 @@ ghost use Rattle.schema_solver.specs.Solved.{MayAsk, Solves, the_keyword, the_qu
 use crate::question::{Asked, SolverEngine, Stopped};
 use crate::solve::edges::solve_edge;
 use crate::solve::turns::{finished_match, solver_answer};
-use asked_questions::{AskedQuestion, AskedQuestions};
+use asked_questions::{AskedQuestion, AskedQuestions, has_to_be_each};
 use run_steps::question::NamedKeyword;
 use schema_contexts::marks::child_edge;
 use schema_pairs::context::SolverContext;
@@ -23,17 +23,6 @@ use schema_reports::instance::Instance;
 
 // Who asks here.
 struct OfSolver {}
-
-// Whether each child that is asked has to accept, or one of them.
-#[inline(always)]
-fn has_to_be_each(asking: Asking<'_, '_>) -> bool
-    ensures all { result ≡ asks_for_all asking.entry }
-{
-    match asking {
-        Asking::One(_) => false,
-        _ => true,
-    }
-}
 
 // The questions that an asking puts.
 #[inline(always)]
@@ -80,7 +69,7 @@ pub(crate) fn solve_asked<'i, K: Validate, M: Matcher>(
 // The verdict of a keyword by the questions that its asking puts: where each has to be accepted, no more of them are asked after a no, and
 // where one of them has to be, none after a yes. A yes leans where one does that it rests on.
 #[cycle(verdict)]
-#[inline(never)]
+#[inline(always)]
 fn solve_questions<'i, K: Validate, M: Matcher>(
     engine: &SolverEngine<'_, K, M>,
     node: SchemaNode,

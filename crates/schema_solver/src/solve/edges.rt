@@ -56,6 +56,7 @@ pub(crate) fn solve_child<'i, K: Validate, M: Matcher>(
 // The verdict of the node that an edge leads to. Where the edge is guarded, and where its number is not followed, its pair is answered by
 // what is found.
 #[cycle(verdict)]
+#[inline(always)]
 pub(crate) fn solve_edge<'i, K: Validate, M: Matcher>(
     engine: &SolverEngine<'_, K, M>,
     edge: &Edge,

@@ -1,6 +1,9 @@
 //! The verdict of a node and of its entries, by a solver.
+ghost use Rattle.std.specs.Prelude.{IfSome};
+ghost use Rattle.schema_reports.specs.InstanceViews.{subject_of};
 ghost use Rattle.schema_solver.specs.Asked.{solver_by};
 ghost use Rattle.schema_solver.specs.Solved.{MayAsk, Solves, a_node, the_entries, the_entry};
+ghost use Rattle.schema_solver.specs.ToldAtOnce.{TellsAtOnce};
 
 use crate::question::{Asked, SolverEngine, Stopped};
 use crate::solve::asking::solve_asked;
@@ -12,9 +15,11 @@ use schema_pairs::said::Said;
 use schema_parts::keyword::Validate;
 use schema_parts::matcher::Matcher;
 use schema_parts::numbers::SchemaNode;
+use schema_reports::instance::Instance;
 
 // The verdict of a node at a place.
 #[cycle(verdict)]
+#[inline(always)]
 pub(crate) fn solve_node<'i, K: Validate, M: Matcher>(
     engine: &SolverEngine<'_, K, M>,
     node: SchemaNode,
@@ -37,9 +42,50 @@ pub(crate) fn solve_node<'i, K: Validate, M: Matcher>(
     }
 }
 
-// The verdict of the entries, in their order; no more of them are asked after a no. A yes leans where one of theirs does.
+// Whether an entry holds of the instance, where its keyword tells so at once.
+#[inline(always)]
+fn told_at_once<K: Validate>(entry: &Entry<K>, instance: Instance<'_>) -> Option<bool>
+    ensures tells { IfSome result (TellsAtOnce K.words K.is_whole K.shape (subject_of instance.entry) entry.now) }
+{
+    match &entry.form {
+        EntryForm::Keyword(keyword, _) => keyword.is_valid_at_once(instance),
+        EntryForm::Reference(_) => None,
+    }
+}
+
+// The verdict of the entries, in their order; no more of them are asked after a no. As long as their keywords tell at once, each is told
+// here, so that a node of which nothing else is asked takes no room on the stack; the others are asked one after another.
 #[cycle(verdict)]
+#[inline(always)]
 fn solve_entries<'i, K: Validate, M: Matcher>(
+    engine: &SolverEngine<'_, K, M>,
+    node: SchemaNode,
+    entries: &[Entry<K>],
+    question: &Asked<'_, 'i>,
+    context: &mut SolverContext<'i>,
+) -> Result<Said, Stopped>
+    requires { MayAsk (solver_by K.Validate M.Matcher.own engine.now) question.now (the_entries K.shape node.0 entries.now) context.old }
+    ensures { Solves (solver_by K.Validate M.Matcher.own engine.now) K.says_monotone question.now
+        (the_entries K.shape node.0 entries.now) context.old context.new result }
+{
+    for (place, entry) in entries.iter().enumerate() {
+        match told_at_once(entry, question.instance) {
+            None => return solve_left(engine, node, &entries[place..], question, context),
+            Some(valid) => {
+                if !valid {
+                    return Ok(Said::settled(false));
+                }
+            },
+        }
+    }
+    Ok(Said::settled(true))
+}
+
+// The verdict of the entries, in their order; no more of them are asked after a no. A yes leans where one of theirs does. Its room on the
+// stack is its own.
+#[cycle(verdict)]
+#[inline(never)]
+fn solve_left<'i, K: Validate, M: Matcher>(
     engine: &SolverEngine<'_, K, M>,
     node: SchemaNode,
     entries: &[Entry<K>],

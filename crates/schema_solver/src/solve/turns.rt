@@ -27,6 +27,7 @@ use std::alloc::Global;
 // The verdict of a keyword by its run. The run begins with no marks; those of the run that asks are set aside until it has ended. What the
 // answer is dropped in has room on the stack of its own, as this room is taken once for each level of an instance.
 #[cycle(verdict)]
+#[inline(never)]
 pub(crate) fn solver_answer<'i, K: Validate, M: Matcher>(
     engine: &SolverEngine<'_, K, M>,
     node: SchemaNode,

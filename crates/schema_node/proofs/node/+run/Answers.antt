@@ -83,7 +83,7 @@ run::run_child-run_refused-requires g t c =
     let lower = steps_to c.below-lower.result in
     let is = sym c.in-Some.ensures.edge in
     let below = c.in-Some-one_below.ensures.below in
-    λ κs h. (lower_across _ _ _ t 0 refl (needs_below set q c.args.node.0 _ k e step inner lower c.args.context.now c.requires.may c.requires.children is below.1 c.below-lower.ensures.below) c.decreases, (h.0, (h.1.0, (h.1.1.0, (h.1.1.1, (may_below set q c.args.node.0 _ k e step inner lower c.args.context.now c.requires.may c.requires.children is below.1 c.below-lower.ensures.below, (c.below-lower.ensures.carries (places_in c.args.context.now) c.requires.carries, c.requires.more)))))))
+    λ κs h. (lower_across _ _ _ t 0 refl (needs_below set q c.args.node.0 _ k e step inner lower c.args.context.now c.requires.may c.requires.children is below.1 c.below-lower.ensures.below) c.decreases, (h.0, (h.1.0, (h.1.1.0, (h.1.1.1, (may_below set q c.args.node.0 _ k e step inner lower c.args.context.now c.requires.may c.requires.children is below.1 c.below-lower.ensures.below, (c.below-lower.ensures.carries (places_in c.args.context.now) c.requires.carries, (c.requires.more, c.is_asked_first.ensures.finishes c.if-is_asked_first.true))))))))
 
 pub run::run_child-run_edge-requires-in-Some-one_below : goal.run::run_child-run_edge-requires-in-Some-one_below
 run::run_child-run_edge-requires-in-Some-one_below g t c =
@@ -158,10 +158,6 @@ run::run_refused-run_edge-requires g t c =
     let may = may_on set (asking c.args.question.now) c.args.context.now c.verdict_edge.new.context (edge_of c.args.edge.now).node valid.keeps valid.stays c.requires.may in
     λ κs h. (lower_edge _ _ _ t 0 l (no_deeper _) c.decreases, (h.0, (h.1.0, (h.1.1.0, (h.1.1.1, (may, (carries_on c.args.context.now.root _ c.args.question.now.place.now valid.keeps.root c.requires.carries, c.requires.more)))))))
 
-pub run::run_refused-run_edge-requires-2 : goal.run::run_refused-run_edge-requires-2
-run::run_refused-run_edge-requires-2 g t c =
-    λ κs h. (lower_edge _ _ _ t 0 refl (no_deeper _) c.decreases, (h.0, (h.1.0, (h.1.1.0, (h.1.1.1, (c.requires.may, (c.requires.carries, c.requires.more)))))))
-
 pub run::run_refused-returns-then-valid : goal.run::run_refused-returns-then-valid
 run::run_refused-returns-then-valid g t c =
     let set = setting g.K.Validate.words g.K.Validate.is_whole g.K.Validate.shape g.M.Matcher.matching c.args.engine.now in
@@ -172,12 +168,12 @@ run::run_refused-returns-then-valid g t c =
       counts = first_of (search rules, grind (arith, common_steps));
       works = first_of (search rules, grind (arith, common_steps));
       says = edge_accepts set q e (λ texts m s completion matcher a h. (g.met.K.Validate.function_laws texts m).agree s (matching matcher completion) a h) c.args.context.now c.in_ok-valid.valid c.accepted.result c.if-valid.true c.in_ok-valid.ensures.says c.accepted.ensures.accepts c.accepted.ensures.no_errors;
-      meets = verdict_meets set q e (c.finishes.ensures.finishes c.if-finishes.true) c.args.context.now c.verdict_edge.new.context c.in_ok-valid.ensures.meets;
+      meets = verdict_meets set q e c.requires.finishes c.args.context.now c.verdict_edge.new.context c.in_ok-valid.ensures.meets;
       stays = first_of (search rules, grind (arith, common_steps));
     }
 
-pub run::run_refused-returns-then-finishes : goal.run::run_refused-returns-then-finishes
-run::run_refused-returns-then-finishes g t c =
+pub run::run_refused-returns : goal.run::run_refused-returns
+run::run_refused-returns g t c =
     let set = setting g.K.Validate.words g.K.Validate.is_whole g.K.Validate.shape g.M.Matcher.matching c.args.engine.now in
     let q = asking c.args.question.now in
     let e = edge_of c.args.edge.now in
@@ -187,7 +183,7 @@ run::run_refused-returns-then-finishes g t c =
       counts = if_ok_mono c.run_edge.result _ _ (λ r more. no_fewer c.args.context.now.visits c.verdict_edge.new.context.visits c.run_edge.new.context.visits valid.counts more) c.run_edge.ensures.counts;
       works = if_ok_mono c.run_edge.result _ _ (λ r more. spends_on _ _ _ valid.works more) c.run_edge.ensures.works;
       says = rw (valid.keeps.in_progress, valid.keeps.assumptions) at c.run_edge.ensures.says;
-      meets = if_ok_mono c.run_edge.result _ _ (λ r met. meets_after set q e (c.finishes.ensures.finishes c.if-finishes.true) c.args.context.now c.verdict_edge.new.context c.run_edge.new.context valid.keeps valid.meets met) c.run_edge.ensures.meets;
+      meets = if_ok_mono c.run_edge.result _ _ (λ r met. meets_after set q e c.requires.finishes c.args.context.now c.verdict_edge.new.context c.run_edge.new.context valid.keeps valid.meets met) c.run_edge.ensures.meets;
       stays = if_ok_mono c.run_edge.result _ _ (λ r stays layout laid right. stays layout laid (valid.stays layout laid right)) c.run_edge.ensures.stays;
     }
 

@@ -62,7 +62,9 @@ use Rattle.node_table.proofs.ClosedNumbers.{reaches_numbered}
 use Rattle.schema_definitions.specs.Laws.{EachKeeps}
 use Rattle.schema_definitions.specs.Instance.{after_step}
 use Rattle.asked_questions.specs.Questions.{StandsThere, below_in, question_in}
-use Rattle.schema_node.proofs.AskedAtOnce.{SaysByTheRest, likewise, match_says, meets_on, met_none, otherwise, present_there, question_ends, question_goes_on, questions_begin, questions_end, says_by_questions}
+use Rattle.schema_parts.specs.AskedAtOnce.{tells_at_once}
+use Rattle.asked_questions.proofs.AnswersSay.{likewise, otherwise, present_there, says_by_questions, puts_tell}
+use Rattle.schema_node.proofs.AskedAtOnce.{SaysByTheRest, match_says, meets_on, met_none, question_ends, question_goes_on, questions_begin, questions_end}
 use Rattle.schema_node.proofs.Children.{answered_below, answered_here, may_below, may_here, needs_below, needs_here}
 use Rattle.schema_node.proofs.node.+verdict.Goals as goal
 
@@ -165,7 +167,7 @@ verdict::verdict_form-returns-in-Some g t c = record {
   keeps = search rules;
   counts = search rules;
   works = search rules;
-  visits = rw c.in-Keyword.is (keyword_counts (numbered g.K.Validate.shape c.args.engine.now.nodes.now) (asking c.args.question.now) c.args.context.now c.args.context.now (g.K.Validate.shape c.in-Keyword.keyword) (map (option_map edge_of) c.in-Keyword.field-1.items) (λ none. refl));
+  visits = rw c.in-Keyword.is (keyword_counts (numbered g.K.Validate.shape c.args.engine.now.nodes.now) (asking c.args.question.now) c.args.context.now c.args.context.now (g.K.Validate.shape c.in-Keyword.keyword) (map (option_map edge_of) c.in-Keyword.children.items) (λ none. refl));
   says =
       let ns = numbered g.K.Validate.shape c.args.engine.now.nodes.now in
       let w = settling (g.M.Matcher.matching c.args.engine.now.matcher.now) c.args.context.now.remembered.assumptions in
@@ -175,7 +177,7 @@ verdict::verdict_form-returns-in-Some g t c = record {
       let mode = mode_of c.args.question.now.mode in
       let path = path_of c.args.question.now.path.now in
       let m = g.K.Validate.shape c.in-Keyword.keyword in
-      let es = map (option_map edge_of) c.in-Keyword.field-1.items in
+      let es = map (option_map edge_of) c.in-Keyword.children.items in
       let form = rw c.in-Keyword.is at c.requires.stands in
       rw c.in-Keyword.is (keyword_replies mode c.requires.verdict g.K.Validate.words g.K.Validate.is_whole ns (length c.args.engine.now.nodes.now) w path p busy s c.args.node.0 (string_bytes c.args.entry.now.name) m es c.in-Some.valid (λ x reads l.
       let tells = tells_keyword g.K.Validate.is_whole ns (length c.args.engine.now.nodes.now) w p s x c.args.node.0 m es c.requires.may.known reads form in
@@ -192,7 +194,7 @@ verdict::verdict_form-returns-in-Some g t c = record {
       let mode = mode_of c.args.question.now.mode in
       let path = path_of c.args.question.now.path.now in
       let m = g.K.Validate.shape c.in-Keyword.keyword in
-      let es = map (option_map edge_of) c.in-Keyword.field-1.items in
+      let es = map (option_map edge_of) c.in-Keyword.children.items in
       let form = rw c.in-Keyword.is at c.requires.stands in
       let name = string_bytes c.args.entry.now.name in
       let at_node = node_at (g.K.Validate.words texts) w.matcher ns (subject_in root) c.args.node.0 path p in
@@ -204,6 +206,13 @@ verdict::verdict_form-returns-in-Some g t c = record {
   stays = search rules;
   remembers = search rules;
 }
+
+pub verdict::verdict_form-returns-else-finishes : goal.verdict::verdict_form-returns-else-finishes
+verdict::verdict_form-returns-else-finishes g t c = rw (c.in-Keyword.is, ← c.as_slice.ensures.value) c.keyword_verdict.ensures
+
+pub verdict::verdict_form-keyword_verdict-requires : goal.verdict::verdict_form-keyword_verdict-requires
+verdict::verdict_form-keyword_verdict-requires g t c =
+    λ κs h. (lower_same _ _ t 5 2 refl c.decreases, (h.0, (h.1.0, (h.1.1.0, (h.1.1.1, record { may = c.requires.may; carries = c.requires.carries; verdict = c.requires.verdict; stands = rw (c.in-Keyword.is, ← c.as_slice.ensures.value) at c.requires.stands })))))
 
 pub verdict::verdict_form-verdict_reference-requires : goal.verdict::verdict_form-verdict_reference-requires
 verdict::verdict_form-verdict_reference-requires g t c =
@@ -303,24 +312,17 @@ verdict::verdict_keyword-returns-in-Reference g t c = record {
       reference_remembers q c.args.context.now c.verdict_reference.new.context e _ (told.Truth b) (ap (λ z. shaped_form g.K.Validate.shape (form_of z)) c.in-Reference.is) remembers) c.verdict_reference.ensures.remembers;
 }
 
-pub verdict::verdict_keyword-keyword_verdict-requires : goal.verdict::verdict_keyword-keyword_verdict-requires
-verdict::verdict_keyword-keyword_verdict-requires g t c =
-    λ κs h. (lower_same _ _ t 5 1 refl c.decreases, (h.0, (h.1.0, (h.1.1.0, (h.1.1.1, record { may = c.requires.may; carries = c.requires.carries; verdict = c.requires.verdict; stands = rw (c.in-Keyword.is, ← c.as_slice.ensures.value) at c.requires.stands })))))
-
 pub verdict::verdict_keyword-asked_verdict-requires : goal.verdict::verdict_keyword-asked_verdict-requires
 verdict::verdict_keyword-asked_verdict-requires g t c =
-    λ κs h. (lower_same _ _ t 6 0 refl c.decreases, (h.0, (h.1.0, (h.1.1.0, (h.1.1.1, (record { may = c.requires.may; carries = c.requires.carries; verdict = c.requires.verdict; stands = rw (c.in-Keyword.is, ← c.as_slice.ensures.value) at c.requires.stands }, c.finishes.ensures.finishes c.if-finishes.true))))))
+    λ κs h. (lower_same _ _ t 6 0 refl c.decreases, (h.0, (h.1.0, (h.1.1.0, (h.1.1.1, record { may = c.requires.may; carries = c.requires.carries; verdict = c.requires.verdict; stands = rw (c.in-Keyword.is, ← c.as_slice.ensures.value) at c.requires.stands })))))
 
-pub verdict::verdict_keyword-returns-then-finishes : goal.verdict::verdict_keyword-returns-then-finishes
-verdict::verdict_keyword-returns-then-finishes g t c = rw (c.in-Keyword.is, ← c.as_slice.ensures.value) c.asked_verdict.ensures
-
-pub verdict::verdict_keyword-returns-else-finishes : goal.verdict::verdict_keyword-returns-else-finishes
-verdict::verdict_keyword-returns-else-finishes g t c = rw (c.in-Keyword.is, ← c.as_slice.ensures.value) c.keyword_verdict.ensures
+pub verdict::verdict_keyword-returns-in-Keyword : goal.verdict::verdict_keyword-returns-in-Keyword
+verdict::verdict_keyword-returns-in-Keyword g t c = rw (c.in-Keyword.is, ← c.as_slice.ensures.value) c.asked_verdict.ensures
 
 -- ---- what a keyword asks at once
 
 pub verdict_asking::asked_verdict-finished_match-requires : goal.verdict_asking::asked_verdict-finished_match-requires
-verdict_asking::asked_verdict-finished_match-requires g t c = record { finishes = c.requires.finishes }
+verdict_asking::asked_verdict-finished_match-requires g t c = record { finishes = c.finished_asking-asking.ensures.finishes (ap tells_at_once c.in-Match.is) }
 
 pub verdict_asking::asked_verdict-returns-in-Match : goal.verdict_asking::asked_verdict-returns-in-Match
 verdict_asking::asked_verdict-returns-in-Match g t c =
@@ -330,14 +332,14 @@ verdict_asking::asked_verdict-returns-in-Match g t c =
     let m = g.K.Validate.shape c.args.keyword.now.keyword.now in
     let es = map (option_map edge_of) c.args.keyword.now.children.now in
     let name = string_bytes c.args.keyword.now.name.now in
-    let asks = rw c.in-Match.is at c.asking-asking.ensures.asks in
+    let asks = rw c.in-Match.is at c.finished_asking-asking.ensures.asks in
     record {
       keeps = search rules;
       counts = search rules;
       works = search rules;
       visits = keyword_counts set.nodes q old old m es (λ none. refl);
-      says = match_says set q old c.args.node.0 m es c.requires.asked.may.known c.requires.asked.stands c.requires.asked.verdict name c.in-Match.pattern.now c.in-Match.subject.now c.in_ok-matches.matches c.in_ok-matches.ensures.answer (λ texts tells. (asks texts tells).says refl);
-      meets = met_none set q old c.args.node.0 m es c.requires.finishes old name (λ texts root depth reads l. refl);
+      says = match_says set q old c.args.node.0 m es c.requires.may.known c.requires.stands c.requires.verdict name c.in-Match.pattern.now c.in-Match.subject.now c.in_ok-matches.matches c.in_ok-matches.ensures.answer (λ texts tells. (asks texts tells).says refl);
+      meets = met_none set q old c.args.node.0 m es (c.finished_asking-asking.ensures.finishes (ap tells_at_once c.in-Match.is)) old name (λ texts root depth reads l. refl);
       stays = search rules;
       remembers = search rules;
     }
@@ -346,11 +348,11 @@ pub verdict_asking::asked_verdict-of-requires : goal.verdict_asking::asked_verdi
 verdict_asking::asked_verdict-of-requires g t c =
     let s = subject_of c.args.question.now.instance in
     let m = g.K.Validate.shape c.args.keyword.now.keyword.now in
-    record { own = (c.asking-asking.ensures.asks false (tells_nothing (g.K.Validate.is_whole m) s)).own }
+    record { own = (c.finished_asking-asking.ensures.asks false (tells_nothing (g.K.Validate.is_whole m) s)).own }
 
 pub verdict_asking::asked_verdict-keyword_verdict-requires : goal.verdict_asking::asked_verdict-keyword_verdict-requires
 verdict_asking::asked_verdict-keyword_verdict-requires g t c =
-    λ κs h. (lower_same _ _ t 5 0 refl c.decreases, (h.0, (h.1.0, (h.1.1.0, (h.1.1.1, c.requires.asked)))))
+    λ κs h. (lower_same _ _ t 5 0 refl c.decreases, (h.0, (h.1.0, (h.1.1.0, (h.1.1.1, c.requires)))))
 
 pub verdict_asking::asked_verdict-verdict_questions-requires : goal.verdict_asking::asked_verdict-verdict_questions-requires
 verdict_asking::asked_verdict-verdict_questions-requires g t c =
@@ -358,8 +360,8 @@ verdict_asking::asked_verdict-verdict_questions-requires g t c =
     let s = subject_of c.args.question.now.instance in
     let m = g.K.Validate.shape c.args.keyword.now.keyword.now in
     let asked = c.in-Some.ensures.asked in
-    let says = says_by_questions set s m c.asking-asking.result c.asking-asking.ensures.asks (sym c.in-Some.ensures.puts) c.has_to_be_each-all.result c.has_to_be_each-all.ensures.all c.in-Some.questions.left asked.1 in
-    λ κs h. (lower_same _ _ t 4 1 refl c.decreases, (h.0, (h.1.0, (h.1.1.0, (h.1.1.1, (c.requires.asked, (c.requires.finishes, (asked.0, says))))))))
+    let says = says_by_questions set.words set.is_whole s m c.finished_asking-asking.result c.finished_asking-asking.ensures.asks (sym c.in-Some.ensures.puts) c.has_to_be_each-all.result c.has_to_be_each-all.ensures.all c.in-Some.questions.left asked.1 in
+    λ κs h. (lower_same _ _ t 4 1 refl c.decreases, (h.0, (h.1.0, (h.1.1.0, (h.1.1.1, (c.requires, (c.finished_asking-asking.ensures.finishes (puts_tell c.finished_asking-asking.result (sym c.in-Some.ensures.puts)), (asked.0, says))))))))
 
 pub verdict_asking::verdict_questions-loop-asked-init : goal.verdict_asking::verdict_questions-loop-asked-init
 verdict_asking::verdict_questions-loop-asked-init g t c =

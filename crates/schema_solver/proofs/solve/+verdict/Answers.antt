@@ -1,9 +1,12 @@
-use Rattle.std.proofs.Common.{◌≡◌, ◌∙◌, ◌+◌, ◌*◌, ◌<◌, ◌≤◌, ◌||◌, not, ℕ, Bool, suc, arith, sym, refl, rules, ap, ap₂, subst, drop, map, option_map, string_bytes, length, Some, None, false, true, List, [], ◌∷◌, ◌++◌}
+use Rattle.std.proofs.Common.{◌≡◌, ◌∙◌, ◌+◌, ◌*◌, ◌<◌, ◌≤◌, ◌||◌, not, ℕ, Bool, suc, zero, arith, sym, refl, rules, ap, ap₂, subst, drop, map, option_map, string_bytes, length, Some, None, false, true, List, [], ◌∷◌, ◌++◌}
 use Rattle.serde_json.specs.View.{view}
 use Rattle.schema_definitions.specs.Keywords.{down, here, Answer, Question, ask, done, ecma, mark, match_text, no_reply, truth, unmark}
 use Rattle.schema_definitions.specs.Laws.{EachKeeps}
 use Rattle.schema_definitions.specs.Instance.{after_step}
+use Rattle.schema_definitions.specs.Guarded.{node_keyword}
 use Rattle.std.proofs.lemmas.Bool.{or_left, or_right}
+use Rattle.std.specs.Prelude.{Contains, IfOk}
+use Rattle.std.proofs.lemmas.List.{take_rest}
 use Rattle.std.proofs.lemmas.Result.{IfErr-weaker}
 use Rattle.schema_meaning.specs.Numbered.{left}
 use Rattle.schema_meaning.proofs.TurnsGiveRuns.{keeps_of_turns}
@@ -13,15 +16,15 @@ use Rattle.asked_questions.specs.Questions.{StandsThere, below_in, question_in}
 use Rattle.schema_parts.specs.KeywordViews.{below_of, answer_of, keyword_point, marked_of, mode_of, reply_of, spot_point, turn_of}
 use Rattle.schema_parts.specs.declared.numbers.SchemaNode.{SchemaNode}
 use Rattle.schema_parts.proofs.Drops.{drop_at, drop_past}
-use Rattle.schema_parts.proofs.Replies.{if_ok_mono}
+use Rattle.schema_parts.proofs.Replies.{if_ok_both, if_ok_mono}
 use Rattle.schema_places.specs.Numbers.{OwnNumbers}
 use Rattle.schema_contexts.specs.Progress.{busy_at, root_places}
 use Rattle.schema_contexts.proofs.Pairs.{busy-below}
-use Rattle.node_table.specs.NodeTable.{numbered, shaped_part}
+use Rattle.node_table.specs.NodeTable.{numbered, shaped_form, shaped_part}
 use Rattle.node_table.specs.NodeViews.{entry_of, node_of, plan_of}
 use Rattle.node_table.specs.declared.node.Entry.{Entry}
 use Rattle.run_steps.specs.EvaluationPlaces.{CarriesItsNumber, steps_to}
-use Rattle.run_steps.proofs.NodeParts.{part_at, plan_is, reference_edge, keyword_children}
+use Rattle.run_steps.proofs.NodeParts.{later, part_at, plan_is, reference_edge, keyword_children}
 use Rattle.schema_greatest.specs.Stages.{EdgeTells, FormTells, PartsTell, parts_by}
 use Rattle.schema_greatest.proofs.Says.{child_some, edge_below, edge_by_node, edge_by_pair, node_says_parts}
 use Rattle.schema_solver.specs.Asked.{is_followed_in, solver_by}
@@ -34,15 +37,16 @@ use Rattle.schema_solver.specs.Solving.{Goes, HasRoom, InEach, MaySolve, is_cut,
 use Rattle.schema_pairs.specs.SolverPairs.{IsNumbered, place_of}
 use Rattle.run_steps.specs.VerdictRuns.{told_reply}
 use Rattle.schema_solver.proofs.Asking.{edge_among, may_cross, may_go_below}
-use Rattle.schema_solver.proofs.Crossing.{apart_mark, at_pair, cut_guards, entry_accepts, entry_refuses, falls_across, falls_across_below, falls_entered, needs_of_cut, needs_of_free, pair_new, pair_ran, ran_kept, says_at_once, solvable_here}
+use Rattle.schema_solver.proofs.Crossing.{apart_mark, at_pair, cut_guards, entry_accepts, entry_refuses, rest_says, falls_across, falls_across_below, falls_entered, needs_of_cut, needs_of_free, pair_new, pair_ran, ran_kept, says_at_once, solvable_here}
 use Rattle.schema_solver.proofs.Going.{goes_below, goes_none, goes_on, may_after}
 use Rattle.schema_solver.proofs.PairSteps.{begun_may}
 use Rattle.schema_solver.proofs.solve.+verdict.Goals.{edges::solve_edge-then-edge-via-then-edge, edges::solve_edge-then-edge-via-else-edge+then-not-is_followed}
 use Rattle.schema_definitions.specs.Matching.{Pair}
-use Rattle.run_steps.specs.NodeRuns.{form_at_work}
+use Rattle.run_steps.specs.NodeRuns.{HasForm, form_at_work}
 use Rattle.run_steps.proofs.KeywordTurns.{asks_there, can_after, falls_turned, tells_nothing, ask_goes_on, match_goes_on, ecma_goes_on, mark_goes_on, unmark_goes_on}
 use Rattle.schema_solver.proofs.Turned.{asked_verdict, asks_begun, asks_on, begun_with, can_begun, carries_on, goes_marked, leads_asked, leads_begun, leads_ended, leads_marked, leads_matched, leads_told, leads_unmarked, says_after, stepped_by, turned_by}
-use Rattle.schema_solver.proofs.ByQuestions.{likewise, match_says, otherwise, present_there, puts_unless, question_ends, question_goes_on, questions_begin, questions_end, says_by_questions}
+use Rattle.asked_questions.proofs.AnswersSay.{likewise, otherwise, present_there, says_by_questions}
+use Rattle.schema_solver.proofs.ByQuestions.{match_says, puts_unless, question_ends, question_goes_on, questions_begin, questions_end}
 use Rattle.schema_solver.proofs.Stopping.{solved_stops, stops_begun, stops_full, stops_leaning, stops_on, stops_still, turned_stops}
 use Rattle.schema_solver.specs.declared.question.Stopped.TheVariants.{Limit}
 use Rattle.schema_solver.proofs.solve.+verdict.Goals as goal
@@ -58,14 +62,21 @@ lower_across a c t d l e = omega (arith, l, e)
 lower_pair : (a c t : ℕ) → c ≡ a → 20 * c + 2 ≡ t → 20 * a + 1 < t
 lower_pair a c t l e = omega (arith, l, e)
 
-lower_free : (a c t : ℕ) → c ≡ suc a → 20 * c + 2 ≡ t → 20 * a + 10 < t
+lower_free : (a c t : ℕ) → c ≡ suc a → 20 * c + 2 ≡ t → 20 * a + 11 < t
 lower_free a c t l e = omega (arith, l, e)
 
-lower_entered : (a c t : ℕ) → c ≡ suc a → 20 * c ≡ t → 20 * a + 10 < t
+lower_entered : (a c t : ℕ) → c ≡ suc a → 20 * c ≡ t → 20 * a + 11 < t
 lower_entered a c t l e = omega (arith, l, e)
 
 lower_begun : (a c t : ℕ) → a ≡ c → 20 * c + 1 ≡ t → 20 * a < t
 lower_begun a c t l e = omega (arith, l, e)
+
+-- ---- what stands among the last entries stands among all
+
+part_before : {A B C : Type 0} (f : A → B) (g : B → C) (xs : List A) (n : ℕ) (y : C) → Contains (map g (map f (drop n xs))) y → Contains (map g (map f xs)) y
+part_before f g xs zero y is = is
+part_before f g [] (suc n) y is = is
+part_before f g (x ∷ xs) (suc n) y is = later (g (f x)) (map g (map f xs)) y (part_before f g xs n y is)
 
 -- ---- by a test
 
@@ -340,8 +351,10 @@ edges::solve_child-returns-in-Some-one_below g t c = record {
   stops = search rules;
 }
 
-pub entries::solve_entries-loop-entry-init : goal.entries::solve_entries-loop-entry-init
-entries::solve_entries-loop-entry-init g t c =
+-- ---- the entries of which all is told at once
+
+pub entries::solve_entries-loop-place-init : goal.entries::solve_entries-loop-place-init
+entries::solve_entries-loop-place-init g t c =
     let set = solver_by g.K.Validate g.M.Matcher c.args.engine.now in
     record {
       goes = goes_none set (steps_to c.args.question.now.place.now) c.args.context.now c.requires.may.sound;
@@ -349,8 +362,146 @@ entries::solve_entries-loop-entry-init g t c =
       leads = λ texts tells. record { same = λ answers fits. refl; refuses = λ answers no. no };
     }
 
-pub entries::solve_entries-solve_form-requires : goal.entries::solve_entries-solve_form-requires
-entries::solve_entries-solve_form-requires g t c =
+pub entries::solve_entries-loop-place-preserved : goal.entries::solve_entries-loop-place-preserved
+entries::solve_entries-loop-place-preserved g t c =
+    let set = solver_by g.K.Validate g.M.Matcher c.args.engine.now in
+    let p = steps_to c.args.question.now.place.now in
+    let s = subject_of c.args.question.now.instance in
+    let old = c.args.context.now in
+    let here = c.loop-place.context in
+    let went = c.loop-place.invariant.goes in
+    let parts = λ (es : List (Entry g.row.K.Denot)). map (shaped_part g.K.Validate.shape) (map entry_of es) in
+    let laws : (texts : Bool) → EachKeeps (g.K.Validate.words texts) = λ texts m. (g.K.Validate.absorbed m, keeps_of_turns (g.K.Validate.words texts) m (g.K.Validate.absorbed m) (g.K.Validate.remaining m) (g.K.Validate.can_be texts m) (g.K.Validate.ends texts m) (g.K.Validate.fits texts m) (g.met.K.Validate.turn_laws texts m) (g.met.K.Validate.function_laws texts m)) in
+    let entry = c.index-entries-place.result in
+    let told = c.in-Some.ensures.tells in
+    let m = g.K.Validate.shape told.keyword in
+    let x = shaped_part g.K.Validate.shape (entry_of entry) in
+    let rest = parts (drop (c.loop-place.place + 1) c.args.entries.now) in
+    let split = ap parts (drop_at c.args.entries.now c.loop-place.place entry c.loop-place-test.true c.index-entries-place.is) in
+    let is : x.form ≡ node_keyword m told.children = ap (shaped_form g.K.Validate.shape) told.is in
+    let among = part_at entry_of (shaped_part g.K.Validate.shape) c.args.entries.now c.loop-place.place entry c.loop-place-test.true c.index-entries-place.is in
+    let form : HasForm (numbered g.K.Validate.shape c.args.engine.now.nodes.now) c.args.node.0 (node_keyword m told.children) = (c.requires.stands.0, c.requires.stands.1, x, c.requires.stands.2 _ among, is) in
+    let tells : InEach set (view here.root) (λ texts w. FormTells w p (found_of here) x.form c.in-Some.valid false) =
+    subst (λ f. InEach set (view here.root) (λ texts w. FormTells w p (found_of here) f c.in-Some.valid false)) (sym is)
+    (says_at_once set laws here s p c.args.node.0 (may_after set p old here s c.args.node.0 c.requires.may went) m told.children form (g.K.Validate.absorbed m) (g.K.Validate.remaining m) (λ texts. g.K.Validate.can_be texts m) (λ texts. g.K.Validate.ends texts m) (λ texts. g.K.Validate.fits texts m) (λ texts. g.met.K.Validate.turn_laws texts m) c.in-Some.valid told.at_once) in
+    let so_far : InEach set (view here.root) (λ texts w. SaysTheRest w p (found_of here) false (parts c.args.entries.now) (x ∷ rest)) = subst (λ left. InEach set (view here.root) (λ texts w. SaysTheRest w p (found_of here) false (parts c.args.entries.now) left)) split c.loop-place.invariant.leads in
+    record {
+      goes = went;
+      marking = c.loop-place.invariant.marking;
+      leads = entry_accepts set p here here (goes_none set p here went.sound) (parts c.args.entries.now) x rest false so_far false (subst (λ b. InEach set (view here.root) (λ texts w. FormTells w p (found_of here) x.form b false)) c.if-not-valid.false tells);
+    }
+
+pub entries::solve_entries-returns-then-not-valid : goal.entries::solve_entries-returns-then-not-valid
+entries::solve_entries-returns-then-not-valid g t c =
+    let set = solver_by g.K.Validate g.M.Matcher c.args.engine.now in
+    let p = steps_to c.args.question.now.place.now in
+    let s = subject_of c.args.question.now.instance in
+    let old = c.args.context.now in
+    let here = c.loop-place.context in
+    let went = c.loop-place.invariant.goes in
+    let parts = λ (es : List (Entry g.row.K.Denot)). map (shaped_part g.K.Validate.shape) (map entry_of es) in
+    let laws : (texts : Bool) → EachKeeps (g.K.Validate.words texts) = λ texts m. (g.K.Validate.absorbed m, keeps_of_turns (g.K.Validate.words texts) m (g.K.Validate.absorbed m) (g.K.Validate.remaining m) (g.K.Validate.can_be texts m) (g.K.Validate.ends texts m) (g.K.Validate.fits texts m) (g.met.K.Validate.turn_laws texts m) (g.met.K.Validate.function_laws texts m)) in
+    let entry = c.index-entries-place.result in
+    let told = c.in-Some.ensures.tells in
+    let m = g.K.Validate.shape told.keyword in
+    let x = shaped_part g.K.Validate.shape (entry_of entry) in
+    let rest = parts (drop (c.loop-place.place + 1) c.args.entries.now) in
+    let split = ap parts (drop_at c.args.entries.now c.loop-place.place entry c.loop-place-test.true c.index-entries-place.is) in
+    let is : x.form ≡ node_keyword m told.children = ap (shaped_form g.K.Validate.shape) told.is in
+    let among = part_at entry_of (shaped_part g.K.Validate.shape) c.args.entries.now c.loop-place.place entry c.loop-place-test.true c.index-entries-place.is in
+    let form : HasForm (numbered g.K.Validate.shape c.args.engine.now.nodes.now) c.args.node.0 (node_keyword m told.children) = (c.requires.stands.0, c.requires.stands.1, x, c.requires.stands.2 _ among, is) in
+    let tells : InEach set (view here.root) (λ texts w. FormTells w p (found_of here) x.form c.in-Some.valid false) =
+    subst (λ f. InEach set (view here.root) (λ texts w. FormTells w p (found_of here) f c.in-Some.valid false)) (sym is)
+    (says_at_once set laws here s p c.args.node.0 (may_after set p old here s c.args.node.0 c.requires.may went) m told.children form (g.K.Validate.absorbed m) (g.K.Validate.remaining m) (λ texts. g.K.Validate.can_be texts m) (λ texts. g.K.Validate.ends texts m) (λ texts. g.K.Validate.fits texts m) (λ texts. g.met.K.Validate.turn_laws texts m) c.in-Some.valid told.at_once) in
+    let so_far : InEach set (view here.root) (λ texts w. SaysTheRest w p (found_of here) false (parts c.args.entries.now) (x ∷ rest)) = subst (λ left. InEach set (view here.root) (λ texts w. SaysTheRest w p (found_of here) false (parts c.args.entries.now) left)) split c.loop-place.invariant.leads in
+    record {
+      goes = went;
+      marking = c.loop-place.invariant.marking;
+      says = rw c.settled.ensures.said (entry_refuses set p here here (goes_none set p here went.sound) (parts c.args.entries.now) x rest false so_far false (subst (λ b. InEach set (view here.root) (λ texts w. FormTells w p (found_of here) x.form b false)) c.if-not-valid.true tells));
+      stops = search rules;
+    }
+
+pub entries::solve_entries-solve_left-requires : goal.entries::solve_entries-solve_left-requires
+entries::solve_entries-solve_left-requires g t c =
+    let set = solver_by g.K.Validate g.M.Matcher c.args.engine.now in
+    let p = steps_to c.args.question.now.place.now in
+    let s = subject_of c.args.question.now.instance in
+    let old = c.args.context.now in
+    let here = c.loop-place.context in
+    let went = c.loop-place.invariant.goes in
+    let parts = λ (es : List (Entry g.row.K.Denot)). map (shaped_part g.K.Validate.shape) (map entry_of es) in
+    let l = ap (λ es. left (numbered g.K.Validate.shape c.args.engine.now.nodes.now) (length c.args.engine.now.nodes.now) c.args.node.0 s (busy_at p es)) went.in_progress in
+    let all = take_rest c.args.entries.now c.loop-place.place in
+    λ κs h. (
+      lower_same _ _ t 9 0 l c.decreases,
+      (
+        h.0,
+        (
+          h.1.0,
+          (
+            h.1.1.0,
+            (
+              h.1.1.1,
+              record {
+                may = may_after set p old here s c.args.node.0 c.requires.may went;
+                carries = carries_on old here c.args.question.now.place.now went.root c.requires.carries;
+                stands = (c.requires.stands.0, c.requires.stands.1, λ y is. c.requires.stands.2 y (part_before entry_of (shaped_part g.K.Validate.shape) c.args.entries.now c.loop-place.place y (subst (λ es. Contains (parts es) y) all is)));
+              },
+            ),
+          ),
+        ),
+      ),
+    )
+
+pub entries::solve_entries-returns-in-None : goal.entries::solve_entries-returns-in-None
+entries::solve_entries-returns-in-None g t c =
+    let set = solver_by g.K.Validate g.M.Matcher c.args.engine.now in
+    let p = steps_to c.args.question.now.place.now in
+    let s = subject_of c.args.question.now.instance in
+    let old = c.args.context.now in
+    let here = c.loop-place.context in
+    let went = c.loop-place.invariant.goes in
+    let parts = λ (es : List (Entry g.row.K.Denot)). map (shaped_part g.K.Validate.shape) (map entry_of es) in
+    let new = c.solve_left.new.context in
+    let rest = parts (drop c.loop-place.place c.args.entries.now) in
+    let says = subst (λ es. IfOk c.solve_left.result (λ b. InEach set (view new.root) (λ texts w. PartsTell w p (found_of new) (parts es) b.valid b.leans))) (take_rest c.args.entries.now c.loop-place.place) c.solve_left.ensures.says in
+    record {
+      goes = if_ok_mono c.solve_left.result _ _ (λ b step. goes_on set p old here new went step) c.solve_left.ensures.goes;
+      marking = if_ok_mono c.solve_left.result _ _ (λ b same. same ∙ c.loop-place.invariant.marking) c.solve_left.ensures.marking;
+      says = if_ok_both c.solve_left.result _ _ _ (λ b step tells. rest_says set p here new step (parts c.args.entries.now) rest c.loop-place.invariant.leads b.valid b.leans tells) c.solve_left.ensures.goes says;
+      stops = IfErr-weaker c.solve_left.result _ _ (λ e stops. stops_on set g.K.Validate.says_monotone p old here new e went stops) c.solve_left.ensures.stops;
+    }
+
+pub entries::solve_entries-returns : goal.entries::solve_entries-returns
+entries::solve_entries-returns g t c =
+    let set = solver_by g.K.Validate g.M.Matcher c.args.engine.now in
+    let p = steps_to c.args.question.now.place.now in
+    let s = subject_of c.args.question.now.instance in
+    let old = c.args.context.now in
+    let here = c.loop-place.context in
+    let went = c.loop-place.invariant.goes in
+    let parts = λ (es : List (Entry g.row.K.Denot)). map (shaped_part g.K.Validate.shape) (map entry_of es) in
+    let none = ap parts (drop_past c.args.entries.now c.loop-place.place c.loop-place-test.false) in
+    record {
+      goes = went;
+      marking = c.loop-place.invariant.marking;
+      says = rw c.settled-2.ensures.said (λ texts tells answers fits. (c.loop-place.invariant.leads texts tells).same answers fits ∙ ap (parts_by (solving_in set (view here.root) texts) p answers) none);
+      stops = search rules;
+    }
+
+-- ---- the others
+
+pub entries::solve_left-loop-entry-init : goal.entries::solve_left-loop-entry-init
+entries::solve_left-loop-entry-init g t c =
+    let set = solver_by g.K.Validate g.M.Matcher c.args.engine.now in
+    record {
+      goes = goes_none set (steps_to c.args.question.now.place.now) c.args.context.now c.requires.may.sound;
+      marking = refl;
+      leads = λ texts tells. record { same = λ answers fits. refl; refuses = λ answers no. no };
+    }
+
+pub entries::solve_left-solve_form-requires : goal.entries::solve_left-solve_form-requires
+entries::solve_left-solve_form-requires g t c =
     let set = solver_by g.K.Validate g.M.Matcher c.args.engine.now in
     let ns = numbered g.K.Validate.shape c.args.engine.now.nodes.now in
     let p = steps_to c.args.question.now.place.now in
@@ -361,8 +512,8 @@ entries::solve_entries-solve_form-requires g t c =
     let here = part_at entry_of (shaped_part g.K.Validate.shape) c.args.entries.now c.loop-entry.entry-index c.entry-item.result c.loop-entry-test.true c.entry-item.is in
     λ κs h. (lower_same _ _ t 8 0 l c.decreases, (h.0, (h.1.0, (h.1.1.0, (h.1.1.1, record { may = may_after set p old c.loop-entry.context s c.args.node.0 c.requires.may went; carries = carries_on old c.loop-entry.context c.args.question.now.place.now went.root c.requires.carries; stands = (c.requires.stands.0, c.requires.stands.1, shaped_part g.K.Validate.shape (entry_of c.entry-item.result), c.requires.stands.2 _ here, refl) })))))
 
-pub entries::solve_entries-returns-then-not-valid : goal.entries::solve_entries-returns-then-not-valid
-entries::solve_entries-returns-then-not-valid g t c = record {
+pub entries::solve_left-returns-then-not-valid : goal.entries::solve_left-returns-then-not-valid
+entries::solve_left-returns-then-not-valid g t c = record {
   goes =
       let set = solver_by g.K.Validate g.M.Matcher c.args.engine.now in
       let p = steps_to c.args.question.now.place.now in
@@ -385,16 +536,16 @@ entries::solve_entries-returns-then-not-valid g t c = record {
   stops = search rules;
 }
 
-pub entries::solve_entries-returns-in_err-said : goal.entries::solve_entries-returns-in_err-said
-entries::solve_entries-returns-in_err-said g t c =
+pub entries::solve_left-returns-in_err-said : goal.entries::solve_left-returns-in_err-said
+entries::solve_left-returns-in_err-said g t c =
     let set = solver_by g.K.Validate g.M.Matcher c.args.engine.now in
     let says = g.K.Validate.says_monotone in
     let p = steps_to c.args.question.now.place.now in
     solved_stops set says p c.args.context.now c.solve_form.new.context _ c.from_residual.result _ c.from_residual.ensures.1
     (stops_on set says p c.args.context.now c.loop-entry.context c.solve_form.new.context _ c.loop-entry.invariant.goes c.in_err-said.ensures.stops)
 
-pub entries::solve_entries-loop-entry-preserved : goal.entries::solve_entries-loop-entry-preserved
-entries::solve_entries-loop-entry-preserved g t c =
+pub entries::solve_left-loop-entry-preserved : goal.entries::solve_left-loop-entry-preserved
+entries::solve_left-loop-entry-preserved g t c =
     let set = solver_by g.K.Validate g.M.Matcher c.args.engine.now in
     let p = steps_to c.args.question.now.place.now in
     let parts = λ (es : List (Entry g.row.K.Denot)). map (shaped_part g.K.Validate.shape) (map entry_of es) in
@@ -410,8 +561,8 @@ entries::solve_entries-loop-entry-preserved g t c =
       leads = rw c.leans-leans.ensures.leans (entry_accepts set p here next c.in_ok-said.ensures.goes (parts c.args.entries.now) x rest c.loop-entry.leans so_far c.in_ok-said.said.leans (subst (λ b. InEach set (view next.root) (λ texts w. FormTells w p (found_of next) x.form b c.in_ok-said.said.leans)) (sym c.valid.ensures.valid ∙ c.if-not-valid.false) c.in_ok-said.ensures.says));
     }
 
-pub entries::solve_entries-returns : goal.entries::solve_entries-returns
-entries::solve_entries-returns g t c = record {
+pub entries::solve_left-returns : goal.entries::solve_left-returns
+entries::solve_left-returns g t c = record {
   goes =
       c.loop-entry.invariant.goes;
   marking =
@@ -491,7 +642,7 @@ entries::solve_keyword-solve_edge-requires g t c =
 pub entries::solve_node-solve_entries-requires : goal.entries::solve_node-solve_entries-requires
 entries::solve_node-solve_entries-requires g t c =
     let plan = plan_is g.K.Validate.shape c.args.engine.now.nodes.now c.args.node.0 (node_of c.node.result.now) _ c.node.ensures.found (ap (option_map plan_of) c.in-Some.is ∙ ap (λ f. Some (plan_of f)) c.in-Keywords.is) in
-    λ κs h. (lower_same _ _ t 9 0 refl c.decreases, (h.0, (h.1.0, (h.1.1.0, (h.1.1.1, record { may = c.requires.may; carries = c.requires.carries; stands = rw c.as_slice.ensures.value (_, plan, λ y k. k) })))))
+    λ κs h. (lower_same _ _ t 10 0 refl c.decreases, (h.0, (h.1.0, (h.1.1.0, (h.1.1.1, record { may = c.requires.may; carries = c.requires.carries; stands = rw c.as_slice.ensures.value (_, plan, λ y k. k) })))))
 
 pub entries::solve_node-returns-in-None : goal.entries::solve_node-returns-in-None
 entries::solve_node-returns-in-None g t c = record {
@@ -591,7 +742,7 @@ asking::solve_questions-loop-asked-init g t c =
       marking = refl;
       there = c.put_questions-questions.ensures.there;
       leads = questions_begin set c.args.context.now s p c.args.node.0 c.requires.may_ask.may m es c.requires.may_ask.stands all left
-          (says_by_questions set s m c.args.asking c.requires.asks c.requires.puts all c.has_to_be_each-all.ensures.all left c.put_questions-questions.ensures.left);
+          (says_by_questions set.words set.is_whole s m c.args.asking c.requires.asks c.requires.puts all c.has_to_be_each-all.ensures.all left c.put_questions-questions.ensures.left);
     }
 
 pub asking::solve_questions-solve_there-requires : goal.asking::solve_questions-solve_there-requires

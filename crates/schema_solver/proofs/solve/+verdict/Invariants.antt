@@ -38,7 +38,10 @@ abbrev pub decreases-edges::solve_pair : goal.decreases-edges::solve_pair
 decreases-edges::solve_pair g l = 20 * pair_needs (numbered g.K.Validate.shape l.engine.now.nodes.now) (length l.engine.now.nodes.now) l.node.0 (subject_of l.question.now.instance) (busy_at (steps_to l.question.now.place.now) l.context.now.in_progress) + 1
 
 abbrev pub decreases-entries::solve_entries : goal.decreases-entries::solve_entries
-decreases-entries::solve_entries g l = 20 * left (numbered g.K.Validate.shape l.engine.now.nodes.now) (length l.engine.now.nodes.now) l.node.0 (subject_of l.question.now.instance) (busy_at (steps_to l.question.now.place.now) l.context.now.in_progress) + 9
+decreases-entries::solve_entries g l = 20 * left (numbered g.K.Validate.shape l.engine.now.nodes.now) (length l.engine.now.nodes.now) l.node.0 (subject_of l.question.now.instance) (busy_at (steps_to l.question.now.place.now) l.context.now.in_progress) + 10
+
+abbrev pub decreases-entries::solve_left : goal.decreases-entries::solve_left
+decreases-entries::solve_left g l = 20 * left (numbered g.K.Validate.shape l.engine.now.nodes.now) (length l.engine.now.nodes.now) l.node.0 (subject_of l.question.now.instance) (busy_at (steps_to l.question.now.place.now) l.context.now.in_progress) + 9
 
 abbrev pub decreases-entries::solve_form : goal.decreases-entries::solve_form
 decreases-entries::solve_form g l = 20 * left (numbered g.K.Validate.shape l.engine.now.nodes.now) (length l.engine.now.nodes.now) l.node.0 (subject_of l.question.now.instance) (busy_at (steps_to l.question.now.place.now) l.context.now.in_progress) + 8
@@ -47,7 +50,7 @@ abbrev pub decreases-entries::solve_keyword : goal.decreases-entries::solve_keyw
 decreases-entries::solve_keyword g l = 20 * left (numbered g.K.Validate.shape l.engine.now.nodes.now) (length l.engine.now.nodes.now) l.node.0 (subject_of l.question.now.instance) (busy_at (steps_to l.question.now.place.now) l.context.now.in_progress) + 7
 
 abbrev pub decreases-entries::solve_node : goal.decreases-entries::solve_node
-decreases-entries::solve_node g l = 20 * left (numbered g.K.Validate.shape l.engine.now.nodes.now) (length l.engine.now.nodes.now) l.node.0 (subject_of l.question.now.instance) (busy_at (steps_to l.question.now.place.now) l.context.now.in_progress) + 10
+decreases-entries::solve_node g l = 20 * left (numbered g.K.Validate.shape l.engine.now.nodes.now) (length l.engine.now.nodes.now) l.node.0 (subject_of l.question.now.instance) (busy_at (steps_to l.question.now.place.now) l.context.now.in_progress) + 11
 
 abbrev pub decreases-turns::solver_answer : goal.decreases-turns::solver_answer
 decreases-turns::solver_answer g l = 20 * left (numbered g.K.Validate.shape l.engine.now.nodes.now) (length l.engine.now.nodes.now) l.node.0 (subject_of l.question.now.instance) (busy_at (steps_to l.question.now.place.now) l.context.now.in_progress) + 5
@@ -55,9 +58,20 @@ decreases-turns::solver_answer g l = 20 * left (numbered g.K.Validate.shape l.en
 abbrev pub decreases-turns::solver_turns : goal.decreases-turns::solver_turns
 decreases-turns::solver_turns g l = 20 * left (numbered g.K.Validate.shape l.engine.now.nodes.now) (length l.engine.now.nodes.now) l.node.0 (subject_of l.question.now.instance) (busy_at (steps_to l.question.now.place.now) l.context.now.in_progress) + 4
 
-abbrev pub invariant-entries::solve_entries-loop-entry :
-    goal.invariant-entries::solve_entries-loop-entry
-invariant-entries::solve_entries-loop-entry g l =
+abbrev pub invariant-entries::solve_entries-loop-place :
+    goal.invariant-entries::solve_entries-loop-place
+invariant-entries::solve_entries-loop-place g l =
+    let set = solver_by g.K.Validate g.M.Matcher l.engine in
+    let p = steps_to l.question.place.now in
+    record {
+      goes : Goes set p l.initial.context l.context;
+      marking : l.context.marking ≡ l.initial.context.marking;
+      leads : InEach set (view l.context.root) (λ texts w. SaysTheRest w p (found_of l.context) false (map (shaped_part g.K.Validate.shape) (map entry_of l.entries)) (map (shaped_part g.K.Validate.shape) (map entry_of (drop l.place l.entries))));
+    }
+
+abbrev pub invariant-entries::solve_left-loop-entry :
+    goal.invariant-entries::solve_left-loop-entry
+invariant-entries::solve_left-loop-entry g l =
     let set = solver_by g.K.Validate g.M.Matcher l.engine in
     let p = steps_to l.question.place.now in
     record {

@@ -1,0 +1,16 @@
+-- What an entry tells of a subject at once.
+use Rattle.std.specs.Prelude.{Bool, ◌≡◌}
+use Rattle.schema_definitions.specs.Guarded.{Children, node_keyword}
+use Rattle.schema_definitions.specs.Instance.{Subject}
+use Rattle.schema_definitions.specs.Keywords.{Keywords}
+use Rattle.schema_parts.specs.AtOnce.{EndsAtOnce}
+use Rattle.schema_parts.specs.KeywordViews.{Tells as MayTell}
+use Rattle.node_table.specs.NodeViews.{form_of}
+use Rattle.node_table.specs.declared.node.Entry.{Entry}
+
+-- its keyword says this of it, in each reading in which it may tell its texts
+pub record TellsAtOnce {C K R : Type 0} (words : Bool → Keywords K R) (is_whole : K → Bool) (shape : C → K) (s : Subject) (e : Entry C) (valid : Bool) : Type 0 where
+  pub keyword : C
+  pub children : Children
+  pub is : form_of e.form ≡ node_keyword keyword children
+  pub at_once : (texts : Bool) → MayTell texts (is_whole (shape keyword)) s → EndsAtOnce (words texts) (shape keyword) s valid
