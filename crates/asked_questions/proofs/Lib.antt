@@ -1,4 +1,5 @@
 pub mod Steps
+pub mod FirstAsked
 pub mod MemberWalks
 pub mod NameWalks
 pub mod AskedAtOnceBy

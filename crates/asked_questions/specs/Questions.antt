@@ -53,6 +53,11 @@ question_in a = record { child = a.child; below = below_in a.below }
 abbrev pub StandsThere : Subject → AskedQuestion → Type 0
 StandsThere s a = IfSome a.below (λ r. after_step (step_of r.1) s ≡ Some (subject_of r.0))
 
+-- of what subject is asked, and which questions are left
+pub record QuestionsLeft : Type 0 where
+  pub subject : Subject
+  pub left : List Question
+
 -- the first of the questions that were left is asked and the others are left, or none was left and none is
 abbrev pub AsksFirst : Subject → List Question → Option AskedQuestion → List Question → Type 0
 AsksFirst s old asked new = MatchOption asked ((old ≡ []) × (new ≡ [])) (λ a. (old ≡ question_in a ∷ new) × StandsThere s a)

@@ -2,6 +2,7 @@
 use Rattle.std.proofs.Common.{◌≡◌, ◌∙◌, ℕ, suc, ◌<◌, ◌≤◌, ◌==◌, ◌++◌, ◌||◌, ◌&&◌, not, Bool, true, false, inl, inr, List, [], ◌∷◌, length, refl, sym, subst, ap, arith, true≢false}
 use Rattle.std.specs.Prelude.{Contains, None, Some, drop, take}
 use Rattle.std.specs.List.{list_any}
+use Rattle.std.proofs.Math.Bool.{and-true}
 use Rattle.std.proofs.lemmas.Bool.{false_from_ne_true, or_left}
 use Rattle.std.proofs.lemmas.List.{drop_at, take_at}
 use Rattle.serde_json.specs.Data.{Data}
@@ -21,9 +22,9 @@ use Rattle.schema_contexts.specs.Verdicts.{Remembers, is_pair, verdict_of}
 use Rattle.schema_contexts.proofs.Pairs.{among-pair, busy-pushed, snoc_first}
 use Rattle.run_steps.specs.NodeRuns.{HasForm}
 use Rattle.run_steps.proofs.NodeRuns.{stands_in}
-use Rattle.schema_greatest.specs.Under.{IsSolvable}
+use Rattle.schema_greatest.specs.Under.{EdgeAnswers, IsSolvable, Solving}
 use Rattle.schema_greatest.specs.Found.{NoneAt}
-use Rattle.schema_greatest.specs.Stages.{FormTells, PairTells, PartsTell, Tells, parts_by}
+use Rattle.schema_greatest.specs.Stages.{FormTells, PairTells, PartsTell, Tells, edges_by, form_by, parts_by}
 use Rattle.schema_greatest.proofs.Between.{grows_fits, lean_less, tells_known, tells_now}
 use Rattle.schema_greatest.proofs.Turning.{at_once_by}
 use Rattle.schema_pairs.specs.Contexts.{SettlesAll, Solver, found_of, has_pair, solver_places}
@@ -288,6 +289,41 @@ module _ {K R : Type 0} (g : Setting K R) (p : Place) (c d : Solver) (went : Goe
   pub entry_refuses : (k : Bool) → InEach g (view d.root) (λ texts w. FormTells w p (found_of d) x.form false k) → InEach g (view d.root) (λ texts w. PartsTell w p (found_of d) all false k)
   entry_refuses k says texts tells answers fits = (said_before texts tells).refuses answers (ap (λ b. b && parts_by (solving_in g (view d.root) texts) p answers rest) (says texts tells answers fits))
 
+-- one of those that are left, behind some that wait, tells at once
+module _ {K R : Type 0} (g : Setting K R) (p : Place) (c : Solver) (all pre : List (NodePart K)) (x : NodePart K) (rest : List (NodePart K))
+    (so_far : InEach g (view c.root) (λ texts w. SaysTheRest w p (found_of c) false all (pre ++ x ∷ rest))) where
+  abbrev by_all : Solving K R → EdgeAnswers → List (NodePart K) → Bool
+  by_all w answers xs = parts_by w p answers xs
+
+  both_no : (a b c : Bool) → (b ≡ false → c ≡ false) → (a && b) ≡ false → (a && c) ≡ false
+  both_no true b c h is = h is
+  both_no false b c h is = refl
+
+  either_no : (a b : Bool) → b ≡ false → (a && b) ≡ false
+  either_no true b h = h
+  either_no false b h = refl
+
+  passed : (w : Solving K R) (answers : EdgeAnswers) (ys : List (NodePart K)) → form_by w p (edges_by w p answers) x.form ≡ true → by_all w answers (ys ++ x ∷ rest) ≡ by_all w answers (ys ++ rest)
+  passed w answers [] is = ap (λ b. b && by_all w answers rest) is
+  passed w answers (y ∷ ys) is = ap (λ b. form_by w p (edges_by w p answers) y.form && b) (passed w answers ys is)
+
+  still_no : (w : Solving K R) (answers : EdgeAnswers) (ys : List (NodePart K)) → by_all w answers (ys ++ rest) ≡ false → by_all w answers (ys ++ x ∷ rest) ≡ false
+  still_no w answers [] is = either_no _ _ is
+  still_no w answers (y ∷ ys) is = both_no _ _ _ (still_no w answers ys) is
+
+  stopped : (w : Solving K R) (answers : EdgeAnswers) (ys : List (NodePart K)) → form_by w p (edges_by w p answers) x.form ≡ false → by_all w answers (ys ++ x ∷ rest) ≡ false
+  stopped w answers [] is = ap (λ b. b && by_all w answers rest) is
+  stopped w answers (y ∷ ys) is = either_no _ _ (stopped w answers ys is)
+
+  pub told_accepts : InEach g (view c.root) (λ texts w. FormTells w p (found_of c) x.form true false) → InEach g (view c.root) (λ texts w. SaysTheRest w p (found_of c) false all (pre ++ rest))
+  told_accepts says texts tells = record {
+    same = λ answers fits. (so_far texts tells).same answers fits ∙ passed (solving_in g (view c.root) texts) answers pre (says texts tells answers fits);
+    refuses = λ answers is. (so_far texts tells).refuses answers (still_no (solving_in g (view c.root) texts) answers pre is);
+  }
+
+  pub told_refuses : InEach g (view c.root) (λ texts w. FormTells w p (found_of c) x.form false false) → InEach g (view c.root) (λ texts w. PartsTell w p (found_of c) all false false)
+  told_refuses says texts tells answers fits = (so_far texts tells).refuses answers (stopped (solving_in g (view c.root) texts) answers pre (says texts tells answers fits))
+
 -- those that are left say of all what they say, where those before say yes and lean on nothing
 module _ {K R : Type 0} (g : Setting K R) (p : Place) (c d : Solver) (went : Goes g p c d) (all rest : List (NodePart K))
     (so_far : InEach g (view c.root) (λ texts w. SaysTheRest w p (found_of c) false all rest)) where
@@ -298,6 +334,10 @@ module _ {K R : Type 0} (g : Setting K R) (p : Place) (c d : Solver) (went : Goe
   rest_says b k says texts tells answers fits =
       let before : SaysTheRest (solving_in g (view d.root) texts) p (found_of c) false all rest = subst (λ u. InEach g (view u) (λ texts w. SaysTheRest w p (found_of c) false all rest)) (sym went.root) so_far texts tells in
       before.same answers (grows_fits p (found_of c) (found_of d) went.grew false (b && k) (leans_on_nothing (b && k)) answers fits) ∙ says texts tells answers fits
+
+  -- and one alone, what it says
+  pub last_says : (x : NodePart K) → rest ≡ x ∷ [] → (b k : Bool) → InEach g (view d.root) (λ texts w. FormTells w p (found_of d) x.form b k) → InEach g (view d.root) (λ texts w. PartsTell w p (found_of d) all b k)
+  last_says x is b k says = rest_says b k (λ texts tells answers fits. ap (parts_by (solving_in g (view d.root) texts) p answers) is ∙ and-true _ ∙ says texts tells answers fits)
 
 -- ---- a keyword that tells its verdict at once
 

@@ -3,7 +3,7 @@ use Rattle.std.specs.List.{list_any}
 use Rattle.std.specs.Prelude.{Bool, IfErr, IfOk, List, Option, Result, map, option_map, true, ℕ, ◌==◌, ◌≡◌, ◌⊎◌}
 use Rattle.serde_json.specs.View.{view}
 use Rattle.schema_definitions.specs.Instance.{Place, Subject}
-use Rattle.schema_definitions.specs.Guarded.{Children, NodeEdge, NodeForm, NodePart}
+use Rattle.schema_definitions.specs.Guarded.{Children, NodeEdge, NodeForm, NodePart, node_keyword}
 use Rattle.schema_definitions.specs.Keywords.{Below, Question, here}
 use Rattle.schema_definitions.specs.Laws.{IsPresent, steps_below}
 use Rattle.schema_reports.specs.InstanceViews.{subject_of}
@@ -105,6 +105,10 @@ the_entry shape i e = a_form i (shaped_form shape (form_of e.form))
 
 abbrev pub the_keyword : {C K : Type 0} → (C → K) → ℕ → NamedKeyword C → Wanted K
 the_keyword shape i k = a_form i (form_at_work shape k)
+
+-- a keyword that asks, with its children
+abbrev pub the_asker : {C K : Type 0} → (C → K) → ℕ → C → List (Option Edge) → Wanted K
+the_asker shape i k es = a_form i (node_keyword (shape k) (map (option_map edge_of) es))
 
 abbrev pub the_question : {K : Type 0} → ℕ → List (Option Edge) → Question → Wanted K
 the_question i es q = a_child i (map (option_map edge_of) es) q

@@ -1,5 +1,5 @@
 -- What an entry tells of a subject at once.
-use Rattle.std.specs.Prelude.{Bool, ◌≡◌}
+use Rattle.std.specs.Prelude.{Bool, List, None, Option, Some, [], drop, take, ℕ, ◌≡◌}
 use Rattle.schema_definitions.specs.Guarded.{Children, node_keyword}
 use Rattle.schema_definitions.specs.Instance.{Subject}
 use Rattle.schema_definitions.specs.Keywords.{Keywords}
@@ -14,3 +14,8 @@ pub record TellsAtOnce {C K R : Type 0} (words : Bool → Keywords K R) (is_whol
   pub children : Children
   pub is : form_of e.form ≡ node_keyword keyword children
   pub at_once : (texts : Bool) → MayTell texts (is_whole (shape keyword)) s → EndsAtOnce (words texts) (shape keyword) s valid
+
+-- the entry that waits to be asked, where one does: the one of this number
+abbrev pub waiting : {A : Type 0} → Option ℕ → List A → List A
+waiting None es = []
+waiting (Some k) es = take 1 (drop k es)

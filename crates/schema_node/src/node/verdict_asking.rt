@@ -10,7 +10,10 @@ ghost use Rattle.schema_node.specs.Answered.{Answers, IsAsked, setting_by, the_k
 
 use crate::node::verdict::verdict_edge;
 use crate::node::verdict_turns::keyword_verdict;
-use asked_questions::{AskedQuestion, AskedQuestions, has_to_be_each};
+use asked_questions::AskedQuestion;
+use asked_questions::counted::CountedQuestions;
+use asked_questions::members::MembersQuestions;
+use asked_questions::names::NamesQuestions;
 use run_steps::question::{Engine, NamedKeyword, Question};
 use schema_contexts::marks::child_edge;
 use schema_contexts::validation::ValidationContext;
@@ -21,9 +24,6 @@ use schema_parts::matcher::Matcher;
 use schema_parts::numbers::{Edge, SchemaNode};
 use schema_reports::instance::Instance;
 use schema_reports::location::OutOfMemory;
-
-// Who asks here.
-struct OfRun {}
 
 // How a match comes out, of a matcher that finishes each. Its room on the stack is its own, so that a keyword that asks for none pays
 // nothing.
@@ -74,30 +74,49 @@ pub(crate) fn asked_verdict<'i, K: Validate, M: Matcher>(
     ensures { Answers (setting_by K.Validate M.Matcher.own engine.now) question.now
         (the_keyword K.shape node.0 keyword.now) context.old context.new result }
 {
-    let asking = finished_asking(engine, keyword.keyword, question.instance);
-    if let Asking::Match(pattern, subject) = asking {
-        let matches = finished_match(engine, pattern, subject)?;
-        return Ok(matches);
-    }
-    match AskedQuestions::of(asking, question.instance) {
-        None => keyword_verdict(engine, node, keyword, question, context),
-        Some(questions) => {
-            let all = has_to_be_each(asking);
-            verdict_questions(engine, node, keyword, all, questions, question, context)
-        }
+    match finished_asking(engine, keyword.keyword, question.instance) {
+        Asking::ByTurns => keyword_verdict(engine, node, keyword, question, context),
+        Asking::Match(pattern, subject) => {
+            let matches = finished_match(engine, pattern, subject)?;
+            Ok(matches)
+        },
+        Asking::Each(end) => {
+            let questions = CountedQuestions::here(question.instance, end);
+            verdict_counted(engine, node, keyword, true, questions, question, context)
+        },
+        Asking::One(end) => {
+            let questions = CountedQuestions::here(question.instance, end);
+            verdict_counted(engine, node, keyword, false, questions, question, context)
+        },
+        Asking::Items(next, items) => {
+            let questions = CountedQuestions::items(next, items);
+            verdict_counted(engine, node, keyword, true, questions, question, context)
+        },
+        Asking::Listed(count, items) => {
+            let questions = CountedQuestions::listed(count, items);
+            verdict_counted(engine, node, keyword, true, questions, question, context)
+        },
+        Asking::Members(names, members) => {
+            let questions = MembersQuestions::of(names, members);
+            verdict_members(engine, node, keyword, questions, question, context)
+        },
+        Asking::Names(members) => {
+            let questions = NamesQuestions::of(members);
+            verdict_names(engine, node, keyword, questions, question, context)
+        },
     }
 }
 
-// The verdict of a keyword by these questions: where each has to be accepted, no more of them are asked after a no, and where one of them
-// has to be, none after a yes.
+// The verdict of a keyword by questions of its children here, or of items: where each has to be accepted, no more of them are asked after a
+// no, and where one of them has to be, none after a yes.
 #[cycle(verdict)]
 #[inline(always)]
-fn verdict_questions<'i, K: Validate, M: Matcher>(
+fn verdict_counted<'i, K: Validate, M: Matcher>(
     engine: &Engine<'_, K, M>,
     node: SchemaNode,
     keyword: &NamedKeyword<'_, K>,
     all: bool,
-    mut questions: AskedQuestions<'_, 'i, OfRun>,
+    mut questions: CountedQuestions<'i>,
     question: &Question<'_, 'i>,
     context: &mut ValidationContext<'i>,
 ) -> Result<bool, OutOfMemory>
@@ -118,6 +137,66 @@ fn verdict_questions<'i, K: Validate, M: Matcher>(
         }
     }
     Ok(all)
+}
+
+// The same by questions of its children at the members that have their names.
+#[cycle(verdict)]
+#[inline(always)]
+fn verdict_members<'i, K: Validate, M: Matcher>(
+    engine: &Engine<'_, K, M>,
+    node: SchemaNode,
+    keyword: &NamedKeyword<'_, K>,
+    mut questions: MembersQuestions<'_, 'i>,
+    question: &Question<'_, 'i>,
+    context: &mut ValidationContext<'i>,
+) -> Result<bool, OutOfMemory>
+    requires asked { IsAsked (setting_by K.Validate M.Matcher.own engine.now) question.now
+        (the_keyword K.shape node.0 keyword.now) context.old }
+    requires finishes { FinishesEach (M.matching engine.now.matcher.now) }
+    requires there { questions.subject ≡ subject_of question.now.instance }
+    requires says { SaysByQuestions K.words K.is_whole (subject_of question.now.instance) (K.shape keyword.now.keyword.now)
+        true questions.left }
+    ensures { Answers (setting_by K.Validate M.Matcher.own engine.now) question.now
+        (the_keyword K.shape node.0 keyword.now) context.old context.new result }
+{
+    let children = keyword.children;
+    while let Some(asked) = questions.next() {
+        let valid = verdict_there(engine, node, children, asked, question, context)?;
+        if !valid {
+            return Ok(valid);
+        }
+    }
+    Ok(true)
+}
+
+// The same by questions of its first child at the names of members.
+#[cycle(verdict)]
+#[inline(always)]
+fn verdict_names<'i, K: Validate, M: Matcher>(
+    engine: &Engine<'_, K, M>,
+    node: SchemaNode,
+    keyword: &NamedKeyword<'_, K>,
+    mut questions: NamesQuestions<'i>,
+    question: &Question<'_, 'i>,
+    context: &mut ValidationContext<'i>,
+) -> Result<bool, OutOfMemory>
+    requires asked { IsAsked (setting_by K.Validate M.Matcher.own engine.now) question.now
+        (the_keyword K.shape node.0 keyword.now) context.old }
+    requires finishes { FinishesEach (M.matching engine.now.matcher.now) }
+    requires there { questions.subject ≡ subject_of question.now.instance }
+    requires says { SaysByQuestions K.words K.is_whole (subject_of question.now.instance) (K.shape keyword.now.keyword.now)
+        true questions.left }
+    ensures { Answers (setting_by K.Validate M.Matcher.own engine.now) question.now
+        (the_keyword K.shape node.0 keyword.now) context.old context.new result }
+{
+    let children = keyword.children;
+    while let Some(asked) = questions.next() {
+        let valid = verdict_there(engine, node, children, asked, question, context)?;
+        if !valid {
+            return Ok(valid);
+        }
+    }
+    Ok(true)
 }
 
 // The verdict of a keyword's child, at what stands here or below; yes where its request got none.

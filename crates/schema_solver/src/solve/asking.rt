@@ -1,94 +1,122 @@
-//! The verdict of a keyword that tells at once what it asks, by a solver.
+//! The verdict of a keyword that tells at once what it asks, by a solver. Each way of asking is gone through by a call of its own form, so
+//! that what the way is need not be asked again at each question.
 ghost use Rattle.std.specs.Prelude.{◌≡◌, true};
+ghost use Rattle.serde_json.specs.Data.{object};
+ghost use Rattle.serde_json.specs.View.{members_view};
+ghost use Rattle.schema_definitions.specs.Instance.{a_value};
 ghost use Rattle.schema_reports.specs.InstanceViews.{subject_of};
-ghost use Rattle.schema_parts.specs.AskedAtOnce.{AreOwn};
-ghost use Rattle.asked_questions.specs.Questions.{StandsThere, puts_questions, question_in, questions_of};
+ghost use Rattle.asked_questions.specs.Members.{at_their_names};
+ghost use Rattle.asked_questions.specs.Questions.{SaysByQuestions, StandsThere, at_names, question_in};
 ghost use Rattle.schema_solver.specs.Asked.{solver_by};
-ghost use Rattle.schema_solver.specs.Needs.{TellsWhatItAsks};
-ghost use Rattle.schema_solver.specs.Solved.{MayAsk, Solves, the_keyword, the_question};
+ghost use Rattle.schema_solver.specs.Solved.{MayAsk, Solves, the_question, the_asker};
 
 use crate::question::{Asked, SolverEngine, Stopped};
 use crate::solve::edges::solve_edge;
 use crate::solve::turns::{finished_match, solver_answer};
-use asked_questions::{AskedQuestion, AskedQuestions, has_to_be_each};
+use asked_questions::AskedQuestion;
+use asked_questions::counted::CountedQuestions;
+use asked_questions::members::MembersQuestions;
+use asked_questions::names::NamesQuestions;
 use run_steps::question::NamedKeyword;
 use schema_contexts::marks::child_edge;
 use schema_pairs::context::SolverContext;
 use schema_pairs::said::Said;
+use schema_parts::ascending::AscendingNames;
 use schema_parts::asking::Asking;
 use schema_parts::keyword::Validate;
 use schema_parts::matcher::Matcher;
 use schema_parts::numbers::{Edge, SchemaNode};
-use schema_reports::instance::Instance;
+use serde_json::{Map, Value};
 
-// Who asks here.
-struct OfSolver {}
-
-// The questions that an asking puts.
-#[inline(always)]
-fn put_questions<'s, 'i>(
-    asking: Asking<'s, 'i>,
-    instance: Instance<'i>,
-) -> AskedQuestions<'s, 'i, OfSolver>
-    requires puts { puts_questions asking ≡ true }
-    requires own { AreOwn asking (subject_of instance) }
-    ensures there { result.subject ≡ subject_of instance.entry }
-    ensures left { result.left ≡ questions_of asking.entry (subject_of instance.entry) }
-{
-    match AskedQuestions::of(asking, instance) {
-        Some(questions) => questions,
-        None => unreachable!(),
-    }
-}
-
-// The verdict of a keyword by what it asks at once, or else by its turns.
+// The verdict of a keyword by what it asks at once, or else by its turns. Its children are lent as they are kept, in one word, so that the
+// calls that have room of their own on the stack are made as the last ones, and this room is given back before.
 #[cycle(verdict)]
 #[inline(always)]
 pub(crate) fn solve_asked<'i, K: Validate, M: Matcher>(
     engine: &SolverEngine<'_, K, M>,
     node: SchemaNode,
-    keyword: &NamedKeyword<'_, K>,
+    name: &String,
+    keyword: &K,
+    children: &Vec<Option<Edge>>,
     question: &Asked<'_, 'i>,
     context: &mut SolverContext<'i>,
 ) -> Result<Said, Stopped>
-    requires { MayAsk (solver_by K.Validate M.Matcher.own engine.now) question.now (the_keyword K.shape node.0 keyword.now) context.old }
+    requires { MayAsk (solver_by K.Validate M.Matcher.own engine.now) question.now
+        (the_asker K.shape node.0 keyword.now children.now.items) context.old }
     ensures { Solves (solver_by K.Validate M.Matcher.own engine.now) K.says_monotone question.now
-        (the_keyword K.shape node.0 keyword.now) context.old context.new result }
+        (the_asker K.shape node.0 keyword.now children.now.items) context.old context.new result }
 {
-    let asking = keyword.keyword.asking(question.instance);
+    let asking = keyword.asking(question.instance);
+    let kept = children.as_slice();
     match asking {
-        Asking::ByTurns => solver_answer(engine, node, keyword, question, context),
+        Asking::ByTurns => {
+            let named = NamedKeyword {
+                name,
+                keyword,
+                children: kept,
+            };
+            solver_answer(engine, node, &named, question, context)
+        },
         Asking::Match(pattern, subject) => {
             let matches = finished_match(engine, pattern, subject)?;
             Ok(Said::settled(matches))
-        }
-        _ => solve_questions(engine, node, keyword, asking, question, context),
+        },
+        Asking::Each(end) => {
+            let questions = CountedQuestions::here(question.instance, end);
+            solve_counted(
+                engine, node, keyword, kept, true, questions, question, context,
+            )
+        },
+        Asking::One(end) => {
+            let questions = CountedQuestions::here(question.instance, end);
+            solve_counted(
+                engine, node, keyword, kept, false, questions, question, context,
+            )
+        },
+        Asking::Items(next, items) => {
+            let questions = CountedQuestions::items(next, items);
+            solve_counted(
+                engine, node, keyword, kept, true, questions, question, context,
+            )
+        },
+        Asking::Listed(count, items) => {
+            let questions = CountedQuestions::listed(count, items);
+            solve_counted(
+                engine, node, keyword, kept, true, questions, question, context,
+            )
+        },
+        Asking::Members(names, members) => {
+            solve_members(
+                engine, node, keyword, children, names, members, question, context,
+            )
+        },
+        Asking::Names(members) => {
+            solve_names(engine, node, keyword, kept, members, question, context)
+        },
     }
 }
 
-// The verdict of a keyword by the questions that its asking puts: where each has to be accepted, no more of them are asked after a no, and
-// where one of them has to be, none after a yes. A yes leans where one does that it rests on.
+// The verdict of a keyword by questions of its children here, or of items: where each has to be accepted, no more of them are asked after a
+// no, and where one of them has to be, none after a yes. A yes leans where one does that it rests on.
 #[cycle(verdict)]
 #[inline(always)]
-fn solve_questions<'i, K: Validate, M: Matcher>(
+fn solve_counted<'i, K: Validate, M: Matcher>(
     engine: &SolverEngine<'_, K, M>,
     node: SchemaNode,
-    keyword: &NamedKeyword<'_, K>,
-    asking: Asking<'_, 'i>,
+    keyword: &K,
+    children: &[Option<Edge>],
+    all: bool,
+    mut questions: CountedQuestions<'i>,
     question: &Asked<'_, 'i>,
     context: &mut SolverContext<'i>,
 ) -> Result<Said, Stopped>
     requires may_ask { MayAsk (solver_by K.Validate M.Matcher.own engine.now) question.now
-        (the_keyword K.shape node.0 keyword.now) context.old }
-    requires puts { puts_questions asking ≡ true }
-    requires asks { TellsWhatItAsks (solver_by K.Validate M.Matcher.own engine.now) (subject_of question.now.instance)
-        (K.shape keyword.now.keyword.now) asking }
+        (the_asker K.shape node.0 keyword.now children.now) context.old }
+    requires there { questions.subject ≡ subject_of question.now.instance }
+    requires says { SaysByQuestions K.words K.is_whole (subject_of question.now.instance) (K.shape keyword.now) all questions.left }
     ensures { Solves (solver_by K.Validate M.Matcher.own engine.now) K.says_monotone question.now
-        (the_keyword K.shape node.0 keyword.now) context.old context.new result }
+        (the_asker K.shape node.0 keyword.now children.now) context.old context.new result }
 {
-    let children = keyword.children;
-    let all = has_to_be_each(asking);
-    let mut questions = put_questions(asking, question.instance);
     let mut leans = false;
     while let Some(asked) = questions.next() {
         let said = solve_there(engine, node, children, asked, question, context)?;
@@ -98,6 +126,73 @@ fn solve_questions<'i, K: Validate, M: Matcher>(
         leans |= said.leans();
     }
     Ok(Said::of(all, leans))
+}
+
+// The same by questions of its children at the members that have their names. Its room on the stack is its own, which is all that a level
+// of objects takes for its keyword.
+#[cycle(verdict)]
+#[inline(never)]
+fn solve_members<'i, K: Validate, M: Matcher>(
+    engine: &SolverEngine<'_, K, M>,
+    node: SchemaNode,
+    keyword: &K,
+    children: &Vec<Option<Edge>>,
+    names: &AscendingNames,
+    members: &'i Map<String, Value>,
+    question: &Asked<'_, 'i>,
+    context: &mut SolverContext<'i>,
+) -> Result<Said, Stopped>
+    requires may_ask { MayAsk (solver_by K.Validate M.Matcher.own engine.now) question.now
+        (the_asker K.shape node.0 keyword.now children.now.items) context.old }
+    requires there { a_value (object (members_view members.now.entries)) ≡ subject_of question.now.instance }
+    requires says { SaysByQuestions K.words K.is_whole (subject_of question.now.instance) (K.shape keyword.now) true
+        (at_names (a_value (object (members_view members.now.entries))) 0 names.now) }
+    ensures { Solves (solver_by K.Validate M.Matcher.own engine.now) K.says_monotone question.now
+        (the_asker K.shape node.0 keyword.now children.now.items) context.old context.new result }
+{
+    let kept = children.as_slice();
+    let mut questions = MembersQuestions::of(names, members);
+    let mut leans = false;
+    while let Some(asked) = questions.next() {
+        let said = solve_there(engine, node, kept, asked, question, context)?;
+        if !said.valid() {
+            return Ok(said);
+        }
+        leans |= said.leans();
+    }
+    Ok(Said::of(true, leans))
+}
+
+// The same by questions of its first child at the names of members. Its room on the stack is its own, too.
+#[cycle(verdict)]
+#[inline(never)]
+fn solve_names<'i, K: Validate, M: Matcher>(
+    engine: &SolverEngine<'_, K, M>,
+    node: SchemaNode,
+    keyword: &K,
+    children: &[Option<Edge>],
+    members: &'i Map<String, Value>,
+    question: &Asked<'_, 'i>,
+    context: &mut SolverContext<'i>,
+) -> Result<Said, Stopped>
+    requires may_ask { MayAsk (solver_by K.Validate M.Matcher.own engine.now) question.now
+        (the_asker K.shape node.0 keyword.now children.now) context.old }
+    requires there { a_value (object (members_view members.now.entries)) ≡ subject_of question.now.instance }
+    requires says { SaysByQuestions K.words K.is_whole (subject_of question.now.instance) (K.shape keyword.now) true
+        (at_their_names members.now.entries) }
+    ensures { Solves (solver_by K.Validate M.Matcher.own engine.now) K.says_monotone question.now
+        (the_asker K.shape node.0 keyword.now children.now) context.old context.new result }
+{
+    let mut questions = NamesQuestions::of(members);
+    let mut leans = false;
+    while let Some(asked) = questions.next() {
+        let said = solve_there(engine, node, children, asked, question, context)?;
+        if !said.valid() {
+            return Ok(said);
+        }
+        leans |= said.leans();
+    }
+    Ok(Said::of(true, leans))
 }
 
 // The verdict of a keyword's child, at what stands here or below; yes where its request got none.

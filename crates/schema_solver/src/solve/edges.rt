@@ -11,7 +11,7 @@ ghost use Rattle.schema_solver.specs.Asked.{solver_by};
 ghost use Rattle.schema_solver.specs.Solved.{MayAsk, Solves, a_pair, an_edge, the_child};
 
 use crate::question::{Asked, SolverEngine, Stopped};
-use crate::solve::entries::solve_node;
+use crate::solve::entries::{solve_node, solve_node_apart};
 use run_steps::spots::one_below;
 use schema_contexts::marks::child_edge;
 use schema_pairs::context::SolverContext;
@@ -142,7 +142,7 @@ fn begin_pair<'i, K: Validate, M: Matcher>(
         instance: question.instance,
         place: &place,
     };
-    let said = solve_node(engine, node, &asked, context)?;
+    let said = solve_node_apart(engine, node, &asked, context)?;
     pair.exit(context);
     let kept = pair.keep_answer(context, mark, said)?;
     Ok(kept)

@@ -1,20 +1,20 @@
 //! The verdict of a node and of its entries, by a solver.
 ghost use Rattle.std.specs.Prelude.{IfSome};
 ghost use Rattle.schema_reports.specs.InstanceViews.{subject_of};
+ghost use Rattle.schema_parts.specs.EdgeViews.{edge_of};
 ghost use Rattle.schema_solver.specs.Asked.{solver_by};
-ghost use Rattle.schema_solver.specs.Solved.{MayAsk, Solves, a_node, the_entries, the_entry};
+ghost use Rattle.schema_solver.specs.Solved.{MayAsk, Solves, a_node, an_edge, the_entries, the_entry};
 ghost use Rattle.schema_solver.specs.ToldAtOnce.{TellsAtOnce};
 
 use crate::question::{Asked, SolverEngine, Stopped};
 use crate::solve::asking::solve_asked;
 use crate::solve::edges::solve_edge;
 use node_table::node::{Entry, EntryForm, NodeForm};
-use run_steps::question::NamedKeyword;
 use schema_pairs::context::SolverContext;
 use schema_pairs::said::Said;
 use schema_parts::keyword::Validate;
 use schema_parts::matcher::Matcher;
-use schema_parts::numbers::SchemaNode;
+use schema_parts::numbers::{Edge, SchemaNode};
 use schema_reports::instance::Instance;
 
 // The verdict of a node at a place.
@@ -53,8 +53,9 @@ fn told_at_once<K: Validate>(entry: &Entry<K>, instance: Instance<'_>) -> Option
     }
 }
 
-// The verdict of the entries, in their order; no more of them are asked after a no. As long as their keywords tell at once, each is told
-// here, so that a node of which nothing else is asked takes no room on the stack; the others are asked one after another.
+// The verdict of the entries; no more of them are asked after a no. What a keyword tells at once is told here, also behind the first that
+// does not, so that a node of which nothing else is asked takes no room on the stack, and where one alone is to be asked, its call is the
+// last. Where there are more, they are asked one after another.
 #[cycle(verdict)]
 #[inline(always)]
 fn solve_entries<'i, K: Validate, M: Matcher>(
@@ -68,9 +69,19 @@ fn solve_entries<'i, K: Validate, M: Matcher>(
     ensures { Solves (solver_by K.Validate M.Matcher.own engine.now) K.says_monotone question.now
         (the_entries K.shape node.0 entries.now) context.old context.new result }
 {
+    let mut waits: Option<usize> = None;
     for (place, entry) in entries.iter().enumerate() {
         match told_at_once(entry, question.instance) {
-            None => return solve_left(engine, node, &entries[place..], question, context),
+            None => match waits {
+                None => waits = Some(place),
+                Some(first) => return solve_left(
+                    engine,
+                    node,
+                    &entries[first..],
+                    question,
+                    context,
+                ),
+            },
             Some(valid) => {
                 if !valid {
                     return Ok(Said::settled(false));
@@ -78,7 +89,10 @@ fn solve_entries<'i, K: Validate, M: Matcher>(
             },
         }
     }
-    Ok(Said::settled(true))
+    match waits {
+        None => Ok(Said::settled(true)),
+        Some(first) => solve_keyword(engine, node, &entries[first], question, context),
+    }
 }
 
 // The verdict of the entries, in their order; no more of them are asked after a no. A yes leans where one of theirs does. Its room on the
@@ -148,13 +162,49 @@ fn solve_keyword<'i, K: Validate, M: Matcher>(
 {
     match &entry.form {
         EntryForm::Keyword(keyword, children) => {
-            let named = NamedKeyword {
-                name: &entry.name,
+            solve_asked(
+                engine,
+                node,
+                &entry.name,
                 keyword,
-                children: children.as_slice(),
-            };
-            solve_asked(engine, node, &named, question, context)
-        }
-        EntryForm::Reference(edge) => solve_edge(engine, edge, question, context),
+                children,
+                question,
+                context,
+            )
+        },
+        EntryForm::Reference(edge) => solve_reference(engine, edge, question, context),
     }
+}
+
+// The verdict of the node that a reference leads to. Its room on the stack is its own, too, and so is the call the last, so that a chain of
+// references that are followed takes the room of one.
+#[cycle(verdict)]
+#[inline(never)]
+fn solve_reference<'i, K: Validate, M: Matcher>(
+    engine: &SolverEngine<'_, K, M>,
+    edge: &Edge,
+    question: &Asked<'_, 'i>,
+    context: &mut SolverContext<'i>,
+) -> Result<Said, Stopped>
+    requires { MayAsk (solver_by K.Validate M.Matcher.own engine.now) question.now (an_edge (edge_of edge.now)) context.old }
+    ensures { Solves (solver_by K.Validate M.Matcher.own engine.now) K.says_monotone question.now
+        (an_edge (edge_of edge.now)) context.old context.new result }
+{
+    solve_edge(engine, edge, question, context)
+}
+
+// The verdict of a node, with room on the stack of its own, which is given back before the node's last call.
+#[cycle(verdict)]
+#[inline(never)]
+pub(crate) fn solve_node_apart<'i, K: Validate, M: Matcher>(
+    engine: &SolverEngine<'_, K, M>,
+    node: SchemaNode,
+    question: &Asked<'_, 'i>,
+    context: &mut SolverContext<'i>,
+) -> Result<Said, Stopped>
+    requires { MayAsk (solver_by K.Validate M.Matcher.own engine.now) question.now (a_node node.0) context.old }
+    ensures { Solves (solver_by K.Validate M.Matcher.own engine.now) K.says_monotone question.now
+        (a_node node.0) context.old context.new result }
+{
+    solve_node(engine, node, question, context)
 }

@@ -6,6 +6,7 @@ use Rattle.run_steps.specs.EvaluationPlaces.{steps_to}
 use Rattle.run_steps.specs.GuardedPairs.{place_of}
 use Rattle.schema_node.proofs.Placing.{carries_on, keeps_on, may_on, pair_entered, pair_known, pair_lasting, pair_unknown, stands_at, stands_below, stands_on}
 use Rattle.schema_contexts.specs.Progress.{places_in}
+use Rattle.schema_parts.specs.declared.asking.Asking.TheVariants as ask
 use Rattle.schema_parts.specs.declared.numbers.SchemaNode.{SchemaNode}
 use Rattle.std.specs.List.{list_any}
 use Rattle.schema_contexts.specs.EvaluationPaths.{path_of}
@@ -61,9 +62,8 @@ use Rattle.schema_node.proofs.Shared.{meets_again, read_again, shared_counts, st
 use Rattle.node_table.proofs.ClosedNumbers.{reaches_numbered}
 use Rattle.schema_definitions.specs.Laws.{EachKeeps}
 use Rattle.schema_definitions.specs.Instance.{after_step}
-use Rattle.asked_questions.specs.Questions.{StandsThere, below_in, question_in}
-use Rattle.schema_parts.specs.AskedAtOnce.{tells_at_once}
-use Rattle.asked_questions.proofs.AnswersSay.{likewise, otherwise, present_there, says_by_questions, puts_tell}
+use Rattle.asked_questions.specs.Questions.{StandsThere, at_names, below_in, question_in}
+use Rattle.asked_questions.proofs.AnswersSay.{likewise, otherwise, present_there, says_by_questions}
 use Rattle.schema_node.proofs.AskedAtOnce.{SaysByTheRest, match_says, meets_on, met_none, question_ends, question_goes_on, questions_begin, questions_end}
 use Rattle.schema_node.proofs.Children.{answered_below, answered_here, may_below, may_here, needs_below, needs_here}
 use Rattle.schema_node.proofs.node.+verdict.Goals as goal
@@ -321,50 +321,68 @@ verdict::verdict_keyword-returns-in-Keyword g t c = rw (c.in-Keyword.is, ← c.a
 
 -- ---- what a keyword asks at once
 
-pub verdict_asking::asked_verdict-finished_match-requires : goal.verdict_asking::asked_verdict-finished_match-requires
-verdict_asking::asked_verdict-finished_match-requires g t c = record { finishes = c.finished_asking-asking.ensures.finishes (ap tells_at_once c.in-Match.is) }
-
-pub verdict_asking::asked_verdict-returns-in-Match : goal.verdict_asking::asked_verdict-returns-in-Match
-verdict_asking::asked_verdict-returns-in-Match g t c =
+pub verdict_asking::asked_verdict-returns-in_ok-matches-in-Match : goal.verdict_asking::asked_verdict-returns-in_ok-matches-in-Match
+verdict_asking::asked_verdict-returns-in_ok-matches-in-Match g t c =
     let set = setting g.K.Validate.words g.K.Validate.is_whole g.K.Validate.shape g.M.Matcher.matching c.args.engine.now in
     let q = asking c.args.question.now in
     let old = c.args.context.now in
     let m = g.K.Validate.shape c.args.keyword.now.keyword.now in
     let es = map (option_map edge_of) c.args.keyword.now.children.now in
     let name = string_bytes c.args.keyword.now.name.now in
-    let asks = rw c.in-Match.is at c.finished_asking-asking.ensures.asks in
+    let asks = c.in-Match.ensures.asks in
     record {
       keeps = search rules;
       counts = search rules;
       works = search rules;
       visits = keyword_counts set.nodes q old old m es (λ none. refl);
-      says = match_says set q old c.args.node.0 m es c.requires.may.known c.requires.stands c.requires.verdict name c.in-Match.pattern.now c.in-Match.subject.now c.in_ok-matches.matches c.in_ok-matches.ensures.answer (λ texts tells. (asks texts tells).says refl);
-      meets = met_none set q old c.args.node.0 m es (c.finished_asking-asking.ensures.finishes (ap tells_at_once c.in-Match.is)) old name (λ texts root depth reads l. refl);
+      says = match_says set q old c.args.node.0 m es c.requires.may.known c.requires.stands c.requires.verdict name c.in-Match.pattern.now c.in-Match.subject.now c.in_ok-matches-in-Match.matches c.in_ok-matches-in-Match.ensures.answer (λ texts tells. (asks texts tells).says refl);
+      meets = met_none set q old c.args.node.0 m es (c.in-Match.ensures.finishes refl) old name (λ texts root depth reads l. refl);
       stays = search rules;
       remembers = search rules;
     }
 
-pub verdict_asking::asked_verdict-of-requires : goal.verdict_asking::asked_verdict-of-requires
-verdict_asking::asked_verdict-of-requires g t c =
-    let s = subject_of c.args.question.now.instance in
-    let m = g.K.Validate.shape c.args.keyword.now.keyword.now in
-    record { own = (c.finished_asking-asking.ensures.asks false (tells_nothing (g.K.Validate.is_whole m) s)).own }
-
-pub verdict_asking::asked_verdict-keyword_verdict-requires : goal.verdict_asking::asked_verdict-keyword_verdict-requires
-verdict_asking::asked_verdict-keyword_verdict-requires g t c =
-    λ κs h. (lower_same _ _ t 5 0 refl c.decreases, (h.0, (h.1.0, (h.1.1.0, (h.1.1.1, c.requires)))))
-
-pub verdict_asking::asked_verdict-verdict_questions-requires : goal.verdict_asking::asked_verdict-verdict_questions-requires
-verdict_asking::asked_verdict-verdict_questions-requires g t c =
+pub verdict_asking::asked_verdict-verdict_counted-requires-in-Items : goal.verdict_asking::asked_verdict-verdict_counted-requires-in-Items
+verdict_asking::asked_verdict-verdict_counted-requires-in-Items g t c =
     let set = setting g.K.Validate.words g.K.Validate.is_whole g.K.Validate.shape g.M.Matcher.matching c.args.engine.now in
     let s = subject_of c.args.question.now.instance in
     let m = g.K.Validate.shape c.args.keyword.now.keyword.now in
-    let asked = c.in-Some.ensures.asked in
-    let says = says_by_questions set.words set.is_whole s m c.finished_asking-asking.result c.finished_asking-asking.ensures.asks (sym c.in-Some.ensures.puts) c.has_to_be_each-all.result c.has_to_be_each-all.ensures.all c.in-Some.questions.left asked.1 in
-    λ κs h. (lower_same _ _ t 4 1 refl c.decreases, (h.0, (h.1.0, (h.1.1.0, (h.1.1.1, (c.requires, (c.finished_asking-asking.ensures.finishes (puts_tell c.finished_asking-asking.result (sym c.in-Some.ensures.puts)), (asked.0, says))))))))
+    let asks = c.in-Items.ensures.asks in
+    let own = (asks false (tells_nothing (g.K.Validate.is_whole m) s)).own in
+    let says = says_by_questions set.words set.is_whole s m (ask.Items c.in-Items.next c.in-Items.items) asks refl true refl c.items-questions.result.left (c.items-questions.ensures.left) in
+    λ κs h. (lower_same _ _ t 4 1 refl c.decreases, (h.0, (h.1.0, (h.1.1.0, (h.1.1.1, (c.requires, (c.in-Items.ensures.finishes refl, (c.items-questions.ensures.subject ∙ sym own, says))))))))
 
-pub verdict_asking::verdict_questions-loop-asked-init : goal.verdict_asking::verdict_questions-loop-asked-init
-verdict_asking::verdict_questions-loop-asked-init g t c =
+pub verdict_asking::asked_verdict-verdict_counted-requires-in-Listed : goal.verdict_asking::asked_verdict-verdict_counted-requires-in-Listed
+verdict_asking::asked_verdict-verdict_counted-requires-in-Listed g t c =
+    let set = setting g.K.Validate.words g.K.Validate.is_whole g.K.Validate.shape g.M.Matcher.matching c.args.engine.now in
+    let s = subject_of c.args.question.now.instance in
+    let m = g.K.Validate.shape c.args.keyword.now.keyword.now in
+    let asks = c.in-Listed.ensures.asks in
+    let own = (asks false (tells_nothing (g.K.Validate.is_whole m) s)).own in
+    let says = says_by_questions set.words set.is_whole s m (ask.Listed c.in-Listed.count c.in-Listed.items) asks refl true refl c.listed-questions.result.left (c.listed-questions.ensures.left) in
+    λ κs h. (lower_same _ _ t 4 1 refl c.decreases, (h.0, (h.1.0, (h.1.1.0, (h.1.1.1, (c.requires, (c.in-Listed.ensures.finishes refl, (c.listed-questions.ensures.subject ∙ sym own, says))))))))
+
+pub verdict_asking::asked_verdict-verdict_members-requires : goal.verdict_asking::asked_verdict-verdict_members-requires
+verdict_asking::asked_verdict-verdict_members-requires g t c =
+    let set = setting g.K.Validate.words g.K.Validate.is_whole g.K.Validate.shape g.M.Matcher.matching c.args.engine.now in
+    let s = subject_of c.args.question.now.instance in
+    let m = g.K.Validate.shape c.args.keyword.now.keyword.now in
+    let asks = c.in-Members.ensures.asks in
+    let own = (asks false (tells_nothing (g.K.Validate.is_whole m) s)).own in
+    let says = says_by_questions set.words set.is_whole s m (ask.Members c.in-Members.names c.in-Members.members) asks refl true refl c.of-questions.result.left (c.of-questions.ensures.left ∙ ap (λ z. at_names z 0 c.in-Members.names.now) (sym own)) in
+    λ κs h. (lower_same _ _ t 4 1 refl c.decreases, (h.0, (h.1.0, (h.1.1.0, (h.1.1.1, (c.requires, (c.in-Members.ensures.finishes refl, (c.of-questions.ensures.subject ∙ sym own, says))))))))
+
+pub verdict_asking::asked_verdict-verdict_names-requires : goal.verdict_asking::asked_verdict-verdict_names-requires
+verdict_asking::asked_verdict-verdict_names-requires g t c =
+    let set = setting g.K.Validate.words g.K.Validate.is_whole g.K.Validate.shape g.M.Matcher.matching c.args.engine.now in
+    let s = subject_of c.args.question.now.instance in
+    let m = g.K.Validate.shape c.args.keyword.now.keyword.now in
+    let asks = c.in-Names.ensures.asks in
+    let own = (asks false (tells_nothing (g.K.Validate.is_whole m) s)).own in
+    let says = says_by_questions set.words set.is_whole s m (ask.Names c.in-Names.members) asks refl true refl c.of-questions-in-Names.result.left (c.of-questions-in-Names.ensures.left) in
+    λ κs h. (lower_same _ _ t 4 1 refl c.decreases, (h.0, (h.1.0, (h.1.1.0, (h.1.1.1, (c.requires, (c.in-Names.ensures.finishes refl, (c.of-questions-in-Names.ensures.subject ∙ sym own, says))))))))
+
+pub verdict_asking::verdict_counted-loop-asked-init : goal.verdict_asking::verdict_counted-loop-asked-init
+verdict_asking::verdict_counted-loop-asked-init g t c =
     let set = setting g.K.Validate.words g.K.Validate.is_whole g.K.Validate.shape g.M.Matcher.matching c.args.engine.now in
     let q = asking c.args.question.now in
     let old = c.args.context.now in
@@ -381,8 +399,8 @@ verdict_asking::verdict_questions-loop-asked-init g t c =
       met = λ texts root depth reads l. refl;
     }
 
-pub verdict_asking::verdict_questions-verdict_there-requires : goal.verdict_asking::verdict_questions-verdict_there-requires
-verdict_asking::verdict_questions-verdict_there-requires g t c =
+pub verdict_asking::verdict_counted-verdict_there-requires : goal.verdict_asking::verdict_counted-verdict_there-requires
+verdict_asking::verdict_counted-verdict_there-requires g t c =
     let set = setting g.K.Validate.words g.K.Validate.is_whole g.K.Validate.shape g.M.Matcher.matching c.args.engine.now in
     let ns = numbered g.K.Validate.shape c.args.engine.now.nodes.now in
     let q = asking c.args.question.now in
@@ -395,8 +413,8 @@ verdict_asking::verdict_questions-verdict_there-requires g t c =
     let carries = carries_on c.args.context.now.root c.loop-asked.context.root c.args.question.now.place.now so_far.keeps.root c.requires.asked.carries in
     λ κs h. (lower_same _ _ t 3 0 l c.decreases, (h.0, (h.1.0, (h.1.1.0, (h.1.1.1, (record { may = may; carries = carries; verdict = c.requires.asked.verdict; stands = (keyword_children ns c.args.node.0 m es c.requires.asked.stands, present_there q.subject c.in-Some.asked there) }, there))))))
 
-pub verdict_asking::verdict_questions-returns-then-valid-all : goal.verdict_asking::verdict_questions-returns-then-valid-all
-verdict_asking::verdict_questions-returns-then-valid-all g t c =
+pub verdict_asking::verdict_counted-returns-then-valid-all : goal.verdict_asking::verdict_counted-returns-then-valid-all
+verdict_asking::verdict_counted-returns-then-valid-all g t c =
     let set = setting g.K.Validate.words g.K.Validate.is_whole g.K.Validate.shape g.M.Matcher.matching c.args.engine.now in
     let q = asking c.args.question.now in
     let i = c.args.node.0 in
@@ -422,8 +440,8 @@ verdict_asking::verdict_questions-returns-then-valid-all g t c =
       remembers = search rules;
     }
 
-pub verdict_asking::verdict_questions-loop-asked-preserved : goal.verdict_asking::verdict_questions-loop-asked-preserved
-verdict_asking::verdict_questions-loop-asked-preserved g t c =
+pub verdict_asking::verdict_counted-loop-asked-preserved : goal.verdict_asking::verdict_counted-loop-asked-preserved
+verdict_asking::verdict_counted-loop-asked-preserved g t c =
     let set = setting g.K.Validate.words g.K.Validate.is_whole g.K.Validate.shape g.M.Matcher.matching c.args.engine.now in
     let q = asking c.args.question.now in
     let i = c.args.node.0 in
@@ -448,13 +466,13 @@ verdict_asking::verdict_questions-loop-asked-preserved g t c =
       met = meets_on set q old i m es c.requires.finishes now new so_far.keeps so_far.met k valid.meets;
     }
 
-pub verdict_asking::verdict_questions-loop-asked-smaller : goal.verdict_asking::verdict_questions-loop-asked-smaller
-verdict_asking::verdict_questions-loop-asked-smaller g t c =
+pub verdict_asking::verdict_counted-loop-asked-smaller : goal.verdict_asking::verdict_counted-loop-asked-smaller
+verdict_asking::verdict_counted-loop-asked-smaller g t c =
     let one : length c.loop-asked.questions.left ≡ suc (length c.next.new.self.left) = ap length c.in-Some.ensures.next in
     omega (arith, one)
 
-pub verdict_asking::verdict_questions-returns : goal.verdict_asking::verdict_questions-returns
-verdict_asking::verdict_questions-returns g t c =
+pub verdict_asking::verdict_counted-returns : goal.verdict_asking::verdict_counted-returns
+verdict_asking::verdict_counted-returns g t c =
     let set = setting g.K.Validate.words g.K.Validate.is_whole g.K.Validate.shape g.M.Matcher.matching c.args.engine.now in
     let q = asking c.args.question.now in
     let i = c.args.node.0 in
@@ -470,6 +488,230 @@ verdict_asking::verdict_questions-returns g t c =
       works = so_far.worked;
       visits = keyword_counts set.nodes q old now m es so_far.quiet;
       says = questions_end set q old i m es c.requires.asked.verdict c.args.all (subst (SaysByTheRest set q old i m es c.args.all) c.in_default.ensures.next so_far.leads) name;
+      meets = met_none set q old i m es c.requires.finishes now name so_far.met;
+      stays = so_far.stays;
+      remembers = search rules;
+    }
+
+pub verdict_asking::verdict_members-loop-asked-init : goal.verdict_asking::verdict_members-loop-asked-init
+verdict_asking::verdict_members-loop-asked-init g t c =
+    let set = setting g.K.Validate.words g.K.Validate.is_whole g.K.Validate.shape g.M.Matcher.matching c.args.engine.now in
+    let q = asking c.args.question.now in
+    let old = c.args.context.now in
+    let m = g.K.Validate.shape c.args.keyword.now.keyword.now in
+    let es = map (option_map edge_of) c.args.keyword.now.children.now in
+    record {
+      keeps = record { root = refl; in_progress = refl; assumptions = refl; marking = refl };
+      counted = as_many old.visits old.visits refl;
+      worked = spends_none old.work;
+      quiet = λ none. refl;
+      stays = λ layout laid right. right;
+      there = c.requires.there;
+      leads = questions_begin set q old c.args.node.0 m es c.requires.asked.may.known c.requires.asked.stands true c.args.questions.left c.requires.says;
+      met = λ texts root depth reads l. refl;
+    }
+
+pub verdict_asking::verdict_members-verdict_there-requires : goal.verdict_asking::verdict_members-verdict_there-requires
+verdict_asking::verdict_members-verdict_there-requires g t c =
+    let set = setting g.K.Validate.words g.K.Validate.is_whole g.K.Validate.shape g.M.Matcher.matching c.args.engine.now in
+    let ns = numbered g.K.Validate.shape c.args.engine.now.nodes.now in
+    let q = asking c.args.question.now in
+    let m = g.K.Validate.shape c.args.keyword.now.keyword.now in
+    let es = map (option_map edge_of) c.args.keyword.now.children.now in
+    let so_far = c.loop-asked.invariant in
+    let l = ap (λ es. left ns (length c.args.engine.now.nodes.now) c.args.node.0 q.subject (busy_at q.place es)) so_far.keeps.in_progress in
+    let there = subst (λ z. StandsThere z c.in-Some.asked) so_far.there c.in-Some.ensures.there in
+    let may = may_on set q c.args.context.now c.loop-asked.context c.args.node.0 so_far.keeps so_far.stays c.requires.asked.may in
+    let carries = carries_on c.args.context.now.root c.loop-asked.context.root c.args.question.now.place.now so_far.keeps.root c.requires.asked.carries in
+    λ κs h. (lower_same _ _ t 3 0 l c.decreases, (h.0, (h.1.0, (h.1.1.0, (h.1.1.1, (record { may = may; carries = carries; verdict = c.requires.asked.verdict; stands = (keyword_children ns c.args.node.0 m es c.requires.asked.stands, present_there q.subject c.in-Some.asked there) }, there))))))
+
+pub verdict_asking::verdict_members-returns-then-not-valid : goal.verdict_asking::verdict_members-returns-then-not-valid
+verdict_asking::verdict_members-returns-then-not-valid g t c =
+    let set = setting g.K.Validate.words g.K.Validate.is_whole g.K.Validate.shape g.M.Matcher.matching c.args.engine.now in
+    let q = asking c.args.question.now in
+    let i = c.args.node.0 in
+    let m = g.K.Validate.shape c.args.keyword.now.keyword.now in
+    let es = map (option_map edge_of) c.args.keyword.now.children.now in
+    let name = string_bytes c.args.keyword.now.name.now in
+    let old = c.args.context.now in
+    let now = c.loop-asked.context in
+    let new = c.verdict_there.new.context in
+    let so_far = c.loop-asked.invariant in
+    let valid = c.in_ok-valid.ensures in
+    let k = question_in c.in-Some.asked in
+    let rest = c.next.new.self.left in
+    let leads : SaysByTheRest set q old i m es true (k ∷ rest) = subst (SaysByTheRest set q old i m es true) c.in-Some.ensures.next so_far.leads in
+    record {
+      keeps = keeps_on old now new so_far.keeps valid.keeps;
+      counts = no_fewer old.visits now.visits new.visits so_far.counted valid.counts;
+      works = spends_on _ _ _ so_far.worked valid.works;
+      visits = keyword_counts set.nodes q old new m es (λ none. valid.visits none ∙ so_far.quiet none);
+      says = question_ends set q old i m es c.requires.asked.verdict now so_far.keeps true k rest leads c.in_ok-valid.valid valid.says c.if-not-valid.true name;
+      meets = met_none set q old i m es c.requires.finishes new name (meets_on set q old i m es c.requires.finishes now new so_far.keeps so_far.met k valid.meets);
+      stays = λ layout laid right. valid.stays layout laid (so_far.stays layout laid right);
+      remembers = search rules;
+    }
+
+pub verdict_asking::verdict_members-loop-asked-preserved : goal.verdict_asking::verdict_members-loop-asked-preserved
+verdict_asking::verdict_members-loop-asked-preserved g t c =
+    let set = setting g.K.Validate.words g.K.Validate.is_whole g.K.Validate.shape g.M.Matcher.matching c.args.engine.now in
+    let q = asking c.args.question.now in
+    let i = c.args.node.0 in
+    let m = g.K.Validate.shape c.args.keyword.now.keyword.now in
+    let es = map (option_map edge_of) c.args.keyword.now.children.now in
+    let old = c.args.context.now in
+    let now = c.loop-asked.context in
+    let new = c.verdict_there.new.context in
+    let so_far = c.loop-asked.invariant in
+    let valid = c.in_ok-valid.ensures in
+    let k = question_in c.in-Some.asked in
+    let rest = c.next.new.self.left in
+    let leads : SaysByTheRest set q old i m es true (k ∷ rest) = subst (SaysByTheRest set q old i m es true) c.in-Some.ensures.next so_far.leads in
+    record {
+      keeps = keeps_on old now new so_far.keeps valid.keeps;
+      counted = no_fewer old.visits now.visits new.visits so_far.counted valid.counts;
+      worked = spends_on _ _ _ so_far.worked valid.works;
+      quiet = λ none. valid.visits none ∙ so_far.quiet none;
+      stays = λ layout laid right. valid.stays layout laid (so_far.stays layout laid right);
+      there = c.next.ensures.subject ∙ so_far.there;
+      leads = question_goes_on set q old i m es c.requires.asked.verdict now so_far.keeps true k rest leads c.in_ok-valid.valid valid.says c.if-not-valid.false;
+      met = meets_on set q old i m es c.requires.finishes now new so_far.keeps so_far.met k valid.meets;
+    }
+
+pub verdict_asking::verdict_members-loop-asked-smaller : goal.verdict_asking::verdict_members-loop-asked-smaller
+verdict_asking::verdict_members-loop-asked-smaller g t c =
+    let one : length c.loop-asked.questions.left ≡ suc (length c.next.new.self.left) = ap length c.in-Some.ensures.next in
+    omega (arith, one)
+
+pub verdict_asking::verdict_members-returns : goal.verdict_asking::verdict_members-returns
+verdict_asking::verdict_members-returns g t c =
+    let set = setting g.K.Validate.words g.K.Validate.is_whole g.K.Validate.shape g.M.Matcher.matching c.args.engine.now in
+    let q = asking c.args.question.now in
+    let i = c.args.node.0 in
+    let m = g.K.Validate.shape c.args.keyword.now.keyword.now in
+    let es = map (option_map edge_of) c.args.keyword.now.children.now in
+    let name = string_bytes c.args.keyword.now.name.now in
+    let old = c.args.context.now in
+    let now = c.loop-asked.context in
+    let so_far = c.loop-asked.invariant in
+    record {
+      keeps = so_far.keeps;
+      counts = so_far.counted;
+      works = so_far.worked;
+      visits = keyword_counts set.nodes q old now m es so_far.quiet;
+      says = questions_end set q old i m es c.requires.asked.verdict true (subst (SaysByTheRest set q old i m es true) c.in_default.ensures.next so_far.leads) name;
+      meets = met_none set q old i m es c.requires.finishes now name so_far.met;
+      stays = so_far.stays;
+      remembers = search rules;
+    }
+
+pub verdict_asking::verdict_names-loop-asked-init : goal.verdict_asking::verdict_names-loop-asked-init
+verdict_asking::verdict_names-loop-asked-init g t c =
+    let set = setting g.K.Validate.words g.K.Validate.is_whole g.K.Validate.shape g.M.Matcher.matching c.args.engine.now in
+    let q = asking c.args.question.now in
+    let old = c.args.context.now in
+    let m = g.K.Validate.shape c.args.keyword.now.keyword.now in
+    let es = map (option_map edge_of) c.args.keyword.now.children.now in
+    record {
+      keeps = record { root = refl; in_progress = refl; assumptions = refl; marking = refl };
+      counted = as_many old.visits old.visits refl;
+      worked = spends_none old.work;
+      quiet = λ none. refl;
+      stays = λ layout laid right. right;
+      there = c.requires.there;
+      leads = questions_begin set q old c.args.node.0 m es c.requires.asked.may.known c.requires.asked.stands true c.args.questions.left c.requires.says;
+      met = λ texts root depth reads l. refl;
+    }
+
+pub verdict_asking::verdict_names-verdict_there-requires : goal.verdict_asking::verdict_names-verdict_there-requires
+verdict_asking::verdict_names-verdict_there-requires g t c =
+    let set = setting g.K.Validate.words g.K.Validate.is_whole g.K.Validate.shape g.M.Matcher.matching c.args.engine.now in
+    let ns = numbered g.K.Validate.shape c.args.engine.now.nodes.now in
+    let q = asking c.args.question.now in
+    let m = g.K.Validate.shape c.args.keyword.now.keyword.now in
+    let es = map (option_map edge_of) c.args.keyword.now.children.now in
+    let so_far = c.loop-asked.invariant in
+    let l = ap (λ es. left ns (length c.args.engine.now.nodes.now) c.args.node.0 q.subject (busy_at q.place es)) so_far.keeps.in_progress in
+    let there = subst (λ z. StandsThere z c.in-Some.asked) so_far.there c.in-Some.ensures.there in
+    let may = may_on set q c.args.context.now c.loop-asked.context c.args.node.0 so_far.keeps so_far.stays c.requires.asked.may in
+    let carries = carries_on c.args.context.now.root c.loop-asked.context.root c.args.question.now.place.now so_far.keeps.root c.requires.asked.carries in
+    λ κs h. (lower_same _ _ t 3 0 l c.decreases, (h.0, (h.1.0, (h.1.1.0, (h.1.1.1, (record { may = may; carries = carries; verdict = c.requires.asked.verdict; stands = (keyword_children ns c.args.node.0 m es c.requires.asked.stands, present_there q.subject c.in-Some.asked there) }, there))))))
+
+pub verdict_asking::verdict_names-returns-then-not-valid : goal.verdict_asking::verdict_names-returns-then-not-valid
+verdict_asking::verdict_names-returns-then-not-valid g t c =
+    let set = setting g.K.Validate.words g.K.Validate.is_whole g.K.Validate.shape g.M.Matcher.matching c.args.engine.now in
+    let q = asking c.args.question.now in
+    let i = c.args.node.0 in
+    let m = g.K.Validate.shape c.args.keyword.now.keyword.now in
+    let es = map (option_map edge_of) c.args.keyword.now.children.now in
+    let name = string_bytes c.args.keyword.now.name.now in
+    let old = c.args.context.now in
+    let now = c.loop-asked.context in
+    let new = c.verdict_there.new.context in
+    let so_far = c.loop-asked.invariant in
+    let valid = c.in_ok-valid.ensures in
+    let k = question_in c.in-Some.asked in
+    let rest = c.next.new.self.left in
+    let leads : SaysByTheRest set q old i m es true (k ∷ rest) = subst (SaysByTheRest set q old i m es true) c.in-Some.ensures.next so_far.leads in
+    record {
+      keeps = keeps_on old now new so_far.keeps valid.keeps;
+      counts = no_fewer old.visits now.visits new.visits so_far.counted valid.counts;
+      works = spends_on _ _ _ so_far.worked valid.works;
+      visits = keyword_counts set.nodes q old new m es (λ none. valid.visits none ∙ so_far.quiet none);
+      says = question_ends set q old i m es c.requires.asked.verdict now so_far.keeps true k rest leads c.in_ok-valid.valid valid.says c.if-not-valid.true name;
+      meets = met_none set q old i m es c.requires.finishes new name (meets_on set q old i m es c.requires.finishes now new so_far.keeps so_far.met k valid.meets);
+      stays = λ layout laid right. valid.stays layout laid (so_far.stays layout laid right);
+      remembers = search rules;
+    }
+
+pub verdict_asking::verdict_names-loop-asked-preserved : goal.verdict_asking::verdict_names-loop-asked-preserved
+verdict_asking::verdict_names-loop-asked-preserved g t c =
+    let set = setting g.K.Validate.words g.K.Validate.is_whole g.K.Validate.shape g.M.Matcher.matching c.args.engine.now in
+    let q = asking c.args.question.now in
+    let i = c.args.node.0 in
+    let m = g.K.Validate.shape c.args.keyword.now.keyword.now in
+    let es = map (option_map edge_of) c.args.keyword.now.children.now in
+    let old = c.args.context.now in
+    let now = c.loop-asked.context in
+    let new = c.verdict_there.new.context in
+    let so_far = c.loop-asked.invariant in
+    let valid = c.in_ok-valid.ensures in
+    let k = question_in c.in-Some.asked in
+    let rest = c.next.new.self.left in
+    let leads : SaysByTheRest set q old i m es true (k ∷ rest) = subst (SaysByTheRest set q old i m es true) c.in-Some.ensures.next so_far.leads in
+    record {
+      keeps = keeps_on old now new so_far.keeps valid.keeps;
+      counted = no_fewer old.visits now.visits new.visits so_far.counted valid.counts;
+      worked = spends_on _ _ _ so_far.worked valid.works;
+      quiet = λ none. valid.visits none ∙ so_far.quiet none;
+      stays = λ layout laid right. valid.stays layout laid (so_far.stays layout laid right);
+      there = c.next.ensures.subject ∙ so_far.there;
+      leads = question_goes_on set q old i m es c.requires.asked.verdict now so_far.keeps true k rest leads c.in_ok-valid.valid valid.says c.if-not-valid.false;
+      met = meets_on set q old i m es c.requires.finishes now new so_far.keeps so_far.met k valid.meets;
+    }
+
+pub verdict_asking::verdict_names-loop-asked-smaller : goal.verdict_asking::verdict_names-loop-asked-smaller
+verdict_asking::verdict_names-loop-asked-smaller g t c =
+    let one : length c.loop-asked.questions.left ≡ suc (length c.next.new.self.left) = ap length c.in-Some.ensures.next in
+    omega (arith, one)
+
+pub verdict_asking::verdict_names-returns : goal.verdict_asking::verdict_names-returns
+verdict_asking::verdict_names-returns g t c =
+    let set = setting g.K.Validate.words g.K.Validate.is_whole g.K.Validate.shape g.M.Matcher.matching c.args.engine.now in
+    let q = asking c.args.question.now in
+    let i = c.args.node.0 in
+    let m = g.K.Validate.shape c.args.keyword.now.keyword.now in
+    let es = map (option_map edge_of) c.args.keyword.now.children.now in
+    let name = string_bytes c.args.keyword.now.name.now in
+    let old = c.args.context.now in
+    let now = c.loop-asked.context in
+    let so_far = c.loop-asked.invariant in
+    record {
+      keeps = so_far.keeps;
+      counts = so_far.counted;
+      works = so_far.worked;
+      visits = keyword_counts set.nodes q old now m es so_far.quiet;
+      says = questions_end set q old i m es c.requires.asked.verdict true (subst (SaysByTheRest set q old i m es true) c.in_default.ensures.next so_far.leads) name;
       meets = met_none set q old i m es c.requires.finishes now name so_far.met;
       stays = so_far.stays;
       remembers = search rules;

@@ -47,15 +47,21 @@ decreases-verdict::verdict_keyword g l = 20 * left (numbered g.K.Validate.shape 
 abbrev pub decreases-verdict_asking::asked_verdict : goal.decreases-verdict_asking::asked_verdict
 decreases-verdict_asking::asked_verdict g l = 20 * left (numbered g.K.Validate.shape l.engine.now.nodes.now) (length l.engine.now.nodes.now) l.node.0 (subject_of l.question.now.instance) (busy_at (steps_to l.question.now.place.now) l.context.now.in_progress) + 6
 
-abbrev pub decreases-verdict_asking::verdict_questions : goal.decreases-verdict_asking::verdict_questions
-decreases-verdict_asking::verdict_questions g l = 20 * left (numbered g.K.Validate.shape l.engine.now.nodes.now) (length l.engine.now.nodes.now) l.node.0 (subject_of l.question.now.instance) (busy_at (steps_to l.question.now.place.now) l.context.now.in_progress) + 4
+abbrev pub decreases-verdict_asking::verdict_counted : goal.decreases-verdict_asking::verdict_counted
+decreases-verdict_asking::verdict_counted g l = 20 * left (numbered g.K.Validate.shape l.engine.now.nodes.now) (length l.engine.now.nodes.now) l.node.0 (subject_of l.question.now.instance) (busy_at (steps_to l.question.now.place.now) l.context.now.in_progress) + 4
+
+abbrev pub decreases-verdict_asking::verdict_members : goal.decreases-verdict_asking::verdict_members
+decreases-verdict_asking::verdict_members g l = 20 * left (numbered g.K.Validate.shape l.engine.now.nodes.now) (length l.engine.now.nodes.now) l.node.0 (subject_of l.question.now.instance) (busy_at (steps_to l.question.now.place.now) l.context.now.in_progress) + 4
+
+abbrev pub decreases-verdict_asking::verdict_names : goal.decreases-verdict_asking::verdict_names
+decreases-verdict_asking::verdict_names g l = 20 * left (numbered g.K.Validate.shape l.engine.now.nodes.now) (length l.engine.now.nodes.now) l.node.0 (subject_of l.question.now.instance) (busy_at (steps_to l.question.now.place.now) l.context.now.in_progress) + 4
 
 abbrev pub decreases-verdict_asking::verdict_there : goal.decreases-verdict_asking::verdict_there
 decreases-verdict_asking::verdict_there g l = 20 * left (numbered g.K.Validate.shape l.engine.now.nodes.now) (length l.engine.now.nodes.now) l.node.0 (subject_of l.question.now.instance) (busy_at (steps_to l.question.now.place.now) l.context.now.in_progress) + 3
 
-abbrev pub invariant-verdict_asking::verdict_questions-loop-asked :
-    goal.invariant-verdict_asking::verdict_questions-loop-asked
-invariant-verdict_asking::verdict_questions-loop-asked g l =
+abbrev pub invariant-verdict_asking::verdict_counted-loop-asked :
+    goal.invariant-verdict_asking::verdict_counted-loop-asked
+invariant-verdict_asking::verdict_counted-loop-asked g l =
     let set = setting g.K.Validate.words g.K.Validate.is_whole g.K.Validate.shape g.M.Matcher.matching l.engine in
     let q = asking l.question in
     let m = g.K.Validate.shape l.keyword.keyword.now in
@@ -72,9 +78,55 @@ invariant-verdict_asking::verdict_questions-loop-asked g l =
       met : MeetsNothing set q old l.node.0 m es l.context;
     }
 
-abbrev pub decreases-verdict_asking::verdict_questions-loop-asked :
-    goal.decreases-verdict_asking::verdict_questions-loop-asked
-decreases-verdict_asking::verdict_questions-loop-asked g l = length l.questions.left
+abbrev pub decreases-verdict_asking::verdict_counted-loop-asked :
+    goal.decreases-verdict_asking::verdict_counted-loop-asked
+decreases-verdict_asking::verdict_counted-loop-asked g l = length l.questions.left
+
+abbrev pub invariant-verdict_asking::verdict_members-loop-asked :
+    goal.invariant-verdict_asking::verdict_members-loop-asked
+invariant-verdict_asking::verdict_members-loop-asked g l =
+    let set = setting g.K.Validate.words g.K.Validate.is_whole g.K.Validate.shape g.M.Matcher.matching l.engine in
+    let q = asking l.question in
+    let m = g.K.Validate.shape l.keyword.keyword.now in
+    let es = map (option_map edge_of) l.keyword.children.now in
+    let old = l.initial.context in
+    record {
+      keeps : Keeps old l.context;
+      counted : old.visits ≤ l.context.visits;
+      worked : Spends old.work l.context.work;
+      quiet : LeadsNowhere es → l.context.visits ≡ old.visits;
+      stays : StaysRight set q old l.context;
+      there : l.questions.subject ≡ subject_of l.question.instance;
+      leads : SaysByTheRest set q old l.node.0 m es true l.questions.left;
+      met : MeetsNothing set q old l.node.0 m es l.context;
+    }
+
+abbrev pub decreases-verdict_asking::verdict_members-loop-asked :
+    goal.decreases-verdict_asking::verdict_members-loop-asked
+decreases-verdict_asking::verdict_members-loop-asked g l = length l.questions.left
+
+abbrev pub invariant-verdict_asking::verdict_names-loop-asked :
+    goal.invariant-verdict_asking::verdict_names-loop-asked
+invariant-verdict_asking::verdict_names-loop-asked g l =
+    let set = setting g.K.Validate.words g.K.Validate.is_whole g.K.Validate.shape g.M.Matcher.matching l.engine in
+    let q = asking l.question in
+    let m = g.K.Validate.shape l.keyword.keyword.now in
+    let es = map (option_map edge_of) l.keyword.children.now in
+    let old = l.initial.context in
+    record {
+      keeps : Keeps old l.context;
+      counted : old.visits ≤ l.context.visits;
+      worked : Spends old.work l.context.work;
+      quiet : LeadsNowhere es → l.context.visits ≡ old.visits;
+      stays : StaysRight set q old l.context;
+      there : l.questions.subject ≡ subject_of l.question.instance;
+      leads : SaysByTheRest set q old l.node.0 m es true l.questions.left;
+      met : MeetsNothing set q old l.node.0 m es l.context;
+    }
+
+abbrev pub decreases-verdict_asking::verdict_names-loop-asked :
+    goal.decreases-verdict_asking::verdict_names-loop-asked
+decreases-verdict_asking::verdict_names-loop-asked g l = length l.questions.left
 
 abbrev pub decreases-verdict::verdict_child : goal.decreases-verdict::verdict_child
 decreases-verdict::verdict_child g l = 20 * left (numbered g.K.Validate.shape l.engine.now.nodes.now) (length l.engine.now.nodes.now) l.node.0 (subject_of l.question.now.instance) (busy_at (steps_to l.question.now.place.now) l.context.now.in_progress) + 2

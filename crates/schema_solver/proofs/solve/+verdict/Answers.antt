@@ -5,15 +5,17 @@ use Rattle.schema_definitions.specs.Laws.{EachKeeps}
 use Rattle.schema_definitions.specs.Instance.{after_step}
 use Rattle.schema_definitions.specs.Guarded.{node_keyword}
 use Rattle.std.proofs.lemmas.Bool.{or_left, or_right}
-use Rattle.std.specs.Prelude.{Contains, IfOk}
+use Rattle.std.specs.Prelude.{Contains, IfOk, IfSome, Option, take}
 use Rattle.std.proofs.lemmas.List.{take_rest}
 use Rattle.std.proofs.lemmas.Result.{IfErr-weaker}
 use Rattle.schema_meaning.specs.Numbered.{left}
 use Rattle.schema_meaning.proofs.TurnsGiveRuns.{keeps_of_turns}
 use Rattle.schema_reports.specs.InstanceViews.{step_of, subject_of}
 use Rattle.schema_parts.specs.EdgeViews.{edge_of}
-use Rattle.asked_questions.specs.Questions.{StandsThere, below_in, question_in}
+use Rattle.asked_questions.specs.Members.{at_their_names}
+use Rattle.asked_questions.specs.Questions.{SaysByQuestions, StandsThere, at_names, below_in, question_in}
 use Rattle.schema_parts.specs.KeywordViews.{below_of, answer_of, keyword_point, marked_of, mode_of, reply_of, spot_point, turn_of}
+use Rattle.schema_parts.specs.declared.asking.Asking.TheVariants as asking
 use Rattle.schema_parts.specs.declared.numbers.SchemaNode.{SchemaNode}
 use Rattle.schema_parts.proofs.Drops.{drop_at, drop_past}
 use Rattle.schema_parts.proofs.Replies.{if_ok_both, if_ok_mono}
@@ -25,28 +27,29 @@ use Rattle.node_table.specs.NodeViews.{entry_of, node_of, plan_of}
 use Rattle.node_table.specs.declared.node.Entry.{Entry}
 use Rattle.run_steps.specs.EvaluationPlaces.{CarriesItsNumber, steps_to}
 use Rattle.run_steps.proofs.NodeParts.{later, part_at, plan_is, reference_edge, keyword_children}
-use Rattle.schema_greatest.specs.Stages.{EdgeTells, FormTells, PartsTell, parts_by}
+use Rattle.schema_greatest.specs.Stages.{ChildTells, EdgeTells, FormTells, PartsTell, parts_by}
 use Rattle.schema_greatest.proofs.Says.{child_some, edge_below, edge_by_node, edge_by_pair, node_says_parts}
 use Rattle.schema_solver.specs.Asked.{is_followed_in, solver_by}
 use Rattle.schema_pairs.specs.Contexts.{Solver, found_of, has_pair, solver_places}
 use Rattle.schema_solver.specs.Needs.{SaysByTheRest, SaysTheRest, pair_needs}
 use Rattle.schema_pairs.specs.Answering.{Accepts, Begins, Refuses}
 use Rattle.schema_pairs.specs.Saying.{WhatIsSaid}
-use Rattle.schema_solver.specs.Solved.{MayAsk, Solves, Stops, a_pair}
+use Rattle.schema_solver.specs.Solved.{MayAsk, Solves, Stops, a_pair, the_asker}
 use Rattle.schema_solver.specs.Solving.{Goes, HasRoom, InEach, MaySolve, is_cut, solving_in}
 use Rattle.schema_pairs.specs.SolverPairs.{IsNumbered, place_of}
 use Rattle.run_steps.specs.VerdictRuns.{told_reply}
 use Rattle.schema_solver.proofs.Asking.{edge_among, may_cross, may_go_below}
-use Rattle.schema_solver.proofs.Crossing.{apart_mark, at_pair, cut_guards, entry_accepts, entry_refuses, rest_says, falls_across, falls_across_below, falls_entered, needs_of_cut, needs_of_free, pair_new, pair_ran, ran_kept, says_at_once, solvable_here}
+use Rattle.schema_solver.proofs.Crossing.{apart_mark, at_pair, cut_guards, entry_accepts, entry_refuses, last_says, rest_says, falls_across, falls_across_below, falls_entered, needs_of_cut, needs_of_free, pair_new, pair_ran, ran_kept, says_at_once, solvable_here, told_accepts, told_refuses}
 use Rattle.schema_solver.proofs.Going.{goes_below, goes_none, goes_on, may_after}
 use Rattle.schema_solver.proofs.PairSteps.{begun_may}
-use Rattle.schema_solver.proofs.solve.+verdict.Goals.{edges::solve_edge-then-edge-via-then-edge, edges::solve_edge-then-edge-via-else-edge+then-not-is_followed}
+use Rattle.schema_solver.specs.ToldAtOnce.{waiting}
+use Rattle.schema_solver.proofs.solve.+verdict.Goals.{entries::solve_entries-in-None+in-None-waits, entries::solve_entries-in-Some+else-not-valid, edges::solve_edge-then-edge-via-then-edge, edges::solve_edge-then-edge-via-else-edge+then-not-is_followed}
 use Rattle.schema_definitions.specs.Matching.{Pair}
-use Rattle.run_steps.specs.NodeRuns.{HasForm, form_at_work}
+use Rattle.run_steps.specs.NodeRuns.{HasChildren, HasForm, form_at_work}
 use Rattle.run_steps.proofs.KeywordTurns.{asks_there, can_after, falls_turned, tells_nothing, ask_goes_on, match_goes_on, ecma_goes_on, mark_goes_on, unmark_goes_on}
 use Rattle.schema_solver.proofs.Turned.{asked_verdict, asks_begun, asks_on, begun_with, can_begun, carries_on, goes_marked, leads_asked, leads_begun, leads_ended, leads_marked, leads_matched, leads_told, leads_unmarked, says_after, stepped_by, turned_by}
 use Rattle.asked_questions.proofs.AnswersSay.{likewise, otherwise, present_there, says_by_questions}
-use Rattle.schema_solver.proofs.ByQuestions.{match_says, puts_unless, question_ends, question_goes_on, questions_begin, questions_end}
+use Rattle.schema_solver.proofs.ByQuestions.{match_says, question_ends, question_goes_on, questions_begin, questions_end}
 use Rattle.schema_solver.proofs.Stopping.{solved_stops, stops_begun, stops_full, stops_leaning, stops_on, stops_still, turned_stops}
 use Rattle.schema_solver.specs.declared.question.Stopped.TheVariants.{Limit}
 use Rattle.schema_solver.proofs.solve.+verdict.Goals as goal
@@ -59,13 +62,16 @@ lower_same a b t i d l e = omega (arith, l, e)
 lower_across : (a c t d : ℕ) → a ≤ c → 20 * c + suc (suc (suc d)) ≡ t → 20 * a + 2 < t
 lower_across a c t d l e = omega (arith, l, e)
 
+lower_reference : (a c t d : ℕ) → a ≤ c → 20 * c + suc (suc (suc (suc d))) ≡ t → 20 * a + 3 < t
+lower_reference a c t d l e = omega (arith, l, e)
+
 lower_pair : (a c t : ℕ) → c ≡ a → 20 * c + 2 ≡ t → 20 * a + 1 < t
 lower_pair a c t l e = omega (arith, l, e)
 
 lower_free : (a c t : ℕ) → c ≡ suc a → 20 * c + 2 ≡ t → 20 * a + 11 < t
 lower_free a c t l e = omega (arith, l, e)
 
-lower_entered : (a c t : ℕ) → c ≡ suc a → 20 * c ≡ t → 20 * a + 11 < t
+lower_entered : (a c t : ℕ) → c ≡ suc a → 20 * c ≡ t → 20 * a + 12 < t
 lower_entered a c t l e = omega (arith, l, e)
 
 lower_begun : (a c t : ℕ) → a ≡ c → 20 * c + 1 ≡ t → 20 * a < t
@@ -122,102 +128,6 @@ pub edges::solve_pair-returns : goal.edges::solve_pair-returns
 edges::solve_pair-returns g t c =
     let set = solver_by g.K.Validate g.M.Matcher c.args.engine.now in
     subst (λ z. Solves set g.K.Validate.says_monotone c.args.question.now (a_pair c.args.node.0) z c.begin_pair.new.context c.begin_pair.result) c.in_ok-pair.ensures.unchanged c.begin_pair.ensures
-
-pub edges::begin_pair-solve_node-requires : goal.edges::begin_pair-solve_node-requires
-edges::begin_pair-solve_node-requires g t c =
-    let set = solver_by g.K.Validate g.M.Matcher c.args.engine.now in
-    let ns = numbered g.K.Validate.shape c.args.engine.now.nodes.now in
-    let p = steps_to c.args.question.now.place.now in
-    let s = subject_of c.args.question.now.instance in
-    let old = c.args.context.now in
-    let node : c.args.pair.now.node.0 ≡ c.args.node.0 = c.requires.node in
-    let place = c.requires.place in
-    let same : old ≡ old = refl in
-    let laws : (texts : Bool) → EachKeeps (g.K.Validate.words texts) = λ texts m. (g.K.Validate.absorbed m, keeps_of_turns (g.K.Validate.words texts) m (g.K.Validate.absorbed m) (g.K.Validate.remaining m) (g.K.Validate.can_be texts m) (g.K.Validate.ends texts m) (g.K.Validate.fits texts m) (g.met.K.Validate.turn_laws texts m) (g.met.K.Validate.function_laws texts m)) in
-    let begins : Begins c.args.node.0 p old c.enter.new.context = at_pair (λ k z d. Begins k z d c.enter.new.context) node place same c.in_ok-mark.ensures.begins in
-    let idle = at_pair (λ k z d. has_pair d.in_progress k z ≡ false) node place same c.requires.idle in
-    let there : steps_to c.numbered_place-place.result ≡ p = c.numbered_place-place.ensures.same ∙ place in
-    let new = pair_new set old p c.args.node.0 c.args.pair.now.node.0 (place_of c.args.pair.now) c.args.context.now node place same c.requires.unknown c.requires.idle c.requires.free c.args.pair.now.number c.requires.numbered c.requires.own c.requires.may_ask.stands in
-    let may = subst (λ z. MaySolve set c.enter.new.context s z c.args.node.0) (sym there) (begun_may set laws old c.enter.new.context s p c.args.node.0 c.requires.may_ask.may new begins) in
-    let falls = falls_entered set old s p c.args.node.0 c.requires.may_ask.may c.enter.new.context begins idle ∙ ap (λ z. suc (left ns (length c.args.engine.now.nodes.now) c.args.node.0 s (busy_at z c.enter.new.context.in_progress))) (sym there) in
-    let carries : CarriesItsNumber (solver_places c.enter.new.context) c.numbered_place-place.result = subst (λ v. CarriesItsNumber (root_places v) c.numbered_place-place.result) (sym begins.root) (c.numbered_place-place.ensures.carries old c.requires.numbered) in
-    λ κs h. (lower_entered _ _ t falls c.decreases, (h.0, (h.1.0, (h.1.1.0, (h.1.1.1, record { may = may; carries = carries; stands = tt })))))
-
-pub edges::begin_pair-returns-in_err-may_begin : goal.edges::begin_pair-returns-in_err-may_begin
-edges::begin_pair-returns-in_err-may_begin g t c =
-    let set = solver_by g.K.Validate g.M.Matcher c.args.engine.now in
-    let says = g.K.Validate.says_monotone in
-    let p = steps_to c.args.question.now.place.now in
-    let i = c.args.node.0 in
-    let old = c.args.context.now in
-    let node : c.args.pair.now.node.0 ≡ c.args.node.0 = c.requires.node in
-    let place = c.requires.place in
-    let same : old ≡ old = refl in
-    let new = pair_new set old p i c.args.pair.now.node.0 (place_of c.args.pair.now) c.args.context.now node place same c.requires.unknown c.requires.idle c.requires.free c.args.pair.now.number c.requires.numbered c.requires.own c.requires.may_ask.stands in
-    let now = c.args.context.now in
-    let full = c.in_err-may_begin.ensures.stops in
-    let few : full.1.0 ≤ old.begun = subst (λ (z : Solver). full.1.0 ≤ z.begun) same full.1.2 in
-    let stops = subst (λ z. Stops set says old z Limit) (sym same) (stops_full set says old p i new full.1.0 full.1.1 few) in
-    solved_stops set says p old now _ c.from_residual.result _ c.from_residual.ensures.1 (subst (Stops set says old now) (sym full.0) stops)
-
-pub edges::begin_pair-returns-in_err-said : goal.edges::begin_pair-returns-in_err-said
-edges::begin_pair-returns-in_err-said g t c =
-    let set = solver_by g.K.Validate g.M.Matcher c.args.engine.now in
-    let says = g.K.Validate.says_monotone in
-    let p = steps_to c.args.question.now.place.now in
-    let i = c.args.node.0 in
-    let old = c.args.context.now in
-    let node : c.args.pair.now.node.0 ≡ c.args.node.0 = c.requires.node in
-    let place = c.requires.place in
-    let same : old ≡ old = refl in
-    let new = pair_new set old p i c.args.pair.now.node.0 (place_of c.args.pair.now) c.args.context.now node place same c.requires.unknown c.requires.idle c.requires.free c.args.pair.now.number c.requires.numbered c.requires.own c.requires.may_ask.stands in
-    let begins : Begins i p old c.enter.new.context = at_pair (λ k z d. Begins k z d c.enter.new.context) node place same c.in_ok-mark.ensures.begins in
-    let room : HasRoom set old = at_pair (λ k z d. HasRoom set d) node place same c.in_ok-may_begin.ensures.room in
-    solved_stops set says p old c.solve_node.new.context _ c.from_residual-in_err-said.result _ c.from_residual-in_err-said.ensures.1
-    (stops_begun set says old c.enter.new.context c.solve_node.new.context p i _ new room begins c.in_err-said.ensures.stops)
-
-pub edges::begin_pair-keep_answer-requires-clause-apart : goal.edges::begin_pair-keep_answer-requires-clause-apart
-edges::begin_pair-keep_answer-requires-clause-apart g t c =
-    let set = solver_by g.K.Validate g.M.Matcher c.args.engine.now in
-    let p = steps_to c.args.question.now.place.now in
-    let s = subject_of c.args.question.now.instance in
-    let old = c.args.context.now in
-    let node : c.args.pair.now.node.0 ≡ c.args.node.0 = c.requires.node in
-    let place = c.requires.place in
-    let same : old ≡ old = refl in
-    let laws : (texts : Bool) → EachKeeps (g.K.Validate.words texts) = λ texts m. (g.K.Validate.absorbed m, keeps_of_turns (g.K.Validate.words texts) m (g.K.Validate.absorbed m) (g.K.Validate.remaining m) (g.K.Validate.can_be texts m) (g.K.Validate.ends texts m) (g.K.Validate.fits texts m) (g.met.K.Validate.turn_laws texts m) (g.met.K.Validate.function_laws texts m)) in
-    let ran = pair_ran set old p c.args.node.0 c.args.pair.now.node.0 (place_of c.args.pair.now) (steps_to c.numbered_place-place.result) c.args.context.now c.enter.new.context c.solve_node.new.context c.exit.new.context c.in_ok-mark.mark c.in_ok-said.said
-    node place same c.numbered_place-place.ensures.same c.requires.unknown c.requires.idle c.requires.free c.args.pair.now.number c.requires.numbered c.requires.own c.requires.may_ask.stands
-    c.in_ok-may_begin.ensures.room c.in_ok-mark.ensures.begins c.in_ok-said.ensures.goes c.in_ok-said.ensures.says c.in_ok-mark.ensures.mark c.exit.ensures.left c.exit.ensures.root c.exit.ensures.assumed c.exit.ensures.verdicts c.exit.ensures.marking c.exit.ensures.begun in
-    apart_mark set old p c.args.node.0 c.enter.new.context c.solve_node.new.context c.exit.new.context c.in_ok-mark.mark c.in_ok-said.said ran
-
-pub edges::begin_pair-returns : goal.edges::begin_pair-returns
-edges::begin_pair-returns g t c =
-    let set = solver_by g.K.Validate g.M.Matcher c.args.engine.now in
-    let p = steps_to c.args.question.now.place.now in
-    let s = subject_of c.args.question.now.instance in
-    let old = c.args.context.now in
-    let node : c.args.pair.now.node.0 ≡ c.args.node.0 = c.requires.node in
-    let place = c.requires.place in
-    let same : old ≡ old = refl in
-    let laws : (texts : Bool) → EachKeeps (g.K.Validate.words texts) = λ texts m. (g.K.Validate.absorbed m, keeps_of_turns (g.K.Validate.words texts) m (g.K.Validate.absorbed m) (g.K.Validate.remaining m) (g.K.Validate.can_be texts m) (g.K.Validate.ends texts m) (g.K.Validate.fits texts m) (g.met.K.Validate.turn_laws texts m) (g.met.K.Validate.function_laws texts m)) in
-    let ran = pair_ran set old p c.args.node.0 c.args.pair.now.node.0 (place_of c.args.pair.now) (steps_to c.numbered_place-place.result) c.args.context.now c.enter.new.context c.solve_node.new.context c.exit.new.context c.in_ok-mark.mark c.in_ok-said.said
-    node place same c.numbered_place-place.ensures.same c.requires.unknown c.requires.idle c.requires.free c.args.pair.now.number c.requires.numbered c.requires.own c.requires.may_ask.stands
-    c.in_ok-may_begin.ensures.room c.in_ok-mark.ensures.begins c.in_ok-said.ensures.goes c.in_ok-said.ensures.says c.in_ok-mark.ensures.mark c.exit.ensures.left c.exit.ensures.root c.exit.ensures.assumed c.exit.ensures.verdicts c.exit.ensures.marking c.exit.ensures.begun in
-    let x = c.exit.new.context in
-    let n = c.keep_answer.new.context in
-    let mark = c.in_ok-mark.mark in
-    let said = c.in_ok-said.said in
-    let now = c.in_ok-kept.kept in
-    let as_no = at_pair (λ k z d. said.valid ≡ false → Refuses k z mark x n) node place same c.in_ok-kept.ensures.refused in
-    let as_yes = at_pair (λ k z d. said.valid ≡ true → Accepts k z mark said now x n) node place same c.in_ok-kept.ensures.accepted in
-    let kept = ran_kept set laws old s p c.args.node.0 c.requires.may_ask.may c.enter.new.context c.solve_node.new.context x mark said ran n c.keep_answer.ensures.root c.keep_answer.ensures.in_progress c.keep_answer.ensures.marking c.keep_answer.ensures.begun now c.in_ok-kept.ensures.valid as_no as_yes in
-    record {
-      goes = kept.0;
-      marking = search rules;
-      says = λ texts tells. kept.1;
-      stops = tt;
-    }
 
 pub edges::solve_edge-solve_pair-requires : goal.edges::solve_edge-solve_pair-requires
 edges::solve_edge-solve_pair-requires g t c =
@@ -353,144 +263,6 @@ edges::solve_child-returns-in-Some-one_below g t c = record {
 
 -- ---- the entries of which all is told at once
 
-pub entries::solve_entries-loop-place-init : goal.entries::solve_entries-loop-place-init
-entries::solve_entries-loop-place-init g t c =
-    let set = solver_by g.K.Validate g.M.Matcher c.args.engine.now in
-    record {
-      goes = goes_none set (steps_to c.args.question.now.place.now) c.args.context.now c.requires.may.sound;
-      marking = refl;
-      leads = λ texts tells. record { same = λ answers fits. refl; refuses = λ answers no. no };
-    }
-
-pub entries::solve_entries-loop-place-preserved : goal.entries::solve_entries-loop-place-preserved
-entries::solve_entries-loop-place-preserved g t c =
-    let set = solver_by g.K.Validate g.M.Matcher c.args.engine.now in
-    let p = steps_to c.args.question.now.place.now in
-    let s = subject_of c.args.question.now.instance in
-    let old = c.args.context.now in
-    let here = c.loop-place.context in
-    let went = c.loop-place.invariant.goes in
-    let parts = λ (es : List (Entry g.row.K.Denot)). map (shaped_part g.K.Validate.shape) (map entry_of es) in
-    let laws : (texts : Bool) → EachKeeps (g.K.Validate.words texts) = λ texts m. (g.K.Validate.absorbed m, keeps_of_turns (g.K.Validate.words texts) m (g.K.Validate.absorbed m) (g.K.Validate.remaining m) (g.K.Validate.can_be texts m) (g.K.Validate.ends texts m) (g.K.Validate.fits texts m) (g.met.K.Validate.turn_laws texts m) (g.met.K.Validate.function_laws texts m)) in
-    let entry = c.index-entries-place.result in
-    let told = c.in-Some.ensures.tells in
-    let m = g.K.Validate.shape told.keyword in
-    let x = shaped_part g.K.Validate.shape (entry_of entry) in
-    let rest = parts (drop (c.loop-place.place + 1) c.args.entries.now) in
-    let split = ap parts (drop_at c.args.entries.now c.loop-place.place entry c.loop-place-test.true c.index-entries-place.is) in
-    let is : x.form ≡ node_keyword m told.children = ap (shaped_form g.K.Validate.shape) told.is in
-    let among = part_at entry_of (shaped_part g.K.Validate.shape) c.args.entries.now c.loop-place.place entry c.loop-place-test.true c.index-entries-place.is in
-    let form : HasForm (numbered g.K.Validate.shape c.args.engine.now.nodes.now) c.args.node.0 (node_keyword m told.children) = (c.requires.stands.0, c.requires.stands.1, x, c.requires.stands.2 _ among, is) in
-    let tells : InEach set (view here.root) (λ texts w. FormTells w p (found_of here) x.form c.in-Some.valid false) =
-    subst (λ f. InEach set (view here.root) (λ texts w. FormTells w p (found_of here) f c.in-Some.valid false)) (sym is)
-    (says_at_once set laws here s p c.args.node.0 (may_after set p old here s c.args.node.0 c.requires.may went) m told.children form (g.K.Validate.absorbed m) (g.K.Validate.remaining m) (λ texts. g.K.Validate.can_be texts m) (λ texts. g.K.Validate.ends texts m) (λ texts. g.K.Validate.fits texts m) (λ texts. g.met.K.Validate.turn_laws texts m) c.in-Some.valid told.at_once) in
-    let so_far : InEach set (view here.root) (λ texts w. SaysTheRest w p (found_of here) false (parts c.args.entries.now) (x ∷ rest)) = subst (λ left. InEach set (view here.root) (λ texts w. SaysTheRest w p (found_of here) false (parts c.args.entries.now) left)) split c.loop-place.invariant.leads in
-    record {
-      goes = went;
-      marking = c.loop-place.invariant.marking;
-      leads = entry_accepts set p here here (goes_none set p here went.sound) (parts c.args.entries.now) x rest false so_far false (subst (λ b. InEach set (view here.root) (λ texts w. FormTells w p (found_of here) x.form b false)) c.if-not-valid.false tells);
-    }
-
-pub entries::solve_entries-returns-then-not-valid : goal.entries::solve_entries-returns-then-not-valid
-entries::solve_entries-returns-then-not-valid g t c =
-    let set = solver_by g.K.Validate g.M.Matcher c.args.engine.now in
-    let p = steps_to c.args.question.now.place.now in
-    let s = subject_of c.args.question.now.instance in
-    let old = c.args.context.now in
-    let here = c.loop-place.context in
-    let went = c.loop-place.invariant.goes in
-    let parts = λ (es : List (Entry g.row.K.Denot)). map (shaped_part g.K.Validate.shape) (map entry_of es) in
-    let laws : (texts : Bool) → EachKeeps (g.K.Validate.words texts) = λ texts m. (g.K.Validate.absorbed m, keeps_of_turns (g.K.Validate.words texts) m (g.K.Validate.absorbed m) (g.K.Validate.remaining m) (g.K.Validate.can_be texts m) (g.K.Validate.ends texts m) (g.K.Validate.fits texts m) (g.met.K.Validate.turn_laws texts m) (g.met.K.Validate.function_laws texts m)) in
-    let entry = c.index-entries-place.result in
-    let told = c.in-Some.ensures.tells in
-    let m = g.K.Validate.shape told.keyword in
-    let x = shaped_part g.K.Validate.shape (entry_of entry) in
-    let rest = parts (drop (c.loop-place.place + 1) c.args.entries.now) in
-    let split = ap parts (drop_at c.args.entries.now c.loop-place.place entry c.loop-place-test.true c.index-entries-place.is) in
-    let is : x.form ≡ node_keyword m told.children = ap (shaped_form g.K.Validate.shape) told.is in
-    let among = part_at entry_of (shaped_part g.K.Validate.shape) c.args.entries.now c.loop-place.place entry c.loop-place-test.true c.index-entries-place.is in
-    let form : HasForm (numbered g.K.Validate.shape c.args.engine.now.nodes.now) c.args.node.0 (node_keyword m told.children) = (c.requires.stands.0, c.requires.stands.1, x, c.requires.stands.2 _ among, is) in
-    let tells : InEach set (view here.root) (λ texts w. FormTells w p (found_of here) x.form c.in-Some.valid false) =
-    subst (λ f. InEach set (view here.root) (λ texts w. FormTells w p (found_of here) f c.in-Some.valid false)) (sym is)
-    (says_at_once set laws here s p c.args.node.0 (may_after set p old here s c.args.node.0 c.requires.may went) m told.children form (g.K.Validate.absorbed m) (g.K.Validate.remaining m) (λ texts. g.K.Validate.can_be texts m) (λ texts. g.K.Validate.ends texts m) (λ texts. g.K.Validate.fits texts m) (λ texts. g.met.K.Validate.turn_laws texts m) c.in-Some.valid told.at_once) in
-    let so_far : InEach set (view here.root) (λ texts w. SaysTheRest w p (found_of here) false (parts c.args.entries.now) (x ∷ rest)) = subst (λ left. InEach set (view here.root) (λ texts w. SaysTheRest w p (found_of here) false (parts c.args.entries.now) left)) split c.loop-place.invariant.leads in
-    record {
-      goes = went;
-      marking = c.loop-place.invariant.marking;
-      says = rw c.settled.ensures.said (entry_refuses set p here here (goes_none set p here went.sound) (parts c.args.entries.now) x rest false so_far false (subst (λ b. InEach set (view here.root) (λ texts w. FormTells w p (found_of here) x.form b false)) c.if-not-valid.true tells));
-      stops = search rules;
-    }
-
-pub entries::solve_entries-solve_left-requires : goal.entries::solve_entries-solve_left-requires
-entries::solve_entries-solve_left-requires g t c =
-    let set = solver_by g.K.Validate g.M.Matcher c.args.engine.now in
-    let p = steps_to c.args.question.now.place.now in
-    let s = subject_of c.args.question.now.instance in
-    let old = c.args.context.now in
-    let here = c.loop-place.context in
-    let went = c.loop-place.invariant.goes in
-    let parts = λ (es : List (Entry g.row.K.Denot)). map (shaped_part g.K.Validate.shape) (map entry_of es) in
-    let l = ap (λ es. left (numbered g.K.Validate.shape c.args.engine.now.nodes.now) (length c.args.engine.now.nodes.now) c.args.node.0 s (busy_at p es)) went.in_progress in
-    let all = take_rest c.args.entries.now c.loop-place.place in
-    λ κs h. (
-      lower_same _ _ t 9 0 l c.decreases,
-      (
-        h.0,
-        (
-          h.1.0,
-          (
-            h.1.1.0,
-            (
-              h.1.1.1,
-              record {
-                may = may_after set p old here s c.args.node.0 c.requires.may went;
-                carries = carries_on old here c.args.question.now.place.now went.root c.requires.carries;
-                stands = (c.requires.stands.0, c.requires.stands.1, λ y is. c.requires.stands.2 y (part_before entry_of (shaped_part g.K.Validate.shape) c.args.entries.now c.loop-place.place y (subst (λ es. Contains (parts es) y) all is)));
-              },
-            ),
-          ),
-        ),
-      ),
-    )
-
-pub entries::solve_entries-returns-in-None : goal.entries::solve_entries-returns-in-None
-entries::solve_entries-returns-in-None g t c =
-    let set = solver_by g.K.Validate g.M.Matcher c.args.engine.now in
-    let p = steps_to c.args.question.now.place.now in
-    let s = subject_of c.args.question.now.instance in
-    let old = c.args.context.now in
-    let here = c.loop-place.context in
-    let went = c.loop-place.invariant.goes in
-    let parts = λ (es : List (Entry g.row.K.Denot)). map (shaped_part g.K.Validate.shape) (map entry_of es) in
-    let new = c.solve_left.new.context in
-    let rest = parts (drop c.loop-place.place c.args.entries.now) in
-    let says = subst (λ es. IfOk c.solve_left.result (λ b. InEach set (view new.root) (λ texts w. PartsTell w p (found_of new) (parts es) b.valid b.leans))) (take_rest c.args.entries.now c.loop-place.place) c.solve_left.ensures.says in
-    record {
-      goes = if_ok_mono c.solve_left.result _ _ (λ b step. goes_on set p old here new went step) c.solve_left.ensures.goes;
-      marking = if_ok_mono c.solve_left.result _ _ (λ b same. same ∙ c.loop-place.invariant.marking) c.solve_left.ensures.marking;
-      says = if_ok_both c.solve_left.result _ _ _ (λ b step tells. rest_says set p here new step (parts c.args.entries.now) rest c.loop-place.invariant.leads b.valid b.leans tells) c.solve_left.ensures.goes says;
-      stops = IfErr-weaker c.solve_left.result _ _ (λ e stops. stops_on set g.K.Validate.says_monotone p old here new e went stops) c.solve_left.ensures.stops;
-    }
-
-pub entries::solve_entries-returns : goal.entries::solve_entries-returns
-entries::solve_entries-returns g t c =
-    let set = solver_by g.K.Validate g.M.Matcher c.args.engine.now in
-    let p = steps_to c.args.question.now.place.now in
-    let s = subject_of c.args.question.now.instance in
-    let old = c.args.context.now in
-    let here = c.loop-place.context in
-    let went = c.loop-place.invariant.goes in
-    let parts = λ (es : List (Entry g.row.K.Denot)). map (shaped_part g.K.Validate.shape) (map entry_of es) in
-    let none = ap parts (drop_past c.args.entries.now c.loop-place.place c.loop-place-test.false) in
-    record {
-      goes = went;
-      marking = c.loop-place.invariant.marking;
-      says = rw c.settled-2.ensures.said (λ texts tells answers fits. (c.loop-place.invariant.leads texts tells).same answers fits ∙ ap (parts_by (solving_in set (view here.root) texts) p answers) none);
-      stops = search rules;
-    }
-
--- ---- the others
-
 pub entries::solve_left-loop-entry-init : goal.entries::solve_left-loop-entry-init
 entries::solve_left-loop-entry-init g t c =
     let set = solver_by g.K.Validate g.M.Matcher c.args.engine.now in
@@ -613,32 +385,6 @@ entries::solve_form-solve_edge-requires g t c =
     let l = falls_across ns count cut (cut_guards (is_followed_in c.args.engine.now.followed.now)) c.requires.may.ranked c.args.node.0 s (busy_at p old.in_progress) e c.requires.may.known k in
     λ κs h. (lower_across _ _ t 5 l c.decreases, (h.0, (h.1.0, (h.1.1.0, (h.1.1.1, record { may = may_cross set old s p c.args.node.0 e c.requires.may k; carries = c.requires.carries; stands = (c.args.node.0, c.requires.may.known, k) })))))
 
-pub entries::solve_keyword-solve_asked-requires : goal.entries::solve_keyword-solve_asked-requires
-entries::solve_keyword-solve_asked-requires g t c =
-    λ κs h. (lower_same _ _ t 6 0 refl c.decreases, (h.0, (h.1.0, (h.1.1.0, (h.1.1.1, record { may = c.requires.may; carries = c.requires.carries; stands = rw (c.in-Keyword.is, ← c.as_slice.ensures.value) at c.requires.stands })))))
-
-pub entries::solve_keyword-returns-in-Keyword : goal.entries::solve_keyword-returns-in-Keyword
-entries::solve_keyword-returns-in-Keyword g t c = record {
-  goes = search rules;
-  marking = search rules;
-  says = rw (c.in-Keyword.is, ← c.as_slice.ensures.value) c.solve_asked.ensures.says;
-  stops = search rules;
-}
-
-pub entries::solve_keyword-solve_edge-requires : goal.entries::solve_keyword-solve_edge-requires
-entries::solve_keyword-solve_edge-requires g t c =
-    let set = solver_by g.K.Validate g.M.Matcher c.args.engine.now in
-    let ns = numbered g.K.Validate.shape c.args.engine.now.nodes.now in
-    let p = steps_to c.args.question.now.place.now in
-    let s = subject_of c.args.question.now.instance in
-    let old = c.args.context.now in
-    let e = edge_of c.in-Reference.edge in
-    let count = length c.args.engine.now.nodes.now in
-    let k = reference_edge ns c.args.node.0 e (rw c.in-Reference.is at c.requires.stands) in
-    let cut = is_cut (is_followed_in c.args.engine.now.followed.now) in
-    let l = falls_across ns count cut (cut_guards (is_followed_in c.args.engine.now.followed.now)) c.requires.may.ranked c.args.node.0 s (busy_at p old.in_progress) e c.requires.may.known k in
-    λ κs h. (lower_across _ _ t 4 l c.decreases, (h.0, (h.1.0, (h.1.1.0, (h.1.1.1, record { may = may_cross set old s p c.args.node.0 e c.requires.may k; carries = c.requires.carries; stands = (c.args.node.0, c.requires.may.known, k) })))))
-
 pub entries::solve_node-solve_entries-requires : goal.entries::solve_node-solve_entries-requires
 entries::solve_node-solve_entries-requires g t c =
     let plan = plan_is g.K.Validate.shape c.args.engine.now.nodes.now c.args.node.0 (node_of c.node.result.now) _ c.node.ensures.found (ap (option_map plan_of) c.in-Some.is ∙ ap (λ f. Some (plan_of f)) c.in-Keywords.is) in
@@ -692,141 +438,6 @@ entries::solve_node-returns-in-Keywords g t c = record {
 }
 
 -- ---- what a keyword asks at once
-
-pub asking::solve_asked-finished_match-requires : goal.asking::solve_asked-finished_match-requires
-asking::solve_asked-finished_match-requires g t c = record { finishes = c.requires.may.finishes }
-
-pub asking::solve_asked-returns-in_ok-matches-in-Match : goal.asking::solve_asked-returns-in_ok-matches-in-Match
-asking::solve_asked-returns-in_ok-matches-in-Match g t c = record {
-  goes =
-      let set = solver_by g.K.Validate g.M.Matcher c.args.engine.now in
-      goes_none set (steps_to c.args.question.now.place.now) c.args.context.now c.requires.may.sound;
-  marking = search rules;
-  says =
-      let set = solver_by g.K.Validate g.M.Matcher c.args.engine.now in
-      let p = steps_to c.args.question.now.place.now in
-      let s = subject_of c.args.question.now.instance in
-      let m = g.K.Validate.shape c.args.keyword.now.keyword.now in
-      let es = map (option_map edge_of) c.args.keyword.now.children.now in
-      rw c.settled.ensures.said (match_says set c.args.context.now s p c.args.node.0 c.requires.may m es c.requires.stands c.in-Match.pattern.now c.in-Match.subject.now c.in_ok-matches-in-Match.matches c.in_ok-matches-in-Match.ensures.answer
-      (λ texts tells. (c.in-Match.ensures.asks texts tells).says refl));
-  stops = search rules;
-}
-
-pub asking::solve_asked-solver_answer-requires : goal.asking::solve_asked-solver_answer-requires
-asking::solve_asked-solver_answer-requires g t c =
-    λ κs h. (lower_same _ _ t 5 0 refl c.decreases, (h.0, (h.1.0, (h.1.1.0, (h.1.1.1, c.requires)))))
-
-pub asking::solve_asked-solve_questions-requires : goal.asking::solve_asked-solve_questions-requires
-asking::solve_asked-solve_questions-requires g t c =
-    let puts = puts_unless c.asking-asking.result c.in_default.not-ByTurns c.in_default.not-Match in
-    λ κs h. (lower_same _ _ t 4 1 refl c.decreases, (h.0, (h.1.0, (h.1.1.0, (h.1.1.1, (c.requires, (puts, c.asking-asking.ensures.asks)))))))
-
-pub asking::solve_questions-put_questions-questions-requires : goal.asking::solve_questions-put_questions-questions-requires
-asking::solve_questions-put_questions-questions-requires g t c =
-    let s = subject_of c.args.question.now.instance in
-    let m = g.K.Validate.shape c.args.keyword.now.keyword.now in
-    record { puts = c.requires.puts; own = (c.requires.asks false (tells_nothing (g.K.Validate.is_whole m) s)).own }
-
-pub asking::solve_questions-loop-asked-init : goal.asking::solve_questions-loop-asked-init
-asking::solve_questions-loop-asked-init g t c =
-    let set = solver_by g.K.Validate g.M.Matcher c.args.engine.now in
-    let p = steps_to c.args.question.now.place.now in
-    let s = subject_of c.args.question.now.instance in
-    let m = g.K.Validate.shape c.args.keyword.now.keyword.now in
-    let es = map (option_map edge_of) c.args.keyword.now.children.now in
-    let all = c.has_to_be_each-all.result in
-    let left = c.put_questions-questions.result.left in
-    record {
-      goes = goes_none set p c.args.context.now c.requires.may_ask.may.sound;
-      marking = refl;
-      there = c.put_questions-questions.ensures.there;
-      leads = questions_begin set c.args.context.now s p c.args.node.0 c.requires.may_ask.may m es c.requires.may_ask.stands all left
-          (says_by_questions set.words set.is_whole s m c.args.asking c.requires.asks c.requires.puts all c.has_to_be_each-all.ensures.all left c.put_questions-questions.ensures.left);
-    }
-
-pub asking::solve_questions-solve_there-requires : goal.asking::solve_questions-solve_there-requires
-asking::solve_questions-solve_there-requires g t c =
-    let set = solver_by g.K.Validate g.M.Matcher c.args.engine.now in
-    let ns = numbered g.K.Validate.shape c.args.engine.now.nodes.now in
-    let p = steps_to c.args.question.now.place.now in
-    let s = subject_of c.args.question.now.instance in
-    let m = g.K.Validate.shape c.args.keyword.now.keyword.now in
-    let es = map (option_map edge_of) c.args.keyword.now.children.now in
-    let went = c.loop-asked.invariant.goes in
-    let l = ap (λ es. left ns (length c.args.engine.now.nodes.now) c.args.node.0 s (busy_at p es)) went.in_progress in
-    let there = subst (λ z. StandsThere z c.in-Some.asked) c.loop-asked.invariant.there c.in-Some.ensures.there in
-    λ κs h. (lower_same _ _ t 3 0 l c.decreases, (h.0, (h.1.0, (h.1.1.0, (h.1.1.1, (record { may = may_after set p c.args.context.now c.loop-asked.context s c.args.node.0 c.requires.may_ask.may went; carries = carries_on c.args.context.now c.loop-asked.context c.args.question.now.place.now went.root c.requires.may_ask.carries; stands = (keyword_children ns c.args.node.0 m es c.requires.may_ask.stands, present_there s c.in-Some.asked there) }, there))))))
-
-pub asking::solve_questions-returns-in_err-said : goal.asking::solve_questions-returns-in_err-said
-asking::solve_questions-returns-in_err-said g t c =
-    let set = solver_by g.K.Validate g.M.Matcher c.args.engine.now in
-    let says = g.K.Validate.says_monotone in
-    let p = steps_to c.args.question.now.place.now in
-    solved_stops set says p c.args.context.now c.solve_there.new.context _ c.from_residual.result _ c.from_residual.ensures.1
-    (stops_on set says p c.args.context.now c.loop-asked.context c.solve_there.new.context _ c.loop-asked.invariant.goes c.in_err-said.ensures.stops)
-
-pub asking::solve_questions-returns-then-valid-all : goal.asking::solve_questions-returns-then-valid-all
-asking::solve_questions-returns-then-valid-all g t c = record {
-  goes =
-      let set = solver_by g.K.Validate g.M.Matcher c.args.engine.now in
-      let p = steps_to c.args.question.now.place.now in
-      goes_on set p c.args.context.now c.loop-asked.context c.solve_there.new.context c.loop-asked.invariant.goes c.in_ok-said.ensures.goes;
-  marking =
-      c.in_ok-said.ensures.marking ∙ c.loop-asked.invariant.marking;
-  says =
-      let set = solver_by g.K.Validate g.M.Matcher c.args.engine.now in
-      let p = steps_to c.args.question.now.place.now in
-      let m = g.K.Validate.shape c.args.keyword.now.keyword.now in
-      let es = map (option_map edge_of) c.args.keyword.now.children.now in
-      let laws : (texts : Bool) → EachKeeps (g.K.Validate.words texts) = λ texts m. (g.K.Validate.absorbed m, keeps_of_turns (g.K.Validate.words texts) m (g.K.Validate.absorbed m) (g.K.Validate.remaining m) (g.K.Validate.can_be texts m) (g.K.Validate.ends texts m) (g.K.Validate.fits texts m) (g.met.K.Validate.turn_laws texts m) (g.met.K.Validate.function_laws texts m)) in
-      let here = c.loop-asked.context in
-      let next = c.solve_there.new.context in
-      let rest = c.next.new.self.left in
-      let so_far : InEach set (view here.root) (λ texts w. SaysByTheRest w p (found_of here) m es c.has_to_be_each-all.result c.loop-asked.leans (question_in c.in-Some.asked ∷ rest)) = subst (λ left. InEach set (view here.root) (λ texts w. SaysByTheRest w p (found_of here) m es c.has_to_be_each-all.result c.loop-asked.leans left)) c.in-Some.ensures.next c.loop-asked.invariant.leads in
-      question_ends set laws c.requires.may_ask.may.ranked p here next c.in_ok-said.ensures.goes m es c.has_to_be_each-all.result c.loop-asked.leans (question_in c.in-Some.asked) rest so_far c.in_ok-said.said.valid c.in_ok-said.said.leans c.in_ok-said.ensures.says (sym c.valid.ensures.valid ∙ otherwise _ _ c.if-valid-all.true);
-  stops = search rules;
-}
-
-pub asking::solve_questions-loop-asked-preserved : goal.asking::solve_questions-loop-asked-preserved
-asking::solve_questions-loop-asked-preserved g t c =
-    let set = solver_by g.K.Validate g.M.Matcher c.args.engine.now in
-    let p = steps_to c.args.question.now.place.now in
-    let m = g.K.Validate.shape c.args.keyword.now.keyword.now in
-    let es = map (option_map edge_of) c.args.keyword.now.children.now in
-    let laws : (texts : Bool) → EachKeeps (g.K.Validate.words texts) = λ texts m. (g.K.Validate.absorbed m, keeps_of_turns (g.K.Validate.words texts) m (g.K.Validate.absorbed m) (g.K.Validate.remaining m) (g.K.Validate.can_be texts m) (g.K.Validate.ends texts m) (g.K.Validate.fits texts m) (g.met.K.Validate.turn_laws texts m) (g.met.K.Validate.function_laws texts m)) in
-    let here = c.loop-asked.context in
-    let next = c.solve_there.new.context in
-    let rest = c.next.new.self.left in
-    let so_far : InEach set (view here.root) (λ texts w. SaysByTheRest w p (found_of here) m es c.has_to_be_each-all.result c.loop-asked.leans (question_in c.in-Some.asked ∷ rest)) = subst (λ left. InEach set (view here.root) (λ texts w. SaysByTheRest w p (found_of here) m es c.has_to_be_each-all.result c.loop-asked.leans left)) c.in-Some.ensures.next c.loop-asked.invariant.leads in
-    record {
-      goes = goes_on set p c.args.context.now here next c.loop-asked.invariant.goes c.in_ok-said.ensures.goes;
-      marking = c.in_ok-said.ensures.marking ∙ c.loop-asked.invariant.marking;
-      there = c.next.ensures.subject ∙ c.loop-asked.invariant.there;
-      leads = rw c.leans-leans.ensures.leans (question_goes_on set laws c.requires.may_ask.may.ranked p here next c.in_ok-said.ensures.goes m es c.has_to_be_each-all.result c.loop-asked.leans (question_in c.in-Some.asked) rest so_far c.in_ok-said.said.valid c.in_ok-said.said.leans c.in_ok-said.ensures.says (sym c.valid.ensures.valid ∙ likewise _ _ c.if-valid-all.false));
-    }
-
-pub asking::solve_questions-loop-asked-smaller : goal.asking::solve_questions-loop-asked-smaller
-asking::solve_questions-loop-asked-smaller g t c =
-    let one : length c.loop-asked.questions.left ≡ suc (length c.next.new.self.left) = ap length c.in-Some.ensures.next in
-    omega (arith, one)
-
-pub asking::solve_questions-returns : goal.asking::solve_questions-returns
-asking::solve_questions-returns g t c = record {
-  goes =
-      c.loop-asked.invariant.goes;
-  marking =
-      c.loop-asked.invariant.marking;
-  says =
-      let set = solver_by g.K.Validate g.M.Matcher c.args.engine.now in
-      let p = steps_to c.args.question.now.place.now in
-      let m = g.K.Validate.shape c.args.keyword.now.keyword.now in
-      let es = map (option_map edge_of) c.args.keyword.now.children.now in
-      let here = c.loop-asked.context in
-      let none = subst (λ left. InEach set (view here.root) (λ texts w. SaysByTheRest w p (found_of here) m es c.has_to_be_each-all.result c.loop-asked.leans left)) c.in_default.ensures.next c.loop-asked.invariant.leads in
-      rw c.of.ensures.said (questions_end set here p m es c.has_to_be_each-all.result c.loop-asked.leans none);
-  stops = search rules;
-}
 
 pub asking::solve_there-solve_edge-requires : goal.asking::solve_there-solve_edge-requires
 asking::solve_there-solve_edge-requires g t c =
@@ -1266,3 +877,637 @@ turns::solver_turns-turns-preserved g t c =
       leads = leads_unmarked set m (g.K.Validate.absorbed m) (g.K.Validate.remaining m) (λ texts. g.K.Validate.can_be texts m) (λ texts. g.K.Validate.ends texts m) (λ texts. g.K.Validate.fits texts m) (λ texts. g.met.K.Validate.turn_laws texts m) s keeps c.args.context.now p c.args.node.0 c.requires.may_ask.may es c.requires.may_ask.stands c.turns.context next stays c.turns.leans c.turns.context.marking next.marking
           (λ texts. (c.turns.run, answer_of texts c.turns.answer)) (λ texts. (c.turn.new.run, answer_of texts c.turn.new.answer)) (λ texts. told_reply c.turns.told) turned stepped e.left c.turns.invariant.leads;
     }
+
+pub asking::solve_counted-loop-asked-init : goal.asking::solve_counted-loop-asked-init
+asking::solve_counted-loop-asked-init g t c =
+    let set = solver_by g.K.Validate g.M.Matcher c.args.engine.now in
+    let p = steps_to c.args.question.now.place.now in
+    let s = subject_of c.args.question.now.instance in
+    let m = g.K.Validate.shape c.args.keyword.now in
+    let es = map (option_map edge_of) c.args.children.now in
+    record {
+      goes = goes_none set p c.args.context.now c.requires.may_ask.may.sound;
+      marking = refl;
+      there = c.requires.there;
+      leads = questions_begin set c.args.context.now s p c.args.node.0 c.requires.may_ask.may m es c.requires.may_ask.stands c.args.all c.args.questions.left c.requires.says;
+    }
+
+pub asking::solve_counted-solve_there-requires : goal.asking::solve_counted-solve_there-requires
+asking::solve_counted-solve_there-requires g t c =
+    let set = solver_by g.K.Validate g.M.Matcher c.args.engine.now in
+    let ns = numbered g.K.Validate.shape c.args.engine.now.nodes.now in
+    let p = steps_to c.args.question.now.place.now in
+    let s = subject_of c.args.question.now.instance in
+    let m = g.K.Validate.shape c.args.keyword.now in
+    let es = map (option_map edge_of) c.args.children.now in
+    let went = c.loop-asked.invariant.goes in
+    let l = ap (λ es. left ns (length c.args.engine.now.nodes.now) c.args.node.0 s (busy_at p es)) went.in_progress in
+    let there = subst (λ z. StandsThere z c.in-Some.asked) c.loop-asked.invariant.there c.in-Some.ensures.there in
+    λ κs h. (lower_same _ _ t 3 0 l c.decreases, (h.0, (h.1.0, (h.1.1.0, (h.1.1.1, (record { may = may_after set p c.args.context.now c.loop-asked.context s c.args.node.0 c.requires.may_ask.may went; carries = carries_on c.args.context.now c.loop-asked.context c.args.question.now.place.now went.root c.requires.may_ask.carries; stands = (keyword_children ns c.args.node.0 m es c.requires.may_ask.stands, present_there s c.in-Some.asked there) }, there))))))
+
+pub asking::solve_counted-returns-in_err-said : goal.asking::solve_counted-returns-in_err-said
+asking::solve_counted-returns-in_err-said g t c =
+    let set = solver_by g.K.Validate g.M.Matcher c.args.engine.now in
+    let says = g.K.Validate.says_monotone in
+    let p = steps_to c.args.question.now.place.now in
+    solved_stops set says p c.args.context.now c.solve_there.new.context _ c.from_residual.result _ c.from_residual.ensures.1
+    (stops_on set says p c.args.context.now c.loop-asked.context c.solve_there.new.context _ c.loop-asked.invariant.goes c.in_err-said.ensures.stops)
+
+pub asking::solve_counted-returns-then-valid-all : goal.asking::solve_counted-returns-then-valid-all
+asking::solve_counted-returns-then-valid-all g t c = record {
+  goes =
+      let set = solver_by g.K.Validate g.M.Matcher c.args.engine.now in
+      let p = steps_to c.args.question.now.place.now in
+      goes_on set p c.args.context.now c.loop-asked.context c.solve_there.new.context c.loop-asked.invariant.goes c.in_ok-said.ensures.goes;
+  marking =
+      c.in_ok-said.ensures.marking ∙ c.loop-asked.invariant.marking;
+  says =
+      let set = solver_by g.K.Validate g.M.Matcher c.args.engine.now in
+      let p = steps_to c.args.question.now.place.now in
+      let m = g.K.Validate.shape c.args.keyword.now in
+      let es = map (option_map edge_of) c.args.children.now in
+      let laws : (texts : Bool) → EachKeeps (g.K.Validate.words texts) = λ texts m. (g.K.Validate.absorbed m, keeps_of_turns (g.K.Validate.words texts) m (g.K.Validate.absorbed m) (g.K.Validate.remaining m) (g.K.Validate.can_be texts m) (g.K.Validate.ends texts m) (g.K.Validate.fits texts m) (g.met.K.Validate.turn_laws texts m) (g.met.K.Validate.function_laws texts m)) in
+      let here = c.loop-asked.context in
+      let next = c.solve_there.new.context in
+      let rest = c.next.new.self.left in
+      let so_far : InEach set (view here.root) (λ texts w. SaysByTheRest w p (found_of here) m es c.args.all c.loop-asked.leans (question_in c.in-Some.asked ∷ rest)) = subst (λ left. InEach set (view here.root) (λ texts w. SaysByTheRest w p (found_of here) m es c.args.all c.loop-asked.leans left)) c.in-Some.ensures.next c.loop-asked.invariant.leads in
+      question_ends set laws c.requires.may_ask.may.ranked p here next c.in_ok-said.ensures.goes m es c.args.all c.loop-asked.leans (question_in c.in-Some.asked) rest so_far c.in_ok-said.said.valid c.in_ok-said.said.leans c.in_ok-said.ensures.says (sym c.valid.ensures.valid ∙ otherwise _ _ c.if-valid-all.true);
+  stops = search rules;
+}
+
+pub asking::solve_counted-loop-asked-preserved : goal.asking::solve_counted-loop-asked-preserved
+asking::solve_counted-loop-asked-preserved g t c =
+    let set = solver_by g.K.Validate g.M.Matcher c.args.engine.now in
+    let p = steps_to c.args.question.now.place.now in
+    let m = g.K.Validate.shape c.args.keyword.now in
+    let es = map (option_map edge_of) c.args.children.now in
+    let laws : (texts : Bool) → EachKeeps (g.K.Validate.words texts) = λ texts m. (g.K.Validate.absorbed m, keeps_of_turns (g.K.Validate.words texts) m (g.K.Validate.absorbed m) (g.K.Validate.remaining m) (g.K.Validate.can_be texts m) (g.K.Validate.ends texts m) (g.K.Validate.fits texts m) (g.met.K.Validate.turn_laws texts m) (g.met.K.Validate.function_laws texts m)) in
+    let here = c.loop-asked.context in
+    let next = c.solve_there.new.context in
+    let rest = c.next.new.self.left in
+    let so_far : InEach set (view here.root) (λ texts w. SaysByTheRest w p (found_of here) m es c.args.all c.loop-asked.leans (question_in c.in-Some.asked ∷ rest)) = subst (λ left. InEach set (view here.root) (λ texts w. SaysByTheRest w p (found_of here) m es c.args.all c.loop-asked.leans left)) c.in-Some.ensures.next c.loop-asked.invariant.leads in
+    record {
+      goes = goes_on set p c.args.context.now here next c.loop-asked.invariant.goes c.in_ok-said.ensures.goes;
+      marking = c.in_ok-said.ensures.marking ∙ c.loop-asked.invariant.marking;
+      there = c.next.ensures.subject ∙ c.loop-asked.invariant.there;
+      leads = rw c.leans-leans.ensures.leans (question_goes_on set laws c.requires.may_ask.may.ranked p here next c.in_ok-said.ensures.goes m es c.args.all c.loop-asked.leans (question_in c.in-Some.asked) rest so_far c.in_ok-said.said.valid c.in_ok-said.said.leans c.in_ok-said.ensures.says (sym c.valid.ensures.valid ∙ likewise _ _ c.if-valid-all.false));
+    }
+
+pub asking::solve_counted-loop-asked-smaller : goal.asking::solve_counted-loop-asked-smaller
+asking::solve_counted-loop-asked-smaller g t c =
+    let one : length c.loop-asked.questions.left ≡ suc (length c.next.new.self.left) = ap length c.in-Some.ensures.next in
+    omega (arith, one)
+
+pub asking::solve_counted-returns : goal.asking::solve_counted-returns
+asking::solve_counted-returns g t c = record {
+  goes =
+      c.loop-asked.invariant.goes;
+  marking =
+      c.loop-asked.invariant.marking;
+  says =
+      let set = solver_by g.K.Validate g.M.Matcher c.args.engine.now in
+      let p = steps_to c.args.question.now.place.now in
+      let m = g.K.Validate.shape c.args.keyword.now in
+      let es = map (option_map edge_of) c.args.children.now in
+      let here = c.loop-asked.context in
+      let none = subst (λ left. InEach set (view here.root) (λ texts w. SaysByTheRest w p (found_of here) m es c.args.all c.loop-asked.leans left)) c.in_default.ensures.next c.loop-asked.invariant.leads in
+      rw c.of.ensures.said (questions_end set here p m es c.args.all c.loop-asked.leans none);
+  stops = search rules;
+}
+
+pub asking::solve_members-loop-asked-init : goal.asking::solve_members-loop-asked-init
+asking::solve_members-loop-asked-init g t c =
+    let set = solver_by g.K.Validate g.M.Matcher c.args.engine.now in
+    let p = steps_to c.args.question.now.place.now in
+    let s = subject_of c.args.question.now.instance in
+    let m = g.K.Validate.shape c.args.keyword.now in
+    let es = map (option_map edge_of) c.args.children.now.items in
+    let says : SaysByQuestions set.words set.is_whole s m true c.of-questions.result.left = subst (SaysByQuestions set.words set.is_whole s m true) (sym c.of-questions.ensures.left) c.requires.says in
+    record {
+      goes = goes_none set p c.args.context.now c.requires.may_ask.may.sound;
+      marking = refl;
+      there = c.of-questions.ensures.subject ∙ c.requires.there;
+      leads = questions_begin set c.args.context.now s p c.args.node.0 c.requires.may_ask.may m es c.requires.may_ask.stands true c.of-questions.result.left says;
+    }
+
+pub asking::solve_members-solve_there-requires : goal.asking::solve_members-solve_there-requires
+asking::solve_members-solve_there-requires g t c =
+    let set = solver_by g.K.Validate g.M.Matcher c.args.engine.now in
+    let ns = numbered g.K.Validate.shape c.args.engine.now.nodes.now in
+    let p = steps_to c.args.question.now.place.now in
+    let s = subject_of c.args.question.now.instance in
+    let m = g.K.Validate.shape c.args.keyword.now in
+    let es = map (option_map edge_of) c.args.children.now.items in
+    let went = c.loop-asked.invariant.goes in
+    let l = ap (λ es. left ns (length c.args.engine.now.nodes.now) c.args.node.0 s (busy_at p es)) went.in_progress in
+    let there = subst (λ z. StandsThere z c.in-Some.asked) c.loop-asked.invariant.there c.in-Some.ensures.there in
+    λ κs h. (lower_same _ _ t 3 0 l c.decreases, (h.0, (h.1.0, (h.1.1.0, (h.1.1.1, (record { may = may_after set p c.args.context.now c.loop-asked.context s c.args.node.0 c.requires.may_ask.may went; carries = carries_on c.args.context.now c.loop-asked.context c.args.question.now.place.now went.root c.requires.may_ask.carries; stands = (subst (λ z. HasChildren ns c.args.node.0 (map (option_map edge_of) z)) (sym c.as_slice-kept.ensures.value) (keyword_children ns c.args.node.0 m es c.requires.may_ask.stands), present_there s c.in-Some.asked there) }, there))))))
+
+pub asking::solve_members-returns-in_err-said : goal.asking::solve_members-returns-in_err-said
+asking::solve_members-returns-in_err-said g t c =
+    let set = solver_by g.K.Validate g.M.Matcher c.args.engine.now in
+    let says = g.K.Validate.says_monotone in
+    let p = steps_to c.args.question.now.place.now in
+    solved_stops set says p c.args.context.now c.solve_there.new.context _ c.from_residual.result _ c.from_residual.ensures.1
+    (stops_on set says p c.args.context.now c.loop-asked.context c.solve_there.new.context _ c.loop-asked.invariant.goes c.in_err-said.ensures.stops)
+
+pub asking::solve_members-returns-then-not-valid : goal.asking::solve_members-returns-then-not-valid
+asking::solve_members-returns-then-not-valid g t c = record {
+  goes =
+      let set = solver_by g.K.Validate g.M.Matcher c.args.engine.now in
+      let p = steps_to c.args.question.now.place.now in
+      goes_on set p c.args.context.now c.loop-asked.context c.solve_there.new.context c.loop-asked.invariant.goes c.in_ok-said.ensures.goes;
+  marking =
+      c.in_ok-said.ensures.marking ∙ c.loop-asked.invariant.marking;
+  says =
+      let set = solver_by g.K.Validate g.M.Matcher c.args.engine.now in
+      let p = steps_to c.args.question.now.place.now in
+      let m = g.K.Validate.shape c.args.keyword.now in
+      let es = map (option_map edge_of) c.args.children.now.items in
+      let laws : (texts : Bool) → EachKeeps (g.K.Validate.words texts) = λ texts m. (g.K.Validate.absorbed m, keeps_of_turns (g.K.Validate.words texts) m (g.K.Validate.absorbed m) (g.K.Validate.remaining m) (g.K.Validate.can_be texts m) (g.K.Validate.ends texts m) (g.K.Validate.fits texts m) (g.met.K.Validate.turn_laws texts m) (g.met.K.Validate.function_laws texts m)) in
+      let here = c.loop-asked.context in
+      let next = c.solve_there.new.context in
+      let rest = c.next.new.self.left in
+      let so_far : InEach set (view here.root) (λ texts w. SaysByTheRest w p (found_of here) m es true c.loop-asked.leans (question_in c.in-Some.asked ∷ rest)) = subst (λ left. InEach set (view here.root) (λ texts w. SaysByTheRest w p (found_of here) m es true c.loop-asked.leans left)) c.in-Some.ensures.next c.loop-asked.invariant.leads in
+      question_ends set laws c.requires.may_ask.may.ranked p here next c.in_ok-said.ensures.goes m es true c.loop-asked.leans (question_in c.in-Some.asked) rest so_far c.in_ok-said.said.valid c.in_ok-said.said.leans (subst (λ z. InEach set (view next.root) (λ texts w. ChildTells w p (found_of next) (map (option_map edge_of) z) (question_in c.in-Some.asked) c.in_ok-said.said.valid c.in_ok-said.said.leans)) c.as_slice-kept.ensures.value c.in_ok-said.ensures.says) (sym c.valid.ensures.valid ∙ c.if-not-valid.true);
+  stops = search rules;
+}
+
+pub asking::solve_members-loop-asked-preserved : goal.asking::solve_members-loop-asked-preserved
+asking::solve_members-loop-asked-preserved g t c =
+    let set = solver_by g.K.Validate g.M.Matcher c.args.engine.now in
+    let p = steps_to c.args.question.now.place.now in
+    let m = g.K.Validate.shape c.args.keyword.now in
+    let es = map (option_map edge_of) c.args.children.now.items in
+    let laws : (texts : Bool) → EachKeeps (g.K.Validate.words texts) = λ texts m. (g.K.Validate.absorbed m, keeps_of_turns (g.K.Validate.words texts) m (g.K.Validate.absorbed m) (g.K.Validate.remaining m) (g.K.Validate.can_be texts m) (g.K.Validate.ends texts m) (g.K.Validate.fits texts m) (g.met.K.Validate.turn_laws texts m) (g.met.K.Validate.function_laws texts m)) in
+    let here = c.loop-asked.context in
+    let next = c.solve_there.new.context in
+    let rest = c.next.new.self.left in
+    let so_far : InEach set (view here.root) (λ texts w. SaysByTheRest w p (found_of here) m es true c.loop-asked.leans (question_in c.in-Some.asked ∷ rest)) = subst (λ left. InEach set (view here.root) (λ texts w. SaysByTheRest w p (found_of here) m es true c.loop-asked.leans left)) c.in-Some.ensures.next c.loop-asked.invariant.leads in
+    record {
+      goes = goes_on set p c.args.context.now here next c.loop-asked.invariant.goes c.in_ok-said.ensures.goes;
+      marking = c.in_ok-said.ensures.marking ∙ c.loop-asked.invariant.marking;
+      there = c.next.ensures.subject ∙ c.loop-asked.invariant.there;
+      leads = rw c.leans-leans.ensures.leans (question_goes_on set laws c.requires.may_ask.may.ranked p here next c.in_ok-said.ensures.goes m es true c.loop-asked.leans (question_in c.in-Some.asked) rest so_far c.in_ok-said.said.valid c.in_ok-said.said.leans (subst (λ z. InEach set (view next.root) (λ texts w. ChildTells w p (found_of next) (map (option_map edge_of) z) (question_in c.in-Some.asked) c.in_ok-said.said.valid c.in_ok-said.said.leans)) c.as_slice-kept.ensures.value c.in_ok-said.ensures.says) (sym c.valid.ensures.valid ∙ c.if-not-valid.false));
+    }
+
+pub asking::solve_members-loop-asked-smaller : goal.asking::solve_members-loop-asked-smaller
+asking::solve_members-loop-asked-smaller g t c =
+    let one : length c.loop-asked.questions.left ≡ suc (length c.next.new.self.left) = ap length c.in-Some.ensures.next in
+    omega (arith, one)
+
+pub asking::solve_members-returns : goal.asking::solve_members-returns
+asking::solve_members-returns g t c = record {
+  goes =
+      c.loop-asked.invariant.goes;
+  marking =
+      c.loop-asked.invariant.marking;
+  says =
+      let set = solver_by g.K.Validate g.M.Matcher c.args.engine.now in
+      let p = steps_to c.args.question.now.place.now in
+      let m = g.K.Validate.shape c.args.keyword.now in
+      let es = map (option_map edge_of) c.args.children.now.items in
+      let here = c.loop-asked.context in
+      let none = subst (λ left. InEach set (view here.root) (λ texts w. SaysByTheRest w p (found_of here) m es true c.loop-asked.leans left)) c.in_default.ensures.next c.loop-asked.invariant.leads in
+      rw c.of.ensures.said (questions_end set here p m es true c.loop-asked.leans none);
+  stops = search rules;
+}
+
+pub asking::solve_names-loop-asked-init : goal.asking::solve_names-loop-asked-init
+asking::solve_names-loop-asked-init g t c =
+    let set = solver_by g.K.Validate g.M.Matcher c.args.engine.now in
+    let p = steps_to c.args.question.now.place.now in
+    let s = subject_of c.args.question.now.instance in
+    let m = g.K.Validate.shape c.args.keyword.now in
+    let es = map (option_map edge_of) c.args.children.now in
+    let says : SaysByQuestions set.words set.is_whole s m true c.of-questions.result.left = subst (SaysByQuestions set.words set.is_whole s m true) (sym c.of-questions.ensures.left) c.requires.says in
+    record {
+      goes = goes_none set p c.args.context.now c.requires.may_ask.may.sound;
+      marking = refl;
+      there = c.of-questions.ensures.subject ∙ c.requires.there;
+      leads = questions_begin set c.args.context.now s p c.args.node.0 c.requires.may_ask.may m es c.requires.may_ask.stands true c.of-questions.result.left says;
+    }
+
+pub asking::solve_names-solve_there-requires : goal.asking::solve_names-solve_there-requires
+asking::solve_names-solve_there-requires g t c =
+    let set = solver_by g.K.Validate g.M.Matcher c.args.engine.now in
+    let ns = numbered g.K.Validate.shape c.args.engine.now.nodes.now in
+    let p = steps_to c.args.question.now.place.now in
+    let s = subject_of c.args.question.now.instance in
+    let m = g.K.Validate.shape c.args.keyword.now in
+    let es = map (option_map edge_of) c.args.children.now in
+    let went = c.loop-asked.invariant.goes in
+    let l = ap (λ es. left ns (length c.args.engine.now.nodes.now) c.args.node.0 s (busy_at p es)) went.in_progress in
+    let there = subst (λ z. StandsThere z c.in-Some.asked) c.loop-asked.invariant.there c.in-Some.ensures.there in
+    λ κs h. (lower_same _ _ t 3 0 l c.decreases, (h.0, (h.1.0, (h.1.1.0, (h.1.1.1, (record { may = may_after set p c.args.context.now c.loop-asked.context s c.args.node.0 c.requires.may_ask.may went; carries = carries_on c.args.context.now c.loop-asked.context c.args.question.now.place.now went.root c.requires.may_ask.carries; stands = (keyword_children ns c.args.node.0 m es c.requires.may_ask.stands, present_there s c.in-Some.asked there) }, there))))))
+
+pub asking::solve_names-returns-in_err-said : goal.asking::solve_names-returns-in_err-said
+asking::solve_names-returns-in_err-said g t c =
+    let set = solver_by g.K.Validate g.M.Matcher c.args.engine.now in
+    let says = g.K.Validate.says_monotone in
+    let p = steps_to c.args.question.now.place.now in
+    solved_stops set says p c.args.context.now c.solve_there.new.context _ c.from_residual.result _ c.from_residual.ensures.1
+    (stops_on set says p c.args.context.now c.loop-asked.context c.solve_there.new.context _ c.loop-asked.invariant.goes c.in_err-said.ensures.stops)
+
+pub asking::solve_names-returns-then-not-valid : goal.asking::solve_names-returns-then-not-valid
+asking::solve_names-returns-then-not-valid g t c = record {
+  goes =
+      let set = solver_by g.K.Validate g.M.Matcher c.args.engine.now in
+      let p = steps_to c.args.question.now.place.now in
+      goes_on set p c.args.context.now c.loop-asked.context c.solve_there.new.context c.loop-asked.invariant.goes c.in_ok-said.ensures.goes;
+  marking =
+      c.in_ok-said.ensures.marking ∙ c.loop-asked.invariant.marking;
+  says =
+      let set = solver_by g.K.Validate g.M.Matcher c.args.engine.now in
+      let p = steps_to c.args.question.now.place.now in
+      let m = g.K.Validate.shape c.args.keyword.now in
+      let es = map (option_map edge_of) c.args.children.now in
+      let laws : (texts : Bool) → EachKeeps (g.K.Validate.words texts) = λ texts m. (g.K.Validate.absorbed m, keeps_of_turns (g.K.Validate.words texts) m (g.K.Validate.absorbed m) (g.K.Validate.remaining m) (g.K.Validate.can_be texts m) (g.K.Validate.ends texts m) (g.K.Validate.fits texts m) (g.met.K.Validate.turn_laws texts m) (g.met.K.Validate.function_laws texts m)) in
+      let here = c.loop-asked.context in
+      let next = c.solve_there.new.context in
+      let rest = c.next.new.self.left in
+      let so_far : InEach set (view here.root) (λ texts w. SaysByTheRest w p (found_of here) m es true c.loop-asked.leans (question_in c.in-Some.asked ∷ rest)) = subst (λ left. InEach set (view here.root) (λ texts w. SaysByTheRest w p (found_of here) m es true c.loop-asked.leans left)) c.in-Some.ensures.next c.loop-asked.invariant.leads in
+      question_ends set laws c.requires.may_ask.may.ranked p here next c.in_ok-said.ensures.goes m es true c.loop-asked.leans (question_in c.in-Some.asked) rest so_far c.in_ok-said.said.valid c.in_ok-said.said.leans c.in_ok-said.ensures.says (sym c.valid.ensures.valid ∙ c.if-not-valid.true);
+  stops = search rules;
+}
+
+pub asking::solve_names-loop-asked-preserved : goal.asking::solve_names-loop-asked-preserved
+asking::solve_names-loop-asked-preserved g t c =
+    let set = solver_by g.K.Validate g.M.Matcher c.args.engine.now in
+    let p = steps_to c.args.question.now.place.now in
+    let m = g.K.Validate.shape c.args.keyword.now in
+    let es = map (option_map edge_of) c.args.children.now in
+    let laws : (texts : Bool) → EachKeeps (g.K.Validate.words texts) = λ texts m. (g.K.Validate.absorbed m, keeps_of_turns (g.K.Validate.words texts) m (g.K.Validate.absorbed m) (g.K.Validate.remaining m) (g.K.Validate.can_be texts m) (g.K.Validate.ends texts m) (g.K.Validate.fits texts m) (g.met.K.Validate.turn_laws texts m) (g.met.K.Validate.function_laws texts m)) in
+    let here = c.loop-asked.context in
+    let next = c.solve_there.new.context in
+    let rest = c.next.new.self.left in
+    let so_far : InEach set (view here.root) (λ texts w. SaysByTheRest w p (found_of here) m es true c.loop-asked.leans (question_in c.in-Some.asked ∷ rest)) = subst (λ left. InEach set (view here.root) (λ texts w. SaysByTheRest w p (found_of here) m es true c.loop-asked.leans left)) c.in-Some.ensures.next c.loop-asked.invariant.leads in
+    record {
+      goes = goes_on set p c.args.context.now here next c.loop-asked.invariant.goes c.in_ok-said.ensures.goes;
+      marking = c.in_ok-said.ensures.marking ∙ c.loop-asked.invariant.marking;
+      there = c.next.ensures.subject ∙ c.loop-asked.invariant.there;
+      leads = rw c.leans-leans.ensures.leans (question_goes_on set laws c.requires.may_ask.may.ranked p here next c.in_ok-said.ensures.goes m es true c.loop-asked.leans (question_in c.in-Some.asked) rest so_far c.in_ok-said.said.valid c.in_ok-said.said.leans c.in_ok-said.ensures.says (sym c.valid.ensures.valid ∙ c.if-not-valid.false));
+    }
+
+pub asking::solve_names-loop-asked-smaller : goal.asking::solve_names-loop-asked-smaller
+asking::solve_names-loop-asked-smaller g t c =
+    let one : length c.loop-asked.questions.left ≡ suc (length c.next.new.self.left) = ap length c.in-Some.ensures.next in
+    omega (arith, one)
+
+pub asking::solve_names-returns : goal.asking::solve_names-returns
+asking::solve_names-returns g t c = record {
+  goes =
+      c.loop-asked.invariant.goes;
+  marking =
+      c.loop-asked.invariant.marking;
+  says =
+      let set = solver_by g.K.Validate g.M.Matcher c.args.engine.now in
+      let p = steps_to c.args.question.now.place.now in
+      let m = g.K.Validate.shape c.args.keyword.now in
+      let es = map (option_map edge_of) c.args.children.now in
+      let here = c.loop-asked.context in
+      let none = subst (λ left. InEach set (view here.root) (λ texts w. SaysByTheRest w p (found_of here) m es true c.loop-asked.leans left)) c.in_default.ensures.next c.loop-asked.invariant.leads in
+      rw c.of.ensures.said (questions_end set here p m es true c.loop-asked.leans none);
+  stops = search rules;
+}
+
+pub edges::begin_pair-solve_node_apart-requires : goal.edges::begin_pair-solve_node_apart-requires
+edges::begin_pair-solve_node_apart-requires g t c =
+    let set = solver_by g.K.Validate g.M.Matcher c.args.engine.now in
+    let ns = numbered g.K.Validate.shape c.args.engine.now.nodes.now in
+    let p = steps_to c.args.question.now.place.now in
+    let s = subject_of c.args.question.now.instance in
+    let old = c.args.context.now in
+    let node : c.args.pair.now.node.0 ≡ c.args.node.0 = c.requires.node in
+    let place = c.requires.place in
+    let same : old ≡ old = refl in
+    let laws : (texts : Bool) → EachKeeps (g.K.Validate.words texts) = λ texts m. (g.K.Validate.absorbed m, keeps_of_turns (g.K.Validate.words texts) m (g.K.Validate.absorbed m) (g.K.Validate.remaining m) (g.K.Validate.can_be texts m) (g.K.Validate.ends texts m) (g.K.Validate.fits texts m) (g.met.K.Validate.turn_laws texts m) (g.met.K.Validate.function_laws texts m)) in
+    let begins : Begins c.args.node.0 p old c.enter.new.context = at_pair (λ k z d. Begins k z d c.enter.new.context) node place same c.in_ok-mark.ensures.begins in
+    let idle = at_pair (λ k z d. has_pair d.in_progress k z ≡ false) node place same c.requires.idle in
+    let there : steps_to c.numbered_place-place.result ≡ p = c.numbered_place-place.ensures.same ∙ place in
+    let new = pair_new set old p c.args.node.0 c.args.pair.now.node.0 (place_of c.args.pair.now) c.args.context.now node place same c.requires.unknown c.requires.idle c.requires.free c.args.pair.now.number c.requires.numbered c.requires.own c.requires.may_ask.stands in
+    let may = subst (λ z. MaySolve set c.enter.new.context s z c.args.node.0) (sym there) (begun_may set laws old c.enter.new.context s p c.args.node.0 c.requires.may_ask.may new begins) in
+    let falls = falls_entered set old s p c.args.node.0 c.requires.may_ask.may c.enter.new.context begins idle ∙ ap (λ z. suc (left ns (length c.args.engine.now.nodes.now) c.args.node.0 s (busy_at z c.enter.new.context.in_progress))) (sym there) in
+    let carries : CarriesItsNumber (solver_places c.enter.new.context) c.numbered_place-place.result = subst (λ v. CarriesItsNumber (root_places v) c.numbered_place-place.result) (sym begins.root) (c.numbered_place-place.ensures.carries old c.requires.numbered) in
+    λ κs h. (lower_entered _ _ t falls c.decreases, (h.0, (h.1.0, (h.1.1.0, (h.1.1.1, record { may = may; carries = carries; stands = tt })))))
+
+pub edges::begin_pair-returns-in_err-may_begin : goal.edges::begin_pair-returns-in_err-may_begin
+edges::begin_pair-returns-in_err-may_begin g t c =
+    let set = solver_by g.K.Validate g.M.Matcher c.args.engine.now in
+    let says = g.K.Validate.says_monotone in
+    let p = steps_to c.args.question.now.place.now in
+    let i = c.args.node.0 in
+    let old = c.args.context.now in
+    let node : c.args.pair.now.node.0 ≡ c.args.node.0 = c.requires.node in
+    let place = c.requires.place in
+    let same : old ≡ old = refl in
+    let new = pair_new set old p i c.args.pair.now.node.0 (place_of c.args.pair.now) c.args.context.now node place same c.requires.unknown c.requires.idle c.requires.free c.args.pair.now.number c.requires.numbered c.requires.own c.requires.may_ask.stands in
+    let now = c.args.context.now in
+    let full = c.in_err-may_begin.ensures.stops in
+    let few : full.1.0 ≤ old.begun = subst (λ (z : Solver). full.1.0 ≤ z.begun) same full.1.2 in
+    let stops = subst (λ z. Stops set says old z Limit) (sym same) (stops_full set says old p i new full.1.0 full.1.1 few) in
+    solved_stops set says p old now _ c.from_residual.result _ c.from_residual.ensures.1 (subst (Stops set says old now) (sym full.0) stops)
+
+pub edges::begin_pair-returns-in_err-said : goal.edges::begin_pair-returns-in_err-said
+edges::begin_pair-returns-in_err-said g t c =
+    let set = solver_by g.K.Validate g.M.Matcher c.args.engine.now in
+    let says = g.K.Validate.says_monotone in
+    let p = steps_to c.args.question.now.place.now in
+    let i = c.args.node.0 in
+    let old = c.args.context.now in
+    let node : c.args.pair.now.node.0 ≡ c.args.node.0 = c.requires.node in
+    let place = c.requires.place in
+    let same : old ≡ old = refl in
+    let new = pair_new set old p i c.args.pair.now.node.0 (place_of c.args.pair.now) c.args.context.now node place same c.requires.unknown c.requires.idle c.requires.free c.args.pair.now.number c.requires.numbered c.requires.own c.requires.may_ask.stands in
+    let begins : Begins i p old c.enter.new.context = at_pair (λ k z d. Begins k z d c.enter.new.context) node place same c.in_ok-mark.ensures.begins in
+    let room : HasRoom set old = at_pair (λ k z d. HasRoom set d) node place same c.in_ok-may_begin.ensures.room in
+    solved_stops set says p old c.solve_node_apart.new.context _ c.from_residual-in_err-said.result _ c.from_residual-in_err-said.ensures.1
+    (stops_begun set says old c.enter.new.context c.solve_node_apart.new.context p i _ new room begins c.in_err-said.ensures.stops)
+
+pub edges::begin_pair-keep_answer-requires-clause-apart : goal.edges::begin_pair-keep_answer-requires-clause-apart
+edges::begin_pair-keep_answer-requires-clause-apart g t c =
+    let set = solver_by g.K.Validate g.M.Matcher c.args.engine.now in
+    let p = steps_to c.args.question.now.place.now in
+    let s = subject_of c.args.question.now.instance in
+    let old = c.args.context.now in
+    let node : c.args.pair.now.node.0 ≡ c.args.node.0 = c.requires.node in
+    let place = c.requires.place in
+    let same : old ≡ old = refl in
+    let laws : (texts : Bool) → EachKeeps (g.K.Validate.words texts) = λ texts m. (g.K.Validate.absorbed m, keeps_of_turns (g.K.Validate.words texts) m (g.K.Validate.absorbed m) (g.K.Validate.remaining m) (g.K.Validate.can_be texts m) (g.K.Validate.ends texts m) (g.K.Validate.fits texts m) (g.met.K.Validate.turn_laws texts m) (g.met.K.Validate.function_laws texts m)) in
+    let ran = pair_ran set old p c.args.node.0 c.args.pair.now.node.0 (place_of c.args.pair.now) (steps_to c.numbered_place-place.result) c.args.context.now c.enter.new.context c.solve_node_apart.new.context c.exit.new.context c.in_ok-mark.mark c.in_ok-said.said
+    node place same c.numbered_place-place.ensures.same c.requires.unknown c.requires.idle c.requires.free c.args.pair.now.number c.requires.numbered c.requires.own c.requires.may_ask.stands
+    c.in_ok-may_begin.ensures.room c.in_ok-mark.ensures.begins c.in_ok-said.ensures.goes c.in_ok-said.ensures.says c.in_ok-mark.ensures.mark c.exit.ensures.left c.exit.ensures.root c.exit.ensures.assumed c.exit.ensures.verdicts c.exit.ensures.marking c.exit.ensures.begun in
+    apart_mark set old p c.args.node.0 c.enter.new.context c.solve_node_apart.new.context c.exit.new.context c.in_ok-mark.mark c.in_ok-said.said ran
+
+pub edges::begin_pair-returns : goal.edges::begin_pair-returns
+edges::begin_pair-returns g t c =
+    let set = solver_by g.K.Validate g.M.Matcher c.args.engine.now in
+    let p = steps_to c.args.question.now.place.now in
+    let s = subject_of c.args.question.now.instance in
+    let old = c.args.context.now in
+    let node : c.args.pair.now.node.0 ≡ c.args.node.0 = c.requires.node in
+    let place = c.requires.place in
+    let same : old ≡ old = refl in
+    let laws : (texts : Bool) → EachKeeps (g.K.Validate.words texts) = λ texts m. (g.K.Validate.absorbed m, keeps_of_turns (g.K.Validate.words texts) m (g.K.Validate.absorbed m) (g.K.Validate.remaining m) (g.K.Validate.can_be texts m) (g.K.Validate.ends texts m) (g.K.Validate.fits texts m) (g.met.K.Validate.turn_laws texts m) (g.met.K.Validate.function_laws texts m)) in
+    let ran = pair_ran set old p c.args.node.0 c.args.pair.now.node.0 (place_of c.args.pair.now) (steps_to c.numbered_place-place.result) c.args.context.now c.enter.new.context c.solve_node_apart.new.context c.exit.new.context c.in_ok-mark.mark c.in_ok-said.said
+    node place same c.numbered_place-place.ensures.same c.requires.unknown c.requires.idle c.requires.free c.args.pair.now.number c.requires.numbered c.requires.own c.requires.may_ask.stands
+    c.in_ok-may_begin.ensures.room c.in_ok-mark.ensures.begins c.in_ok-said.ensures.goes c.in_ok-said.ensures.says c.in_ok-mark.ensures.mark c.exit.ensures.left c.exit.ensures.root c.exit.ensures.assumed c.exit.ensures.verdicts c.exit.ensures.marking c.exit.ensures.begun in
+    let x = c.exit.new.context in
+    let n = c.keep_answer.new.context in
+    let mark = c.in_ok-mark.mark in
+    let said = c.in_ok-said.said in
+    let now = c.in_ok-kept.kept in
+    let as_no = at_pair (λ k z d. said.valid ≡ false → Refuses k z mark x n) node place same c.in_ok-kept.ensures.refused in
+    let as_yes = at_pair (λ k z d. said.valid ≡ true → Accepts k z mark said now x n) node place same c.in_ok-kept.ensures.accepted in
+    let kept = ran_kept set laws old s p c.args.node.0 c.requires.may_ask.may c.enter.new.context c.solve_node_apart.new.context x mark said ran n c.keep_answer.ensures.root c.keep_answer.ensures.in_progress c.keep_answer.ensures.marking c.keep_answer.ensures.begun now c.in_ok-kept.ensures.valid as_no as_yes in
+    record {
+      goes = kept.0;
+      marking = search rules;
+      says = λ texts tells. kept.1;
+      stops = tt;
+    }
+
+-- ---- what a keyword tells at once that it asks
+
+pub asking::solve_asked-returns-in_ok-matches-in-Match : goal.asking::solve_asked-returns-in_ok-matches-in-Match
+asking::solve_asked-returns-in_ok-matches-in-Match g t c = record {
+  goes =
+      let set = solver_by g.K.Validate g.M.Matcher c.args.engine.now in
+      goes_none set (steps_to c.args.question.now.place.now) c.args.context.now c.requires.may.sound;
+  marking = search rules;
+  says =
+      let set = solver_by g.K.Validate g.M.Matcher c.args.engine.now in
+      let p = steps_to c.args.question.now.place.now in
+      let s = subject_of c.args.question.now.instance in
+      let m = g.K.Validate.shape c.args.keyword.now in
+      let es = map (option_map edge_of) c.args.children.now.items in
+      rw c.settled.ensures.said (match_says set c.args.context.now s p c.args.node.0 c.requires.may m es c.requires.stands c.in-Match.pattern.now c.in-Match.subject.now c.in_ok-matches-in-Match.matches c.in_ok-matches-in-Match.ensures.answer
+      (λ texts tells. (c.in-Match.ensures.asks texts tells).says refl));
+  stops = search rules;
+}
+
+pub asking::solve_asked-solve_counted-requires-in-Items : goal.asking::solve_asked-solve_counted-requires-in-Items
+asking::solve_asked-solve_counted-requires-in-Items g t c =
+    let set = solver_by g.K.Validate g.M.Matcher c.args.engine.now in
+    let s = subject_of c.args.question.now.instance in
+    let m = g.K.Validate.shape c.args.keyword.now in
+    let kept : c.args.children.now.items ≡ c.as_slice-kept.result.now = sym c.as_slice-kept.ensures.value in
+    let may = subst (λ z. MayAsk set c.args.question.now (the_asker g.K.Validate.shape c.args.node.0 c.args.keyword.now z) c.args.context.now) kept c.requires in
+    let asks = c.in-Items.ensures.asks in
+    let own = (asks false (tells_nothing (g.K.Validate.is_whole m) s)).own in
+    let says = says_by_questions set.words set.is_whole s m (asking.Items c.in-Items.next c.in-Items.items) asks refl true refl c.items-questions.result.left c.items-questions.ensures.left in
+    λ κs h. (lower_same _ _ t 4 1 refl c.decreases, (h.0, (h.1.0, (h.1.1.0, (h.1.1.1, (may, (c.items-questions.ensures.subject ∙ sym own, says)))))))
+
+pub asking::solve_asked-solve_counted-requires-in-Listed : goal.asking::solve_asked-solve_counted-requires-in-Listed
+asking::solve_asked-solve_counted-requires-in-Listed g t c =
+    let set = solver_by g.K.Validate g.M.Matcher c.args.engine.now in
+    let s = subject_of c.args.question.now.instance in
+    let m = g.K.Validate.shape c.args.keyword.now in
+    let kept : c.args.children.now.items ≡ c.as_slice-kept.result.now = sym c.as_slice-kept.ensures.value in
+    let may = subst (λ z. MayAsk set c.args.question.now (the_asker g.K.Validate.shape c.args.node.0 c.args.keyword.now z) c.args.context.now) kept c.requires in
+    let asks = c.in-Listed.ensures.asks in
+    let own = (asks false (tells_nothing (g.K.Validate.is_whole m) s)).own in
+    let says = says_by_questions set.words set.is_whole s m (asking.Listed c.in-Listed.count c.in-Listed.items) asks refl true refl c.listed-questions.result.left c.listed-questions.ensures.left in
+    λ κs h. (lower_same _ _ t 4 1 refl c.decreases, (h.0, (h.1.0, (h.1.1.0, (h.1.1.1, (may, (c.listed-questions.ensures.subject ∙ sym own, says)))))))
+
+pub asking::solve_asked-solve_members-requires : goal.asking::solve_asked-solve_members-requires
+asking::solve_asked-solve_members-requires g t c =
+    let set = solver_by g.K.Validate g.M.Matcher c.args.engine.now in
+    let s = subject_of c.args.question.now.instance in
+    let m = g.K.Validate.shape c.args.keyword.now in
+    let asks = c.in-Members.ensures.asks in
+    let own = (asks false (tells_nothing (g.K.Validate.is_whole m) s)).own in
+    let left = ap (λ z. at_names z 0 c.in-Members.names.now) (sym own) in
+    let says = says_by_questions set.words set.is_whole s m (asking.Members c.in-Members.names c.in-Members.members) asks refl true refl _ left in
+    λ κs h. (lower_same _ _ t 4 1 refl c.decreases, (h.0, (h.1.0, (h.1.1.0, (h.1.1.1, (c.requires, (sym own, says)))))))
+
+pub asking::solve_asked-solve_names-requires : goal.asking::solve_asked-solve_names-requires
+asking::solve_asked-solve_names-requires g t c =
+    let set = solver_by g.K.Validate g.M.Matcher c.args.engine.now in
+    let s = subject_of c.args.question.now.instance in
+    let m = g.K.Validate.shape c.args.keyword.now in
+    let kept : c.args.children.now.items ≡ c.as_slice-kept.result.now = sym c.as_slice-kept.ensures.value in
+    let may = subst (λ z. MayAsk set c.args.question.now (the_asker g.K.Validate.shape c.args.node.0 c.args.keyword.now z) c.args.context.now) kept c.requires in
+    let asks = c.in-Names.ensures.asks in
+    let own = (asks false (tells_nothing (g.K.Validate.is_whole m) s)).own in
+    let says = says_by_questions set.words set.is_whole s m (asking.Names c.in-Names.members) asks refl true refl (at_their_names c.in-Names.members.now.entries) refl in
+    λ κs h. (lower_same _ _ t 4 1 refl c.decreases, (h.0, (h.1.0, (h.1.1.0, (h.1.1.1, (may, (sym own, says)))))))
+
+-- ---- the entries of which all is told at once
+
+pub entries::solve_entries-loop-place-init : goal.entries::solve_entries-loop-place-init
+entries::solve_entries-loop-place-init g t c =
+    let set = solver_by g.K.Validate g.M.Matcher c.args.engine.now in
+    record {
+      goes = goes_none set (steps_to c.args.question.now.place.now) c.args.context.now c.requires.may.sound;
+      marking = refl;
+      leads = λ texts tells. record { same = λ answers fits. refl; refuses = λ answers no. no };
+      since = tt;
+    }
+
+pub entries::solve_entries-loop-place-preserved : goal.entries::solve_entries-loop-place-preserved
+entries::solve_entries-loop-place-preserved g t c =
+    let set = solver_by g.K.Validate g.M.Matcher c.args.engine.now in
+    let p = steps_to c.args.question.now.place.now in
+    let s = subject_of c.args.question.now.instance in
+    let old = c.args.context.now in
+    let here = c.loop-place.context in
+    let went = c.loop-place.invariant.goes in
+    let parts = λ (es : List (Entry g.row.K.Denot)). map (shaped_part g.K.Validate.shape) (map entry_of es) in
+    let entries = c.args.entries.now in
+    let laws : (texts : Bool) → EachKeeps (g.K.Validate.words texts) = λ texts m. (g.K.Validate.absorbed m, keeps_of_turns (g.K.Validate.words texts) m (g.K.Validate.absorbed m) (g.K.Validate.remaining m) (g.K.Validate.can_be texts m) (g.K.Validate.ends texts m) (g.K.Validate.fits texts m) (g.met.K.Validate.turn_laws texts m) (g.met.K.Validate.function_laws texts m)) in
+    let rest = parts (drop (c.loop-place.place + 1) entries) in
+    let Leads : Option ℕ → Type 0 = λ o. InEach set (view here.root) (λ texts w. SaysTheRest w p (found_of here) false (parts entries) (parts (waiting o entries) ++ rest)) in
+    let Since : Option ℕ → Type 0 = λ o. IfSome o (λ k. (k < length entries) × InEach set (view here.root) (λ texts w. SaysTheRest w p (found_of here) false (parts entries) (parts (drop k entries)))) in
+    let both : Leads c.match-told_at_once.waits × Since c.match-told_at_once.waits = elim c.match-told_at_once.branch [
+      | entries::solve_entries-in-None+in-None-waits v ↦
+          let entry = c.index-entries-place.result in
+          let split = drop_at entries c.loop-place.place entry c.loop-place-test.true c.index-entries-place.is in
+          let behind : InEach set (view here.root) (λ texts w. SaysTheRest w p (found_of here) false (parts entries) (parts (drop c.loop-place.place entries))) = subst (λ o. InEach set (view here.root) (λ texts w. SaysTheRest w p (found_of here) false (parts entries) (parts (waiting o entries) ++ parts (drop c.loop-place.place entries)))) v.in-None-waits.is c.loop-place.invariant.leads in
+          let same : parts (drop c.loop-place.place entries) ≡ parts (take 1 (drop c.loop-place.place entries)) ++ rest = ap parts split ∙ sym (ap (λ z. parts (take 1 z) ++ rest) split) in
+          let leads : Leads (Some c.loop-place.place) = subst (λ left. InEach set (view here.root) (λ texts w. SaysTheRest w p (found_of here) false (parts entries) left)) same behind in
+          subst (λ o. Leads o × Since o) (sym v.waits-is) (leads, (c.loop-place-test.true, behind))
+      | entries::solve_entries-in-Some+else-not-valid v ↦
+          let entry = c.index-entries-place.result in
+          let told = v.in-Some.ensures.tells in
+          let m = g.K.Validate.shape told.keyword in
+          let x = shaped_part g.K.Validate.shape (entry_of entry) in
+          let rest = parts (drop (c.loop-place.place + 1) entries) in
+          let split = ap parts (drop_at entries c.loop-place.place entry c.loop-place-test.true c.index-entries-place.is) in
+          let is : x.form ≡ node_keyword m told.children = ap (shaped_form g.K.Validate.shape) told.is in
+          let among = part_at entry_of (shaped_part g.K.Validate.shape) entries c.loop-place.place entry c.loop-place-test.true c.index-entries-place.is in
+          let form : HasForm (numbered g.K.Validate.shape c.args.engine.now.nodes.now) c.args.node.0 (node_keyword m told.children) = (c.requires.stands.0, c.requires.stands.1, x, c.requires.stands.2 _ among, is) in
+          let tells : InEach set (view here.root) (λ texts w. FormTells w p (found_of here) x.form v.in-Some.valid false) =
+          subst (λ f. InEach set (view here.root) (λ texts w. FormTells w p (found_of here) f v.in-Some.valid false)) (sym is)
+          (says_at_once set laws here s p c.args.node.0 (may_after set p old here s c.args.node.0 c.requires.may went) m told.children form (g.K.Validate.absorbed m) (g.K.Validate.remaining m) (λ texts. g.K.Validate.can_be texts m) (λ texts. g.K.Validate.ends texts m) (λ texts. g.K.Validate.fits texts m) (λ texts. g.met.K.Validate.turn_laws texts m) v.in-Some.valid told.at_once) in
+          let waits = parts (waiting c.loop-place.waits entries) in
+          let so_far : InEach set (view here.root) (λ texts w. SaysTheRest w p (found_of here) false (parts entries) (waits ++ x ∷ rest)) = subst (λ left. InEach set (view here.root) (λ texts w. SaysTheRest w p (found_of here) false (parts entries) (waits ++ left))) split c.loop-place.invariant.leads in
+          let leads : Leads c.loop-place.waits = told_accepts set p here (parts entries) waits x rest so_far (subst (λ b. InEach set (view here.root) (λ texts w. FormTells w p (found_of here) x.form b false)) v.if-not-valid.false tells) in
+          subst (λ o. Leads o × Since o) (sym v.waits-is) (leads, c.loop-place.invariant.since)
+    ] in
+    record { goes = went; marking = c.loop-place.invariant.marking; leads = both.0; since = both.1 }
+
+pub entries::solve_entries-returns-then-not-valid : goal.entries::solve_entries-returns-then-not-valid
+entries::solve_entries-returns-then-not-valid g t c =
+    let set = solver_by g.K.Validate g.M.Matcher c.args.engine.now in
+    let p = steps_to c.args.question.now.place.now in
+    let s = subject_of c.args.question.now.instance in
+    let old = c.args.context.now in
+    let here = c.loop-place.context in
+    let went = c.loop-place.invariant.goes in
+    let parts = λ (es : List (Entry g.row.K.Denot)). map (shaped_part g.K.Validate.shape) (map entry_of es) in
+    let entries = c.args.entries.now in
+    let laws : (texts : Bool) → EachKeeps (g.K.Validate.words texts) = λ texts m. (g.K.Validate.absorbed m, keeps_of_turns (g.K.Validate.words texts) m (g.K.Validate.absorbed m) (g.K.Validate.remaining m) (g.K.Validate.can_be texts m) (g.K.Validate.ends texts m) (g.K.Validate.fits texts m) (g.met.K.Validate.turn_laws texts m) (g.met.K.Validate.function_laws texts m)) in
+    let entry = c.index-entries-place.result in
+    let told = c.in-Some.ensures.tells in
+    let m = g.K.Validate.shape told.keyword in
+    let x = shaped_part g.K.Validate.shape (entry_of entry) in
+    let rest = parts (drop (c.loop-place.place + 1) entries) in
+    let split = ap parts (drop_at entries c.loop-place.place entry c.loop-place-test.true c.index-entries-place.is) in
+    let is : x.form ≡ node_keyword m told.children = ap (shaped_form g.K.Validate.shape) told.is in
+    let among = part_at entry_of (shaped_part g.K.Validate.shape) entries c.loop-place.place entry c.loop-place-test.true c.index-entries-place.is in
+    let form : HasForm (numbered g.K.Validate.shape c.args.engine.now.nodes.now) c.args.node.0 (node_keyword m told.children) = (c.requires.stands.0, c.requires.stands.1, x, c.requires.stands.2 _ among, is) in
+    let tells : InEach set (view here.root) (λ texts w. FormTells w p (found_of here) x.form c.in-Some.valid false) =
+    subst (λ f. InEach set (view here.root) (λ texts w. FormTells w p (found_of here) f c.in-Some.valid false)) (sym is)
+    (says_at_once set laws here s p c.args.node.0 (may_after set p old here s c.args.node.0 c.requires.may went) m told.children form (g.K.Validate.absorbed m) (g.K.Validate.remaining m) (λ texts. g.K.Validate.can_be texts m) (λ texts. g.K.Validate.ends texts m) (λ texts. g.K.Validate.fits texts m) (λ texts. g.met.K.Validate.turn_laws texts m) c.in-Some.valid told.at_once) in
+    let waits = parts (waiting c.loop-place.waits entries) in
+    let so_far : InEach set (view here.root) (λ texts w. SaysTheRest w p (found_of here) false (parts entries) (waits ++ x ∷ rest)) = subst (λ left. InEach set (view here.root) (λ texts w. SaysTheRest w p (found_of here) false (parts entries) (waits ++ left))) split c.loop-place.invariant.leads in
+    record {
+      goes = went;
+      marking = c.loop-place.invariant.marking;
+      says = rw c.settled.ensures.said (told_refuses set p here (parts entries) waits x rest so_far (subst (λ b. InEach set (view here.root) (λ texts w. FormTells w p (found_of here) x.form b false)) c.if-not-valid.true tells));
+      stops = search rules;
+    }
+
+pub entries::solve_entries-solve_left-requires : goal.entries::solve_entries-solve_left-requires
+entries::solve_entries-solve_left-requires g t c =
+    let set = solver_by g.K.Validate g.M.Matcher c.args.engine.now in
+    let p = steps_to c.args.question.now.place.now in
+    let s = subject_of c.args.question.now.instance in
+    let old = c.args.context.now in
+    let here = c.loop-place.context in
+    let went = c.loop-place.invariant.goes in
+    let parts = λ (es : List (Entry g.row.K.Denot)). map (shaped_part g.K.Validate.shape) (map entry_of es) in
+    let entries = c.args.entries.now in
+    let first = c.in-Some-waits.first in
+    let l = ap (λ es. left (numbered g.K.Validate.shape c.args.engine.now.nodes.now) (length c.args.engine.now.nodes.now) c.args.node.0 s (busy_at p es)) went.in_progress in
+    let all = take_rest entries first in
+    λ κs h. (lower_same _ _ t 9 0 l c.decreases, (h.0, (h.1.0, (h.1.1.0, (h.1.1.1, record { may = may_after set p old here s c.args.node.0 c.requires.may went; carries = carries_on old here c.args.question.now.place.now went.root c.requires.carries; stands = (c.requires.stands.0, c.requires.stands.1, λ y is. c.requires.stands.2 y (part_before entry_of (shaped_part g.K.Validate.shape) entries first y (subst (λ es. Contains (parts es) y) all is))) })))))
+
+pub entries::solve_entries-returns-in-Some-waits : goal.entries::solve_entries-returns-in-Some-waits
+entries::solve_entries-returns-in-Some-waits g t c =
+    let set = solver_by g.K.Validate g.M.Matcher c.args.engine.now in
+    let p = steps_to c.args.question.now.place.now in
+    let s = subject_of c.args.question.now.instance in
+    let old = c.args.context.now in
+    let here = c.loop-place.context in
+    let went = c.loop-place.invariant.goes in
+    let parts = λ (es : List (Entry g.row.K.Denot)). map (shaped_part g.K.Validate.shape) (map entry_of es) in
+    let entries = c.args.entries.now in
+    let first = c.in-Some-waits.first in
+    let new = c.solve_left.new.context in
+    let rest = parts (drop first entries) in
+    let since : (first < length entries) × InEach set (view here.root) (λ texts w. SaysTheRest w p (found_of here) false (parts entries) rest) = subst (λ o. IfSome o (λ k. (k < length entries) × InEach set (view here.root) (λ texts w. SaysTheRest w p (found_of here) false (parts entries) (parts (drop k entries))))) c.in-Some-waits.is c.loop-place.invariant.since in
+    let says = subst (λ es. IfOk c.solve_left.result (λ b. InEach set (view new.root) (λ texts w. PartsTell w p (found_of new) (parts es) b.valid b.leans))) (take_rest entries first) c.solve_left.ensures.says in
+    record {
+      goes = if_ok_mono c.solve_left.result _ _ (λ b step. goes_on set p old here new went step) c.solve_left.ensures.goes;
+      marking = if_ok_mono c.solve_left.result _ _ (λ b same. same ∙ c.loop-place.invariant.marking) c.solve_left.ensures.marking;
+      says = if_ok_both c.solve_left.result _ _ _ (λ b step tells. rest_says set p here new step (parts entries) rest since.1 b.valid b.leans tells) c.solve_left.ensures.goes says;
+      stops = IfErr-weaker c.solve_left.result _ _ (λ e stops. stops_on set g.K.Validate.says_monotone p old here new e went stops) c.solve_left.ensures.stops;
+    }
+
+pub entries::solve_entries-solve_keyword-requires : goal.entries::solve_entries-solve_keyword-requires
+entries::solve_entries-solve_keyword-requires g t c =
+    let set = solver_by g.K.Validate g.M.Matcher c.args.engine.now in
+    let p = steps_to c.args.question.now.place.now in
+    let s = subject_of c.args.question.now.instance in
+    let old = c.args.context.now in
+    let here = c.loop-place.context in
+    let went = c.loop-place.invariant.goes in
+    let parts = λ (es : List (Entry g.row.K.Denot)). map (shaped_part g.K.Validate.shape) (map entry_of es) in
+    let entries = c.args.entries.now in
+    let first = c.in-Some-waits-2.first in
+    let entry = c.index-entries-first.result in
+    let l = ap (λ es. left (numbered g.K.Validate.shape c.args.engine.now.nodes.now) (length c.args.engine.now.nodes.now) c.args.node.0 s (busy_at p es)) went.in_progress in
+    let since = subst (λ o. IfSome o (λ k. (k < length entries) × InEach set (view here.root) (λ texts w. SaysTheRest w p (found_of here) false (parts entries) (parts (drop k entries))))) c.in-Some-waits-2.is c.loop-place.invariant.since in
+    let among = part_at entry_of (shaped_part g.K.Validate.shape) entries first entry since.0 c.index-entries-first.is in
+    λ κs h. (lower_same _ _ t 7 2 l c.decreases, (h.0, (h.1.0, (h.1.1.0, (h.1.1.1, record { may = may_after set p old here s c.args.node.0 c.requires.may went; carries = carries_on old here c.args.question.now.place.now went.root c.requires.carries; stands = (c.requires.stands.0, c.requires.stands.1, shaped_part g.K.Validate.shape (entry_of entry), c.requires.stands.2 _ among, refl) })))))
+
+pub entries::solve_entries-returns-in-Some-waits-2 : goal.entries::solve_entries-returns-in-Some-waits-2
+entries::solve_entries-returns-in-Some-waits-2 g t c =
+    let set = solver_by g.K.Validate g.M.Matcher c.args.engine.now in
+    let p = steps_to c.args.question.now.place.now in
+    let s = subject_of c.args.question.now.instance in
+    let old = c.args.context.now in
+    let here = c.loop-place.context in
+    let went = c.loop-place.invariant.goes in
+    let parts = λ (es : List (Entry g.row.K.Denot)). map (shaped_part g.K.Validate.shape) (map entry_of es) in
+    let entries = c.args.entries.now in
+    let first = c.in-Some-waits-2.first in
+    let entry = c.index-entries-first.result in
+    let x = shaped_part g.K.Validate.shape (entry_of entry) in
+    let new = c.solve_keyword.new.context in
+    let Behind : Option ℕ → List (Entry g.row.K.Denot) → Type 0 = λ o es. InEach set (view here.root) (λ texts w. SaysTheRest w p (found_of here) false (parts entries) (parts (waiting o entries) ++ parts es)) in
+    let since = subst (λ o. IfSome o (λ k. (k < length entries) × InEach set (view here.root) (λ texts w. SaysTheRest w p (found_of here) false (parts entries) (parts (drop k entries))))) c.in-Some-waits-2.is c.loop-place.invariant.since in
+    let leads : Behind (Some first) [] = subst (λ o. Behind o []) c.in-Some-waits-2.is (subst (Behind c.loop-place.waits) (drop_past entries c.loop-place.place c.loop-place-test.false) c.loop-place.invariant.leads) in
+    let alone : parts (take 1 (drop first entries)) ++ [] ≡ x ∷ [] = ap (λ z. parts (take 1 z) ++ []) (drop_at entries first entry since.0 c.index-entries-first.is) in
+    record {
+      goes = if_ok_mono c.solve_keyword.result _ _ (λ b step. goes_on set p old here new went step) c.solve_keyword.ensures.goes;
+      marking = if_ok_mono c.solve_keyword.result _ _ (λ b same. same ∙ c.loop-place.invariant.marking) c.solve_keyword.ensures.marking;
+      says = if_ok_both c.solve_keyword.result _ _ _ (λ b step tells. last_says set p here new step (parts entries) (parts (take 1 (drop first entries)) ++ []) leads x alone b.valid b.leans tells) c.solve_keyword.ensures.goes c.solve_keyword.ensures.says;
+      stops = IfErr-weaker c.solve_keyword.result _ _ (λ e stops. stops_on set g.K.Validate.says_monotone p old here new e went stops) c.solve_keyword.ensures.stops;
+    }
+
+pub entries::solve_keyword-solve_reference-requires : goal.entries::solve_keyword-solve_reference-requires
+entries::solve_keyword-solve_reference-requires g t c =
+    let set = solver_by g.K.Validate g.M.Matcher c.args.engine.now in
+    let ns = numbered g.K.Validate.shape c.args.engine.now.nodes.now in
+    let p = steps_to c.args.question.now.place.now in
+    let s = subject_of c.args.question.now.instance in
+    let old = c.args.context.now in
+    let e = edge_of c.in-Reference.edge in
+    let count = length c.args.engine.now.nodes.now in
+    let k = reference_edge ns c.args.node.0 e (rw c.in-Reference.is at c.requires.stands) in
+    let cut = is_cut (is_followed_in c.args.engine.now.followed.now) in
+    let l = falls_across ns count cut (cut_guards (is_followed_in c.args.engine.now.followed.now)) c.requires.may.ranked c.args.node.0 s (busy_at p old.in_progress) e c.requires.may.known k in
+    λ κs h. (lower_reference _ _ t 3 l c.decreases, (h.0, (h.1.0, (h.1.1.0, (h.1.1.1, record { may = may_cross set old s p c.args.node.0 e c.requires.may k; carries = c.requires.carries; stands = (c.args.node.0, c.requires.may.known, k) })))))

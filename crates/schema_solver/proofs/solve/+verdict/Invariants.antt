@@ -1,4 +1,5 @@
-use Rattle.std.proofs.Common.{◌≡◌, ◌+◌, ◌*◌, drop, length, map, false, option_map}
+use Rattle.std.proofs.Common.{◌≡◌, ◌+◌, ◌*◌, ◌<◌, ◌++◌, List, drop, length, map, false, true, option_map}
+use Rattle.std.specs.Prelude.{IfSome}
 use Rattle.serde_json.specs.View.{view}
 use Rattle.schema_meaning.specs.Numbered.{left}
 use Rattle.schema_reports.specs.InstanceViews.{subject_of}
@@ -6,11 +7,13 @@ use Rattle.schema_parts.specs.EdgeViews.{edge_of}
 use Rattle.schema_contexts.specs.Progress.{busy_at}
 use Rattle.node_table.specs.NodeTable.{numbered, shaped_part}
 use Rattle.node_table.specs.NodeViews.{entry_of}
+use Rattle.node_table.specs.declared.node.Entry.{Entry}
 use Rattle.run_steps.specs.EvaluationPlaces.{steps_to}
 use Rattle.schema_solver.specs.Asked.{is_followed_in, solver_by}
 use Rattle.schema_pairs.specs.Contexts.{found_of}
 use Rattle.schema_solver.specs.Needs.{SaysByTheRest, SaysTheRest, edge_needs, pair_needs}
 use Rattle.schema_solver.specs.Solving.{Goes, InEach, is_cut}
+use Rattle.schema_solver.specs.ToldAtOnce.{waiting}
 use Rattle.schema_parts.specs.KeywordViews.{answer_of}
 use Rattle.run_steps.specs.VerdictRuns.{told_reply}
 use Rattle.schema_solver.specs.TurningOn.{AsksOn, TurnsOn}
@@ -19,8 +22,14 @@ use Rattle.schema_solver.proofs.solve.+verdict.Given as goal
 abbrev pub decreases-asking::solve_asked : goal.decreases-asking::solve_asked
 decreases-asking::solve_asked g l = 20 * left (numbered g.K.Validate.shape l.engine.now.nodes.now) (length l.engine.now.nodes.now) l.node.0 (subject_of l.question.now.instance) (busy_at (steps_to l.question.now.place.now) l.context.now.in_progress) + 6
 
-abbrev pub decreases-asking::solve_questions : goal.decreases-asking::solve_questions
-decreases-asking::solve_questions g l = 20 * left (numbered g.K.Validate.shape l.engine.now.nodes.now) (length l.engine.now.nodes.now) l.node.0 (subject_of l.question.now.instance) (busy_at (steps_to l.question.now.place.now) l.context.now.in_progress) + 4
+abbrev pub decreases-asking::solve_counted : goal.decreases-asking::solve_counted
+decreases-asking::solve_counted g l = 20 * left (numbered g.K.Validate.shape l.engine.now.nodes.now) (length l.engine.now.nodes.now) l.node.0 (subject_of l.question.now.instance) (busy_at (steps_to l.question.now.place.now) l.context.now.in_progress) + 4
+
+abbrev pub decreases-asking::solve_members : goal.decreases-asking::solve_members
+decreases-asking::solve_members g l = 20 * left (numbered g.K.Validate.shape l.engine.now.nodes.now) (length l.engine.now.nodes.now) l.node.0 (subject_of l.question.now.instance) (busy_at (steps_to l.question.now.place.now) l.context.now.in_progress) + 4
+
+abbrev pub decreases-asking::solve_names : goal.decreases-asking::solve_names
+decreases-asking::solve_names g l = 20 * left (numbered g.K.Validate.shape l.engine.now.nodes.now) (length l.engine.now.nodes.now) l.node.0 (subject_of l.question.now.instance) (busy_at (steps_to l.question.now.place.now) l.context.now.in_progress) + 4
 
 abbrev pub decreases-asking::solve_there : goal.decreases-asking::solve_there
 decreases-asking::solve_there g l = 20 * left (numbered g.K.Validate.shape l.engine.now.nodes.now) (length l.engine.now.nodes.now) l.node.0 (subject_of l.question.now.instance) (busy_at (steps_to l.question.now.place.now) l.context.now.in_progress) + 3
@@ -52,6 +61,12 @@ decreases-entries::solve_keyword g l = 20 * left (numbered g.K.Validate.shape l.
 abbrev pub decreases-entries::solve_node : goal.decreases-entries::solve_node
 decreases-entries::solve_node g l = 20 * left (numbered g.K.Validate.shape l.engine.now.nodes.now) (length l.engine.now.nodes.now) l.node.0 (subject_of l.question.now.instance) (busy_at (steps_to l.question.now.place.now) l.context.now.in_progress) + 11
 
+abbrev pub decreases-entries::solve_node_apart : goal.decreases-entries::solve_node_apart
+decreases-entries::solve_node_apart g l = 20 * left (numbered g.K.Validate.shape l.engine.now.nodes.now) (length l.engine.now.nodes.now) l.node.0 (subject_of l.question.now.instance) (busy_at (steps_to l.question.now.place.now) l.context.now.in_progress) + 12
+
+abbrev pub decreases-entries::solve_reference : goal.decreases-entries::solve_reference
+decreases-entries::solve_reference g l = 20 * edge_needs (is_cut (is_followed_in l.engine.now.followed.now)) (numbered g.K.Validate.shape l.engine.now.nodes.now) (length l.engine.now.nodes.now) (edge_of l.edge.now) (subject_of l.question.now.instance) (busy_at (steps_to l.question.now.place.now) l.context.now.in_progress) + 3
+
 abbrev pub decreases-turns::solver_answer : goal.decreases-turns::solver_answer
 decreases-turns::solver_answer g l = 20 * left (numbered g.K.Validate.shape l.engine.now.nodes.now) (length l.engine.now.nodes.now) l.node.0 (subject_of l.question.now.instance) (busy_at (steps_to l.question.now.place.now) l.context.now.in_progress) + 5
 
@@ -63,10 +78,12 @@ abbrev pub invariant-entries::solve_entries-loop-place :
 invariant-entries::solve_entries-loop-place g l =
     let set = solver_by g.K.Validate g.M.Matcher l.engine in
     let p = steps_to l.question.place.now in
+    let parts = λ (es : List (Entry g.row.K.Denot)). map (shaped_part g.K.Validate.shape) (map entry_of es) in
     record {
       goes : Goes set p l.initial.context l.context;
       marking : l.context.marking ≡ l.initial.context.marking;
-      leads : InEach set (view l.context.root) (λ texts w. SaysTheRest w p (found_of l.context) false (map (shaped_part g.K.Validate.shape) (map entry_of l.entries)) (map (shaped_part g.K.Validate.shape) (map entry_of (drop l.place l.entries))));
+      leads : InEach set (view l.context.root) (λ texts w. SaysTheRest w p (found_of l.context) false (parts l.entries) (parts (waiting l.waits l.entries) ++ parts (drop l.place l.entries)));
+      since : IfSome l.waits (λ k. (k < length l.entries) × InEach set (view l.context.root) (λ texts w. SaysTheRest w p (found_of l.context) false (parts l.entries) (parts (drop k l.entries))));
     }
 
 abbrev pub invariant-entries::solve_left-loop-entry :
@@ -80,23 +97,53 @@ invariant-entries::solve_left-loop-entry g l =
       leads : InEach set (view l.context.root) (λ texts w. SaysTheRest w p (found_of l.context) l.leans (map (shaped_part g.K.Validate.shape) (map entry_of l.entries)) (map (shaped_part g.K.Validate.shape) (map entry_of (drop l.entry-index l.entries))));
     }
 
-abbrev pub invariant-asking::solve_questions-loop-asked :
-    goal.invariant-asking::solve_questions-loop-asked
-invariant-asking::solve_questions-loop-asked g l =
+abbrev pub invariant-asking::solve_counted-loop-asked :
+    goal.invariant-asking::solve_counted-loop-asked
+invariant-asking::solve_counted-loop-asked g l =
     let set = solver_by g.K.Validate g.M.Matcher l.engine in
     let p = steps_to l.question.place.now in
-    let m = g.K.Validate.shape l.keyword.keyword.now in
-    let es = map (option_map edge_of) l.keyword.children.now in
     record {
       goes : Goes set p l.initial.context l.context;
       marking : l.context.marking ≡ l.initial.context.marking;
       there : l.questions.subject ≡ subject_of l.question.instance;
-      leads : InEach set (view l.context.root) (λ texts w. SaysByTheRest w p (found_of l.context) m es l.all l.leans l.questions.left);
+      leads : InEach set (view l.context.root) (λ texts w. SaysByTheRest w p (found_of l.context) (g.K.Validate.shape l.keyword) (map (option_map edge_of) l.children) l.all l.leans l.questions.left);
     }
 
-abbrev pub decreases-asking::solve_questions-loop-asked :
-    goal.decreases-asking::solve_questions-loop-asked
-decreases-asking::solve_questions-loop-asked g l = length l.questions.left
+abbrev pub decreases-asking::solve_counted-loop-asked :
+    goal.decreases-asking::solve_counted-loop-asked
+decreases-asking::solve_counted-loop-asked g l = length l.questions.left
+
+abbrev pub invariant-asking::solve_members-loop-asked :
+    goal.invariant-asking::solve_members-loop-asked
+invariant-asking::solve_members-loop-asked g l =
+    let set = solver_by g.K.Validate g.M.Matcher l.engine in
+    let p = steps_to l.question.place.now in
+    record {
+      goes : Goes set p l.initial.context l.context;
+      marking : l.context.marking ≡ l.initial.context.marking;
+      there : l.questions.subject ≡ subject_of l.question.instance;
+      leads : InEach set (view l.context.root) (λ texts w. SaysByTheRest w p (found_of l.context) (g.K.Validate.shape l.keyword) (map (option_map edge_of) l.children.items) true l.leans l.questions.left);
+    }
+
+abbrev pub decreases-asking::solve_members-loop-asked :
+    goal.decreases-asking::solve_members-loop-asked
+decreases-asking::solve_members-loop-asked g l = length l.questions.left
+
+abbrev pub invariant-asking::solve_names-loop-asked :
+    goal.invariant-asking::solve_names-loop-asked
+invariant-asking::solve_names-loop-asked g l =
+    let set = solver_by g.K.Validate g.M.Matcher l.engine in
+    let p = steps_to l.question.place.now in
+    record {
+      goes : Goes set p l.initial.context l.context;
+      marking : l.context.marking ≡ l.initial.context.marking;
+      there : l.questions.subject ≡ subject_of l.question.instance;
+      leads : InEach set (view l.context.root) (λ texts w. SaysByTheRest w p (found_of l.context) (g.K.Validate.shape l.keyword) (map (option_map edge_of) l.children) true l.leans l.questions.left);
+    }
+
+abbrev pub decreases-asking::solve_names-loop-asked :
+    goal.decreases-asking::solve_names-loop-asked
+decreases-asking::solve_names-loop-asked g l = length l.questions.left
 
 abbrev pub invariant-turns::solver_turns-turns : goal.invariant-turns::solver_turns-turns
 invariant-turns::solver_turns-turns g l =

@@ -4,7 +4,7 @@ use Rattle.serde_json.specs.Data.{Data}
 use Rattle.schema_definitions.specs.Instance.{a_value}
 use Rattle.schema_parts.specs.AskedAtOnce.{child_at}
 use Rattle.asked_questions.proofs.Steps.{item_there, more_numbers}
-use Rattle.asked_questions.proofs.next_item.Goals as goal
+use Rattle.asked_questions.proofs.counted.next_item.Goals as goal
 
 pub returns : goal.returns
 returns c =

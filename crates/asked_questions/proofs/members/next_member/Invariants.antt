@@ -2,10 +2,10 @@ use Rattle.std.proofs.Common.{◌≡◌, drop}
 use Rattle.schema_definitions.specs.Instance.{Subject}
 use Rattle.asked_questions.specs.Members.{HaveAllOf}
 use Rattle.asked_questions.specs.Questions.{at_names}
-use Rattle.asked_questions.proofs.next_member.Given as goal
+use Rattle.asked_questions.proofs.members.next_member.Given as goal
 
 -- the names that were passed are none of the members'
 abbrev pub invariant-loop-next : goal.invariant-loop-next
-invariant-loop-next g l =
+invariant-loop-next l =
     (s : Subject) → HaveAllOf s (drop l.initial.next l.names) l.initial.members
     → HaveAllOf s (drop l.next l.names) l.members × (at_names s l.initial.next (drop l.initial.next l.names) ≡ at_names s l.next (drop l.next l.names))

@@ -8,21 +8,21 @@ use Rattle.schema_parts.specs.AskedAtOnce.{child_below}
 use Rattle.asked_questions.specs.Members.{HaveAllOf}
 use Rattle.asked_questions.specs.Questions.{AsksFirst, at_names}
 use Rattle.asked_questions.proofs.MemberWalks.{found_asked, found_goes_on, found_stands, found_within, none_asked, passed_asked, passed_goes_on}
-use Rattle.asked_questions.proofs.next_member.Goals as goal
+use Rattle.asked_questions.proofs.members.next_member.Goals as goal
 
 pub returns-in_err-name-clause-way : goal.returns-in_err-name-clause-way
-returns-in_err-name-clause-way g c = λ s h.
+returns-in_err-name-clause-way c = λ s h.
     subst (HaveAllOf s (drop c.loop-next.next c.args.names.now)) (c.in_err-name.ensures.steps.0 ∙ sym c.in_err-name.ensures.steps.1) (c.loop-next.invariant s h).0
 
 pub returns-in_err-name-clause-asks : goal.returns-in_err-name-clause-asks
-returns-in_err-name-clause-asks g c = λ s h.
+returns-in_err-name-clause-asks c = λ s h.
     let names = c.args.names.now in
     let asked = c.loop-next.invariant s h in
     let left : at_names s c.loop-next.next (drop c.loop-next.next names) ≡ [] = none_asked s c.loop-next.next (drop c.loop-next.next names) c.loop-next.members c.in_err-name.ensures.steps.0 asked.0 in
     subst (λ r. AsksFirst s (at_names s c.args.next.now (drop c.args.next.now names)) r (at_names s c.loop-next.next (drop c.loop-next.next names))) (sym c.from_residual.ensures) (asked.1 ∙ left, left)
 
 pub overflow_add-next : goal.overflow_add-next
-overflow_add-next g c =
+overflow_add-next c =
     let names = c.args.names.now in
     let name = c.as_str-name.result.now in
     let place : place_from name c.loop-next.next (drop c.loop-next.next names) ≡ (c.place_from-child.result.0, true) = sym c.place_from-child.ensures.place ∙ ap (λ b. (c.place_from-child.result.0, b)) c.if-found.true in
@@ -31,7 +31,7 @@ overflow_add-next g c =
     omega arith
 
 pub returns-then-found-clause-way : goal.returns-then-found-clause-way
-returns-then-found-clause-way g c = λ s h.
+returns-then-found-clause-way c = λ s h.
     let names = c.args.names.now in
     let i = c.loop-next.next in
     let p = c.place_from-child.result.0 in
@@ -41,7 +41,7 @@ returns-then-found-clause-way g c = λ s h.
     found_goes_on s names c.place_from-child.ensures.ascend i p e c.next.new.self have place
 
 pub returns-then-found-clause-asks : goal.returns-then-found-clause-asks
-returns-then-found-clause-asks g c = λ s h.
+returns-then-found-clause-asks c = λ s h.
     let names = c.args.names.now in
     let i = c.loop-next.next in
     let p = c.place_from-child.result.0 in
@@ -55,7 +55,7 @@ returns-then-found-clause-asks g c = λ s h.
     )
 
 pub loop-next-preserved : goal.loop-next-preserved
-loop-next-preserved g c = λ s h.
+loop-next-preserved c = λ s h.
     let names = c.args.names.now in
     let i = c.loop-next.next in
     let p = c.place_from-child.result.0 in
@@ -67,4 +67,4 @@ loop-next-preserved g c = λ s h.
     )
 
 pub returns-clause-way : goal.returns-clause-way
-returns-clause-way g c = λ s h. (c.loop-next.invariant s h).0
+returns-clause-way c = λ s h. (c.loop-next.invariant s h).0
