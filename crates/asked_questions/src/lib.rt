@@ -1,5 +1,5 @@
-//! The questions that a keyword tells at once, one by one. Each way of asking has a walk of its own, so that who goes through it keeps no more
-//! than that way needs.
+//! The questions that a keyword tells at once, one by one. Each way of asking has a walk of its own, so that who goes through it keeps no
+//! more than that way needs.
 #![tactic(auto)]
 
 pub mod counted;
