@@ -28,8 +28,8 @@ use schema_parts::matcher::Matcher;
 use schema_parts::numbers::{Edge, SchemaNode};
 use serde_json::{Map, Value};
 
-// The verdict of a keyword by what it asks at once, or else by its turns. Its children are lent as they are kept, in one word, so that the
-// calls that have room of their own on the stack are made as the last ones, and this room is given back before.
+// The verdict of a keyword by what it asks at once, or else by its turns. Its children are lent as they are kept, in one word, so that what
+// a call by members is given fits into registers.
 #[cycle(verdict)]
 #[inline(always)]
 pub(crate) fn solve_asked<'i, K: Validate, M: Matcher>(
@@ -128,8 +128,8 @@ fn solve_counted<'i, K: Validate, M: Matcher>(
     Ok(Said::of(all, leans))
 }
 
-// The same by questions of its children at the members that have their names. Its room on the stack is its own, which is all that a level
-// of objects takes for its keyword.
+// The same by questions of its children at the members that have their names. Its room on the stack is its own, so that the other ways of
+// asking take less.
 #[cycle(verdict)]
 #[inline(never)]
 fn solve_members<'i, K: Validate, M: Matcher>(

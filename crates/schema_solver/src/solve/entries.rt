@@ -145,8 +145,7 @@ fn solve_form<'i, K: Validate, M: Matcher>(
     }
 }
 
-// The verdict of an entry's keyword by what it asks at once, or by a run. Its room on the stack is its own, and the call is the last that
-// the caller makes, so that the caller's room is given back before.
+// The verdict of an entry's keyword by what it asks at once, or by a run. Its room on the stack is its own.
 #[cycle(verdict)]
 #[inline(never)]
 fn solve_keyword<'i, K: Validate, M: Matcher>(
@@ -176,8 +175,7 @@ fn solve_keyword<'i, K: Validate, M: Matcher>(
     }
 }
 
-// The verdict of the node that a reference leads to. Its room on the stack is its own, too, and so is the call the last, so that a chain of
-// references that are followed takes the room of one.
+// The verdict of the node that a reference leads to. Its room on the stack is its own, so that a chain of references takes no more.
 #[cycle(verdict)]
 #[inline(never)]
 fn solve_reference<'i, K: Validate, M: Matcher>(
@@ -193,7 +191,7 @@ fn solve_reference<'i, K: Validate, M: Matcher>(
     solve_edge(engine, edge, question, context)
 }
 
-// The verdict of a node, with room on the stack of its own, which is given back before the node's last call.
+// The verdict of a node, with room on the stack of its own, so that what begins a pair has less.
 #[cycle(verdict)]
 #[inline(never)]
 pub(crate) fn solve_node_apart<'i, K: Validate, M: Matcher>(
