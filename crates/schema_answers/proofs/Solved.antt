@@ -8,7 +8,7 @@ use Rattle.schema_definitions.specs.Matching.{Matcher}
 use Rattle.schema_definitions.specs.Reports.{Outcome}
 use Rattle.schema_meaning.specs.Numbered.{subject_in}
 use Rattle.schema_contexts.specs.Works.{Budget, allowed}
-use Rattle.schema_node.proofs.NodeOutcomes.{outcome_is}
+use Rattle.schema_runs.proofs.NodeOutcomes.{outcome_is}
 use Rattle.node_table.specs.NodeTable.{NodeEntry, numbered}
 use Rattle.schema_pairs.specs.Following.{IsFollowing}
 use Rattle.schema_solver.specs.Asked.{solver_over}

@@ -15,7 +15,7 @@ use Rattle.schema_meaning.proofs.Finishing.{nodes_decide}
 use Rattle.node_table.specs.NodeTable.{numbered}
 use Rattle.schema_contexts.specs.Works.{Asks, Budget, Spends}
 use Rattle.schema_contexts.proofs.Matches.{nothing_twice}
-use Rattle.schema_node.proofs.Spending.{asks_spends, spends_none, spends_on}
+use Rattle.schema_runs.proofs.Spending.{asks_spends, spends_none, spends_on}
 use Rattle.schema_search.specs.RunCounts.{MakesFurther}
 use Rattle.schema_calls.proofs.Remembers.{remembers_of}
 use Rattle.schema_parts.specs.declared.keyword.Validate.{Ghosts as KeywordMembers}

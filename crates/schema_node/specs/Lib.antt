@@ -24,11 +24,4 @@ pub use Rattle.run_steps.specs.ReplyModes
 pub use Rattle.run_steps.specs.NodeUnits
 pub use Rattle.run_steps.specs.NodeRuns
 pub use Rattle.run_steps.specs.Turning
-pub mod Remembering
-pub mod NodeMeets
-pub mod RightVerdicts
-pub mod RunStates
-pub mod Visits
-pub mod UnitStates
-pub mod VerdictTurns
-pub mod Answered
+pub mod FirstQuestions

@@ -10,12 +10,12 @@ ghost use Rattle.run_steps.specs.NodeRuns.{HasForm, HasParts, HasChildren, form_
 ghost use Rattle.schema_contexts.specs.Progress.{places_in};
 ghost use Rattle.run_steps.specs.Askings.{asking};
 ghost use Rattle.run_steps.specs.EvaluationPlaces.{CarriesItsNumber};
-ghost use Rattle.schema_node.specs.Answered.{ChildGiven, EdgeGiven, FormGiven, NodeGiven, PartsGiven, PlanGiven, setting_by};
-ghost use Rattle.schema_node.specs.RunStates.{setting};
-ghost use Rattle.schema_node.specs.RunStates.{Keeps, StaysRight};
-ghost use Rattle.schema_node.specs.RunStates.{MeetsChild, MeetsEdge, MeetsForm, MeetsNode, MeetsParts};
-ghost use Rattle.schema_node.specs.UnitStates.{ChildGives, EdgeGives, FormGives, MayEvaluate, NodeGives, PartsGive};
-ghost use Rattle.schema_node.specs.Visits.{LeadsNowhere};
+ghost use Rattle.schema_runs.specs.Answered.{ChildGiven, EdgeGiven, FormGiven, NodeGiven, PartsGiven, PlanGiven, setting_by};
+ghost use Rattle.schema_runs.specs.RunStates.{setting};
+ghost use Rattle.schema_runs.specs.RunStates.{Keeps, StaysRight};
+ghost use Rattle.schema_runs.specs.RunStates.{MeetsChild, MeetsEdge, MeetsForm, MeetsNode, MeetsParts};
+ghost use Rattle.schema_runs.specs.UnitStates.{ChildGives, EdgeGives, FormGives, MayEvaluate, NodeGives, PartsGive};
+ghost use Rattle.schema_runs.specs.Visits.{LeadsNowhere};
 
 use crate::node::turns::keyword_answer;
 use node_table::node::{Entry, EntryForm, NodeForm};

@@ -8,11 +8,12 @@ ghost use Rattle.serde_json.specs.View.{view};
 ghost use Rattle.schema_contexts.specs.Progress.{NoDeeper};
 ghost use Rattle.schema_contexts.specs.Works.{Asks};
 ghost use Rattle.run_steps.specs.Askings.{IsAskedOf};
-ghost use Rattle.schema_node.specs.RunStates.{asking_first, setting_over};
-ghost use Rattle.schema_node.specs.RunStates.{RunBorrows, RunMeets, RunRemembers, RunReplies, RunSpeaks};
-ghost use Rattle.schema_node.specs.RunStates.{GoesOn, NodeRemembers, StaysRight, forgotten};
-ghost use Rattle.schema_node.specs.UnitStates.{RunGives, evaluating};
-ghost use Rattle.schema_node.specs.Visits.{NodeCounts};
+ghost use Rattle.schema_node.specs.FirstQuestions.{asking_first};
+ghost use Rattle.schema_runs.specs.RunStates.{setting_over};
+ghost use Rattle.schema_runs.specs.RunStates.{RunBorrows, RunMeets, RunRemembers, RunReplies, RunSpeaks};
+ghost use Rattle.schema_runs.specs.RunStates.{GoesOn, NodeRemembers, StaysRight, forgotten};
+ghost use Rattle.schema_runs.specs.UnitStates.{RunGives, evaluating};
+ghost use Rattle.schema_runs.specs.Visits.{NodeCounts};
 
 use crate::node::evaluate::evaluate_node;
 use crate::node::run::node_reply;

@@ -11,11 +11,11 @@ ghost use Rattle.schema_contexts.specs.Progress.{places_in};
 ghost use Rattle.schema_contexts.specs.Works.{Spends};
 ghost use Rattle.run_steps.specs.Askings.{asking};
 ghost use Rattle.run_steps.specs.EvaluationPlaces.{CarriesItsNumber};
-ghost use Rattle.schema_node.specs.RunStates.{setting};
-ghost use Rattle.schema_node.specs.RunStates.{HasBegun, Keeps, PassesItsOwn, RunBorrows, StaysRight};
-ghost use Rattle.schema_node.specs.RunStates.{MeetsChild, MeetsForm};
-ghost use Rattle.schema_node.specs.UnitStates.{ChildTells, FindsRightly, MayAsk, MayEvaluate};
-ghost use Rattle.schema_node.specs.Visits.{LeadsNowhere};
+ghost use Rattle.schema_runs.specs.RunStates.{setting};
+ghost use Rattle.schema_runs.specs.RunStates.{HasBegun, Keeps, PassesItsOwn, RunBorrows, StaysRight};
+ghost use Rattle.schema_runs.specs.RunStates.{MeetsChild, MeetsForm};
+ghost use Rattle.schema_runs.specs.UnitStates.{ChildTells, FindsRightly, MayAsk, MayEvaluate};
+ghost use Rattle.schema_runs.specs.Visits.{LeadsNowhere};
 
 use crate::node::evaluate::evaluate_child;
 use crate::node::run::run_child;

@@ -1,8 +1,8 @@
 //! Runs of nodes for the verdict alone. A level of an instance takes little room on the stack: no reply is moved, only a yes or a no.
 ghost use Rattle.schema_parts.specs.KeywordViews.{below_of};
 ghost use Rattle.schema_parts.specs.EdgeViews.{edge_of};
-ghost use Rattle.schema_node.specs.Answered.{Answers, IsAsked, a_guarded, a_node, a_plan, a_shared, an_edge, setting_by};
-ghost use Rattle.schema_node.specs.Answered.{the_child, the_entries, the_entry};
+ghost use Rattle.schema_runs.specs.Answered.{Answers, IsAsked, a_guarded, a_node, a_plan, a_shared, an_edge, setting_by};
+ghost use Rattle.schema_runs.specs.Answered.{the_child, the_entries, the_entry};
 
 use crate::node::verdict_asking::asked_verdict;
 use crate::node::verdict_turns::keyword_verdict;

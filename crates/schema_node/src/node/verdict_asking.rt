@@ -6,7 +6,7 @@ ghost use Rattle.schema_parts.specs.AskedAtOnce.{HoldsAsTold, tells_at_once};
 ghost use Rattle.schema_parts.specs.KeywordViews.{Tells};
 ghost use Rattle.schema_parts.specs.MatcherViews.{FinishesEach};
 ghost use Rattle.asked_questions.specs.Questions.{SaysByQuestions, StandsThere, question_in};
-ghost use Rattle.schema_node.specs.Answered.{Answers, IsAsked, setting_by, the_keyword, the_question};
+ghost use Rattle.schema_runs.specs.Answered.{Answers, IsAsked, setting_by, the_keyword, the_question};
 
 use crate::node::verdict::verdict_edge;
 use crate::node::verdict_turns::keyword_verdict;

@@ -5,8 +5,8 @@ ghost use Rattle.schema_reports.specs.InstanceViews.{subject_of};
 ghost use Rattle.schema_definitions.specs.Keywords.{for_verdict};
 ghost use Rattle.schema_parts.specs.KeywordViews.{fresh};
 ghost use Rattle.run_steps.specs.Askings.{asking};
-ghost use Rattle.schema_node.specs.Answered.{Answers, IsAsked, Turns, setting_by, the_keyword};
-ghost use Rattle.schema_node.specs.RunStates.{HasBegun};
+ghost use Rattle.schema_runs.specs.Answered.{Answers, IsAsked, Turns, setting_by, the_keyword};
+ghost use Rattle.schema_runs.specs.RunStates.{HasBegun};
 
 use crate::node::verdict::verdict_child;
 use run_steps::faults::begun;

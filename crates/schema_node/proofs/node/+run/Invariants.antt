@@ -17,19 +17,19 @@ use Rattle.node_table.specs.NodeTable.{numbered, shaped_part}
 use Rattle.schema_parts.specs.EdgeViews.{edge_of}
 use Rattle.node_table.specs.NodeViews.{entry_of}
 use Rattle.schema_contexts.specs.Matches.{MeetsEach, settling}
-use Rattle.schema_node.specs.NodeMeets.{child_run, parts_looked, reading}
+use Rattle.schema_runs.specs.NodeMeets.{child_run, parts_looked, reading}
 use Rattle.run_steps.specs.ReplyModes.{refuses}
 use Rattle.run_steps.specs.NodeRuns.{Reading, Reads, Replies, child_says, edge_needs, parts_say}
 use Rattle.run_steps.specs.Askings.{asking}
-use Rattle.schema_node.specs.RunStates.{StaysRight, setting}
-use Rattle.schema_node.specs.Visits.{LeadsNowhere}
-use Rattle.schema_node.proofs.KeywordMeets.{MeetsSoFar}
+use Rattle.schema_runs.specs.RunStates.{StaysRight, setting}
+use Rattle.schema_runs.specs.Visits.{LeadsNowhere}
+use Rattle.schema_runs.proofs.KeywordMeets.{MeetsSoFar}
 use Rattle.schema_contexts.specs.Progress.{busy_at}
 use Rattle.schema_contexts.specs.Works.{Spends}
 use Rattle.run_steps.specs.Turning.{EvaluatesOn}
 use Rattle.run_steps.specs.EntryUnits.{placed_of}
 use Rattle.schema_definitions.specs.UnitOrder.{each_placed, nothing_placed}
-use Rattle.schema_node.specs.UnitStates.{child_unit, parts_units}
+use Rattle.schema_runs.specs.UnitStates.{child_unit, parts_units}
 use Rattle.schema_node.proofs.node.+run.Given as goal
 
 abbrev pub decreases-run::run_child : goal.decreases-run::run_child

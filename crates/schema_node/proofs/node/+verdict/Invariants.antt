@@ -13,19 +13,19 @@ use Rattle.node_table.specs.NodeTable.{numbered, shaped_part}
 use Rattle.schema_parts.specs.EdgeViews.{edge_of}
 use Rattle.node_table.specs.NodeViews.{entry_of}
 use Rattle.schema_contexts.specs.Matches.{MeetsEach, settling}
-use Rattle.schema_node.specs.NodeMeets.{child_run, parts_looked, reading}
+use Rattle.schema_runs.specs.NodeMeets.{child_run, parts_looked, reading}
 use Rattle.run_steps.specs.NodeRuns.{Reading, Reads, Replies, child_says, edge_needs, parts_say}
 use Rattle.run_steps.specs.Askings.{asking}
-use Rattle.schema_node.specs.RunStates.{Keeps, PartsRemember, StaysRight, setting}
+use Rattle.schema_runs.specs.RunStates.{Keeps, PartsRemember, StaysRight, setting}
 use Rattle.run_steps.specs.VerdictRuns.{told_reply}
-use Rattle.schema_node.specs.VerdictTurns.{AsksVerdictsOn}
-use Rattle.schema_node.specs.Visits.{LeadsNowhere, PartsCount}
-use Rattle.schema_node.proofs.AskedAtOnce.{MeetsNothing, SaysByTheRest}
-use Rattle.schema_node.proofs.KeywordMeets.{MeetsSoFar}
+use Rattle.schema_runs.specs.VerdictTurns.{AsksVerdictsOn}
+use Rattle.schema_runs.specs.Visits.{LeadsNowhere, PartsCount}
+use Rattle.schema_runs.proofs.AskedAtOnce.{MeetsNothing, SaysByTheRest}
+use Rattle.schema_runs.proofs.KeywordMeets.{MeetsSoFar}
 use Rattle.schema_contexts.specs.Progress.{busy_at}
 use Rattle.schema_contexts.specs.Works.{Spends}
 use Rattle.run_steps.specs.Turning.{EvaluatesOn}
-use Rattle.schema_node.specs.UnitStates.{child_unit}
+use Rattle.schema_runs.specs.UnitStates.{child_unit}
 use Rattle.schema_parts.specs.declared.keyword.Reply.TheVariants as told
 use Rattle.schema_node.proofs.node.+verdict.Given as goal
 

@@ -13,7 +13,7 @@ use Rattle.schema_answers.specs.Program.{Program}
 use Rattle.schema_calls.proofs.ErrorSearches.{errors_at_once, first_at_once}
 use Rattle.schema_answers.proofs.Solved.{of_some}
 use Rattle.schema_calls.proofs.Searches.{finishes_of}
-use Rattle.schema_node.proofs.Spending.{asks_spends, spends_on}
+use Rattle.schema_runs.proofs.Spending.{asks_spends, spends_on}
 use Rattle.schema_answers.proofs.compiled_schema.CompiledSchema.accepts_at_once.Goals as goal
 
 pub returns-in-Some-clause-first : goal.returns-in-Some-clause-first

@@ -14,7 +14,7 @@ use Rattle.schema_answers.specs.Answers.{MeetsMatches, SaysErrors}
 use Rattle.schema_answers.specs.Asked.{ErrorsFromSomeDepth}
 use Rattle.schema_calls.proofs.ErrorSearches.{errors_first}
 use Rattle.schema_calls.proofs.Searches.{finishes_of, none_of}
-use Rattle.schema_node.proofs.Spending.{asks_spends, spends_on}
+use Rattle.schema_runs.proofs.Spending.{asks_spends, spends_on}
 use Rattle.schema_answers.proofs.Taken.{takes_after, takes_finished, takes_first}
 use Rattle.schema_answers.proofs.compiled_schema.CompiledSchema.all_under_each.Goals as goal
 

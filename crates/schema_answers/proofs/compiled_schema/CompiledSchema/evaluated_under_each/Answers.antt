@@ -9,7 +9,7 @@ use Rattle.schema_contexts.proofs.Matches.{nothing_twice}
 use Rattle.schema_parts.proofs.Replies.{if_ok_always, if_ok_mono}
 use Rattle.schema_calls.proofs.ErrorSearches.{evaluated_first, units_first, units_searched}
 use Rattle.schema_calls.proofs.Searches.{none_of}
-use Rattle.schema_node.proofs.Spending.{asks_spends}
+use Rattle.schema_runs.proofs.Spending.{asks_spends}
 use Rattle.schema_answers.proofs.Taken.{takes_after, takes_first}
 use Rattle.schema_meaning.proofs.Sentences.{evaluate_later}
 use Rattle.schema_definitions.specs.Cover.{evaluate}

@@ -13,7 +13,7 @@ use Rattle.schema_contexts.proofs.Matches.{nothing_twice}
 use Rattle.schema_answers.specs.Asked.{FirstFromSomeDepth}
 use Rattle.schema_calls.proofs.ErrorSearches.{first_first, first_has}
 use Rattle.schema_calls.proofs.Searches.{finishes_of, none_of}
-use Rattle.schema_node.proofs.Spending.{asks_spends, spends_on}
+use Rattle.schema_runs.proofs.Spending.{asks_spends, spends_on}
 use Rattle.schema_answers.proofs.Taken.{takes_after, takes_finished, takes_first}
 use Rattle.schema_answers.proofs.compiled_schema.CompiledSchema.first_under_each.Goals as goal
 

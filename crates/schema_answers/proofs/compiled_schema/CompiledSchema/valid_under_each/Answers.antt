@@ -13,7 +13,7 @@ use Rattle.schema_contexts.specs.Works.{Asks}
 use Rattle.schema_contexts.proofs.Matches.{nothing_twice}
 use Rattle.schema_parts.proofs.Replies.{if_ok_mono}
 use Rattle.schema_parts.specs.MatcherViews.{FinishesEach}
-use Rattle.schema_node.proofs.Spending.{asks_spends, spends_on}
+use Rattle.schema_runs.proofs.Spending.{asks_spends, spends_on}
 use Rattle.schema_verdicts.specs.declared.eligible.SolvedVerdict.{SolvedVerdict}
 use Rattle.schema_answers.specs.Answers.{MeetsMatches, SaysVerdict}
 use Rattle.schema_answers.specs.Asked.{DecidesFromSomeDepth}

@@ -3,12 +3,12 @@ use Rattle.schema_reports.specs.InstanceViews.{subject_of}
 use Rattle.schema_meaning.specs.Numbered.{left, subject_in}
 use Rattle.schema_parts.specs.KeywordViews.{mode_of}
 use Rattle.schema_contexts.specs.Matches.{settling}
-use Rattle.schema_node.specs.NodeMeets.{reading}
+use Rattle.schema_runs.specs.NodeMeets.{reading}
 use Rattle.node_table.specs.NodeTable.{numbered}
 use Rattle.schema_contexts.specs.Progress.{busy_at, places_in}
 use Rattle.run_steps.proofs.KeywordTurns.{silent, silent_reads}
 use Rattle.schema_contexts.proofs.Matches.{completes_once}
-use Rattle.schema_node.proofs.NodeOutcomes.{reply_is}
+use Rattle.schema_runs.proofs.NodeOutcomes.{reply_is}
 use Rattle.node_table.proofs.RankedTable.{ranked_table}
 use Rattle.schema_parts.proofs.Replies.{if_ok_mono}
 use Rattle.schema_node.proofs.node.runs.NodesRunNodes.run_further.Goals as goal

@@ -18,7 +18,7 @@ use Rattle.run_steps.specs.NodeRuns.{Reading, Reads, child_says, edge_needs}
 use Rattle.schema_contexts.specs.Progress.{Context, NoDeeper}
 use Rattle.serde_json.specs.View.{view}
 use Rattle.run_steps.specs.Askings.{Asking, IsAskedOf}
-use Rattle.schema_node.specs.RunStates.{GoesOn, OfWholeRun, Setting, busy, settled_by}
+use Rattle.schema_runs.specs.RunStates.{GoesOn, OfWholeRun, Setting, busy, settled_by}
 use Rattle.schema_parts.specs.declared.keyword.Answer as code_answer
 use Rattle.schema_parts.specs.declared.keyword.Reply as code
 

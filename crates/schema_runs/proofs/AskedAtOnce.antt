@@ -18,10 +18,10 @@ use Rattle.run_steps.specs.Askings.{Asking as Asked}
 use Rattle.run_steps.specs.NodeRuns.{ChildReplies, HasForm, Reading, Reads, child_says}
 use Rattle.run_steps.specs.ReplyModes.{accepts, reply_by}
 use Rattle.run_steps.proofs.NodeParts.{tells_keyword}
-use Rattle.schema_node.specs.NodeMeets.{ChildMeets, reading}
-use Rattle.schema_node.specs.RunStates.{ChildSays, FormSays, Keeps, MeetsChild, MeetsForm, Setting, busy, settled_by}
-use Rattle.schema_node.proofs.Finishing.{child_meets_none, form_meets_none}
-use Rattle.schema_node.proofs.Verdicts.{keyword_replies}
+use Rattle.schema_runs.specs.NodeMeets.{ChildMeets, reading}
+use Rattle.schema_runs.specs.RunStates.{ChildSays, FormSays, Keeps, MeetsChild, MeetsForm, Setting, busy, settled_by}
+use Rattle.schema_runs.proofs.Finishing.{child_meets_none, form_meets_none}
+use Rattle.schema_runs.proofs.Verdicts.{keyword_replies}
 
 module _ {K R : Type 0} (g : Setting K R) (q : Asked) (c : Context) (i : ℕ) (m : K) (es : Children) where
   -- in each reading in which the subject stands at the place, at a depth that is enough

@@ -19,14 +19,14 @@ use Rattle.schema_reports.specs.ReportViews.{BorrowsItsPlace}
 use Rattle.schema_parts.specs.FaultViews.{errors_in}
 use Rattle.schema_parts.specs.KeywordViews.{reply_of}
 use Rattle.schema_contexts.specs.Matches.{MeetsEach, Settling, after_match, settling}
-use Rattle.schema_node.specs.NodeMeets.{NodeMeets}
+use Rattle.schema_runs.specs.NodeMeets.{NodeMeets}
 use Rattle.run_steps.specs.ReplyModes.{accepts}
 use Rattle.run_steps.specs.NodeRuns.{NodeReplies}
 use Rattle.schema_contexts.specs.Progress.{Context, Pairs, Verdicts, busy_at}
-use Rattle.schema_node.specs.RightVerdicts.{AreRight, IsRightVerdict, LaysOut, Layout}
+use Rattle.schema_runs.specs.RightVerdicts.{AreRight, IsRightVerdict, LaysOut, Layout}
 use Rattle.schema_contexts.specs.Verdicts.{MayKeep, Remembers, is_alone, is_container, is_pair, least_visits, read_verdict, verdict_of}
 use Rattle.schema_parts.specs.declared.keyword.Reply as code
-use Rattle.schema_node.proofs.MeetsAgain.{known_by_path, known_stays, met_again, met_is_known}
+use Rattle.schema_runs.proofs.MeetsAgain.{known_by_path, known_stays, met_again, met_is_known}
 use Rattle.run_steps.proofs.NodeRuns.{stands_in}
 use Rattle.schema_contexts.proofs.Pairs.{busy-pushed, place_equal, same_place-self}
 

@@ -16,10 +16,10 @@ use Rattle.schema_definitions.specs.Units.{no_unit}
 use Rattle.schema_meaning.proofs.GuardedSense.{node_valid}
 use Rattle.schema_meaning.proofs.NodeRuns.{runs_say_outcomes}
 use Rattle.schema_contexts.specs.Matches.{Settling}
-use Rattle.schema_node.specs.NodeMeets.{child_run, deep_run, edge_run, reading}
+use Rattle.schema_runs.specs.NodeMeets.{child_run, deep_run, edge_run, reading}
 use Rattle.run_steps.specs.NodeRuns.{Reading, child_says, deep, edge_says, node_says}
-use Rattle.schema_node.specs.UnitStates.{child_unit, deep_unit, edge_unit, reply_with, unit_here}
-use Rattle.schema_node.proofs.NodeMeets.{child_replies}
+use Rattle.schema_runs.specs.UnitStates.{child_unit, deep_unit, edge_unit, reply_with, unit_here}
+use Rattle.schema_runs.proofs.NodeMeets.{child_replies}
 use Rattle.run_steps.proofs.NodeRuns.{agrees_deep, agrees_edge}
 
 -- ---- replies by mode

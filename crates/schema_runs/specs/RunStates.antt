@@ -3,7 +3,6 @@ use Rattle.std.specs.List.{list_any}
 use Rattle.std.specs.Prelude.{◌≡◌, ◌<◌, ◌≤◌, ◌==◌, ◌∷◌, [], ℕ, Bool, All, List, None, Some, false, length, true}
 use Rattle.serde_json.specs.Data.{Data}
 use Rattle.schema_definitions.specs.Instance.{Text}
-use Rattle.schema_reports.specs.InstanceViews.{subject_of}
 use Rattle.schema_definitions.specs.Keywords.{Answer, Keywords, Question as ChildQuestion, for_units, for_verdict, truth}
 use Rattle.schema_definitions.specs.Matching.{Extends, Matcher, completion_of}
 use Rattle.schema_definitions.specs.Reports.{Outcome}
@@ -12,21 +11,20 @@ use Rattle.schema_definitions.specs.Runs.{Run, reply_in}
 use Rattle.schema_definitions.specs.Guarded.{Children, NodeEdge, NodeForm, NodePart, Nodes, guarded_node, guarded_within, node_reference, node_these, yes_run}
 use Rattle.schema_meaning.specs.Numbered.{Ranked, left, subject_in}
 use Rattle.schema_parts.specs.FaultViews.{PassesBorrowed, errors_in, faults_in}
-use Rattle.schema_parts.specs.KeywordViews.{answer_of, mode_of, reply_of}
+use Rattle.schema_parts.specs.KeywordViews.{answer_of, reply_of}
 use Rattle.schema_contexts.specs.Matches.{MeetsEach, Settling, settling}
-use Rattle.schema_node.specs.NodeMeets.{ChildMeets, EdgeMeets, EntryMeets, FormMeets, NodeMeets, PartsMeet}
+use Rattle.schema_runs.specs.NodeMeets.{ChildMeets, EdgeMeets, EntryMeets, FormMeets, NodeMeets, PartsMeet}
 use Rattle.run_steps.specs.Askings.{Asking, IsAskedOf}
 use Rattle.run_steps.specs.ReplyModes.{reply_by}
 use Rattle.run_steps.specs.NodeRuns.{ChildReplies, EdgeReplies, FormReplies, NodeReplies, PartsReply, TellsAll}
 use Rattle.node_table.specs.NodeTable.{NodeEntry, numbered}
 use Rattle.serde_json.specs.View.{view}
 use Rattle.schema_contexts.specs.Progress.{Context, NoDeeper, busy_at, guard_words}
-use Rattle.schema_node.specs.RightVerdicts.{AreRight, LaysOut, Layout}
+use Rattle.schema_runs.specs.RightVerdicts.{AreRight, LaysOut, Layout}
 use Rattle.schema_contexts.specs.Verdicts.{MayKeep, one_more, read_verdict, verdict_of}
 use Rattle.schema_parts.specs.declared.keyword.Answer as code_answer
 use Rattle.schema_parts.specs.declared.keyword.Reply as code
 use Rattle.run_steps.specs.declared.question.Engine.{Engine}
-use Rattle.schema_node.specs.declared.node.runs.FirstQuestion.{FirstQuestion}
 
 -- what a run is made with: the keywords as they are read, the numbered nodes and how many there are, and the matcher
 pub record Setting (K R : Type 0) : Type 0 where
@@ -47,9 +45,6 @@ setting_over words is_whole shape ns matcher = record {
 
 abbrev pub setting : {K R C M : Type 0} → (Bool → Keywords K R) → (K → Bool) → (C → K) → (M → Matcher) → Engine C M → Setting K R
 setting words is_whole shape matching e = setting_over words is_whole shape e.nodes.now (matching e.matcher.now)
-
-abbrev pub asking_first : FirstQuestion → Asking
-asking_first q = record { subject = subject_of q.instance; place = q.place.now; path = q.path.now; mode = mode_of q.mode }
 
 -- the instance, the pairs in progress, what is assumed, and the marks of the keyword's run that is at work are as before
 pub record Keeps (old new : Context) : Type 0 where

@@ -9,18 +9,18 @@ use Rattle.schema_definitions.specs.Guarded.{NodeEdge, NodeForm, NodePart, NodeP
 use Rattle.schema_definitions.specs.Remembering.{EachAsksVerdicts}
 use Rattle.schema_definitions.specs.Unfinished.{Remembered}
 use Rattle.schema_contexts.specs.Matches.{after_match, settling}
-use Rattle.schema_node.specs.NodeMeets.{NodeMeets}
+use Rattle.schema_runs.specs.NodeMeets.{NodeMeets}
 use Rattle.run_steps.specs.NodeRuns.{NodeReplies}
 use Rattle.schema_contexts.specs.Progress.{Context, busy_at}
-use Rattle.schema_node.specs.RightVerdicts.{AreRight, IsRightVerdict, Layout}
+use Rattle.schema_runs.specs.RightVerdicts.{AreRight, IsRightVerdict, Layout}
 use Rattle.run_steps.specs.Askings.{Asking}
-use Rattle.schema_node.specs.RunStates.{EdgeRemembers, EdgeSays, FormRemembers, GoesOn, Keeps, MeetsEdge, MeetsNode, NodeRemembers, NodeSays, PartsRemember, RemembersRightly, Setting, StaysRight}
+use Rattle.schema_runs.specs.RunStates.{EdgeRemembers, EdgeSays, FormRemembers, GoesOn, Keeps, MeetsEdge, MeetsNode, NodeRemembers, NodeSays, PartsRemember, RemembersRightly, Setting, StaysRight}
 use Rattle.schema_contexts.specs.Verdicts.{MayKeep, Remembers, is_alone, least_visits, one_more, read_verdict, verdict_of}
 use Rattle.schema_parts.specs.declared.keyword.Reply as code
 use Rattle.schema_parts.specs.declared.keyword.Reply.TheVariants as told
 use Rattle.schema_contexts.proofs.Matches.{after_assumes}
-use Rattle.schema_node.proofs.RightVerdicts.{alone_entered, alone_is_none, computed_right, kept_or_not, read_alone, read_entered, read_meets, read_replies, right_after_match, right_kept}
-use Rattle.schema_node.proofs.NodeMeets.{meets_entered}
+use Rattle.schema_runs.proofs.RightVerdicts.{alone_entered, alone_is_none, computed_right, kept_or_not, read_alone, read_entered, read_meets, read_replies, right_after_match, right_kept}
+use Rattle.schema_runs.proofs.NodeMeets.{meets_entered}
 use Rattle.run_steps.proofs.NodeRuns.{edge_entered}
 use Rattle.schema_contexts.proofs.Pairs.{busy-pushed, snoc_first}
 

@@ -27,11 +27,11 @@ use Rattle.run_steps.specs.Askings.{Asking}
 use Rattle.run_steps.specs.ReplyModes.{reply_by}
 use Rattle.run_steps.specs.NodeRuns.{NodeReplies, Replies, deep, node_says}
 use Rattle.run_steps.proofs.NodeRuns.{free_case, stands_in}
-use Rattle.schema_node.specs.NodeMeets.{NodeMeets, deep_run, node_run}
-use Rattle.schema_node.specs.RightVerdicts.{AreRight, IsRightVerdict}
-use Rattle.schema_node.specs.RunStates.{GoesOn, Keeps, MeetsNode, NodeSays, Setting, StaysRight}
-use Rattle.schema_node.specs.Visits.{EdgeTakes, FormTakes, NodeCounts, PlanTakes, TakesAcross, more_visits}
-use Rattle.schema_node.proofs.RightVerdicts.{computed_right, read_meets, read_replies, right_kept}
+use Rattle.schema_runs.specs.NodeMeets.{NodeMeets, deep_run, node_run}
+use Rattle.schema_runs.specs.RightVerdicts.{AreRight, IsRightVerdict}
+use Rattle.schema_runs.specs.RunStates.{GoesOn, Keeps, MeetsNode, NodeSays, Setting, StaysRight}
+use Rattle.schema_runs.specs.Visits.{EdgeTakes, FormTakes, NodeCounts, PlanTakes, TakesAcross, more_visits}
+use Rattle.schema_runs.proofs.RightVerdicts.{computed_right, read_meets, read_replies, right_kept}
 
 -- the edges of each number
 abbrev pub edges_of : {K : Type 0} → Nodes K → ℕ → List NodeEdge

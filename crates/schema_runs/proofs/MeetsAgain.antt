@@ -7,7 +7,7 @@ use Rattle.schema_definitions.specs.Unfinished.{Failure, Remembered, meet}
 use Rattle.schema_definitions.specs.Remembering.{HasMet, SameMet, SameMets}
 use Rattle.schema_meaning.proofs.MetAgain.{all_same, meet_same, met_now, met_still, same_has_met}
 use Rattle.schema_contexts.specs.Matches.{MeetsEach}
-use Rattle.schema_node.specs.Remembering.{Knows, KnowsEach}
+use Rattle.schema_runs.specs.Remembering.{Knows, KnowsEach}
 
 abbrev with_reason : Met → Reason → Failure
 with_reason m reason = record { met = m; reason = reason }

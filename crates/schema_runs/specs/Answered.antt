@@ -26,9 +26,9 @@ use Rattle.run_steps.specs.declared.evaluation_order.EntryUnits.{EntryUnits}
 use Rattle.run_steps.specs.declared.question.Engine.{Engine}
 use Rattle.run_steps.specs.declared.question.NamedKeyword.{NamedKeyword}
 use Rattle.run_steps.specs.declared.question.Question.{Question}
-use Rattle.schema_node.specs.RunStates.{ChildSays, EdgeRemembers, EdgeSays, FormRemembers, FormSays, Keeps, MayRun, MeetsChild, MeetsEdge, MeetsEntry, MeetsForm, MeetsNode, MeetsParts, NodeRemembers, NodeSays, PartsRemember, PartsSay, Setting, StaysRight, setting}
-use Rattle.schema_node.specs.UnitStates.{ChildGives, EdgeGives, FindsRightly, FormGives, NodeGives, PartsGive}
-use Rattle.schema_node.specs.Visits.{EdgeCounts, FormCounts, LeadsNowhere, NodeCounts, PartsCount}
+use Rattle.schema_runs.specs.RunStates.{ChildSays, EdgeRemembers, EdgeSays, FormRemembers, FormSays, Keeps, MayRun, MeetsChild, MeetsEdge, MeetsEntry, MeetsForm, MeetsNode, MeetsParts, NodeRemembers, NodeSays, PartsRemember, PartsSay, Setting, StaysRight, setting}
+use Rattle.schema_runs.specs.UnitStates.{ChildGives, EdgeGives, FindsRightly, FormGives, NodeGives, PartsGive}
+use Rattle.schema_runs.specs.Visits.{EdgeCounts, FormCounts, LeadsNowhere, NodeCounts, PartsCount}
 
 -- what a run is made with, by all that a keyword's type and a matcher's say of themselves
 abbrev pub setting_by : {C R K M : Type 0} → keyword.Ghosts C R K → matcher.Ghosts M → Engine C M → Setting K (R × Answer)

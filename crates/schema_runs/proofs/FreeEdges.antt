@@ -10,8 +10,8 @@ use Rattle.schema_contexts.proofs.Matches.{meets_same}
 use Rattle.run_steps.specs.Askings.{Asking}
 use Rattle.run_steps.specs.NodeRuns.{edge_needs}
 use Rattle.run_steps.proofs.NodeRuns.{free_case}
-use Rattle.schema_node.specs.NodeMeets.{deep_run, edge_run}
-use Rattle.schema_node.specs.RunStates.{MeetsEdge, MeetsNode, Setting, busy, settled_by}
+use Rattle.schema_runs.specs.NodeMeets.{deep_run, edge_run}
+use Rattle.schema_runs.specs.RunStates.{MeetsEdge, MeetsNode, Setting, busy, settled_by}
 
 module _ {K R : Type 0} (g : Setting K R) (q : Asking) (c c' : Context) (e : NodeEdge) where
   pub free_meets : e.guarded ≡ false → (q' : Asking) → q' ≡ record q { path = q.path ++ e.path } → MeetsNode g q' c c' e.node → MeetsEdge g q c c' e

@@ -8,10 +8,10 @@ use Rattle.schema_reports.specs.declared.evaluation.EvaluationNode.{EvaluationNo
 use Rattle.run_steps.specs.Askings.{asking}
 use Rattle.run_steps.specs.EvaluationPlaces.{CarriesItsNumber}
 use Rattle.run_steps.specs.declared.question.Question.{Question}
-use Rattle.schema_node.specs.Answered.{Answers, IsAsked, NodeGiven, NodeReplied, PlanGiven, PlanReplied, a_node, a_plan}
-use Rattle.schema_node.specs.RunStates.{MayRun, Setting}
-use Rattle.schema_node.specs.UnitStates.{MayEvaluate}
-use Rattle.schema_node.proofs.Spending.{asks_then}
+use Rattle.schema_runs.specs.Answered.{Answers, IsAsked, NodeGiven, NodeReplied, PlanGiven, PlanReplied, a_node, a_plan}
+use Rattle.schema_runs.specs.RunStates.{MayRun, Setting}
+use Rattle.schema_runs.specs.UnitStates.{MayEvaluate}
+use Rattle.schema_runs.proofs.Spending.{asks_then}
 
 module _ {K R : Type 0} (g : Setting K R) (q : Question) (i : ℕ) (c c1 : Context) (frame : c1 ≡ record c { work = c1.work }) where
   pub carried : CarriesItsNumber (places_in c) q.place.now → CarriesItsNumber (places_in c1) q.place.now

@@ -22,16 +22,16 @@ use Rattle.run_steps.specs.declared.evaluation_order.EntryUnits.{EntryUnits}
 use Rattle.schema_meaning.proofs.Falls.{from_below}
 use Rattle.schema_parts.specs.KeywordViews.{answer_of}
 use Rattle.schema_contexts.specs.Matches.{settling}
-use Rattle.schema_node.specs.NodeMeets.{NodeMeets}
+use Rattle.schema_runs.specs.NodeMeets.{NodeMeets}
 use Rattle.run_steps.specs.NodeRuns.{Reading, Reads, child_says, edge_needs}
 use Rattle.schema_contexts.specs.Progress.{Context, Pairs}
 use Rattle.run_steps.specs.Askings.{Asking}
-use Rattle.schema_node.specs.RunStates.{MeetsEdge, MeetsNode, Setting, busy, settled_by}
-use Rattle.schema_node.specs.UnitStates.{ChildGives, ChildTells, EdgeGives, FindsRightly, FindsUnits, FormGives, NodeGives, PartsGive, child_unit, deep_unit, edge_unit, parts_units}
+use Rattle.schema_runs.specs.RunStates.{MeetsEdge, MeetsNode, Setting, busy, settled_by}
+use Rattle.schema_runs.specs.UnitStates.{ChildGives, ChildTells, EdgeGives, FindsRightly, FindsUnits, FormGives, NodeGives, PartsGive, child_unit, deep_unit, edge_unit, parts_units}
 use Rattle.schema_parts.specs.declared.keyword.Answer as code_answer
 use Rattle.schema_parts.specs.declared.keyword.Reply as code_reply
 use Rattle.schema_contexts.proofs.Matches.{moved}
-use Rattle.schema_node.proofs.NodeMeets.{meets_entered}
+use Rattle.schema_runs.proofs.NodeMeets.{meets_entered}
 use Rattle.run_steps.proofs.NodeRuns.{busy_case, entered_case, free_case, none_case, some_case, stands_in}
 
 module _ {K R : Type 0} (g : Setting K R) (q : Asking) (c : Context) where

@@ -15,13 +15,13 @@ use Rattle.schema_meaning.specs.Numbered.{left, subject_in}
 use Rattle.schema_definitions.specs.Unfinished.{Remembered}
 use Rattle.schema_meaning.proofs.Falls.{from_below}
 use Rattle.schema_contexts.specs.Matches.{MeetsEach, Settling}
-use Rattle.schema_node.specs.NodeMeets.{ChildMeets, EdgeMeets, FormMeets, NodeMeets, PartsMeet, child_run, deep_run, edge_run, entry_met, part_holds, part_looked, parts_looked, reading}
+use Rattle.schema_runs.specs.NodeMeets.{ChildMeets, EdgeMeets, FormMeets, NodeMeets, PartsMeet, child_run, deep_run, edge_run, entry_met, part_holds, part_looked, parts_looked, reading}
 use Rattle.schema_parts.specs.KeywordViews.{reply_of}
 use Rattle.schema_parts.specs.declared.keyword.Reply as code
 use Rattle.run_steps.specs.ReplyModes.{Joins, accepts, refuses, reply_by}
 use Rattle.run_steps.specs.NodeRuns.{Reads, Replies, child_says, edge_needs, edge_says, form_says}
 use Rattle.schema_contexts.proofs.Matches.{meets_append, meets_same}
-use Rattle.schema_node.proofs.NodeOutcomes.{across_is, outcome_is}
+use Rattle.schema_runs.proofs.NodeOutcomes.{across_is, outcome_is}
 use Rattle.run_steps.proofs.NodeRuns.{busy_case, entered_case, needs_of_entered, some_case}
 
 module _ {K R : Type 0} (words : Bool → Keywords K R) (is_whole : K → Bool) (nodes : Nodes K) (count : ℕ) (w : Settling) where

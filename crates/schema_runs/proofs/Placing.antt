@@ -14,7 +14,7 @@ use Rattle.schema_contexts.specs.Verdicts.{read_verdict, verdict_of}
 use Rattle.run_steps.specs.Askings.{Asking, IsAskedOf}
 use Rattle.run_steps.specs.EvaluationPlaces.{CarriesItsNumber}
 use Rattle.run_steps.specs.declared.evaluation_place.EvaluationPlace.{EvaluationPlace}
-use Rattle.schema_node.specs.RunStates.{Keeps, MayRun, Setting, StaysRight}
+use Rattle.schema_runs.specs.RunStates.{Keeps, MayRun, Setting, StaysRight}
 
 -- one step below
 pub stands_below : (root : Data) (p : Place) (s t : Subject) (step : Step) (lower : Place) → subject_at root p ≡ Some s → lower ≡ p ++ step ∷ [] → after_step step s ≡ Some t → subject_at root lower ≡ Some t

@@ -7,8 +7,8 @@ use Rattle.schema_definitions.specs.Reports.{Outcome, Unit_}
 use Rattle.schema_definitions.specs.Turns.{Standing, TurnLaws}
 use Rattle.run_steps.specs.ReplyModes.{reply_by}
 use Rattle.run_steps.proofs.KeywordTurns.{falls_turned}
-use Rattle.schema_node.specs.UnitStates.{reply_with}
-use Rattle.schema_node.specs.VerdictTurns.{AsksVerdictsOn}
+use Rattle.schema_runs.specs.UnitStates.{reply_with}
+use Rattle.schema_runs.specs.VerdictTurns.{AsksVerdictsOn}
 
 module _ {K R : Type 0} (keywords : Keywords K R) (m : K) (absorbed : List Text) (remaining : Subject → R → ℕ) (can_be : Subject → R → Type 0) (end_of : Standing R → Answer) (Fits : Standing R → Type 0)
     (laws : TurnLaws keywords m absorbed remaining can_be end_of Fits) (s : Subject) where

@@ -14,13 +14,13 @@ use Rattle.schema_contexts.proofs.Pairs.{busy-below, deeper-below}
 use Rattle.run_steps.specs.Askings.{Asking}
 use Rattle.run_steps.specs.NodeRuns.{EdgeReplies, HasChildren, edge_needs}
 use Rattle.run_steps.proofs.NodeRuns.{child_below, child_here, falls_below, falls_here}
-use Rattle.schema_node.specs.Answered.{Answered, Replied, RepliedQuietly}
-use Rattle.schema_node.specs.NodeMeets.{EdgeMeets}
-use Rattle.schema_node.specs.Visits.{LeadsNowhere}
-use Rattle.schema_node.specs.RunStates.{ChildSays, EdgeSays, MayRun, MeetsChild, MeetsEdge, Setting, StaysRight, busy, settled_by}
-use Rattle.schema_node.proofs.NodeMeets.{meets_below, meets_here}
-use Rattle.schema_node.proofs.Placing.{stands_below}
-use Rattle.schema_node.proofs.RightVerdicts.{laid_below}
+use Rattle.schema_runs.specs.Answered.{Answered, Replied, RepliedQuietly}
+use Rattle.schema_runs.specs.NodeMeets.{EdgeMeets}
+use Rattle.schema_runs.specs.Visits.{LeadsNowhere}
+use Rattle.schema_runs.specs.RunStates.{ChildSays, EdgeSays, MayRun, MeetsChild, MeetsEdge, Setting, StaysRight, busy, settled_by}
+use Rattle.schema_runs.proofs.NodeMeets.{meets_below, meets_here}
+use Rattle.schema_runs.proofs.Placing.{stands_below}
+use Rattle.schema_runs.proofs.RightVerdicts.{laid_below}
 
 module _ {K R : Type 0} (g : Setting K R) (q : Asking) (i : ℕ) (es : Children) (k : ChildQuestion) (e : NodeEdge) (step : Step) (inner : Subject) (lower : Place) (c : Context)
     (may : MayRun g q c i) (has : HasChildren g.nodes i es) (child : node_child es k.child ≡ Some e) (after : after_step step q.subject ≡ Some inner) (lies : lower ≡ q.place ++ step ∷ []) where

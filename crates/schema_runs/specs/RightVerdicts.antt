@@ -9,10 +9,10 @@ use Rattle.schema_definitions.specs.Guarded.{Nodes}
 use Rattle.schema_meaning.specs.Numbered.{left}
 use Rattle.schema_definitions.specs.Unfinished.{Remembered}
 use Rattle.schema_contexts.specs.Matches.{Settling, settling}
-use Rattle.schema_node.specs.NodeMeets.{deep_run, reading}
+use Rattle.schema_runs.specs.NodeMeets.{deep_run, reading}
 use Rattle.run_steps.specs.NodeRuns.{Reading, Reads, deep}
 use Rattle.schema_contexts.specs.Progress.{Verdicts}
-use Rattle.schema_node.specs.Remembering.{KnowsEach}
+use Rattle.schema_runs.specs.Remembering.{KnowsEach}
 use Rattle.schema_contexts.specs.Verdicts.{verdict_of}
 
 -- what stands at each place

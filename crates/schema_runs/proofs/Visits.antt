@@ -7,7 +7,7 @@ use Rattle.schema_definitions.specs.Guarded.{Children, NodeEdge, NodeForm, NodeP
 use Rattle.schema_contexts.specs.Progress.{Context, busy_at}
 use Rattle.schema_contexts.specs.Verdicts.{one_more, read_verdict}
 use Rattle.run_steps.specs.Askings.{Asking}
-use Rattle.schema_node.specs.Visits.{EachLeadsNowhere, EdgeCounts, EdgeTakes, FormCounts, FormLeadsNowhere, FormTakes, LeadsNowhere, NodeCounts, PartsCount, PlanCounts, PlanTakes, TakesAcross, more_visits}
+use Rattle.schema_runs.specs.Visits.{EachLeadsNowhere, EdgeCounts, EdgeTakes, FormCounts, FormLeadsNowhere, FormTakes, LeadsNowhere, NodeCounts, PartsCount, PlanCounts, PlanTakes, TakesAcross, more_visits}
 
 module _ {K : Type 0} (nodes : Nodes K) (q : Asking) where
   -- ---- forms and plans

@@ -24,8 +24,8 @@ use Rattle.run_steps.specs.Askings.{Asking}
 use Rattle.run_steps.specs.NodeRuns.{deep, edge_says}
 use Rattle.run_steps.specs.ReplyModes.{accepts, reply_by}
 use Rattle.run_steps.proofs.NodeRuns.{agrees_deep, agrees_edge, replies_accepted}
-use Rattle.schema_node.specs.NodeMeets.{EdgeMeets}
-use Rattle.schema_node.specs.RunStates.{EdgeSays, Keeps, MeetsEdge, Setting, busy}
+use Rattle.schema_runs.specs.NodeMeets.{EdgeMeets}
+use Rattle.schema_runs.specs.RunStates.{EdgeSays, Keeps, MeetsEdge, Setting, busy}
 
 module _ (matcher : Matcher) (finishes : FinishesEach matcher) where
   record MeetsNone (r : Run) : Type 0 where
