@@ -13,3 +13,4 @@ pub mod Resources
 pub mod Walks
 pub mod DocumentLists
 pub mod Starts
+pub mod KeptDrafts

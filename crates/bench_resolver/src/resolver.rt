@@ -33,6 +33,7 @@ use crate::resolver::vocabularies::DraftVocabularies;
 use bench_subschemas::drafts::detected;
 use bench_subschemas::identifiers::{identifier, without_fragment};
 use bench_subschemas::known::is_known;
+use bench_subschemas::named_drafts::names_draft_inside;
 use bench_subschemas::rules::Rule;
 use bench_subschemas::subschemas::{subschemas, subschemas_placed};
 pub use bench_subschemas::{drafts, identifiers, known, rules, subschemas};
@@ -438,6 +439,13 @@ impl<'a> Resolver for BenchResolver<'a> {
         match self.documents.value_at(place) {
             Some(schema) => subschemas(alloc, self.rule, draft, place, schema),
             None => Ok(Vec::new(alloc)),
+        }
+    }
+
+    fn may_change_draft(&self, _draft: Draft, _place: &SchemaPlace, value: Option<&Value>) -> bool {
+        match value {
+            Some(schema) => names_draft_inside(schema),
+            None => false,
         }
     }
 

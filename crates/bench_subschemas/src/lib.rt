@@ -5,6 +5,7 @@
 pub mod drafts;
 pub mod identifiers;
 pub mod known;
+pub mod named_drafts;
 pub mod plain;
 pub mod rules;
 pub mod schema_names;

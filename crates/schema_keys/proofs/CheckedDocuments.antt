@@ -1,6 +1,6 @@
 -- The documents of a schema, by the code's lists of places.
-use Rattle.std.proofs.Common.{◌≡◌, ◌∙◌, ◌<◌, ◌≤◌, ◌+◌, ◌==◌, ◌++◌, ◌∷◌, [], ℕ, zero, suc, Bool, true, false, List, Some, ap, append-nil, inl, inr, arith, drop, get_or, length, map, refl, subst, sym}
-use Rattle.std.specs.Prelude.{IfSome, MatchOption, None, Option, flat_map, if◌then◌else◌, option_map, unwrap_or}
+use Rattle.std.proofs.Common.{◌≡◌, ◌∙◌, ◌<◌, ◌≤◌, ◌+◌, ◌==◌, ◌++◌, ◌&&◌, ◌||◌, ◌∷◌, [], ℕ, not, zero, suc, Bool, true, false, List, Some, ap, append-nil, inl, inr, arith, drop, get_or, length, map, refl, subst, sym}
+use Rattle.std.specs.Prelude.{IfSome, MatchOption, None, Option, flat_map, if◌then◌else◌, is_some, option_map, unwrap_or}
 use Rattle.std.specs.List.{AllByRecursion}
 use Rattle.std.proofs.lemmas.Bool.{eqb-true}
 use Rattle.std.proofs.lemmas.List.{drop_all, drop_more}
@@ -8,7 +8,7 @@ use Rattle.serde_json.specs.Data.{Data, depth, null}
 use Rattle.serde_json.specs.Written.{has_float}
 use Rattle.schema_definitions.specs.Instance.{a_value}
 use Rattle.schema_definitions.specs.Drafts as spec
-use Rattle.schema_definitions.specs.Drafts.{Draft, at_path}
+use Rattle.schema_definitions.specs.Drafts.{Draft, at_path, draft_unknown, same_draft}
 use Rattle.schema_definitions.specs.Resolving.{Resolver}
 use Rattle.schema_definitions.specs.Plan.{schema_at}
 use Rattle.schema_meaning.specs.Documents.{Cut, Document, masked, cuts, documents, embedded, passes_unseen}
@@ -19,8 +19,9 @@ use Rattle.schema_reports.specs.InstanceViews.{subject_of}
 use Rattle.schema_reports.specs.declared.reports.ValidationError.{ValidationError}
 use Rattle.schema_reports.specs.declared.reports.OwnedError.{OwnedError}
 use Rattle.schema_meaning.proofs.Falls.{path_falls}
-use Rattle.schema_parts.specs.ResolverViews.{IsInside, Placed, StandsBelow, SubschemasStandBelow, place_of, placed_in, placed_of}
+use Rattle.schema_parts.specs.ResolverViews.{IsInside, KeepsDraft, Placed, StandsBelow, SubschemasStandBelow, place_of, placed_in, placed_of}
 use Rattle.schema_parts.specs.declared.resolver.PlacedSchema.{PlacedSchema}
+use Rattle.schema_keys.proofs.SameKeys.{draft_itself}
 use Rattle.schema_keys.specs.Compiling.{Each, resolving_parts}
 use Rattle.schema_keys.specs.Checking.{EachAccepted, FollowsAccepted, IsAccepted, IsErrorBelow, MetaChecks, RefusesOne, location_from, own_document}
 use Rattle.schema_keys.specs.CutViews.{cut_of}
@@ -116,6 +117,18 @@ module _ {S : Type 0} (r : Resolver S) where
 
   pub cut_below : (n : ℕ) (document draft own : Draft) (q : spec.SchemaPlace) → own ≡ own_of draft q → is_embedded document draft own q ≡ false → cut_at n document draft q ≡ cuts (resolving_parts r) n document own q
   cut_below n document draft own q is e = ap (λ (d : Draft). cut_with n document draft d q) (sym is) ∙ ap (cut_if n document own q) e
+
+  -- where no subschema changes the draft, nothing is cut out
+  pub none_cut : (n : ℕ) (draft : Draft) (p : spec.SchemaPlace) → KeepsDraft r n draft p → cuts (resolving_parts r) n draft draft p ≡ []
+  none_cut zero draft p keeps = refl
+  none_cut (suc n) draft p keeps = go (λ q kept. none_cut n draft q kept) (r.subresources_of draft p) keeps
+    where
+      not_itself : (q : spec.SchemaPlace) → is_embedded draft draft draft q ≡ false
+      not_itself q = ap (λ b. not b && not (same_draft draft draft_unknown) && (is_some (r.id draft (schema_at (resolving_parts r) q)) || is_some (r.id draft (schema_at (resolving_parts r) q)))) (draft_itself draft)
+
+      go : ((q : spec.SchemaPlace) → KeepsDraft r n draft q → cuts (resolving_parts r) n draft draft q ≡ []) → (qs : List spec.SchemaPlace) → AllByRecursion (λ q. (r.detect draft (unwrap_or (r.value q) null) ≡ draft) × KeepsDraft r n draft q) qs → flat_map (cut_at n draft draft) qs ≡ []
+      go none [] keeps = refl
+      go none (q ∷ qs) keeps = ap (λ (cs : List Cut). cs ++ flat_map (cut_at n draft draft) qs) (cut_below n draft draft draft q (sym keeps.0.0) (not_itself q) ∙ none q keeps.0.1) ∙ go none qs keeps.1
 
   -- all places were gone through
   pub finished : (document draft : Draft) (p : spec.SchemaPlace) (items : List PlacedSchema) (k : ℕ) (old new : List Cut) → map lies_at items ≡ r.subresources_of draft p → length items ≤ k

@@ -1,7 +1,7 @@
 -- What the code's resolver answers, as the definitions have it.
 use Rattle.std.specs.List.{AllByRecursion}
-use Rattle.std.specs.Prelude.{◌≡◌, ◌∷◌, Option, Some, Result, Err, false, option_map, string_bytes}
-use Rattle.serde_json.specs.Data.{Data}
+use Rattle.std.specs.Prelude.{◌≡◌, ◌∷◌, ℕ, Option, Some, Result, Err, false, option_map, string_bytes, suc, unwrap_or, zero}
+use Rattle.serde_json.specs.Data.{Data, null}
 use Rattle.serde_json.specs.View.{view}
 use Rattle.serde_json.specs.Written.{has_float}
 use Rattle.schema_definitions.specs.Instance.{Text, Place, Step, subject_at, a_value}
@@ -56,3 +56,8 @@ StandsBelow r outer inner = (step : Step) × (path : Place) × (there : Data) ×
 -- a subschema stands below its schema
 abbrev pub SubschemasStandBelow : {S : Type 0} → Resolver S → Type 0
 SubschemasStandBelow r = (draft : spec.Draft) (p : spec.SchemaPlace) → AllByRecursion (StandsBelow r p) (r.subresources_of draft p)
+
+-- the subschemas below a place, so many levels down, are read in this draft, as the schema is: none of them changes it
+abbrev pub KeepsDraft : {S : Type 0} → Resolver S → ℕ → spec.Draft → spec.SchemaPlace → Type 0
+KeepsDraft r zero draft p = Unit {0}
+KeepsDraft r (suc n) draft p = AllByRecursion (λ q. (r.detect draft (unwrap_or (r.value q) null) ≡ draft) × KeepsDraft r n draft q) (r.subresources_of draft p)

@@ -1,5 +1,5 @@
 //! The resolver, which answers what references and identifiers lead to.
-ghost use Rattle.std.specs.Prelude.{◌≡◌, ◌↔◌, true, Some, None, Ok, IfOk, MatchResult};
+ghost use Rattle.std.specs.Prelude.{◌≡◌, ◌↔◌, ℕ, false, true, Some, None, Ok, IfOk, MatchResult};
 ghost use Rattle.std.specs.Prelude.{is_some, map, option_map, string_bytes};
 ghost use Rattle.serde_json.specs.Data.{object};
 ghost use Rattle.serde_json.specs.View.{members_view, view};
@@ -7,7 +7,7 @@ ghost use Rattle.schema_definitions.specs.Drafts as schemas;
 ghost use Rattle.schema_definitions.specs.Resolving as spec;
 ghost use Rattle.schema_keywords.specs.KeywordViews.{draft_of};
 ghost use Rattle.schema_parts.specs.ResolverViews.{place_of, entrance_of, found_of, Refuses, RefusesValue, IsInside, SubschemasStandBelow};
-ghost use Rattle.schema_parts.specs.ResolverViews.{placed_in, placed_of};
+ghost use Rattle.schema_parts.specs.ResolverViews.{KeepsDraft, placed_in, placed_of};
 
 use crate::schema_place::{SchemaPath, SchemaPlace};
 use schema_keywords::keywords::{Draft, VocabularySet};
@@ -187,6 +187,15 @@ pub trait Resolver {
     /// The draft of a value inside a schema of this draft.
     fn detect(&self, draft: Draft, value: &Value) -> Draft
         ensures draft { draft_of result ≡ (resolving self.now).detect (draft_of draft) (view value.now) };
+
+    /// Whether a subschema below the schema at a place, whose value was read there, may be read in another draft than this one. It is
+    /// asked before a schema is checked: a resolver that can tell that none is gives its own body, and spares a walk through them.
+    fn may_change_draft(&self, _draft: Draft, _place: &SchemaPlace, _value: Option<&Value>) -> bool
+        ensures keeps { option_map (λ v. view v.now) _value.entry ≡ (resolving self.now).value (place_of _place.now) →
+            result ≡ false → (n : ℕ) → KeepsDraft (resolving self.now) n (draft_of _draft) (place_of _place.now) }
+    {
+        true
+    }
 
     /// The draft that a root asks for. Where the root holds a fraction, a refusal may have any text.
     fn draft_for(&self, alloc: Global, value: &Value) -> Result<Draft, LookupError>

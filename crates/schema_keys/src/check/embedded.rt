@@ -97,7 +97,7 @@ impl<'p, R: Resolver, V: MetaValidators> SchemaCheck<'p, R, V> {
         Ok(())
     }
 
-    /// The outermost embedded resources of the document at a place.
+    /// The outermost embedded resources of the document at a place. They are looked for only where a draft may change below it.
     pub(crate) fn cuts(&self, draft: Draft, place: &SchemaPlace) -> Result<Vec<Cut>, OutOfMemory>
         ensures cuts { IfOk result (λ v. map cut_of v.items ≡
             documents.cuts (resolving_parts (R.resolving self.now.resolver.now))
@@ -106,6 +106,9 @@ impl<'p, R: Resolver, V: MetaValidators> SchemaCheck<'p, R, V> {
     {
         let mut cuts = Vec::new(self.alloc);
         let schema = self.resolver.value(place);
+        if !self.resolver.may_change_draft(draft, place, schema) {
+            return Ok(cuts);
+        }
         self.find_cuts(draft, draft, place, schema, &mut cuts)?;
         Ok(cuts)
     }
