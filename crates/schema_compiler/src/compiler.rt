@@ -624,7 +624,6 @@ impl<'p, R: Resolver, T> Compiler<'p, R, T> {
             (RefusesChild (task R.resolving T.owned T.script K.shape self.now) (filled R.point compiled.old)
             (key_of R.point key.now) path.now) }
     {
-        let location = path.pointer(self.alloc)?;
         let context = Context {
             alloc: self.alloc,
             resolver: self.resolver,
@@ -632,8 +631,8 @@ impl<'p, R: Resolver, T> Compiler<'p, R, T> {
             key,
         };
         let below = context.in_subresource(members, path)?;
-        let reading = Reading::Read(below.1);
-        Ok(self.edge_to(compiled, below.0, reading, false, location)?)
+        let reading = Reading::Read(below.value);
+        Ok(self.edge_to(compiled, below.key, reading, false, below.pointer)?)
     }
 
     /// The edge to a reference's target; none where the reference is skipped.

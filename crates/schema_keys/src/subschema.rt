@@ -24,14 +24,15 @@ use schema_parts::schema_place::{SchemaPath, SchemaPlace};
 use schema_reports::location::{Location, OutOfMemory};
 use serde_json::{Map, Value};
 
-impl<'p, 'c, R: Resolver> Context<'p, 'c, R> {
-    // The location of the subschema at a path below.
-    fn location_below(&self, path: &SchemaPath) -> Result<Location, OutOfMemory>
-        ensures location { IfOk result (λ l. l ≡ self.now.key.now.location ++ pointer_to path.now) }
-    {
-        path.pointer_from(self.alloc, self.location())
-    }
+/// A subschema: its key, the pointer that leads to it from its schema, and the value that was read there.
+#[derive(Drop)]
+pub struct Subschema<'p, S> {
+    pub key: SchemaKey<S>,
+    pub pointer: Location,
+    pub value: Option<&'p Value>,
+}
 
+impl<'p, 'c, R: Resolver> Context<'p, 'c, R> {
     /// Whether a value that was read has an identifier.
     pub(crate) fn identifies(&self, draft: Draft, value: Option<&Value>) -> bool
         ensures identified { result ≡ is_some ((R.resolving self.now.resolver.now).id (draft_of draft)
@@ -71,22 +72,24 @@ impl<'p, 'c, R: Resolver> Context<'p, 'c, R> {
         }
     }
 
-    // The key of the subschema at a place below, in its state and draft; whether it has an identifier is known.
+    // The key of the subschema at a place below, in its state and draft, and the pointer to it; whether it has an identifier is known.
     fn key_inside(
         &self,
         path: &SchemaPath,
         below: Target<R::State>,
         has_id: bool,
-    ) -> Result<SchemaKey<R::State>, OutOfMemory>
+    ) -> Result<(SchemaKey<R::State>, Location), OutOfMemory>
         requires below { place_of below.place ≡ at_path (place_of self.now.key.now.place) path.now }
         requires identified { has_id ≡ is_some ((R.resolving self.now.resolver.now).id
             (draft_of below.draft)
             (schema_at (resolving_parts (R.resolving self.now.resolver.now)) (place_of below.place))) }
-        ensures inside { IfOk result (λ k. key_of R.point k ≡
+        ensures pointer { IfOk result (λ k. k.1 ≡ pointer_to path.now) }
+        ensures inside { IfOk result (λ k. key_of R.point k.0 ≡
             inside (resolving_parts (R.resolving self.now.resolver.now))
             (key_of R.point self.now.key.now) path.now (R.point below.state) (draft_of below.draft)) }
     {
-        let location = self.location_below(path)?;
+        let pointer = path.pointer(self.alloc)?;
+        let location = self.location().append(&pointer)?;
         let resource_base = self.key.resource_base.clone()?;
         let vocabularies = self.vocabularies_inside(&below)?;
         let resource_start = if has_id {
@@ -94,7 +97,7 @@ impl<'p, 'c, R: Resolver> Context<'p, 'c, R> {
         } else {
             self.key.resource_start
         };
-        Ok(SchemaKey {
+        let key = SchemaKey {
             place: below.place,
             state: below.state,
             draft: below.draft,
@@ -102,7 +105,8 @@ impl<'p, 'c, R: Resolver> Context<'p, 'c, R> {
             location,
             resource_base,
             resource_start,
-        })
+        };
+        Ok((key, pointer))
     }
 
     // The value at a place below the schema, which is an object with these members.
@@ -140,21 +144,22 @@ impl<'p, 'c, R: Resolver> Context<'p, 'c, R> {
             .in_subresource_read(self.alloc, &self.key.state, draft, place, value)
     }
 
-    /// Returns the key of the subschema at a path below, and the value that was read there. The schema is an object with
-    /// these members. Fails if the resolver refuses the state there, or if memory cannot be allocated.
+    /// Returns the subschema at a path below. The schema is an object with these members. Fails if the resolver refuses the state
+    /// there, or if memory cannot be allocated.
     pub fn in_subresource(
         &self,
         members: &'p Map<String, Value>,
         path: &SchemaPath,
-    ) -> Result<(SchemaKey<R::State>, Option<&'p Value>), BuildError>
+    ) -> Result<Subschema<'p, R::State>, BuildError>
         requires object { (R.resolving self.now.resolver.now).value (place_of self.now.key.now.place) ≡
             Some (object (members_view members.now.entries)) }
-        ensures below { IfOk result (λ k.
+        ensures below { IfOk result (λ s.
             subschema (resolving_parts (R.resolving self.now.resolver.now))
             (key_of R.point self.now.key.now) path.now ≡
-            Some (record { key = key_of R.point k.0; path = pointer_to path.now; is_reference = false; is_recursive = false })) }
-        ensures read { IfOk result (λ k. option_map (λ v. view v.now) k.1 ≡
-            (R.resolving self.now.resolver.now).value (place_of k.0.place)) }
+            Some (record { key = key_of R.point s.key; path = pointer_to path.now; is_reference = false; is_recursive = false })) }
+        ensures pointer { IfOk result (λ s. s.pointer ≡ pointer_to path.now) }
+        ensures read { IfOk result (λ s. option_map (λ v. view v.now) s.value ≡
+            (R.resolving self.now.resolver.now).value (place_of s.key.place)) }
         ensures refused { IfErr result (Names
             (request_causes (resolving_parts (R.resolving self.now.resolver.now))
             (key_of R.point self.now.key.now) (compile path.now))) }
@@ -169,7 +174,12 @@ impl<'p, 'c, R: Resolver> Context<'p, 'c, R> {
             state,
             draft,
         };
-        Ok((self.key_inside(path, below, has_id)?, value))
+        let (key, pointer) = self.key_inside(path, below, has_id)?;
+        Ok(Subschema {
+            key,
+            pointer,
+            value,
+        })
     }
 
     /// Returns the key of the subschema at a path below, to be compiled by itself: it stands at the empty location, with

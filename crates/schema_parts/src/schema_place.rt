@@ -225,18 +225,6 @@ impl SchemaPath {
         Ok(SchemaPath { steps })
     }
 
-    /// Returns another pointer followed by the one of this path. Fails only if memory cannot be allocated.
-    pub fn pointer_from(&self, alloc: Global, from: &Location) -> Result<Location, OutOfMemory>
-        ensures pointer { IfOk result (λ l. l ≡ from.now ++ pointer_to self.now) }
-    {
-        let steps = self.steps.as_slice();
-        let room = pointer_room(steps).saturating_add(from.as_str().len());
-        let mut pointer = Location::with_capacity(alloc, room)?;
-        pointer.push_escaped(from.as_str())?;
-        push_pointer_of(&mut pointer, steps)?;
-        Ok(pointer)
-    }
-
     /// Returns the path followed by another. Fails only if memory cannot be allocated.
     pub fn append(&self, alloc: Global, rest: &SchemaPath) -> Result<SchemaPath, OutOfMemory>
         ensures appended { IfOk result (λ p. p ≡ self.now ++ rest.now) }
