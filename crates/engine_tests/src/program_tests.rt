@@ -8,8 +8,8 @@ use schema_reports::location::OutOfMemory;
 use serde_json::Value;
 use std::alloc::Global;
 use std::slice::from_ref;
-use test_parts::narrow_writer::NarrowWriter;
-use test_parts::words::{TwoWords, with_words};
+use test_parts::narrow_writer::{NarrowWriter, push_written};
+use test_parts::words::{TwoWords, are_two_words, with_words};
 
 /// The writer of a row: column 3 is how many bytes it takes, if they are not all, and column 4 whether its flush refuses.
 fn writer_of(alloc: Global, row: &Value) -> NarrowWriter {
@@ -18,16 +18,6 @@ fn writer_of(alloc: Global, row: &Value) -> NarrowWriter {
         room: number_at(row, 3).unwrap_or(usize::MAX),
         flushes: column(row, 4).as_bool() != Some(false),
     }
-}
-
-/// Adds standard output, standard error with a mark before it, and the status.
-fn push_written(log: &mut String, out: &[u8], err: &[u8], code: u8) -> Result<(), OutOfMemory> {
-    log.push_str(text_of(out))?;
-    if !err.is_empty() {
-        log.push_str("!")?;
-    }
-    log.push_str(text_of(err))?;
-    write!(log, "{code};")
 }
 
 /// Adds what the program writes for its words.
@@ -44,11 +34,6 @@ fn push_run(
     drop(out);
     drop(err);
     pushed
-}
-
-/// These bytes as a text, if they are one.
-fn text_of(bytes: &[u8]) -> &str {
-    str::from_utf8(bytes).unwrap_or("no text")
 }
 
 /// Adds what the program writes for a row's words: by each mode in column 1, or where there is none by the words alone.
@@ -68,18 +53,6 @@ pub(crate) fn tell_program(
         push_run(alloc, row, words.as_slice(), log)?;
     }
     Ok(())
-}
-
-/// Whether these are the two words.
-fn are_two_words(words: &[Vec<u8>]) -> bool {
-    match words {
-        [first, second] => {
-            first.as_slice() == b"a".as_slice()
-                && second.len() == 300
-                && second.last().copied() == Some(255)
-        }
-        _ => false,
-    }
 }
 
 /// Whether want of memory is told by its line and its status.

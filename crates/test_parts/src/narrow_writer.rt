@@ -1,4 +1,5 @@
-//! A writer that refuses.
+//! A writer that refuses, and what was written.
+use schema_reports::location::OutOfMemory;
 use std::io;
 use std::io::{ErrorKind, Write};
 
@@ -31,4 +32,23 @@ impl Write for NarrowWriter {
             Err(io::Error::from(ErrorKind::BrokenPipe))
         }
     }
+}
+
+/// These bytes as a text, if they are one.
+fn text_of(bytes: &[u8]) -> &str {
+    str::from_utf8(bytes).unwrap_or("no text")
+}
+
+/// Adds standard output, standard error with a mark before it, and the status.
+///
+/// # Errors
+///
+/// Fails only if memory cannot be allocated.
+pub fn push_written(log: &mut String, out: &[u8], err: &[u8], code: u8) -> Result<(), OutOfMemory> {
+    log.push_str(text_of(out))?;
+    if !err.is_empty() {
+        log.push_str("!")?;
+    }
+    log.push_str(text_of(err))?;
+    write!(log, "{code};")
 }

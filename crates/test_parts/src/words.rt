@@ -58,3 +58,15 @@ impl Env for TwoWords {
         Err(FillError::NotPresent)
     }
 }
+
+/// Whether these are the two words of `TwoWords`.
+pub fn are_two_words(words: &[Vec<u8>]) -> bool {
+    match words {
+        [first, second] => {
+            first.as_slice() == b"a".as_slice()
+                && second.len() == 300
+                && second.last().copied() == Some(255)
+        }
+        _ => false,
+    }
+}
