@@ -4,9 +4,10 @@ ghost use Rattle.schema_definitions.specs.Instance.{Text};
 ghost use Rattle.schema_reports.specs.InstanceViews.{subject_of};
 ghost use Rattle.schema_definitions.specs.Keywords as spec;
 ghost use Rattle.schema_definitions.specs.Laws.{IsPresent};
-ghost use Rattle.schema_definitions.specs.Matching.{Pair};
+ghost use Rattle.schema_definitions.specs.Matching.{Pair, finished};
 ghost use Rattle.schema_definitions.specs.Runs.{site_at};
 ghost use Rattle.schema_parts.specs.KeywordViews.{point_of, turn_of};
+ghost use Rattle.schema_parts.specs.MatcherViews.{FinishesEach};
 ghost use Rattle.schema_contexts.specs.Matches.{after_match, comes_out};
 ghost use Rattle.run_steps.specs.Askings.{asking, where_asked};
 ghost use Rattle.node_table.specs.NodeViews.{node_of};
@@ -19,6 +20,25 @@ use schema_matches::site::Match;
 use schema_parts::keyword::{MatchPoint, Step};
 use schema_parts::matcher::Matcher;
 use schema_reports::location::OutOfMemory;
+use std::alloc::Global;
+
+/// How a match comes out, of a matcher that finishes each. Its room on the stack is its own, so that a keyword that asks for none pays
+/// nothing. Fails only if memory cannot be allocated.
+#[inline(never)]
+pub fn finished_match<M: Matcher>(
+    alloc: Global,
+    matcher: &M,
+    pattern: &str,
+    subject: &str,
+) -> Result<bool, OutOfMemory>
+    requires finishes { FinishesEach (M.matching matcher.now) }
+    ensures answer { IfOk result (λ b. (M.matching matcher.now).is_match pattern.now subject.now ≡ finished b) }
+{
+    match matcher.is_match(alloc, pattern, subject)? {
+        Match::Finished(matches) => Ok(matches),
+        Match::Unfinished(_) => unreachable!(),
+    }
+}
 
 // Whether the site of a match that is asked for here has an instance path.
 fn has_place(point: MatchPoint<'_>) -> bool

@@ -1,7 +1,6 @@
 //! The verdict of a keyword that tells at once what it asks, where the matcher finishes every match.
-ghost use Rattle.std.specs.Prelude.{◌≡◌, Bool, IfOk, true};
+ghost use Rattle.std.specs.Prelude.{◌≡◌, Bool, true};
 ghost use Rattle.schema_reports.specs.InstanceViews.{subject_of};
-ghost use Rattle.schema_definitions.specs.Matching.{finished};
 ghost use Rattle.schema_parts.specs.AskedAtOnce.{HoldsAsTold, tells_at_once};
 ghost use Rattle.schema_parts.specs.KeywordViews.{Tells};
 ghost use Rattle.schema_parts.specs.MatcherViews.{FinishesEach};
@@ -14,33 +13,16 @@ use asked_questions::AskedQuestion;
 use asked_questions::counted::CountedQuestions;
 use asked_questions::members::MembersQuestions;
 use asked_questions::names::NamesQuestions;
+use run_steps::matches::finished_match;
 use run_steps::question::{Engine, NamedKeyword, Question};
 use schema_contexts::marks::child_edge;
 use schema_contexts::validation::ValidationContext;
-use schema_matches::site::Match;
 use schema_parts::asking::Asking;
 use schema_parts::keyword::Validate;
 use schema_parts::matcher::Matcher;
 use schema_parts::numbers::{Edge, SchemaNode};
 use schema_reports::instance::Instance;
 use schema_reports::location::OutOfMemory;
-
-// How a match comes out, of a matcher that finishes each. Its room on the stack is its own, so that a keyword that asks for none pays
-// nothing.
-#[inline(never)]
-fn finished_match<K, M: Matcher>(
-    engine: &Engine<'_, K, M>,
-    pattern: &str,
-    subject: &str,
-) -> Result<bool, OutOfMemory>
-    requires finishes { FinishesEach (M.matching engine.now.matcher.now) }
-    ensures answer { IfOk result (λ b. (M.matching engine.now.matcher.now).is_match pattern.now subject.now ≡ finished b) }
-{
-    match engine.matcher.is_match(engine.alloc, pattern, subject)? {
-        Match::Finished(matches) => Ok(matches),
-        Match::Unfinished(_) => unreachable!(),
-    }
-}
 
 // What a keyword tells at once that it asks, of a matcher that finishes each match; of another one its turns say it.
 #[inline(always)]
@@ -77,7 +59,7 @@ pub(crate) fn asked_verdict<'i, K: Validate, M: Matcher>(
     match finished_asking(engine, keyword.keyword, question.instance) {
         Asking::ByTurns => keyword_verdict(engine, node, keyword, question, context),
         Asking::Match(pattern, subject) => {
-            let matches = finished_match(engine, pattern, subject)?;
+            let matches = finished_match(engine.alloc, engine.matcher, pattern, subject)?;
             Ok(matches)
         },
         Asking::Each(end) => {
