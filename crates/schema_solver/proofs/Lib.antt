@@ -6,3 +6,4 @@ pub mod Crossing
 pub mod Turned
 pub mod Stopping
 pub mod ByQuestions
+pub mod Telling

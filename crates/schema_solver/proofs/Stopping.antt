@@ -11,13 +11,16 @@ use Rattle.schema_pairs.specs.Answering.{Begins}
 use Rattle.schema_solver.specs.declared.question.Stopped.{Stopped}
 use Rattle.schema_solver.specs.declared.question.Stopped.TheVariants.{Leans, Limit, OutOfMemory}
 use Rattle.schema_solver.specs.Solved.{Solved, Stops, Turned}
-use Rattle.schema_solver.specs.Solving.{Goes, HasRoom, IsNew, Setting}
+use Rattle.schema_solver.specs.Solving.{Goes, HasRoom, IsNew, Setting, StaysWithin}
 use Rattle.schema_solver.proofs.Going.{late_on}
 use Rattle.schema_solver.proofs.PairSteps.{late_begun, late_here, within_begun}
 use Rattle.schema_solver.proofs.Turned.{keyword_says}
 
 leans_is_no_limit : ¬ (Leans ≡ Limit)
 leans_is_no_limit is = cc
+
+memory_is_no_limit : ¬ (OutOfMemory ≡ Limit)
+memory_is_no_limit is = cc
 
 -- for either reason it is at no yes that leans
 pub not_leaning : (e : Stopped) → (e ≡ OutOfMemory) ⊎ (e ≡ Limit) → ¬ (e ≡ Leans)
@@ -40,6 +43,17 @@ module _ {K R : Type 0} (g : Setting K R) (says : K → Bool) where
     within = λ most limit few. subst (λ k. k ≤ most) (sym same) (stops.within most limit few);
     late = stops.late;
   }
+
+  -- for want of memory
+  pub stops_for_memory : (c c' : Solver) → StaysWithin g c c' → Stops g says c c' OutOfMemory
+  stops_for_memory c c' within = record {
+    reason = λ each. inl refl;
+    within = within;
+    late = λ is. absurd (memory_is_no_limit is);
+  }
+
+  pub stops_here : (c : Solver) → Stops g says c c OutOfMemory
+  stops_here c = stops_for_memory c c (λ most limit few. few)
 
   -- where no more may be begun
   pub stops_full : (c : Solver) (p : Place) (i : ℕ) → IsNew g c p i → (most : ℕ) → g.most ≡ Some most → most ≤ c.begun → Stops g says c c Limit
@@ -66,12 +80,11 @@ module _ {K R : Type 0} (g : Setting K R) (says : K → Bool) where
     late = λ is. absurd (leans_is_no_limit is);
   }
 
-  -- what a result says that is such an error
-  module _ {T : Type 0} (p : Place) (c c' : Solver) (e : Stopped) where
-    pub solved_stops : (result : Result T Stopped) (says_this : T → Solving K R → Found → Type 0) → IsErrAnd result (λ x. x ≡ e) → Stops g says c c' e → Solved g says p c c' result says_this
-    solved_stops (Ok x) says_this is stops = absurd is
-    solved_stops (Err x) says_this is stops = record { goes = tt; marking = tt; says = tt; stops = subst (Stops g says c c') (sym is) stops }
+  -- so nothing is said
+  pub solved_none : {T : Type 0} (p : Place) (c c' : Solver) (e : Stopped) (says_this : T → Solving K R → Found → Type 0) → Stops g says c c' e → Solved g says p c c' (Err e) says_this
+  solved_none p c c' e says_this stops = record { goes = tt; marking = tt; says = tt; stops = stops }
 
+  -- what a result of turns says that is such an error
   module _ (p : Place) (c c' : Solver) (e : Stopped) (m : K) where
     pub turned_stops : (result : Result Bool Stopped) (says_this : Bool → Bool → Solving K R → Found → Type 0) → IsErrAnd result (λ x. x ≡ e) → Stops g says c c' e → Turned g says p c c' result m says_this
     turned_stops (Ok x) says_this is stops = absurd is

@@ -4,3 +4,4 @@ pub mod TurningOn
 pub mod Needs
 pub mod Solved
 pub mod ToldAtOnce
+pub mod Telling

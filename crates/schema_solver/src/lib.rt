@@ -4,3 +4,4 @@
 
 pub mod question;
 pub mod solve;
+mod told;

@@ -69,7 +69,7 @@ pub fn solve_root<'i, K: Validate, M: Matcher>(
         instance: Instance::Value(instance),
         place: &place,
     };
-    match solve_node(engine, node, &asked, context) {
+    match solve_node(engine, node, &asked, context).result() {
         Ok(said) => Ok(Some(said.valid())),
         Err(stopped) => match stopped {
             Stopped::Leans => Ok(None),

@@ -12,15 +12,16 @@ ghost use Rattle.schema_solver.specs.Solved.{MayAsk, Solves, the_question, the_a
 
 use crate::question::{Asked, SolverEngine, Stopped};
 use crate::solve::edges::solve_edge;
-use crate::solve::turns::{finished_match, solver_answer};
+use crate::solve::turns::solver_answer;
+use crate::told::Told;
 use asked_questions::AskedQuestion;
 use asked_questions::counted::CountedQuestions;
 use asked_questions::members::MembersQuestions;
 use asked_questions::names::NamesQuestions;
+use run_steps::matches::finished_match;
 use run_steps::question::NamedKeyword;
 use schema_contexts::marks::child_edge;
 use schema_pairs::context::SolverContext;
-use schema_pairs::said::Said;
 use schema_parts::ascending::AscendingNames;
 use schema_parts::asking::Asking;
 use schema_parts::keyword::Validate;
@@ -40,7 +41,7 @@ pub(crate) fn solve_asked<'i, K: Validate, M: Matcher>(
     children: &Vec<Option<Edge>>,
     question: &Asked<'_, 'i>,
     context: &mut SolverContext<'i>,
-) -> Result<Said, Stopped>
+) -> Told
     requires { MayAsk (solver_by K.Validate M.Matcher.own engine.now) question.now
         (the_asker K.shape node.0 keyword.now children.now.items) context.old }
     ensures { Solves (solver_by K.Validate M.Matcher.own engine.now) K.says_monotone question.now
@@ -58,8 +59,10 @@ pub(crate) fn solve_asked<'i, K: Validate, M: Matcher>(
             solver_answer(engine, node, &named, question, context)
         },
         Asking::Match(pattern, subject) => {
-            let matches = finished_match(engine, pattern, subject)?;
-            Ok(Said::settled(matches))
+            match finished_match(engine.alloc, engine.matcher, pattern, subject) {
+                Ok(matches) => Told::settled(matches),
+                Err(_) => Told::stopped(Stopped::OutOfMemory),
+            }
         },
         Asking::Each(end) => {
             let questions = CountedQuestions::here(question.instance, end);
@@ -109,7 +112,7 @@ fn solve_counted<'i, K: Validate, M: Matcher>(
     mut questions: CountedQuestions<'i>,
     question: &Asked<'_, 'i>,
     context: &mut SolverContext<'i>,
-) -> Result<Said, Stopped>
+) -> Told
     requires may_ask { MayAsk (solver_by K.Validate M.Matcher.own engine.now) question.now
         (the_asker K.shape node.0 keyword.now children.now) context.old }
     requires there { questions.subject ≡ subject_of question.now.instance }
@@ -119,13 +122,13 @@ fn solve_counted<'i, K: Validate, M: Matcher>(
 {
     let mut leans = false;
     while let Some(asked) = questions.next() {
-        let said = solve_there(engine, node, children, asked, question, context)?;
-        if said.valid() != all {
-            return Ok(said);
+        let told = solve_there(engine, node, children, asked, question, context);
+        if told.ends(all) {
+            return told;
         }
-        leans |= said.leans();
+        leans |= told.leans();
     }
-    Ok(Said::of(all, leans))
+    Told::of(all, leans)
 }
 
 // The same by questions of its children at the members that have their names. Its room on the stack is its own, so that the other ways of
@@ -141,7 +144,7 @@ fn solve_members<'i, K: Validate, M: Matcher>(
     members: &'i Map<String, Value>,
     question: &Asked<'_, 'i>,
     context: &mut SolverContext<'i>,
-) -> Result<Said, Stopped>
+) -> Told
     requires may_ask { MayAsk (solver_by K.Validate M.Matcher.own engine.now) question.now
         (the_asker K.shape node.0 keyword.now children.now.items) context.old }
     requires there { a_value (object (members_view members.now.entries)) ≡ subject_of question.now.instance }
@@ -154,13 +157,13 @@ fn solve_members<'i, K: Validate, M: Matcher>(
     let mut questions = MembersQuestions::of(names, members);
     let mut leans = false;
     while let Some(asked) = questions.next() {
-        let said = solve_there(engine, node, kept, asked, question, context)?;
-        if !said.valid() {
-            return Ok(said);
+        let told = solve_there(engine, node, kept, asked, question, context);
+        if told.ends(true) {
+            return told;
         }
-        leans |= said.leans();
+        leans |= told.leans();
     }
-    Ok(Said::of(true, leans))
+    Told::of(true, leans)
 }
 
 // The same by questions of its first child at the names of members. Its room on the stack is its own, too.
@@ -174,7 +177,7 @@ fn solve_names<'i, K: Validate, M: Matcher>(
     members: &'i Map<String, Value>,
     question: &Asked<'_, 'i>,
     context: &mut SolverContext<'i>,
-) -> Result<Said, Stopped>
+) -> Told
     requires may_ask { MayAsk (solver_by K.Validate M.Matcher.own engine.now) question.now
         (the_asker K.shape node.0 keyword.now children.now) context.old }
     requires there { a_value (object (members_view members.now.entries)) ≡ subject_of question.now.instance }
@@ -186,13 +189,13 @@ fn solve_names<'i, K: Validate, M: Matcher>(
     let mut questions = NamesQuestions::of(members);
     let mut leans = false;
     while let Some(asked) = questions.next() {
-        let said = solve_there(engine, node, children, asked, question, context)?;
-        if !said.valid() {
-            return Ok(said);
+        let told = solve_there(engine, node, children, asked, question, context);
+        if told.ends(true) {
+            return told;
         }
-        leans |= said.leans();
+        leans |= told.leans();
     }
-    Ok(Said::of(true, leans))
+    Told::of(true, leans)
 }
 
 // The verdict of a keyword's child, at what stands here or below; yes where its request got none.
@@ -205,7 +208,7 @@ fn solve_there<'i, K: Validate, M: Matcher>(
     asked: AskedQuestion<'i>,
     question: &Asked<'_, 'i>,
     context: &mut SolverContext<'i>,
-) -> Result<Said, Stopped>
+) -> Told
     requires may_ask { MayAsk (solver_by K.Validate M.Matcher.own engine.now) question.now
         (the_question node.0 children.now (question_in asked)) context.old }
     requires there { StandsThere (subject_of question.now.instance) asked }
@@ -213,7 +216,7 @@ fn solve_there<'i, K: Validate, M: Matcher>(
         (the_question node.0 children.now (question_in asked.entry)) context.old context.new result }
 {
     match child_edge(children, asked.child) {
-        None => Ok(Said::settled(true)),
+        None => Told::settled(true),
         Some(edge) => match asked.below {
             None => solve_edge(engine, edge, question, context),
             Some((inner, step)) => {

@@ -12,11 +12,11 @@ ghost use Rattle.schema_solver.specs.Solved.{MayAsk, Solves, a_pair, an_edge, th
 
 use crate::question::{Asked, SolverEngine, Stopped};
 use crate::solve::entries::{solve_node, solve_node_apart};
+use crate::told::Told;
 use run_steps::spots::one_below;
 use schema_contexts::marks::child_edge;
 use schema_pairs::context::SolverContext;
 use schema_pairs::pair::SolverPair;
-use schema_pairs::said::Said;
 use schema_parts::keyword::{Below, Validate};
 use schema_parts::matcher::Matcher;
 use schema_parts::numbers::{Edge, SchemaNode};
@@ -31,14 +31,14 @@ pub(crate) fn solve_child<'i, K: Validate, M: Matcher>(
     below: Below<'_>,
     question: &Asked<'_, 'i>,
     context: &mut SolverContext<'i>,
-) -> Result<Said, Stopped>
+) -> Told
     requires { MayAsk (solver_by K.Validate M.Matcher.own engine.now) question.now
         (the_child node.0 children.now child (below_of below)) context.old }
     ensures { Solves (solver_by K.Validate M.Matcher.own engine.now) K.says_monotone question.now
         (the_child node.0 children.now child (below_of below.entry)) context.old context.new result }
 {
     match child_edge(children, child) {
-        None => Ok(Said::settled(true)),
+        None => Told::settled(true),
         Some(edge) => match one_below(question.instance, below) {
             None => solve_edge(engine, edge, question, context),
             Some((inner, step)) => {
@@ -62,7 +62,7 @@ pub(crate) fn solve_edge<'i, K: Validate, M: Matcher>(
     edge: &Edge,
     question: &Asked<'_, 'i>,
     context: &mut SolverContext<'i>,
-) -> Result<Said, Stopped>
+) -> Told
     requires { MayAsk (solver_by K.Validate M.Matcher.own engine.now) question.now (an_edge (edge_of edge.now)) context.old }
     ensures { Solves (solver_by K.Validate M.Matcher.own engine.now) K.says_monotone question.now
         (an_edge (edge_of edge.now)) context.old context.new result }
@@ -100,14 +100,17 @@ fn solve_pair<'i, K: Validate, M: Matcher>(
     node: SchemaNode,
     question: &Asked<'_, 'i>,
     context: &mut SolverContext<'i>,
-) -> Result<Said, Stopped>
+) -> Told
     requires { MayAsk (solver_by K.Validate M.Matcher.own engine.now) question.now (a_pair node.0) context.old }
     ensures { Solves (solver_by K.Validate M.Matcher.own engine.now) K.says_monotone question.now
         (a_pair node.0) context.old context.new result }
 {
-    let pair = SolverPair::new(context, node, question.place)?;
+    let pair = match SolverPair::new(context, node, question.place) {
+        Ok(pair) => pair,
+        Err(_) => return Told::stopped(Stopped::OutOfMemory),
+    };
     if let Some(said) = pair.state(context) {
-        return Ok(said);
+        return Told::said(said);
     }
     begin_pair(engine, node, &pair, question, context)
 }
@@ -123,7 +126,7 @@ fn begin_pair<'i, K: Validate, M: Matcher>(
     pair: &SolverPair<'_, 'i>,
     question: &Asked<'_, 'i>,
     context: &mut SolverContext<'i>,
-) -> Result<Said, Stopped>
+) -> Told
     requires may_ask { MayAsk (solver_by K.Validate M.Matcher.own engine.now) question.now (a_pair node.0) context.old }
     requires node { pair.now.node.0 ≡ node.0 }
     requires place { place_of pair.now ≡ steps_to question.now.place.now }
@@ -135,15 +138,25 @@ fn begin_pair<'i, K: Validate, M: Matcher>(
     ensures { Solves (solver_by K.Validate M.Matcher.own engine.now) K.says_monotone question.now
         (a_pair node.0) context.old context.new result }
 {
-    may_begin(engine, context)?;
-    let mark = pair.enter(context)?;
+    if let Err(stopped) = may_begin(engine, context) {
+        return Told::stopped(stopped);
+    }
+    let mark = match pair.enter(context) {
+        Ok(mark) => mark,
+        Err(_) => return Told::stopped(Stopped::OutOfMemory),
+    };
     let place = pair.numbered_place();
     let asked = Asked {
         instance: question.instance,
         place: &place,
     };
-    let said = solve_node_apart(engine, node, &asked, context)?;
+    let said = match solve_node_apart(engine, node, &asked, context).result() {
+        Ok(said) => said,
+        Err(stopped) => return Told::stopped(stopped),
+    };
     pair.exit(context);
-    let kept = pair.keep_answer(context, mark, said)?;
-    Ok(kept)
+    match pair.keep_answer(context, mark, said) {
+        Ok(kept) => Told::said(kept),
+        Err(_) => Told::stopped(Stopped::OutOfMemory),
+    }
 }

@@ -6,12 +6,12 @@ ghost use Rattle.schema_solver.specs.Asked.{solver_by};
 ghost use Rattle.schema_solver.specs.Solved.{MayAsk, Solves, a_node, an_edge, the_entries, the_entry};
 ghost use Rattle.schema_solver.specs.ToldAtOnce.{TellsAtOnce};
 
-use crate::question::{Asked, SolverEngine, Stopped};
+use crate::question::{Asked, SolverEngine};
 use crate::solve::asking::solve_asked;
 use crate::solve::edges::solve_edge;
+use crate::told::Told;
 use node_table::node::{Entry, EntryForm, NodeForm};
 use schema_pairs::context::SolverContext;
-use schema_pairs::said::Said;
 use schema_parts::keyword::Validate;
 use schema_parts::matcher::Matcher;
 use schema_parts::numbers::{Edge, SchemaNode};
@@ -25,16 +25,16 @@ pub(crate) fn solve_node<'i, K: Validate, M: Matcher>(
     node: SchemaNode,
     question: &Asked<'_, 'i>,
     context: &mut SolverContext<'i>,
-) -> Result<Said, Stopped>
+) -> Told
     requires { MayAsk (solver_by K.Validate M.Matcher.own engine.now) question.now (a_node node.0) context.old }
     ensures { Solves (solver_by K.Validate M.Matcher.own engine.now) K.says_monotone question.now
         (a_node node.0) context.old context.new result }
 {
     match &engine.nodes.node(node).form {
-        None => Ok(Said::settled(true)),
+        None => Told::settled(true),
         Some(form) => match form {
-            NodeForm::Always => Ok(Said::settled(true)),
-            NodeForm::Never => Ok(Said::settled(false)),
+            NodeForm::Always => Told::settled(true),
+            NodeForm::Never => Told::settled(false),
             NodeForm::Keywords(entries) => {
                 solve_entries(engine, node, entries.as_slice(), question, context)
             }
@@ -64,7 +64,7 @@ fn solve_entries<'i, K: Validate, M: Matcher>(
     entries: &[Entry<K>],
     question: &Asked<'_, 'i>,
     context: &mut SolverContext<'i>,
-) -> Result<Said, Stopped>
+) -> Told
     requires { MayAsk (solver_by K.Validate M.Matcher.own engine.now) question.now (the_entries K.shape node.0 entries.now) context.old }
     ensures { Solves (solver_by K.Validate M.Matcher.own engine.now) K.says_monotone question.now
         (the_entries K.shape node.0 entries.now) context.old context.new result }
@@ -84,13 +84,13 @@ fn solve_entries<'i, K: Validate, M: Matcher>(
             },
             Some(valid) => {
                 if !valid {
-                    return Ok(Said::settled(false));
+                    return Told::settled(false);
                 }
             },
         }
     }
     match waits {
-        None => Ok(Said::settled(true)),
+        None => Told::settled(true),
         Some(first) => solve_keyword(engine, node, &entries[first], question, context),
     }
 }
@@ -105,20 +105,20 @@ fn solve_left<'i, K: Validate, M: Matcher>(
     entries: &[Entry<K>],
     question: &Asked<'_, 'i>,
     context: &mut SolverContext<'i>,
-) -> Result<Said, Stopped>
+) -> Told
     requires { MayAsk (solver_by K.Validate M.Matcher.own engine.now) question.now (the_entries K.shape node.0 entries.now) context.old }
     ensures { Solves (solver_by K.Validate M.Matcher.own engine.now) K.says_monotone question.now
         (the_entries K.shape node.0 entries.now) context.old context.new result }
 {
     let mut leans = false;
     for entry in entries {
-        let said = solve_form(engine, node, entry, question, context)?;
-        if !said.valid() {
-            return Ok(said);
+        let told = solve_form(engine, node, entry, question, context);
+        if told.ends(true) {
+            return told;
         }
-        leans |= said.leans();
+        leans |= told.leans();
     }
-    Ok(Said::of(true, leans))
+    Told::of(true, leans)
 }
 
 // The verdict of an entry's keyword, or of the node that its reference leads to. A keyword that tells it at once takes no run.
@@ -129,7 +129,7 @@ fn solve_form<'i, K: Validate, M: Matcher>(
     entry: &Entry<K>,
     question: &Asked<'_, 'i>,
     context: &mut SolverContext<'i>,
-) -> Result<Said, Stopped>
+) -> Told
     requires { MayAsk (solver_by K.Validate M.Matcher.own engine.now) question.now (the_entry K.shape node.0 entry.now) context.old }
     ensures { Solves (solver_by K.Validate M.Matcher.own engine.now) K.says_monotone question.now
         (the_entry K.shape node.0 entry.now) context.old context.new result }
@@ -137,7 +137,7 @@ fn solve_form<'i, K: Validate, M: Matcher>(
     match &entry.form {
         EntryForm::Keyword(keyword, _) => {
             if let Some(valid) = keyword.is_valid_at_once(question.instance) {
-                return Ok(Said::settled(valid));
+                return Told::settled(valid);
             }
             solve_keyword(engine, node, entry, question, context)
         }
@@ -154,7 +154,7 @@ fn solve_keyword<'i, K: Validate, M: Matcher>(
     entry: &Entry<K>,
     question: &Asked<'_, 'i>,
     context: &mut SolverContext<'i>,
-) -> Result<Said, Stopped>
+) -> Told
     requires { MayAsk (solver_by K.Validate M.Matcher.own engine.now) question.now (the_entry K.shape node.0 entry.now) context.old }
     ensures { Solves (solver_by K.Validate M.Matcher.own engine.now) K.says_monotone question.now
         (the_entry K.shape node.0 entry.now) context.old context.new result }
@@ -183,7 +183,7 @@ fn solve_reference<'i, K: Validate, M: Matcher>(
     edge: &Edge,
     question: &Asked<'_, 'i>,
     context: &mut SolverContext<'i>,
-) -> Result<Said, Stopped>
+) -> Told
     requires { MayAsk (solver_by K.Validate M.Matcher.own engine.now) question.now (an_edge (edge_of edge.now)) context.old }
     ensures { Solves (solver_by K.Validate M.Matcher.own engine.now) K.says_monotone question.now
         (an_edge (edge_of edge.now)) context.old context.new result }
@@ -199,7 +199,7 @@ pub(crate) fn solve_node_apart<'i, K: Validate, M: Matcher>(
     node: SchemaNode,
     question: &Asked<'_, 'i>,
     context: &mut SolverContext<'i>,
-) -> Result<Said, Stopped>
+) -> Told
     requires { MayAsk (solver_by K.Validate M.Matcher.own engine.now) question.now (a_node node.0) context.old }
     ensures { Solves (solver_by K.Validate M.Matcher.own engine.now) K.says_monotone question.now
         (a_node node.0) context.old context.new result }

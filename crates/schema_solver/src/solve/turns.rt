@@ -2,21 +2,19 @@
 ghost use Rattle.std.specs.Prelude.{◌≡◌, ◌&&◌, [], Bool, IfErr, IfOk, false, true};
 ghost use Rattle.schema_reports.specs.InstanceViews.{subject_of};
 ghost use Rattle.schema_definitions.specs.Keywords.{for_verdict};
-ghost use Rattle.schema_definitions.specs.Matching.{finished};
 ghost use Rattle.schema_parts.specs.KeywordViews.{answer_of, fresh};
-ghost use Rattle.schema_parts.specs.MatcherViews.{FinishesEach};
 ghost use Rattle.schema_solver.specs.Asked.{solver_by};
 ghost use Rattle.schema_solver.specs.Solved.{MayAsk, Solves, Turns, the_keyword};
 ghost use Rattle.schema_solver.specs.TurningOn.{HasBegun};
 
 use crate::question::{Asked, SolverEngine, Stopped};
 use crate::solve::edges::solve_child;
+use crate::told::Told;
 use run_steps::faults::begun;
+use run_steps::matches::finished_match;
 use run_steps::question::NamedKeyword;
 use run_steps::verdict_runs::{dropped, reply_with, verdict_of};
-use schema_matches::site::Match;
 use schema_pairs::context::SolverContext;
-use schema_pairs::said::Said;
 use schema_parts::keyword::{Answer, Mode, Step, Validate};
 use schema_parts::matcher::Matcher;
 use schema_parts::numbers::SchemaNode;
@@ -34,13 +32,19 @@ pub(crate) fn solver_answer<'i, K: Validate, M: Matcher>(
     keyword: &NamedKeyword<'_, K>,
     question: &Asked<'_, 'i>,
     context: &mut SolverContext<'i>,
-) -> Result<Said, Stopped>
+) -> Told
     requires { MayAsk (solver_by K.Validate M.Matcher.own engine.now) question.now (the_keyword K.shape node.0 keyword.now) context.old }
     ensures { Solves (solver_by K.Validate M.Matcher.own engine.now) K.says_monotone question.now
         (the_keyword K.shape node.0 keyword.now) context.old context.new result }
 {
-    let mut run = begun_run(engine.alloc, keyword.keyword, question.instance)?;
-    let mut answer = begun(engine.alloc, Mode::Verdict)?;
+    let mut run = match begun_run(engine.alloc, keyword.keyword, question.instance) {
+        Ok(run) => run,
+        Err(_) => return Told::stopped(Stopped::OutOfMemory),
+    };
+    let mut answer = match begun(engine.alloc, Mode::Verdict) {
+        Ok(answer) => answer,
+        Err(_) => return Told::stopped(Stopped::OutOfMemory),
+    };
     let aside = context.set_aside(engine.alloc);
     let turned = solver_turns(
         engine,
@@ -53,25 +57,25 @@ pub(crate) fn solver_answer<'i, K: Validate, M: Matcher>(
     );
     context.put_back(aside);
     match turned {
-        Ok(leans) => said_of(keyword.keyword, verdict_of(answer), leans),
+        Ok(leans) => told_of(keyword.keyword, verdict_of(answer), leans),
         Err(stopped) => {
             dropped(answer);
-            Err(stopped)
+            Told::stopped(stopped)
         }
     }
 }
 
 // What is said of a keyword whose run found this verdict. Where one of the yeses leaned that it was told, this is so of a keyword alone
 // that says that it is monotone; of another it stops.
-fn said_of<K: Validate>(keyword: &K, valid: bool, leans: bool) -> Result<Said, Stopped>
+fn told_of<K: Validate>(keyword: &K, valid: bool, leans: bool) -> Told
     ensures said { IfOk result (λ s. (s ≡ record { valid = valid; leans = valid && leans })
         × (leans ≡ true → K.says_monotone (K.shape keyword.now) ≡ true)) }
     ensures stops { IfErr result (λ e. (e ≡ Stopped.Leans) × (leans ≡ true) × (K.says_monotone (K.shape keyword.now) ≡ false)) }
 {
     if leans && !keyword.monotone() {
-        return Err(Stopped::Leans);
+        return Told::stopped(Stopped::Leans);
     }
-    Ok(Said::of(valid, leans))
+    Told::of(valid, leans)
 }
 
 // A run for the verdict that has begun.
@@ -116,18 +120,20 @@ fn solver_turns<'i, K: Validate, M: Matcher>(
             .turn(engine.alloc, run, question.instance, reply, answer)?;
         match step {
             Step::Ask(child, below, wanted) => {
-                let said = solve_child(engine, node, children, child, below, question, context)?;
+                let said = solve_child(
+                    engine, node, children, child, below, question, context,
+                ).result()?;
                 leans |= said.leans();
                 told = Some(said.valid());
             }
             Step::Done => return Ok(leans),
             Step::Match(pattern, subject, located) => {
-                let matches = finished_match(engine, pattern, subject)?;
+                let matches = finished_match(engine.alloc, engine.matcher, pattern, subject)?;
                 told = Some(matches);
             }
             Step::MatchAt(at, subject, below) => {
                 let pattern = at.pattern.as_str();
-                let matches = finished_match(engine, pattern, subject)?;
+                let matches = finished_match(engine.alloc, engine.matcher, pattern, subject)?;
                 told = Some(matches);
             }
             Step::Ecma(text) => {
@@ -146,23 +152,7 @@ fn solver_turns<'i, K: Validate, M: Matcher>(
     }
 }
 
-// How a match comes out, of a matcher that finishes each. Its room on the stack is its own, so that a turn that asks for none pays nothing.
-#[inline(never)]
-pub(crate) fn finished_match<K, M: Matcher>(
-    engine: &SolverEngine<'_, K, M>,
-    pattern: &str,
-    subject: &str,
-) -> Result<bool, OutOfMemory>
-    requires finishes { FinishesEach (M.matching engine.now.matcher.now) }
-    ensures answer { IfOk result (λ b. (M.matching engine.now.matcher.now).is_match pattern.now subject.now ≡ finished b) }
-{
-    match engine.matcher.is_match(engine.alloc, pattern, subject)? {
-        Match::Finished(matches) => Ok(matches),
-        Match::Unfinished(_) => unreachable!(),
-    }
-}
-
-// Whether a text is a pattern of ECMA-262. Its room on the stack is its own too.
+// Whether a text is a pattern of ECMA-262. Its room on the stack is its own, so that a turn that asks for none pays nothing.
 #[inline(never)]
 fn is_pattern<K, M: Matcher>(
     engine: &SolverEngine<'_, K, M>,

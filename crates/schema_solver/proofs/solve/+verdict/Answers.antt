@@ -5,7 +5,7 @@ use Rattle.schema_definitions.specs.Laws.{EachKeeps}
 use Rattle.schema_definitions.specs.Instance.{after_step}
 use Rattle.schema_definitions.specs.Guarded.{node_keyword}
 use Rattle.std.proofs.lemmas.Bool.{or_left, or_right}
-use Rattle.std.specs.Prelude.{Contains, IfOk, IfSome, Option, take}
+use Rattle.std.specs.Prelude.{Contains, IfOk, IfSome, Ok, Option, take}
 use Rattle.std.proofs.lemmas.List.{take_rest}
 use Rattle.std.proofs.lemmas.Result.{IfErr-weaker}
 use Rattle.schema_meaning.specs.Numbered.{left}
@@ -27,7 +27,7 @@ use Rattle.node_table.specs.NodeViews.{entry_of, node_of, plan_of}
 use Rattle.node_table.specs.declared.node.Entry.{Entry}
 use Rattle.run_steps.specs.EvaluationPlaces.{CarriesItsNumber, steps_to}
 use Rattle.run_steps.proofs.NodeParts.{later, part_at, plan_is, reference_edge, keyword_children}
-use Rattle.schema_greatest.specs.Stages.{ChildTells, EdgeTells, FormTells, PartsTell, parts_by}
+use Rattle.schema_greatest.specs.Stages.{ChildTells, EdgeTells, Fits, FormTells, PartsTell, parts_by}
 use Rattle.schema_greatest.proofs.Says.{child_some, edge_below, edge_by_node, edge_by_pair, node_says_parts}
 use Rattle.schema_solver.specs.Asked.{is_followed_in, solver_by}
 use Rattle.schema_pairs.specs.Contexts.{Solver, found_of, has_pair, solver_places}
@@ -41,17 +41,18 @@ use Rattle.run_steps.specs.VerdictRuns.{told_reply}
 use Rattle.schema_solver.proofs.Asking.{edge_among, may_cross, may_go_below}
 use Rattle.schema_solver.proofs.Crossing.{apart_mark, at_pair, cut_guards, entry_accepts, entry_refuses, last_says, rest_says, falls_across, falls_across_below, falls_entered, needs_of_cut, needs_of_free, pair_new, pair_ran, ran_kept, says_at_once, solvable_here, told_accepts, told_refuses}
 use Rattle.schema_solver.proofs.Going.{goes_below, goes_none, goes_on, may_after}
-use Rattle.schema_solver.proofs.PairSteps.{begun_may}
+use Rattle.schema_solver.proofs.PairSteps.{begun_may, within_begun}
 use Rattle.schema_solver.specs.ToldAtOnce.{waiting}
 use Rattle.schema_solver.proofs.solve.+verdict.Goals.{entries::solve_entries-in-None+in-None-waits, entries::solve_entries-in-Some+else-not-valid, edges::solve_edge-then-edge-via-then-edge, edges::solve_edge-then-edge-via-else-edge+then-not-is_followed}
 use Rattle.schema_definitions.specs.Matching.{Pair}
 use Rattle.run_steps.specs.NodeRuns.{HasChildren, HasForm, form_at_work}
 use Rattle.run_steps.proofs.KeywordTurns.{asks_there, can_after, falls_turned, tells_nothing, ask_goes_on, match_goes_on, ecma_goes_on, mark_goes_on, unmark_goes_on}
 use Rattle.schema_solver.proofs.Turned.{asked_verdict, asks_begun, asks_on, begun_with, can_begun, carries_on, goes_marked, leads_asked, leads_begun, leads_ended, leads_marked, leads_matched, leads_told, leads_unmarked, says_after, stepped_by, turned_by}
-use Rattle.asked_questions.proofs.AnswersSay.{likewise, otherwise, present_there, says_by_questions}
+use Rattle.asked_questions.proofs.AnswersSay.{present_there, says_by_questions}
 use Rattle.schema_solver.proofs.ByQuestions.{match_says, question_ends, question_goes_on, questions_begin, questions_end}
-use Rattle.schema_solver.proofs.Stopping.{solved_stops, stops_begun, stops_full, stops_leaning, stops_on, stops_still, turned_stops}
-use Rattle.schema_solver.specs.declared.question.Stopped.TheVariants.{Limit}
+use Rattle.schema_solver.proofs.Stopping.{solved_none, stops_begun, stops_for_memory, stops_full, stops_here, stops_leaning, stops_on, stops_still, turned_stops}
+use Rattle.schema_solver.proofs.Telling.{ends_after, goes_on_after, leans_once, solved_at}
+use Rattle.schema_solver.specs.declared.question.Stopped.TheVariants.{Limit, OutOfMemory}
 use Rattle.schema_solver.proofs.solve.+verdict.Goals as goal
 
 -- ---- a call's measure falls
@@ -84,27 +85,24 @@ part_before f g xs zero y is = is
 part_before f g [] (suc n) y is = is
 part_before f g (x ∷ xs) (suc n) y is = later (g (f x)) (map g (map f xs)) y (part_before f g xs n y is)
 
--- ---- by a test
-
-no_of : (b : Bool) → not b ≡ true → b ≡ false
-no_of true is = sym is
-no_of false is = refl
-
-yes_of : (b : Bool) → not b ≡ false → b ≡ true
-yes_of true is = refl
-yes_of false is = sym is
+pub edges::solve_pair-returns-in-Err : goal.edges::solve_pair-returns-in-Err
+edges::solve_pair-returns-in-Err g t c =
+    let set = solver_by g.K.Validate g.M.Matcher c.args.engine.now in
+    let says = g.K.Validate.says_monotone in
+    let old = c.args.context.now in
+    rw c.stopped.ensures.told (solved_none set says (steps_to c.args.question.now.place.now) old c.new.new.context _ _ (subst (λ z. Stops set says old z OutOfMemory) (sym c.in-Err.ensures.unchanged) (stops_here set says old)))
 
 pub edges::solve_pair-returns-in-Some : goal.edges::solve_pair-returns-in-Some
-edges::solve_pair-returns-in-Some g t c = record {
+edges::solve_pair-returns-in-Some g t c = rw c.said.ensures.told (record {
   goes =
       let set = solver_by g.K.Validate g.M.Matcher c.args.engine.now in
       let p = steps_to c.args.question.now.place.now in
       let old = c.args.context.now in
-      subst (Goes set p old) (sym c.in_ok-pair.ensures.unchanged) (goes_none set p old c.requires.may.sound);
+      subst (Goes set p old) (sym c.in-Ok.ensures.unchanged) (goes_none set p old c.requires.may.sound);
   marking = search rules;
   says = search rules;
   stops = search rules;
-}
+})
 
 pub edges::solve_pair-begin_pair-requires : goal.edges::solve_pair-begin_pair-requires
 edges::solve_pair-begin_pair-requires g t c =
@@ -114,20 +112,20 @@ edges::solve_pair-begin_pair-requires g t c =
     let s = subject_of c.args.question.now.instance in
     let old = c.args.context.now in
     let now = c.new.new.context in
-    let same : now ≡ old = c.in_ok-pair.ensures.unchanged in
+    let same : now ≡ old = c.in-Ok.ensures.unchanged in
     let none : c.state.result ≡ None = c.in_default.is in
-    let pair = c.in_ok-pair.pair in
+    let pair = c.in-Ok.pair in
     let l = ap (λ (z : Solver). pair_needs ns (length c.args.engine.now.nodes.now) c.args.node.0 s (busy_at p z.in_progress)) same in
     let may = subst (λ z. MayAsk set c.args.question.now (a_pair c.args.node.0) z) (sym same) c.requires in
-    let numbered_there = subst (λ z. IsNumbered (solver_places z) pair) (sym same) c.in_ok-pair.ensures.numbered in
-    let own = subst (λ z. OwnNumbers (solver_places z)) (sym same) c.in_ok-pair.ensures.own in
-    let node = ap (λ (n : SchemaNode). n.0) c.in_ok-pair.ensures.node in
-    λ κs h. (lower_begun _ _ t l c.decreases, (h.0, (h.1.0, (h.1.1.0, (h.1.1.1, (may, (node, (c.in_ok-pair.ensures.place, (numbered_there, (own, (c.state.ensures.unknown none, (c.state.ensures.idle none, c.state.ensures.free none))))))))))))
+    let numbered_there = subst (λ z. IsNumbered (solver_places z) pair) (sym same) c.in-Ok.ensures.numbered in
+    let own = subst (λ z. OwnNumbers (solver_places z)) (sym same) c.in-Ok.ensures.own in
+    let node = ap (λ (n : SchemaNode). n.0) c.in-Ok.ensures.node in
+    λ κs h. (lower_begun _ _ t l c.decreases, (h.0, (h.1.0, (h.1.1.0, (h.1.1.1, (may, (node, (c.in-Ok.ensures.place, (numbered_there, (own, (c.state.ensures.unknown none, (c.state.ensures.idle none, c.state.ensures.free none))))))))))))
 
 pub edges::solve_pair-returns : goal.edges::solve_pair-returns
 edges::solve_pair-returns g t c =
     let set = solver_by g.K.Validate g.M.Matcher c.args.engine.now in
-    subst (λ z. Solves set g.K.Validate.says_monotone c.args.question.now (a_pair c.args.node.0) z c.begin_pair.new.context c.begin_pair.result) c.in_ok-pair.ensures.unchanged c.begin_pair.ensures
+    subst (λ z. Solves set g.K.Validate.says_monotone c.args.question.now (a_pair c.args.node.0) z c.begin_pair.new.context c.begin_pair.result) c.in-Ok.ensures.unchanged c.begin_pair.ensures
 
 pub edges::solve_edge-solve_pair-requires : goal.edges::solve_edge-solve_pair-requires
 edges::solve_edge-solve_pair-requires g t c =
@@ -223,14 +221,14 @@ edges::solve_child-solve_edge-requires-in-Some-one_below g t c =
     λ κs h. (lower_across _ _ t 0 l c.decreases, (h.0, (h.1.0, (h.1.1.0, (h.1.1.1, record { may = may; carries = c.below-lower.ensures.carries (solver_places old) c.requires.carries; stands = (c.args.node.0, c.requires.may.known, k) })))))
 
 pub edges::solve_child-returns-in-None : goal.edges::solve_child-returns-in-None
-edges::solve_child-returns-in-None g t c = record {
+edges::solve_child-returns-in-None g t c = rw c.settled.ensures.told (record {
   goes =
       let set = solver_by g.K.Validate g.M.Matcher c.args.engine.now in
       goes_none set (steps_to c.args.question.now.place.now) c.args.context.now c.requires.may.sound;
   marking = search rules;
   says = search rules;
   stops = search rules;
-}
+})
 
 pub edges::solve_child-returns-in-Some-one_below : goal.edges::solve_child-returns-in-Some-one_below
 edges::solve_child-returns-in-Some-one_below g t c = record {
@@ -272,8 +270,8 @@ entries::solve_left-loop-entry-init g t c =
       leads = λ texts tells. record { same = λ answers fits. refl; refuses = λ answers no. no };
     }
 
-pub entries::solve_left-solve_form-requires : goal.entries::solve_left-solve_form-requires
-entries::solve_left-solve_form-requires g t c =
+pub entries::solve_left-solve_form-told-requires : goal.entries::solve_left-solve_form-told-requires
+entries::solve_left-solve_form-told-requires g t c =
     let set = solver_by g.K.Validate g.M.Matcher c.args.engine.now in
     let ns = numbered g.K.Validate.shape c.args.engine.now.nodes.now in
     let p = steps_to c.args.question.now.place.now in
@@ -284,37 +282,22 @@ entries::solve_left-solve_form-requires g t c =
     let here = part_at entry_of (shaped_part g.K.Validate.shape) c.args.entries.now c.loop-entry.entry-index c.entry-item.result c.loop-entry-test.true c.entry-item.is in
     λ κs h. (lower_same _ _ t 8 0 l c.decreases, (h.0, (h.1.0, (h.1.1.0, (h.1.1.1, record { may = may_after set p old c.loop-entry.context s c.args.node.0 c.requires.may went; carries = carries_on old c.loop-entry.context c.args.question.now.place.now went.root c.requires.carries; stands = (c.requires.stands.0, c.requires.stands.1, shaped_part g.K.Validate.shape (entry_of c.entry-item.result), c.requires.stands.2 _ here, refl) })))))
 
-pub entries::solve_left-returns-then-not-valid : goal.entries::solve_left-returns-then-not-valid
-entries::solve_left-returns-then-not-valid g t c = record {
-  goes =
-      let set = solver_by g.K.Validate g.M.Matcher c.args.engine.now in
-      let p = steps_to c.args.question.now.place.now in
-      goes_on set p c.args.context.now c.loop-entry.context c.solve_form.new.context c.loop-entry.invariant.goes c.in_ok-said.ensures.goes;
-  marking =
-      c.in_ok-said.ensures.marking ∙ c.loop-entry.invariant.marking;
-  says =
-      let set = solver_by g.K.Validate g.M.Matcher c.args.engine.now in
-      let p = steps_to c.args.question.now.place.now in
-      let parts = λ (es : List (Entry g.row.K.Denot)). map (shaped_part g.K.Validate.shape) (map entry_of es) in
-      let here = c.loop-entry.context in
-      let next = c.solve_form.new.context in
-      let x = shaped_part g.K.Validate.shape (entry_of c.entry-item.result) in
-      let rest = parts (drop (c.loop-entry.entry-index + 1) c.args.entries.now) in
-      let no = sym c.valid.ensures.valid ∙ c.if-not-valid.true in
-      let split = ap parts (drop_at c.args.entries.now c.loop-entry.entry-index c.entry-item.result c.loop-entry-test.true c.entry-item.is) in
-      let so_far : InEach set (view here.root) (λ texts w. SaysTheRest w p (found_of here) c.loop-entry.leans (parts c.args.entries.now) (x ∷ rest)) = subst (λ left. InEach set (view here.root) (λ texts w. SaysTheRest w p (found_of here) c.loop-entry.leans (parts c.args.entries.now) left)) split c.loop-entry.invariant.leads in
-      subst (λ b. InEach set (view next.root) (λ texts w. PartsTell w p (found_of next) (parts c.args.entries.now) b c.in_ok-said.said.leans)) (sym no)
-      (entry_refuses set p here next c.in_ok-said.ensures.goes (parts c.args.entries.now) x rest c.loop-entry.leans so_far c.in_ok-said.said.leans (subst (λ b. InEach set (view next.root) (λ texts w. FormTells w p (found_of next) x.form b c.in_ok-said.said.leans)) no c.in_ok-said.ensures.says));
-  stops = search rules;
-}
-
-pub entries::solve_left-returns-in_err-said : goal.entries::solve_left-returns-in_err-said
-entries::solve_left-returns-in_err-said g t c =
+pub entries::solve_left-returns-then-ends : goal.entries::solve_left-returns-then-ends
+entries::solve_left-returns-then-ends g t c =
     let set = solver_by g.K.Validate g.M.Matcher c.args.engine.now in
-    let says = g.K.Validate.says_monotone in
     let p = steps_to c.args.question.now.place.now in
-    solved_stops set says p c.args.context.now c.solve_form.new.context _ c.from_residual.result _ c.from_residual.ensures.1
-    (stops_on set says p c.args.context.now c.loop-entry.context c.solve_form.new.context _ c.loop-entry.invariant.goes c.in_err-said.ensures.stops)
+    let parts = λ (es : List (Entry g.row.K.Denot)). map (shaped_part g.K.Validate.shape) (map entry_of es) in
+    let here = c.loop-entry.context in
+    let next = c.solve_form-told.new.context in
+    let x = shaped_part g.K.Validate.shape (entry_of c.entry-item.result) in
+    let rest = parts (drop (c.loop-entry.entry-index + 1) c.args.entries.now) in
+    let split = ap parts (drop_at c.args.entries.now c.loop-entry.entry-index c.entry-item.result c.loop-entry-test.true c.entry-item.is) in
+    let so_far : InEach set (view here.root) (λ texts w. SaysTheRest w p (found_of here) c.loop-entry.leans (parts c.args.entries.now) (x ∷ rest)) = subst (λ left. InEach set (view here.root) (λ texts w. SaysTheRest w p (found_of here) c.loop-entry.leans (parts c.args.entries.now) left)) split c.loop-entry.invariant.leads in
+    ends_after set g.K.Validate.says_monotone p c.args.context.now here next c.loop-entry.invariant.goes c.loop-entry.invariant.marking c.solve_form-told.result true _ _ (sym c.ends.ensures.ends ∙ c.if-ends.true)
+    (λ s no went says.
+    subst (λ b. InEach set (view next.root) (λ texts w. PartsTell w p (found_of next) (parts c.args.entries.now) b s.leans)) (sym no)
+    (entry_refuses set p here next went (parts c.args.entries.now) x rest c.loop-entry.leans so_far s.leans (subst (λ b. InEach set (view next.root) (λ texts w. FormTells w p (found_of next) x.form b s.leans)) no says)))
+    c.solve_form-told.ensures
 
 pub entries::solve_left-loop-entry-preserved : goal.entries::solve_left-loop-entry-preserved
 entries::solve_left-loop-entry-preserved g t c =
@@ -322,19 +305,21 @@ entries::solve_left-loop-entry-preserved g t c =
     let p = steps_to c.args.question.now.place.now in
     let parts = λ (es : List (Entry g.row.K.Denot)). map (shaped_part g.K.Validate.shape) (map entry_of es) in
     let here = c.loop-entry.context in
-    let next = c.solve_form.new.context in
+    let next = c.solve_form-told.new.context in
     let x = shaped_part g.K.Validate.shape (entry_of c.entry-item.result) in
     let rest = parts (drop (c.loop-entry.entry-index + 1) c.args.entries.now) in
     let split = ap parts (drop_at c.args.entries.now c.loop-entry.entry-index c.entry-item.result c.loop-entry-test.true c.entry-item.is) in
     let so_far : InEach set (view here.root) (λ texts w. SaysTheRest w p (found_of here) c.loop-entry.leans (parts c.args.entries.now) (x ∷ rest)) = subst (λ left. InEach set (view here.root) (λ texts w. SaysTheRest w p (found_of here) c.loop-entry.leans (parts c.args.entries.now) left)) split c.loop-entry.invariant.leads in
+    let on = goes_on_after c.solve_form-told.result true (sym c.ends.ensures.ends ∙ c.if-ends.false) in
+    let told = solved_at set g.K.Validate.says_monotone p here next _ (Ok on.said) _ c.solve_form-told.ensures on.is in
     record {
-      goes = goes_on set p c.args.context.now here next c.loop-entry.invariant.goes c.in_ok-said.ensures.goes;
-      marking = c.in_ok-said.ensures.marking ∙ c.loop-entry.invariant.marking;
-      leads = rw c.leans-leans.ensures.leans (entry_accepts set p here next c.in_ok-said.ensures.goes (parts c.args.entries.now) x rest c.loop-entry.leans so_far c.in_ok-said.said.leans (subst (λ b. InEach set (view next.root) (λ texts w. FormTells w p (found_of next) x.form b c.in_ok-said.said.leans)) (sym c.valid.ensures.valid ∙ c.if-not-valid.false) c.in_ok-said.ensures.says));
+      goes = goes_on set p c.args.context.now here next c.loop-entry.invariant.goes told.goes;
+      marking = told.marking ∙ c.loop-entry.invariant.marking;
+      leads = rw (c.leans-leans.ensures.leans ∙ on.leans) (entry_accepts set p here next told.goes (parts c.args.entries.now) x rest c.loop-entry.leans so_far on.said.leans (subst (λ b. InEach set (view next.root) (λ texts w. FormTells w p (found_of next) x.form b on.said.leans)) on.valid told.says));
     }
 
 pub entries::solve_left-returns : goal.entries::solve_left-returns
-entries::solve_left-returns g t c = record {
+entries::solve_left-returns g t c = rw c.of.ensures.told (record {
   goes =
       c.loop-entry.invariant.goes;
   marking =
@@ -344,12 +329,12 @@ entries::solve_left-returns g t c = record {
       let p = steps_to c.args.question.now.place.now in
       let parts = λ (es : List (Entry g.row.K.Denot)). map (shaped_part g.K.Validate.shape) (map entry_of es) in
       let none = ap parts (drop_past c.args.entries.now c.loop-entry.entry-index c.loop-entry-test.false) in
-      rw c.of.ensures.said (λ texts tells answers fits. (c.loop-entry.invariant.leads texts tells).same answers fits ∙ ap (parts_by (solving_in set (view c.loop-entry.context.root) texts) p answers) none);
+      λ texts tells answers fits. (c.loop-entry.invariant.leads texts tells).same answers fits ∙ ap (parts_by (solving_in set (view c.loop-entry.context.root) texts) p answers) none;
   stops = search rules;
-}
+})
 
 pub entries::solve_form-returns-in-Some : goal.entries::solve_form-returns-in-Some
-entries::solve_form-returns-in-Some g t c = record {
+entries::solve_form-returns-in-Some g t c = rw c.settled.ensures.told (record {
   goes =
       let set = solver_by g.K.Validate g.M.Matcher c.args.engine.now in
       goes_none set (steps_to c.args.question.now.place.now) c.args.context.now c.requires.may.sound;
@@ -363,9 +348,9 @@ entries::solve_form-returns-in-Some g t c = record {
       let m = g.K.Validate.shape c.in-Keyword.keyword in
       let es = map (option_map edge_of) c.in-Keyword.field-1.items in
       let form = rw c.in-Keyword.is at c.requires.stands in
-      rw c.settled.ensures.said (rw c.in-Keyword.is (says_at_once set laws old s p c.args.node.0 c.requires.may m es form (g.K.Validate.absorbed m) (g.K.Validate.remaining m) (λ texts. g.K.Validate.can_be texts m) (λ texts. g.K.Validate.ends texts m) (λ texts. g.K.Validate.fits texts m) (λ texts. g.met.K.Validate.turn_laws texts m) c.in-Some.valid c.in-Some.ensures.at_once));
+      rw c.in-Keyword.is (says_at_once set laws old s p c.args.node.0 c.requires.may m es form (g.K.Validate.absorbed m) (g.K.Validate.remaining m) (λ texts. g.K.Validate.can_be texts m) (λ texts. g.K.Validate.ends texts m) (λ texts. g.K.Validate.fits texts m) (λ texts. g.met.K.Validate.turn_laws texts m) c.in-Some.valid c.in-Some.ensures.at_once);
   stops = search rules;
-}
+})
 
 pub entries::solve_form-solve_keyword-requires : goal.entries::solve_form-solve_keyword-requires
 entries::solve_form-solve_keyword-requires g t c =
@@ -391,34 +376,34 @@ entries::solve_node-solve_entries-requires g t c =
     λ κs h. (lower_same _ _ t 10 0 refl c.decreases, (h.0, (h.1.0, (h.1.1.0, (h.1.1.1, record { may = c.requires.may; carries = c.requires.carries; stands = rw c.as_slice.ensures.value (_, plan, λ y k. k) })))))
 
 pub entries::solve_node-returns-in-None : goal.entries::solve_node-returns-in-None
-entries::solve_node-returns-in-None g t c = record {
+entries::solve_node-returns-in-None g t c = rw c.settled.ensures.told (record {
   goes =
       let set = solver_by g.K.Validate g.M.Matcher c.args.engine.now in
       goes_none set (steps_to c.args.question.now.place.now) c.args.context.now c.requires.may.sound;
   marking = search rules;
   says = search rules;
   stops = search rules;
-}
+})
 
 pub entries::solve_node-returns-in-Always : goal.entries::solve_node-returns-in-Always
-entries::solve_node-returns-in-Always g t c = record {
+entries::solve_node-returns-in-Always g t c = rw c.settled-in-Always.ensures.told (record {
   goes =
       let set = solver_by g.K.Validate g.M.Matcher c.args.engine.now in
       goes_none set (steps_to c.args.question.now.place.now) c.args.context.now c.requires.may.sound;
   marking = search rules;
   says = search rules;
   stops = search rules;
-}
+})
 
 pub entries::solve_node-returns-in-Never : goal.entries::solve_node-returns-in-Never
-entries::solve_node-returns-in-Never g t c = record {
+entries::solve_node-returns-in-Never g t c = rw c.settled-in-Never.ensures.told (record {
   goes =
       let set = solver_by g.K.Validate g.M.Matcher c.args.engine.now in
       goes_none set (steps_to c.args.question.now.place.now) c.args.context.now c.requires.may.sound;
   marking = search rules;
   says = search rules;
   stops = search rules;
-}
+})
 
 pub entries::solve_node-returns-in-Keywords : goal.entries::solve_node-returns-in-Keywords
 entries::solve_node-returns-in-Keywords g t c = record {
@@ -474,14 +459,14 @@ asking::solve_there-solve_edge-requires-in-Some-below g t c =
     λ κs h. (lower_across _ _ t 0 l c.decreases, (h.0, (h.1.0, (h.1.1.0, (h.1.1.1, record { may = may; carries = c.below-lower.ensures.carries (solver_places old) c.requires.may_ask.carries; stands = (c.args.node.0, c.requires.may_ask.may.known, k) })))))
 
 pub asking::solve_there-returns-in-None : goal.asking::solve_there-returns-in-None
-asking::solve_there-returns-in-None g t c = record {
+asking::solve_there-returns-in-None g t c = rw c.settled.ensures.told (record {
   goes =
       let set = solver_by g.K.Validate g.M.Matcher c.args.engine.now in
       goes_none set (steps_to c.args.question.now.place.now) c.args.context.now c.requires.may_ask.may.sound;
   marking = search rules;
   says = search rules;
   stops = search rules;
-}
+})
 
 pub asking::solve_there-returns-in-Some-below : goal.asking::solve_there-returns-in-Some-below
 asking::solve_there-returns-in-Some-below g t c = record {
@@ -511,20 +496,34 @@ asking::solve_there-returns-in-Some-below g t c = record {
 
 -- ---- the turns of a keyword's run
 
+pub turns::solver_answer-returns-in-Err : goal.turns::solver_answer-returns-in-Err
+turns::solver_answer-returns-in-Err g t c =
+    let set = solver_by g.K.Validate g.M.Matcher c.args.engine.now in
+    let says = g.K.Validate.says_monotone in
+    let old = c.args.context.now in
+    rw c.stopped.ensures.told (solved_none set says (steps_to c.args.question.now.place.now) old old _ _ (stops_here set says old))
+
+pub turns::solver_answer-returns-in-Err-begun : goal.turns::solver_answer-returns-in-Err-begun
+turns::solver_answer-returns-in-Err-begun g t c =
+    let set = solver_by g.K.Validate g.M.Matcher c.args.engine.now in
+    let says = g.K.Validate.says_monotone in
+    let old = c.args.context.now in
+    rw c.stopped-in-Err-begun.ensures.told (solved_none set says (steps_to c.args.question.now.place.now) old old _ _ (stops_here set says old))
+
 pub turns::solver_answer-solver_turns-turned-requires : goal.turns::solver_answer-solver_turns-turned-requires
 turns::solver_answer-solver_turns-turned-requires g t c =
     let set = solver_by g.K.Validate g.M.Matcher c.args.engine.now in
     let p = steps_to c.args.question.now.place.now in
     let s = subject_of c.args.question.now.instance in
     let aside = c.set_aside-aside.new.self in
-    let begun = begun_with set s (g.K.Validate.shape c.args.keyword.now.keyword.now) c.in_ok-run.run' c.in_ok-answer.answer c.in_ok-run.ensures.begins c.in_ok-answer.ensures.fresh in
+    let begun = begun_with set s (g.K.Validate.shape c.args.keyword.now.keyword.now) c.in-Ok.run' c.in-Ok-begun.answer c.in-Ok.ensures.begins c.in-Ok-begun.ensures.fresh in
     let e = c.set_aside-aside.ensures in
     let went = goes_marked set p c.args.context.now aside c.requires.may.sound e.root e.in_progress e.assumed e.verdicts e.begun in
     let l = ap (λ es. left (numbered g.K.Validate.shape c.args.engine.now.nodes.now) (length c.args.engine.now.nodes.now) c.args.node.0 s (busy_at p es)) e.in_progress in
     λ κs h. (lower_same _ _ t 4 0 l c.decreases, (h.0, (h.1.0, (h.1.1.0, (h.1.1.1, (record { may = may_after set p c.args.context.now aside s c.args.node.0 c.requires.may went; carries = carries_on c.args.context.now aside c.args.question.now.place.now e.root c.requires.carries; stands = c.requires.stands }, (begun, e.none)))))))
 
-pub turns::solver_answer-returns-in-Ok : goal.turns::solver_answer-returns-in-Ok
-turns::solver_answer-returns-in-Ok g t c = record {
+pub turns::solver_answer-returns-in-Ok-turned : goal.turns::solver_answer-returns-in-Ok-turned
+turns::solver_answer-returns-in-Ok-turned g t c = record {
   goes =
       let set = solver_by g.K.Validate g.M.Matcher c.args.engine.now in
       let p = steps_to c.args.question.now.place.now in
@@ -532,10 +531,10 @@ turns::solver_answer-returns-in-Ok g t c = record {
       let end = c.solver_turns-turned.new.context in
       let e = c.set_aside-aside.ensures in
       let b = c.put_back.ensures in
-      let turns : Goes set p aside end = rw c.in-Ok.is at c.solver_turns-turned.ensures.goes in
+      let turns : Goes set p aside end = rw c.in-Ok-turned.is at c.solver_turns-turned.ensures.goes in
       let before = goes_marked set p c.args.context.now aside c.requires.may.sound e.root e.in_progress e.assumed e.verdicts e.begun in
       let after = goes_marked set p end c.put_back.new.self turns.sound b.root b.in_progress b.assumed b.verdicts b.begun in
-      if_ok_mono c.said_of.result _ _ (λ s is. goes_on set p c.args.context.now end c.put_back.new.self (goes_on set p c.args.context.now aside end before turns) after) c.said_of.ensures.said;
+      if_ok_mono c.told_of.result _ _ (λ s is. goes_on set p c.args.context.now end c.put_back.new.self (goes_on set p c.args.context.now aside end before turns) after) c.told_of.ensures.said;
   marking = search rules;
   says =
       let set = solver_by g.K.Validate g.M.Matcher c.args.engine.now in
@@ -543,16 +542,16 @@ turns::solver_answer-returns-in-Ok g t c = record {
       let aside = c.set_aside-aside.new.self in
       let end = c.solver_turns-turned.new.context in
       let b = c.put_back.ensures in
-      let turns : Goes set p aside end = rw c.in-Ok.is at c.solver_turns-turned.ensures.goes in
+      let turns : Goes set p aside end = rw c.in-Ok-turned.is at c.solver_turns-turned.ensures.goes in
       let after = goes_marked set p end c.put_back.new.self turns.sound b.root b.in_progress b.assumed b.verdicts b.begun in
       let m = g.K.Validate.shape c.args.keyword.now.keyword.now in
-      let l = c.in-Ok.leans in
+      let l = c.in-Ok-turned.leans in
       let found = λ (texts : Bool). (answer_of texts c.solver_turns-turned.new.answer).verdict in
-      let said = rw c.in-Ok.is at c.solver_turns-turned.ensures.says in
-      if_ok_mono c.said_of.result _ _ (λ s (is, monotone).
+      let said = rw c.in-Ok-turned.is at c.solver_turns-turned.ensures.says in
+      if_ok_mono c.told_of.result _ _ (λ s (is, monotone).
       subst (λ (s : WhatIsSaid). InEach set (view c.put_back.new.self.root) (λ texts w. FormTells w p (found_of c.put_back.new.self) (form_at_work g.K.Validate.shape c.args.keyword.now) s.valid s.leans)) (sym is)
       (says_after set p end c.put_back.new.self after p (form_at_work g.K.Validate.shape c.args.keyword.now) c.verdict_of.result l found c.verdict_of.ensures.verdict
-      (λ texts tells. said texts tells (λ leans. g.met.K.Validate.grows texts m (monotone leans))))) c.said_of.ensures.said;
+      (λ texts tells. said texts tells (λ leans. g.met.K.Validate.grows texts m (monotone leans))))) c.told_of.ensures.said;
   stops =
       let set = solver_by g.K.Validate g.M.Matcher c.args.engine.now in
       let p = steps_to c.args.question.now.place.now in
@@ -562,15 +561,15 @@ turns::solver_answer-returns-in-Ok g t c = record {
       let b = c.put_back.ensures in
       let m = g.K.Validate.shape c.args.keyword.now.keyword.now in
       let es = map (option_map edge_of) c.args.keyword.now.children.now in
-      let turns : Goes set p aside end = rw c.in-Ok.is at c.solver_turns-turned.ensures.goes in
+      let turns : Goes set p aside end = rw c.in-Ok-turned.is at c.solver_turns-turned.ensures.goes in
       let before = goes_marked set p c.args.context.now aside c.requires.may.sound e.root e.in_progress e.assumed e.verdicts e.begun in
       let after = goes_marked set p end c.put_back.new.self turns.sound b.root b.in_progress b.assumed b.verdicts b.begun in
       let went = goes_on set p c.args.context.now end c.put_back.new.self (goes_on set p c.args.context.now aside end before turns) after in
-      IfErr-weaker c.said_of.result _ _ (λ e (leans, told, silent). subst (Stops set g.K.Validate.says_monotone c.args.context.now c.put_back.new.self) (sym leans) (stops_leaning set g.K.Validate.says_monotone c.args.node.0 m es c.requires.may.known c.requires.stands silent p c.args.context.now c.put_back.new.self went)) c.said_of.ensures.stops;
+      IfErr-weaker c.told_of.result _ _ (λ e (leans, told, silent). subst (Stops set g.K.Validate.says_monotone c.args.context.now c.put_back.new.self) (sym leans) (stops_leaning set g.K.Validate.says_monotone c.args.node.0 m es c.requires.may.known c.requires.stands silent p c.args.context.now c.put_back.new.self went)) c.told_of.ensures.stops;
 }
 
 pub turns::solver_answer-returns : goal.turns::solver_answer-returns
-turns::solver_answer-returns g t c = record {
+turns::solver_answer-returns g t c = rw c.stopped-in-Err-turned.ensures.told (record {
   goes = tt;
   marking = tt;
   says = tt;
@@ -581,10 +580,10 @@ turns::solver_answer-returns g t c = record {
       let aside = c.set_aside-aside.new.self in
       let end = c.solver_turns-turned.new.context in
       let e = c.set_aside-aside.ensures in
-      let stops : Stops set says aside end c.in-Err.stopped = rw c.in-Err.is at c.solver_turns-turned.ensures.stops in
+      let stops : Stops set says aside end c.in-Err-turned.stopped = rw c.in-Err-turned.is at c.solver_turns-turned.ensures.stops in
       let before = goes_marked set p c.args.context.now aside c.requires.may.sound e.root e.in_progress e.assumed e.verdicts e.begun in
-      stops_still set says c.args.context.now end c.put_back.new.self c.in-Err.stopped (stops_on set says p c.args.context.now aside end c.in-Err.stopped before stops) c.put_back.ensures.begun;
-}
+      stops_still set says c.args.context.now end c.put_back.new.self c.in-Err-turned.stopped (stops_on set says p c.args.context.now aside end c.in-Err-turned.stopped before stops) c.put_back.ensures.begun;
+})
 
 pub turns::solver_turns-returns-in_err-said-in-Ask : goal.turns::solver_turns-returns-in_err-said-in-Ask
 turns::solver_turns-returns-in_err-said-in-Ask g t c =
@@ -593,7 +592,7 @@ turns::solver_turns-returns-in_err-said-in-Ask g t c =
     let p = steps_to c.args.question.now.place.now in
     let m = g.K.Validate.shape c.args.keyword.now.keyword.now in
     turned_stops set says p c.args.context.now c.solve_child.new.context _ m c.from_residual-in_err-said-in-Ask.result _ c.from_residual-in_err-said-in-Ask.ensures.1
-    (stops_on set says p c.args.context.now c.turns.context c.solve_child.new.context _ c.turns.invariant.goes c.in_err-said-in-Ask.ensures.stops)
+    (stops_on set says p c.args.context.now c.turns.context c.solve_child.new.context _ c.turns.invariant.goes (solved_at set says p c.turns.context c.solve_child.new.context _ _ _ c.solve_child.ensures (sym c.in_err-said-in-Ask.ensures.same)).stops)
 
 pub turns::solver_turns-turns-init : goal.turns::solver_turns-turns-init
 turns::solver_turns-turns-init g t c =
@@ -681,12 +680,13 @@ turns::solver_turns-turns-preserved-in-Ask g t c =
     let step = stepped false (tells_nothing (g.K.Validate.is_whole m) s) in
     let wanted = asked_verdict set m (g.K.Validate.absorbed m) (g.K.Validate.remaining m) (λ texts. g.K.Validate.can_be texts m) (λ texts. g.K.Validate.ends texts m) (λ texts. g.K.Validate.fits texts m) (λ texts. g.met.K.Validate.turn_laws texts m) s (c.turns.run, answer_of false c.turns.answer) told q (mode_of c.in-Ask.wanted) step c.turns.invariant.asks in
     let next = c.solve_child.new.context in
+    let solved = solved_at set g.K.Validate.says_monotone p c.turns.context next _ _ _ c.solve_child.ensures (sym c.in_ok-said-in-Ask.ensures.same) in
     record {
-      goes = goes_on set p c.args.context.now c.turns.context next went c.in_ok-said-in-Ask.ensures.goes;
+      goes = goes_on set p c.args.context.now c.turns.context next went solved.goes;
       can = can_after (g.K.Validate.words false) m (g.K.Validate.absorbed m) (g.K.Validate.remaining m) (g.K.Validate.can_be false m) (g.K.Validate.ends false m) (g.K.Validate.fits false m) (g.met.K.Validate.turn_laws false m) s (c.turns.run, answer_of false c.turns.answer) (c.turn.new.run, answer_of false c.turn.new.answer) told c.turns.invariant.can turn;
       asks = rw c.valid.ensures.valid (asks_on set m (g.K.Validate.absorbed m) (g.K.Validate.remaining m) (λ texts. g.K.Validate.can_be texts m) (λ texts. g.K.Validate.ends texts m) (λ texts. g.K.Validate.fits texts m) (λ texts. g.met.K.Validate.turn_laws texts m) s (c.turns.run, answer_of false c.turns.answer) (c.turn.new.run, answer_of false c.turn.new.answer) told (truth c.in_ok-said-in-Ask.said.valid) (ask q (mode_of c.in-Ask.wanted)) c.turns.invariant.can turn step (ask_goes_on q (mode_of c.in-Ask.wanted)) c.turns.invariant.asks);
-      leads = rw c.valid.ensures.valid (rw c.leans-leans.ensures.leans (leads_asked set m (g.K.Validate.absorbed m) (g.K.Validate.remaining m) (λ texts. g.K.Validate.can_be texts m) (λ texts. g.K.Validate.ends texts m) (λ texts. g.K.Validate.fits texts m) (λ texts. g.met.K.Validate.turn_laws texts m) s keeps c.args.context.now p c.args.node.0 c.requires.may_ask.may es c.requires.may_ask.stands c.turns.context next c.in_ok-said-in-Ask.ensures.goes went.root c.turns.leans c.in_ok-said-in-Ask.said.leans c.turns.context.marking next.marking c.in_ok-said-in-Ask.ensures.marking
-          (λ texts. (c.turns.run, answer_of texts c.turns.answer)) (λ texts. (c.turn.new.run, answer_of texts c.turn.new.answer)) (λ texts. told_reply c.turns.told) q (mode_of c.in-Ask.wanted) c.in_ok-said-in-Ask.said.valid turned stepped wanted c.in_ok-said-in-Ask.ensures.says c.turns.invariant.leads));
+      leads = rw c.valid.ensures.valid (rw c.leans-leans.ensures.leans (leads_asked set m (g.K.Validate.absorbed m) (g.K.Validate.remaining m) (λ texts. g.K.Validate.can_be texts m) (λ texts. g.K.Validate.ends texts m) (λ texts. g.K.Validate.fits texts m) (λ texts. g.met.K.Validate.turn_laws texts m) s keeps c.args.context.now p c.args.node.0 c.requires.may_ask.may es c.requires.may_ask.stands c.turns.context next solved.goes went.root c.turns.leans c.in_ok-said-in-Ask.said.leans c.turns.context.marking next.marking solved.marking
+          (λ texts. (c.turns.run, answer_of texts c.turns.answer)) (λ texts. (c.turn.new.run, answer_of texts c.turn.new.answer)) (λ texts. told_reply c.turns.told) q (mode_of c.in-Ask.wanted) c.in_ok-said-in-Ask.said.valid turned stepped wanted solved.says c.turns.invariant.leads));
     }
 
 pub turns::solver_turns-turns-smaller-in-Match : goal.turns::solver_turns-turns-smaller-in-Match
@@ -892,8 +892,8 @@ asking::solve_counted-loop-asked-init g t c =
       leads = questions_begin set c.args.context.now s p c.args.node.0 c.requires.may_ask.may m es c.requires.may_ask.stands c.args.all c.args.questions.left c.requires.says;
     }
 
-pub asking::solve_counted-solve_there-requires : goal.asking::solve_counted-solve_there-requires
-asking::solve_counted-solve_there-requires g t c =
+pub asking::solve_counted-solve_there-told-requires : goal.asking::solve_counted-solve_there-told-requires
+asking::solve_counted-solve_there-told-requires g t c =
     let set = solver_by g.K.Validate g.M.Matcher c.args.engine.now in
     let ns = numbered g.K.Validate.shape c.args.engine.now.nodes.now in
     let p = steps_to c.args.question.now.place.now in
@@ -905,35 +905,20 @@ asking::solve_counted-solve_there-requires g t c =
     let there = subst (λ z. StandsThere z c.in-Some.asked) c.loop-asked.invariant.there c.in-Some.ensures.there in
     λ κs h. (lower_same _ _ t 3 0 l c.decreases, (h.0, (h.1.0, (h.1.1.0, (h.1.1.1, (record { may = may_after set p c.args.context.now c.loop-asked.context s c.args.node.0 c.requires.may_ask.may went; carries = carries_on c.args.context.now c.loop-asked.context c.args.question.now.place.now went.root c.requires.may_ask.carries; stands = (keyword_children ns c.args.node.0 m es c.requires.may_ask.stands, present_there s c.in-Some.asked there) }, there))))))
 
-pub asking::solve_counted-returns-in_err-said : goal.asking::solve_counted-returns-in_err-said
-asking::solve_counted-returns-in_err-said g t c =
+pub asking::solve_counted-returns-then-ends : goal.asking::solve_counted-returns-then-ends
+asking::solve_counted-returns-then-ends g t c =
     let set = solver_by g.K.Validate g.M.Matcher c.args.engine.now in
-    let says = g.K.Validate.says_monotone in
     let p = steps_to c.args.question.now.place.now in
-    solved_stops set says p c.args.context.now c.solve_there.new.context _ c.from_residual.result _ c.from_residual.ensures.1
-    (stops_on set says p c.args.context.now c.loop-asked.context c.solve_there.new.context _ c.loop-asked.invariant.goes c.in_err-said.ensures.stops)
-
-pub asking::solve_counted-returns-then-valid-all : goal.asking::solve_counted-returns-then-valid-all
-asking::solve_counted-returns-then-valid-all g t c = record {
-  goes =
-      let set = solver_by g.K.Validate g.M.Matcher c.args.engine.now in
-      let p = steps_to c.args.question.now.place.now in
-      goes_on set p c.args.context.now c.loop-asked.context c.solve_there.new.context c.loop-asked.invariant.goes c.in_ok-said.ensures.goes;
-  marking =
-      c.in_ok-said.ensures.marking ∙ c.loop-asked.invariant.marking;
-  says =
-      let set = solver_by g.K.Validate g.M.Matcher c.args.engine.now in
-      let p = steps_to c.args.question.now.place.now in
-      let m = g.K.Validate.shape c.args.keyword.now in
-      let es = map (option_map edge_of) c.args.children.now in
-      let laws : (texts : Bool) → EachKeeps (g.K.Validate.words texts) = λ texts m. (g.K.Validate.absorbed m, keeps_of_turns (g.K.Validate.words texts) m (g.K.Validate.absorbed m) (g.K.Validate.remaining m) (g.K.Validate.can_be texts m) (g.K.Validate.ends texts m) (g.K.Validate.fits texts m) (g.met.K.Validate.turn_laws texts m) (g.met.K.Validate.function_laws texts m)) in
-      let here = c.loop-asked.context in
-      let next = c.solve_there.new.context in
-      let rest = c.next.new.self.left in
-      let so_far : InEach set (view here.root) (λ texts w. SaysByTheRest w p (found_of here) m es c.args.all c.loop-asked.leans (question_in c.in-Some.asked ∷ rest)) = subst (λ left. InEach set (view here.root) (λ texts w. SaysByTheRest w p (found_of here) m es c.args.all c.loop-asked.leans left)) c.in-Some.ensures.next c.loop-asked.invariant.leads in
-      question_ends set laws c.requires.may_ask.may.ranked p here next c.in_ok-said.ensures.goes m es c.args.all c.loop-asked.leans (question_in c.in-Some.asked) rest so_far c.in_ok-said.said.valid c.in_ok-said.said.leans c.in_ok-said.ensures.says (sym c.valid.ensures.valid ∙ otherwise _ _ c.if-valid-all.true);
-  stops = search rules;
-}
+    let m = g.K.Validate.shape c.args.keyword.now in
+    let es = map (option_map edge_of) c.args.children.now in
+    let laws : (texts : Bool) → EachKeeps (g.K.Validate.words texts) = λ texts m. (g.K.Validate.absorbed m, keeps_of_turns (g.K.Validate.words texts) m (g.K.Validate.absorbed m) (g.K.Validate.remaining m) (g.K.Validate.can_be texts m) (g.K.Validate.ends texts m) (g.K.Validate.fits texts m) (g.met.K.Validate.turn_laws texts m) (g.met.K.Validate.function_laws texts m)) in
+    let here = c.loop-asked.context in
+    let next = c.solve_there-told.new.context in
+    let rest = c.next.new.self.left in
+    let so_far : InEach set (view here.root) (λ texts w. SaysByTheRest w p (found_of here) m es c.args.all c.loop-asked.leans (question_in c.in-Some.asked ∷ rest)) = subst (λ left. InEach set (view here.root) (λ texts w. SaysByTheRest w p (found_of here) m es c.args.all c.loop-asked.leans left)) c.in-Some.ensures.next c.loop-asked.invariant.leads in
+    ends_after set g.K.Validate.says_monotone p c.args.context.now here next c.loop-asked.invariant.goes c.loop-asked.invariant.marking c.solve_there-told.result c.args.all _ _ (sym c.ends.ensures.ends ∙ c.if-ends.true)
+    (λ s other went says. question_ends set laws c.requires.may_ask.may.ranked p here next went m es c.args.all c.loop-asked.leans (question_in c.in-Some.asked) rest so_far s.valid s.leans says other)
+    c.solve_there-told.ensures
 
 pub asking::solve_counted-loop-asked-preserved : goal.asking::solve_counted-loop-asked-preserved
 asking::solve_counted-loop-asked-preserved g t c =
@@ -943,14 +928,16 @@ asking::solve_counted-loop-asked-preserved g t c =
     let es = map (option_map edge_of) c.args.children.now in
     let laws : (texts : Bool) → EachKeeps (g.K.Validate.words texts) = λ texts m. (g.K.Validate.absorbed m, keeps_of_turns (g.K.Validate.words texts) m (g.K.Validate.absorbed m) (g.K.Validate.remaining m) (g.K.Validate.can_be texts m) (g.K.Validate.ends texts m) (g.K.Validate.fits texts m) (g.met.K.Validate.turn_laws texts m) (g.met.K.Validate.function_laws texts m)) in
     let here = c.loop-asked.context in
-    let next = c.solve_there.new.context in
+    let next = c.solve_there-told.new.context in
     let rest = c.next.new.self.left in
     let so_far : InEach set (view here.root) (λ texts w. SaysByTheRest w p (found_of here) m es c.args.all c.loop-asked.leans (question_in c.in-Some.asked ∷ rest)) = subst (λ left. InEach set (view here.root) (λ texts w. SaysByTheRest w p (found_of here) m es c.args.all c.loop-asked.leans left)) c.in-Some.ensures.next c.loop-asked.invariant.leads in
+    let on = goes_on_after c.solve_there-told.result c.args.all (sym c.ends.ensures.ends ∙ c.if-ends.false) in
+    let told = solved_at set g.K.Validate.says_monotone p here next _ (Ok on.said) _ c.solve_there-told.ensures on.is in
     record {
-      goes = goes_on set p c.args.context.now here next c.loop-asked.invariant.goes c.in_ok-said.ensures.goes;
-      marking = c.in_ok-said.ensures.marking ∙ c.loop-asked.invariant.marking;
+      goes = goes_on set p c.args.context.now here next c.loop-asked.invariant.goes told.goes;
+      marking = told.marking ∙ c.loop-asked.invariant.marking;
       there = c.next.ensures.subject ∙ c.loop-asked.invariant.there;
-      leads = rw c.leans-leans.ensures.leans (question_goes_on set laws c.requires.may_ask.may.ranked p here next c.in_ok-said.ensures.goes m es c.args.all c.loop-asked.leans (question_in c.in-Some.asked) rest so_far c.in_ok-said.said.valid c.in_ok-said.said.leans c.in_ok-said.ensures.says (sym c.valid.ensures.valid ∙ likewise _ _ c.if-valid-all.false));
+      leads = rw (c.leans-leans.ensures.leans ∙ on.leans) (question_goes_on set laws c.requires.may_ask.may.ranked p here next told.goes m es c.args.all c.loop-asked.leans (question_in c.in-Some.asked) rest so_far on.said.valid on.said.leans told.says on.valid);
     }
 
 pub asking::solve_counted-loop-asked-smaller : goal.asking::solve_counted-loop-asked-smaller
@@ -959,7 +946,7 @@ asking::solve_counted-loop-asked-smaller g t c =
     omega (arith, one)
 
 pub asking::solve_counted-returns : goal.asking::solve_counted-returns
-asking::solve_counted-returns g t c = record {
+asking::solve_counted-returns g t c = rw c.of.ensures.told (record {
   goes =
       c.loop-asked.invariant.goes;
   marking =
@@ -971,9 +958,9 @@ asking::solve_counted-returns g t c = record {
       let es = map (option_map edge_of) c.args.children.now in
       let here = c.loop-asked.context in
       let none = subst (λ left. InEach set (view here.root) (λ texts w. SaysByTheRest w p (found_of here) m es c.args.all c.loop-asked.leans left)) c.in_default.ensures.next c.loop-asked.invariant.leads in
-      rw c.of.ensures.said (questions_end set here p m es c.args.all c.loop-asked.leans none);
+      questions_end set here p m es c.args.all c.loop-asked.leans none;
   stops = search rules;
-}
+})
 
 pub asking::solve_members-loop-asked-init : goal.asking::solve_members-loop-asked-init
 asking::solve_members-loop-asked-init g t c =
@@ -990,8 +977,8 @@ asking::solve_members-loop-asked-init g t c =
       leads = questions_begin set c.args.context.now s p c.args.node.0 c.requires.may_ask.may m es c.requires.may_ask.stands true c.of-questions.result.left says;
     }
 
-pub asking::solve_members-solve_there-requires : goal.asking::solve_members-solve_there-requires
-asking::solve_members-solve_there-requires g t c =
+pub asking::solve_members-solve_there-told-requires : goal.asking::solve_members-solve_there-told-requires
+asking::solve_members-solve_there-told-requires g t c =
     let set = solver_by g.K.Validate g.M.Matcher c.args.engine.now in
     let ns = numbered g.K.Validate.shape c.args.engine.now.nodes.now in
     let p = steps_to c.args.question.now.place.now in
@@ -1003,35 +990,20 @@ asking::solve_members-solve_there-requires g t c =
     let there = subst (λ z. StandsThere z c.in-Some.asked) c.loop-asked.invariant.there c.in-Some.ensures.there in
     λ κs h. (lower_same _ _ t 3 0 l c.decreases, (h.0, (h.1.0, (h.1.1.0, (h.1.1.1, (record { may = may_after set p c.args.context.now c.loop-asked.context s c.args.node.0 c.requires.may_ask.may went; carries = carries_on c.args.context.now c.loop-asked.context c.args.question.now.place.now went.root c.requires.may_ask.carries; stands = (subst (λ z. HasChildren ns c.args.node.0 (map (option_map edge_of) z)) (sym c.as_slice-kept.ensures.value) (keyword_children ns c.args.node.0 m es c.requires.may_ask.stands), present_there s c.in-Some.asked there) }, there))))))
 
-pub asking::solve_members-returns-in_err-said : goal.asking::solve_members-returns-in_err-said
-asking::solve_members-returns-in_err-said g t c =
+pub asking::solve_members-returns-then-ends : goal.asking::solve_members-returns-then-ends
+asking::solve_members-returns-then-ends g t c =
     let set = solver_by g.K.Validate g.M.Matcher c.args.engine.now in
-    let says = g.K.Validate.says_monotone in
     let p = steps_to c.args.question.now.place.now in
-    solved_stops set says p c.args.context.now c.solve_there.new.context _ c.from_residual.result _ c.from_residual.ensures.1
-    (stops_on set says p c.args.context.now c.loop-asked.context c.solve_there.new.context _ c.loop-asked.invariant.goes c.in_err-said.ensures.stops)
-
-pub asking::solve_members-returns-then-not-valid : goal.asking::solve_members-returns-then-not-valid
-asking::solve_members-returns-then-not-valid g t c = record {
-  goes =
-      let set = solver_by g.K.Validate g.M.Matcher c.args.engine.now in
-      let p = steps_to c.args.question.now.place.now in
-      goes_on set p c.args.context.now c.loop-asked.context c.solve_there.new.context c.loop-asked.invariant.goes c.in_ok-said.ensures.goes;
-  marking =
-      c.in_ok-said.ensures.marking ∙ c.loop-asked.invariant.marking;
-  says =
-      let set = solver_by g.K.Validate g.M.Matcher c.args.engine.now in
-      let p = steps_to c.args.question.now.place.now in
-      let m = g.K.Validate.shape c.args.keyword.now in
-      let es = map (option_map edge_of) c.args.children.now.items in
-      let laws : (texts : Bool) → EachKeeps (g.K.Validate.words texts) = λ texts m. (g.K.Validate.absorbed m, keeps_of_turns (g.K.Validate.words texts) m (g.K.Validate.absorbed m) (g.K.Validate.remaining m) (g.K.Validate.can_be texts m) (g.K.Validate.ends texts m) (g.K.Validate.fits texts m) (g.met.K.Validate.turn_laws texts m) (g.met.K.Validate.function_laws texts m)) in
-      let here = c.loop-asked.context in
-      let next = c.solve_there.new.context in
-      let rest = c.next.new.self.left in
-      let so_far : InEach set (view here.root) (λ texts w. SaysByTheRest w p (found_of here) m es true c.loop-asked.leans (question_in c.in-Some.asked ∷ rest)) = subst (λ left. InEach set (view here.root) (λ texts w. SaysByTheRest w p (found_of here) m es true c.loop-asked.leans left)) c.in-Some.ensures.next c.loop-asked.invariant.leads in
-      question_ends set laws c.requires.may_ask.may.ranked p here next c.in_ok-said.ensures.goes m es true c.loop-asked.leans (question_in c.in-Some.asked) rest so_far c.in_ok-said.said.valid c.in_ok-said.said.leans (subst (λ z. InEach set (view next.root) (λ texts w. ChildTells w p (found_of next) (map (option_map edge_of) z) (question_in c.in-Some.asked) c.in_ok-said.said.valid c.in_ok-said.said.leans)) c.as_slice-kept.ensures.value c.in_ok-said.ensures.says) (sym c.valid.ensures.valid ∙ c.if-not-valid.true);
-  stops = search rules;
-}
+    let m = g.K.Validate.shape c.args.keyword.now in
+    let es = map (option_map edge_of) c.args.children.now.items in
+    let laws : (texts : Bool) → EachKeeps (g.K.Validate.words texts) = λ texts m. (g.K.Validate.absorbed m, keeps_of_turns (g.K.Validate.words texts) m (g.K.Validate.absorbed m) (g.K.Validate.remaining m) (g.K.Validate.can_be texts m) (g.K.Validate.ends texts m) (g.K.Validate.fits texts m) (g.met.K.Validate.turn_laws texts m) (g.met.K.Validate.function_laws texts m)) in
+    let here = c.loop-asked.context in
+    let next = c.solve_there-told.new.context in
+    let rest = c.next.new.self.left in
+    let so_far : InEach set (view here.root) (λ texts w. SaysByTheRest w p (found_of here) m es true c.loop-asked.leans (question_in c.in-Some.asked ∷ rest)) = subst (λ left. InEach set (view here.root) (λ texts w. SaysByTheRest w p (found_of here) m es true c.loop-asked.leans left)) c.in-Some.ensures.next c.loop-asked.invariant.leads in
+    ends_after set g.K.Validate.says_monotone p c.args.context.now here next c.loop-asked.invariant.goes c.loop-asked.invariant.marking c.solve_there-told.result true _ _ (sym c.ends.ensures.ends ∙ c.if-ends.true)
+    (λ s other went says. question_ends set laws c.requires.may_ask.may.ranked p here next went m es true c.loop-asked.leans (question_in c.in-Some.asked) rest so_far s.valid s.leans (subst (λ z. InEach set (view next.root) (λ texts w. ChildTells w p (found_of next) (map (option_map edge_of) z) (question_in c.in-Some.asked) s.valid s.leans)) c.as_slice-kept.ensures.value says) other)
+    c.solve_there-told.ensures
 
 pub asking::solve_members-loop-asked-preserved : goal.asking::solve_members-loop-asked-preserved
 asking::solve_members-loop-asked-preserved g t c =
@@ -1041,14 +1013,16 @@ asking::solve_members-loop-asked-preserved g t c =
     let es = map (option_map edge_of) c.args.children.now.items in
     let laws : (texts : Bool) → EachKeeps (g.K.Validate.words texts) = λ texts m. (g.K.Validate.absorbed m, keeps_of_turns (g.K.Validate.words texts) m (g.K.Validate.absorbed m) (g.K.Validate.remaining m) (g.K.Validate.can_be texts m) (g.K.Validate.ends texts m) (g.K.Validate.fits texts m) (g.met.K.Validate.turn_laws texts m) (g.met.K.Validate.function_laws texts m)) in
     let here = c.loop-asked.context in
-    let next = c.solve_there.new.context in
+    let next = c.solve_there-told.new.context in
     let rest = c.next.new.self.left in
     let so_far : InEach set (view here.root) (λ texts w. SaysByTheRest w p (found_of here) m es true c.loop-asked.leans (question_in c.in-Some.asked ∷ rest)) = subst (λ left. InEach set (view here.root) (λ texts w. SaysByTheRest w p (found_of here) m es true c.loop-asked.leans left)) c.in-Some.ensures.next c.loop-asked.invariant.leads in
+    let on = goes_on_after c.solve_there-told.result true (sym c.ends.ensures.ends ∙ c.if-ends.false) in
+    let told = solved_at set g.K.Validate.says_monotone p here next _ (Ok on.said) _ c.solve_there-told.ensures on.is in
     record {
-      goes = goes_on set p c.args.context.now here next c.loop-asked.invariant.goes c.in_ok-said.ensures.goes;
-      marking = c.in_ok-said.ensures.marking ∙ c.loop-asked.invariant.marking;
+      goes = goes_on set p c.args.context.now here next c.loop-asked.invariant.goes told.goes;
+      marking = told.marking ∙ c.loop-asked.invariant.marking;
       there = c.next.ensures.subject ∙ c.loop-asked.invariant.there;
-      leads = rw c.leans-leans.ensures.leans (question_goes_on set laws c.requires.may_ask.may.ranked p here next c.in_ok-said.ensures.goes m es true c.loop-asked.leans (question_in c.in-Some.asked) rest so_far c.in_ok-said.said.valid c.in_ok-said.said.leans (subst (λ z. InEach set (view next.root) (λ texts w. ChildTells w p (found_of next) (map (option_map edge_of) z) (question_in c.in-Some.asked) c.in_ok-said.said.valid c.in_ok-said.said.leans)) c.as_slice-kept.ensures.value c.in_ok-said.ensures.says) (sym c.valid.ensures.valid ∙ c.if-not-valid.false));
+      leads = rw (c.leans-leans.ensures.leans ∙ on.leans) (question_goes_on set laws c.requires.may_ask.may.ranked p here next told.goes m es true c.loop-asked.leans (question_in c.in-Some.asked) rest so_far on.said.valid on.said.leans (subst (λ z. InEach set (view next.root) (λ texts w. ChildTells w p (found_of next) (map (option_map edge_of) z) (question_in c.in-Some.asked) on.said.valid on.said.leans)) c.as_slice-kept.ensures.value told.says) on.valid);
     }
 
 pub asking::solve_members-loop-asked-smaller : goal.asking::solve_members-loop-asked-smaller
@@ -1057,7 +1031,7 @@ asking::solve_members-loop-asked-smaller g t c =
     omega (arith, one)
 
 pub asking::solve_members-returns : goal.asking::solve_members-returns
-asking::solve_members-returns g t c = record {
+asking::solve_members-returns g t c = rw c.of.ensures.told (record {
   goes =
       c.loop-asked.invariant.goes;
   marking =
@@ -1069,9 +1043,9 @@ asking::solve_members-returns g t c = record {
       let es = map (option_map edge_of) c.args.children.now.items in
       let here = c.loop-asked.context in
       let none = subst (λ left. InEach set (view here.root) (λ texts w. SaysByTheRest w p (found_of here) m es true c.loop-asked.leans left)) c.in_default.ensures.next c.loop-asked.invariant.leads in
-      rw c.of.ensures.said (questions_end set here p m es true c.loop-asked.leans none);
+      questions_end set here p m es true c.loop-asked.leans none;
   stops = search rules;
-}
+})
 
 pub asking::solve_names-loop-asked-init : goal.asking::solve_names-loop-asked-init
 asking::solve_names-loop-asked-init g t c =
@@ -1088,8 +1062,8 @@ asking::solve_names-loop-asked-init g t c =
       leads = questions_begin set c.args.context.now s p c.args.node.0 c.requires.may_ask.may m es c.requires.may_ask.stands true c.of-questions.result.left says;
     }
 
-pub asking::solve_names-solve_there-requires : goal.asking::solve_names-solve_there-requires
-asking::solve_names-solve_there-requires g t c =
+pub asking::solve_names-solve_there-told-requires : goal.asking::solve_names-solve_there-told-requires
+asking::solve_names-solve_there-told-requires g t c =
     let set = solver_by g.K.Validate g.M.Matcher c.args.engine.now in
     let ns = numbered g.K.Validate.shape c.args.engine.now.nodes.now in
     let p = steps_to c.args.question.now.place.now in
@@ -1101,35 +1075,20 @@ asking::solve_names-solve_there-requires g t c =
     let there = subst (λ z. StandsThere z c.in-Some.asked) c.loop-asked.invariant.there c.in-Some.ensures.there in
     λ κs h. (lower_same _ _ t 3 0 l c.decreases, (h.0, (h.1.0, (h.1.1.0, (h.1.1.1, (record { may = may_after set p c.args.context.now c.loop-asked.context s c.args.node.0 c.requires.may_ask.may went; carries = carries_on c.args.context.now c.loop-asked.context c.args.question.now.place.now went.root c.requires.may_ask.carries; stands = (keyword_children ns c.args.node.0 m es c.requires.may_ask.stands, present_there s c.in-Some.asked there) }, there))))))
 
-pub asking::solve_names-returns-in_err-said : goal.asking::solve_names-returns-in_err-said
-asking::solve_names-returns-in_err-said g t c =
+pub asking::solve_names-returns-then-ends : goal.asking::solve_names-returns-then-ends
+asking::solve_names-returns-then-ends g t c =
     let set = solver_by g.K.Validate g.M.Matcher c.args.engine.now in
-    let says = g.K.Validate.says_monotone in
     let p = steps_to c.args.question.now.place.now in
-    solved_stops set says p c.args.context.now c.solve_there.new.context _ c.from_residual.result _ c.from_residual.ensures.1
-    (stops_on set says p c.args.context.now c.loop-asked.context c.solve_there.new.context _ c.loop-asked.invariant.goes c.in_err-said.ensures.stops)
-
-pub asking::solve_names-returns-then-not-valid : goal.asking::solve_names-returns-then-not-valid
-asking::solve_names-returns-then-not-valid g t c = record {
-  goes =
-      let set = solver_by g.K.Validate g.M.Matcher c.args.engine.now in
-      let p = steps_to c.args.question.now.place.now in
-      goes_on set p c.args.context.now c.loop-asked.context c.solve_there.new.context c.loop-asked.invariant.goes c.in_ok-said.ensures.goes;
-  marking =
-      c.in_ok-said.ensures.marking ∙ c.loop-asked.invariant.marking;
-  says =
-      let set = solver_by g.K.Validate g.M.Matcher c.args.engine.now in
-      let p = steps_to c.args.question.now.place.now in
-      let m = g.K.Validate.shape c.args.keyword.now in
-      let es = map (option_map edge_of) c.args.children.now in
-      let laws : (texts : Bool) → EachKeeps (g.K.Validate.words texts) = λ texts m. (g.K.Validate.absorbed m, keeps_of_turns (g.K.Validate.words texts) m (g.K.Validate.absorbed m) (g.K.Validate.remaining m) (g.K.Validate.can_be texts m) (g.K.Validate.ends texts m) (g.K.Validate.fits texts m) (g.met.K.Validate.turn_laws texts m) (g.met.K.Validate.function_laws texts m)) in
-      let here = c.loop-asked.context in
-      let next = c.solve_there.new.context in
-      let rest = c.next.new.self.left in
-      let so_far : InEach set (view here.root) (λ texts w. SaysByTheRest w p (found_of here) m es true c.loop-asked.leans (question_in c.in-Some.asked ∷ rest)) = subst (λ left. InEach set (view here.root) (λ texts w. SaysByTheRest w p (found_of here) m es true c.loop-asked.leans left)) c.in-Some.ensures.next c.loop-asked.invariant.leads in
-      question_ends set laws c.requires.may_ask.may.ranked p here next c.in_ok-said.ensures.goes m es true c.loop-asked.leans (question_in c.in-Some.asked) rest so_far c.in_ok-said.said.valid c.in_ok-said.said.leans c.in_ok-said.ensures.says (sym c.valid.ensures.valid ∙ c.if-not-valid.true);
-  stops = search rules;
-}
+    let m = g.K.Validate.shape c.args.keyword.now in
+    let es = map (option_map edge_of) c.args.children.now in
+    let laws : (texts : Bool) → EachKeeps (g.K.Validate.words texts) = λ texts m. (g.K.Validate.absorbed m, keeps_of_turns (g.K.Validate.words texts) m (g.K.Validate.absorbed m) (g.K.Validate.remaining m) (g.K.Validate.can_be texts m) (g.K.Validate.ends texts m) (g.K.Validate.fits texts m) (g.met.K.Validate.turn_laws texts m) (g.met.K.Validate.function_laws texts m)) in
+    let here = c.loop-asked.context in
+    let next = c.solve_there-told.new.context in
+    let rest = c.next.new.self.left in
+    let so_far : InEach set (view here.root) (λ texts w. SaysByTheRest w p (found_of here) m es true c.loop-asked.leans (question_in c.in-Some.asked ∷ rest)) = subst (λ left. InEach set (view here.root) (λ texts w. SaysByTheRest w p (found_of here) m es true c.loop-asked.leans left)) c.in-Some.ensures.next c.loop-asked.invariant.leads in
+    ends_after set g.K.Validate.says_monotone p c.args.context.now here next c.loop-asked.invariant.goes c.loop-asked.invariant.marking c.solve_there-told.result true _ _ (sym c.ends.ensures.ends ∙ c.if-ends.true)
+    (λ s other went says. question_ends set laws c.requires.may_ask.may.ranked p here next went m es true c.loop-asked.leans (question_in c.in-Some.asked) rest so_far s.valid s.leans says other)
+    c.solve_there-told.ensures
 
 pub asking::solve_names-loop-asked-preserved : goal.asking::solve_names-loop-asked-preserved
 asking::solve_names-loop-asked-preserved g t c =
@@ -1139,14 +1098,16 @@ asking::solve_names-loop-asked-preserved g t c =
     let es = map (option_map edge_of) c.args.children.now in
     let laws : (texts : Bool) → EachKeeps (g.K.Validate.words texts) = λ texts m. (g.K.Validate.absorbed m, keeps_of_turns (g.K.Validate.words texts) m (g.K.Validate.absorbed m) (g.K.Validate.remaining m) (g.K.Validate.can_be texts m) (g.K.Validate.ends texts m) (g.K.Validate.fits texts m) (g.met.K.Validate.turn_laws texts m) (g.met.K.Validate.function_laws texts m)) in
     let here = c.loop-asked.context in
-    let next = c.solve_there.new.context in
+    let next = c.solve_there-told.new.context in
     let rest = c.next.new.self.left in
     let so_far : InEach set (view here.root) (λ texts w. SaysByTheRest w p (found_of here) m es true c.loop-asked.leans (question_in c.in-Some.asked ∷ rest)) = subst (λ left. InEach set (view here.root) (λ texts w. SaysByTheRest w p (found_of here) m es true c.loop-asked.leans left)) c.in-Some.ensures.next c.loop-asked.invariant.leads in
+    let on = goes_on_after c.solve_there-told.result true (sym c.ends.ensures.ends ∙ c.if-ends.false) in
+    let told = solved_at set g.K.Validate.says_monotone p here next _ (Ok on.said) _ c.solve_there-told.ensures on.is in
     record {
-      goes = goes_on set p c.args.context.now here next c.loop-asked.invariant.goes c.in_ok-said.ensures.goes;
-      marking = c.in_ok-said.ensures.marking ∙ c.loop-asked.invariant.marking;
+      goes = goes_on set p c.args.context.now here next c.loop-asked.invariant.goes told.goes;
+      marking = told.marking ∙ c.loop-asked.invariant.marking;
       there = c.next.ensures.subject ∙ c.loop-asked.invariant.there;
-      leads = rw c.leans-leans.ensures.leans (question_goes_on set laws c.requires.may_ask.may.ranked p here next c.in_ok-said.ensures.goes m es true c.loop-asked.leans (question_in c.in-Some.asked) rest so_far c.in_ok-said.said.valid c.in_ok-said.said.leans c.in_ok-said.ensures.says (sym c.valid.ensures.valid ∙ c.if-not-valid.false));
+      leads = rw (c.leans-leans.ensures.leans ∙ on.leans) (question_goes_on set laws c.requires.may_ask.may.ranked p here next told.goes m es true c.loop-asked.leans (question_in c.in-Some.asked) rest so_far on.said.valid on.said.leans told.says on.valid);
     }
 
 pub asking::solve_names-loop-asked-smaller : goal.asking::solve_names-loop-asked-smaller
@@ -1155,7 +1116,7 @@ asking::solve_names-loop-asked-smaller g t c =
     omega (arith, one)
 
 pub asking::solve_names-returns : goal.asking::solve_names-returns
-asking::solve_names-returns g t c = record {
+asking::solve_names-returns g t c = rw c.of.ensures.told (record {
   goes =
       c.loop-asked.invariant.goes;
   marking =
@@ -1167,9 +1128,9 @@ asking::solve_names-returns g t c = record {
       let es = map (option_map edge_of) c.args.children.now in
       let here = c.loop-asked.context in
       let none = subst (λ left. InEach set (view here.root) (λ texts w. SaysByTheRest w p (found_of here) m es true c.loop-asked.leans left)) c.in_default.ensures.next c.loop-asked.invariant.leads in
-      rw c.of.ensures.said (questions_end set here p m es true c.loop-asked.leans none);
+      questions_end set here p m es true c.loop-asked.leans none;
   stops = search rules;
-}
+})
 
 pub edges::begin_pair-solve_node_apart-requires : goal.edges::begin_pair-solve_node_apart-requires
 edges::begin_pair-solve_node_apart-requires g t c =
@@ -1182,7 +1143,7 @@ edges::begin_pair-solve_node_apart-requires g t c =
     let place = c.requires.place in
     let same : old ≡ old = refl in
     let laws : (texts : Bool) → EachKeeps (g.K.Validate.words texts) = λ texts m. (g.K.Validate.absorbed m, keeps_of_turns (g.K.Validate.words texts) m (g.K.Validate.absorbed m) (g.K.Validate.remaining m) (g.K.Validate.can_be texts m) (g.K.Validate.ends texts m) (g.K.Validate.fits texts m) (g.met.K.Validate.turn_laws texts m) (g.met.K.Validate.function_laws texts m)) in
-    let begins : Begins c.args.node.0 p old c.enter.new.context = at_pair (λ k z d. Begins k z d c.enter.new.context) node place same c.in_ok-mark.ensures.begins in
+    let begins : Begins c.args.node.0 p old c.enter.new.context = at_pair (λ k z d. Begins k z d c.enter.new.context) node place same c.in-Ok.ensures.begins in
     let idle = at_pair (λ k z d. has_pair d.in_progress k z ≡ false) node place same c.requires.idle in
     let there : steps_to c.numbered_place-place.result ≡ p = c.numbered_place-place.ensures.same ∙ place in
     let new = pair_new set old p c.args.node.0 c.args.pair.now.node.0 (place_of c.args.pair.now) c.args.context.now node place same c.requires.unknown c.requires.idle c.requires.free c.args.pair.now.number c.requires.numbered c.requires.own c.requires.may_ask.stands in
@@ -1191,8 +1152,8 @@ edges::begin_pair-solve_node_apart-requires g t c =
     let carries : CarriesItsNumber (solver_places c.enter.new.context) c.numbered_place-place.result = subst (λ v. CarriesItsNumber (root_places v) c.numbered_place-place.result) (sym begins.root) (c.numbered_place-place.ensures.carries old c.requires.numbered) in
     λ κs h. (lower_entered _ _ t falls c.decreases, (h.0, (h.1.0, (h.1.1.0, (h.1.1.1, record { may = may; carries = carries; stands = tt })))))
 
-pub edges::begin_pair-returns-in_err-may_begin : goal.edges::begin_pair-returns-in_err-may_begin
-edges::begin_pair-returns-in_err-may_begin g t c =
+pub edges::begin_pair-returns-in-Err : goal.edges::begin_pair-returns-in-Err
+edges::begin_pair-returns-in-Err g t c =
     let set = solver_by g.K.Validate g.M.Matcher c.args.engine.now in
     let says = g.K.Validate.says_monotone in
     let p = steps_to c.args.question.now.place.now in
@@ -1203,13 +1164,20 @@ edges::begin_pair-returns-in_err-may_begin g t c =
     let same : old ≡ old = refl in
     let new = pair_new set old p i c.args.pair.now.node.0 (place_of c.args.pair.now) c.args.context.now node place same c.requires.unknown c.requires.idle c.requires.free c.args.pair.now.number c.requires.numbered c.requires.own c.requires.may_ask.stands in
     let now = c.args.context.now in
-    let full = c.in_err-may_begin.ensures.stops in
+    let full = c.in-Err.ensures.stops in
     let few : full.1.0 ≤ old.begun = subst (λ (z : Solver). full.1.0 ≤ z.begun) same full.1.2 in
     let stops = subst (λ z. Stops set says old z Limit) (sym same) (stops_full set says old p i new full.1.0 full.1.1 few) in
-    solved_stops set says p old now _ c.from_residual.result _ c.from_residual.ensures.1 (subst (Stops set says old now) (sym full.0) stops)
+    rw c.stopped.ensures.told (solved_none set says p old now _ _ (subst (Stops set says old now) (sym full.0) stops))
 
-pub edges::begin_pair-returns-in_err-said : goal.edges::begin_pair-returns-in_err-said
-edges::begin_pair-returns-in_err-said g t c =
+pub edges::begin_pair-returns-in-Err-enter : goal.edges::begin_pair-returns-in-Err-enter
+edges::begin_pair-returns-in-Err-enter g t c =
+    let set = solver_by g.K.Validate g.M.Matcher c.args.engine.now in
+    let says = g.K.Validate.says_monotone in
+    let old = c.args.context.now in
+    rw c.stopped-in-Err-enter.ensures.told (solved_none set says (steps_to c.args.question.now.place.now) old c.enter.new.context _ _ (subst (λ z. Stops set says old z OutOfMemory) (sym c.in-Err-enter.ensures.unchanged) (stops_here set says old)))
+
+pub edges::begin_pair-returns-in-Err-result : goal.edges::begin_pair-returns-in-Err-result
+edges::begin_pair-returns-in-Err-result g t c =
     let set = solver_by g.K.Validate g.M.Matcher c.args.engine.now in
     let says = g.K.Validate.says_monotone in
     let p = steps_to c.args.question.now.place.now in
@@ -1219,10 +1187,10 @@ edges::begin_pair-returns-in_err-said g t c =
     let place = c.requires.place in
     let same : old ≡ old = refl in
     let new = pair_new set old p i c.args.pair.now.node.0 (place_of c.args.pair.now) c.args.context.now node place same c.requires.unknown c.requires.idle c.requires.free c.args.pair.now.number c.requires.numbered c.requires.own c.requires.may_ask.stands in
-    let begins : Begins i p old c.enter.new.context = at_pair (λ k z d. Begins k z d c.enter.new.context) node place same c.in_ok-mark.ensures.begins in
-    let room : HasRoom set old = at_pair (λ k z d. HasRoom set d) node place same c.in_ok-may_begin.ensures.room in
-    solved_stops set says p old c.solve_node_apart.new.context _ c.from_residual-in_err-said.result _ c.from_residual-in_err-said.ensures.1
-    (stops_begun set says old c.enter.new.context c.solve_node_apart.new.context p i _ new room begins c.in_err-said.ensures.stops)
+    let begins : Begins i p old c.enter.new.context = at_pair (λ k z d. Begins k z d c.enter.new.context) node place same c.in-Ok.ensures.begins in
+    let room : HasRoom set old = at_pair (λ k z d. HasRoom set d) node place same c.in_default.ensures.room in
+    let stops = (solved_at set says _ c.enter.new.context c.solve_node_apart.new.context _ _ _ c.solve_node_apart.ensures (sym c.in-Err-result.ensures.same)).stops in
+    rw c.stopped-in-Err-result.ensures.told (solved_none set says p old c.solve_node_apart.new.context _ _ (stops_begun set says old c.enter.new.context c.solve_node_apart.new.context p i _ new room begins stops))
 
 pub edges::begin_pair-keep_answer-requires-clause-apart : goal.edges::begin_pair-keep_answer-requires-clause-apart
 edges::begin_pair-keep_answer-requires-clause-apart g t c =
@@ -1234,13 +1202,14 @@ edges::begin_pair-keep_answer-requires-clause-apart g t c =
     let place = c.requires.place in
     let same : old ≡ old = refl in
     let laws : (texts : Bool) → EachKeeps (g.K.Validate.words texts) = λ texts m. (g.K.Validate.absorbed m, keeps_of_turns (g.K.Validate.words texts) m (g.K.Validate.absorbed m) (g.K.Validate.remaining m) (g.K.Validate.can_be texts m) (g.K.Validate.ends texts m) (g.K.Validate.fits texts m) (g.met.K.Validate.turn_laws texts m) (g.met.K.Validate.function_laws texts m)) in
-    let ran = pair_ran set old p c.args.node.0 c.args.pair.now.node.0 (place_of c.args.pair.now) (steps_to c.numbered_place-place.result) c.args.context.now c.enter.new.context c.solve_node_apart.new.context c.exit.new.context c.in_ok-mark.mark c.in_ok-said.said
+    let solved = solved_at set g.K.Validate.says_monotone (steps_to c.numbered_place-place.result) c.enter.new.context c.solve_node_apart.new.context _ _ _ c.solve_node_apart.ensures (sym c.in-Ok-result.ensures.same) in
+    let ran = pair_ran set old p c.args.node.0 c.args.pair.now.node.0 (place_of c.args.pair.now) (steps_to c.numbered_place-place.result) c.args.context.now c.enter.new.context c.solve_node_apart.new.context c.exit.new.context c.in-Ok.mark c.in-Ok-result.said
     node place same c.numbered_place-place.ensures.same c.requires.unknown c.requires.idle c.requires.free c.args.pair.now.number c.requires.numbered c.requires.own c.requires.may_ask.stands
-    c.in_ok-may_begin.ensures.room c.in_ok-mark.ensures.begins c.in_ok-said.ensures.goes c.in_ok-said.ensures.says c.in_ok-mark.ensures.mark c.exit.ensures.left c.exit.ensures.root c.exit.ensures.assumed c.exit.ensures.verdicts c.exit.ensures.marking c.exit.ensures.begun in
-    apart_mark set old p c.args.node.0 c.enter.new.context c.solve_node_apart.new.context c.exit.new.context c.in_ok-mark.mark c.in_ok-said.said ran
+    c.in_default.ensures.room c.in-Ok.ensures.begins solved.goes solved.says c.in-Ok.ensures.mark c.exit.ensures.left c.exit.ensures.root c.exit.ensures.assumed c.exit.ensures.verdicts c.exit.ensures.marking c.exit.ensures.begun in
+    apart_mark set old p c.args.node.0 c.enter.new.context c.solve_node_apart.new.context c.exit.new.context c.in-Ok.mark c.in-Ok-result.said ran
 
-pub edges::begin_pair-returns : goal.edges::begin_pair-returns
-edges::begin_pair-returns g t c =
+pub edges::begin_pair-returns-in-Ok-keep_answer : goal.edges::begin_pair-returns-in-Ok-keep_answer
+edges::begin_pair-returns-in-Ok-keep_answer g t c =
     let set = solver_by g.K.Validate g.M.Matcher c.args.engine.now in
     let p = steps_to c.args.question.now.place.now in
     let s = subject_of c.args.question.now.instance in
@@ -1249,28 +1218,45 @@ edges::begin_pair-returns g t c =
     let place = c.requires.place in
     let same : old ≡ old = refl in
     let laws : (texts : Bool) → EachKeeps (g.K.Validate.words texts) = λ texts m. (g.K.Validate.absorbed m, keeps_of_turns (g.K.Validate.words texts) m (g.K.Validate.absorbed m) (g.K.Validate.remaining m) (g.K.Validate.can_be texts m) (g.K.Validate.ends texts m) (g.K.Validate.fits texts m) (g.met.K.Validate.turn_laws texts m) (g.met.K.Validate.function_laws texts m)) in
-    let ran = pair_ran set old p c.args.node.0 c.args.pair.now.node.0 (place_of c.args.pair.now) (steps_to c.numbered_place-place.result) c.args.context.now c.enter.new.context c.solve_node_apart.new.context c.exit.new.context c.in_ok-mark.mark c.in_ok-said.said
+    let solved = solved_at set g.K.Validate.says_monotone (steps_to c.numbered_place-place.result) c.enter.new.context c.solve_node_apart.new.context _ _ _ c.solve_node_apart.ensures (sym c.in-Ok-result.ensures.same) in
+    let ran = pair_ran set old p c.args.node.0 c.args.pair.now.node.0 (place_of c.args.pair.now) (steps_to c.numbered_place-place.result) c.args.context.now c.enter.new.context c.solve_node_apart.new.context c.exit.new.context c.in-Ok.mark c.in-Ok-result.said
     node place same c.numbered_place-place.ensures.same c.requires.unknown c.requires.idle c.requires.free c.args.pair.now.number c.requires.numbered c.requires.own c.requires.may_ask.stands
-    c.in_ok-may_begin.ensures.room c.in_ok-mark.ensures.begins c.in_ok-said.ensures.goes c.in_ok-said.ensures.says c.in_ok-mark.ensures.mark c.exit.ensures.left c.exit.ensures.root c.exit.ensures.assumed c.exit.ensures.verdicts c.exit.ensures.marking c.exit.ensures.begun in
+    c.in_default.ensures.room c.in-Ok.ensures.begins solved.goes solved.says c.in-Ok.ensures.mark c.exit.ensures.left c.exit.ensures.root c.exit.ensures.assumed c.exit.ensures.verdicts c.exit.ensures.marking c.exit.ensures.begun in
     let x = c.exit.new.context in
     let n = c.keep_answer.new.context in
-    let mark = c.in_ok-mark.mark in
-    let said = c.in_ok-said.said in
-    let now = c.in_ok-kept.kept in
-    let as_no = at_pair (λ k z d. said.valid ≡ false → Refuses k z mark x n) node place same c.in_ok-kept.ensures.refused in
-    let as_yes = at_pair (λ k z d. said.valid ≡ true → Accepts k z mark said now x n) node place same c.in_ok-kept.ensures.accepted in
-    let kept = ran_kept set laws old s p c.args.node.0 c.requires.may_ask.may c.enter.new.context c.solve_node_apart.new.context x mark said ran n c.keep_answer.ensures.root c.keep_answer.ensures.in_progress c.keep_answer.ensures.marking c.keep_answer.ensures.begun now c.in_ok-kept.ensures.valid as_no as_yes in
-    record {
+    let mark = c.in-Ok.mark in
+    let said = c.in-Ok-result.said in
+    let now = c.in-Ok-keep_answer.kept in
+    let as_no = at_pair (λ k z d. said.valid ≡ false → Refuses k z mark x n) node place same c.in-Ok-keep_answer.ensures.refused in
+    let as_yes = at_pair (λ k z d. said.valid ≡ true → Accepts k z mark said now x n) node place same c.in-Ok-keep_answer.ensures.accepted in
+    let kept = ran_kept set laws old s p c.args.node.0 c.requires.may_ask.may c.enter.new.context c.solve_node_apart.new.context x mark said ran n c.keep_answer.ensures.root c.keep_answer.ensures.in_progress c.keep_answer.ensures.marking c.keep_answer.ensures.begun now c.in-Ok-keep_answer.ensures.valid as_no as_yes in
+    rw c.said.ensures.told (record {
       goes = kept.0;
       marking = search rules;
-      says = λ texts tells. kept.1;
+      says = λ texts tells answers fits. kept.1 answers (subst (λ b. Fits (found_of n) b answers) (leans_once now.valid now.leans) fits);
       stops = tt;
-    }
+    })
+
+pub edges::begin_pair-returns-in-Err-keep_answer : goal.edges::begin_pair-returns-in-Err-keep_answer
+edges::begin_pair-returns-in-Err-keep_answer g t c =
+    let set = solver_by g.K.Validate g.M.Matcher c.args.engine.now in
+    let says = g.K.Validate.says_monotone in
+    let p = steps_to c.args.question.now.place.now in
+    let i = c.args.node.0 in
+    let old = c.args.context.now in
+    let b = c.enter.new.context in
+    let e = c.solve_node_apart.new.context in
+    let n = c.keep_answer.new.context in
+    let begins : Begins i p old b = at_pair (λ k z d. Begins k z d b) c.requires.node c.requires.place refl c.in-Ok.ensures.begins in
+    let room : HasRoom set old = c.in_default.ensures.room in
+    let solved = solved_at set says (steps_to c.numbered_place-place.result) b e _ _ _ c.solve_node_apart.ensures (sym c.in-Ok-result.ensures.same) in
+    let ran = stops_for_memory set says old e (λ most limit few. solved.goes.within most limit (within_begun set old p i b begins room most limit few)) in
+    rw c.stopped-in-Err-keep_answer.ensures.told (solved_none set says p old n _ _ (stops_still set says old e n _ ran (c.keep_answer.ensures.begun ∙ c.exit.ensures.begun)))
 
 -- ---- what a keyword tells at once that it asks
 
-pub asking::solve_asked-returns-in_ok-matches-in-Match : goal.asking::solve_asked-returns-in_ok-matches-in-Match
-asking::solve_asked-returns-in_ok-matches-in-Match g t c = record {
+pub asking::solve_asked-returns-in-Ok : goal.asking::solve_asked-returns-in-Ok
+asking::solve_asked-returns-in-Ok g t c = rw c.settled.ensures.told (record {
   goes =
       let set = solver_by g.K.Validate g.M.Matcher c.args.engine.now in
       goes_none set (steps_to c.args.question.now.place.now) c.args.context.now c.requires.may.sound;
@@ -1281,10 +1267,17 @@ asking::solve_asked-returns-in_ok-matches-in-Match g t c = record {
       let s = subject_of c.args.question.now.instance in
       let m = g.K.Validate.shape c.args.keyword.now in
       let es = map (option_map edge_of) c.args.children.now.items in
-      rw c.settled.ensures.said (match_says set c.args.context.now s p c.args.node.0 c.requires.may m es c.requires.stands c.in-Match.pattern.now c.in-Match.subject.now c.in_ok-matches-in-Match.matches c.in_ok-matches-in-Match.ensures.answer
-      (λ texts tells. (c.in-Match.ensures.asks texts tells).says refl));
+      match_says set c.args.context.now s p c.args.node.0 c.requires.may m es c.requires.stands c.in-Match.pattern.now c.in-Match.subject.now c.in-Ok.matches c.in-Ok.ensures.answer
+      (λ texts tells. (c.in-Match.ensures.asks texts tells).says refl);
   stops = search rules;
-}
+})
+
+pub asking::solve_asked-returns-in-Err : goal.asking::solve_asked-returns-in-Err
+asking::solve_asked-returns-in-Err g t c =
+    let set = solver_by g.K.Validate g.M.Matcher c.args.engine.now in
+    let says = g.K.Validate.says_monotone in
+    let old = c.args.context.now in
+    rw c.stopped.ensures.told (solved_none set says (steps_to c.args.question.now.place.now) old old _ _ (stops_here set says old))
 
 pub asking::solve_asked-solve_counted-requires-in-Items : goal.asking::solve_asked-solve_counted-requires-in-Items
 asking::solve_asked-solve_counted-requires-in-Items g t c =
@@ -1412,12 +1405,12 @@ entries::solve_entries-returns-then-not-valid g t c =
     (says_at_once set laws here s p c.args.node.0 (may_after set p old here s c.args.node.0 c.requires.may went) m told.children form (g.K.Validate.absorbed m) (g.K.Validate.remaining m) (λ texts. g.K.Validate.can_be texts m) (λ texts. g.K.Validate.ends texts m) (λ texts. g.K.Validate.fits texts m) (λ texts. g.met.K.Validate.turn_laws texts m) c.in-Some.valid told.at_once) in
     let waits = parts (waiting c.loop-place.waits entries) in
     let so_far : InEach set (view here.root) (λ texts w. SaysTheRest w p (found_of here) false (parts entries) (waits ++ x ∷ rest)) = subst (λ left. InEach set (view here.root) (λ texts w. SaysTheRest w p (found_of here) false (parts entries) (waits ++ left))) split c.loop-place.invariant.leads in
-    record {
+    rw c.settled.ensures.told (record {
       goes = went;
       marking = c.loop-place.invariant.marking;
-      says = rw c.settled.ensures.said (told_refuses set p here (parts entries) waits x rest so_far (subst (λ b. InEach set (view here.root) (λ texts w. FormTells w p (found_of here) x.form b false)) c.if-not-valid.true tells));
+      says = told_refuses set p here (parts entries) waits x rest so_far (subst (λ b. InEach set (view here.root) (λ texts w. FormTells w p (found_of here) x.form b false)) c.if-not-valid.true tells);
       stops = search rules;
-    }
+    })
 
 pub entries::solve_entries-solve_left-requires : goal.entries::solve_entries-solve_left-requires
 entries::solve_entries-solve_left-requires g t c =

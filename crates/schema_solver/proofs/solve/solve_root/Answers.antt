@@ -13,6 +13,7 @@ use Rattle.schema_pairs.specs.Answering.{fresh}
 use Rattle.schema_solver.specs.Solving.{Goes, InEach, IsLate, MaySolve, StaysWithin}
 use Rattle.schema_solver.proofs.Going.{end_few, end_holds, end_rests, end_says, end_sound, end_within, fresh_may, root_late, root_within}
 use Rattle.schema_solver.proofs.Stopping.{not_leaning}
+use Rattle.schema_solver.proofs.Telling.{solved_at}
 use Rattle.schema_solver.proofs.solve.solve_root.Goals as goal
 
 pub solve_node-requires : goal.solve_node-requires
@@ -40,8 +41,9 @@ returns-in-Ok g c =
     let laws : (texts : Bool) → EachKeeps (g.K.Validate.words texts) = λ texts m. (g.K.Validate.absorbed m, keeps_of_turns (g.K.Validate.words texts) m (g.K.Validate.absorbed m) (g.K.Validate.remaining m) (g.K.Validate.can_be texts m) (g.K.Validate.ends texts m) (g.K.Validate.fits texts m) (g.met.K.Validate.turn_laws texts m) (g.met.K.Validate.function_laws texts m)) in
     let new = c.solve_node.new.context in
     let said = c.in-Ok.said in
-    let went : Goes set [] (fresh v) new = subst (λ p. Goes set p (fresh v) new) place (subst (λ z. Goes set (steps_to c.given-place.result) z new) begins c.in-Ok.ensures.goes) in
-    let tells : InEach set (view new.root) (λ texts w. Tells w (found_of new) i [] said.valid said.leans) = subst (λ p. InEach set (view new.root) (λ texts w. Tells w (found_of new) i p said.valid said.leans)) place c.in-Ok.ensures.says in
+    let solved = solved_at set g.K.Validate.says_monotone (steps_to c.given-place.result) c.args.context.now new _ _ _ c.solve_node.ensures (sym c.in-Ok.ensures.same) in
+    let went : Goes set [] (fresh v) new = subst (λ p. Goes set p (fresh v) new) place (subst (λ z. Goes set (steps_to c.given-place.result) z new) begins solved.goes) in
+    let tells : InEach set (view new.root) (λ texts w. Tells w (found_of new) i [] said.valid said.leans) = subst (λ p. InEach set (view new.root) (λ texts w. Tells w (found_of new) i p said.valid said.leans)) place solved.says in
     record {
       exactly = λ each. refl;
       says = rw c.valid.ensures.valid (end_says set laws ranked v i c.requires.known new went said.valid said.leans tells);
@@ -63,7 +65,7 @@ returns-in-Leans g c =
     let v = c.args.instance.now in
     let begins : c.args.context.now ≡ fresh v = c.requires.fresh in
     let new = c.solve_node.new.context in
-    let stops = c.in-Err.ensures.stops in
+    let stops = (solved_at set g.K.Validate.says_monotone _ c.args.context.now new _ _ _ c.solve_node.ensures (sym c.in-Err.ensures.same)).stops in
     record {
       exactly = λ each. absurd (not_leaning c.in-Err.stopped (stops.reason each) c.in-Leans.is);
       says = tt;
@@ -84,7 +86,8 @@ returns g c =
     let set = solver_of g.K.Validate.words g.K.Validate.is_whole g.K.Validate.shape g.M.Matcher.matching c.args.engine.now in
     let v = c.args.instance.now in
     let begins : c.args.context.now ≡ fresh v = c.requires.fresh in
-    let late : IsLate set (fresh v) = subst (IsLate set) begins (c.in-Err.ensures.stops.late c.in-Limit.is) in
+    let stops = (solved_at set g.K.Validate.says_monotone _ c.args.context.now c.solve_node.new.context _ _ _ c.solve_node.ensures (sym c.in-Err.ensures.same)).stops in
+    let late : IsLate set (fresh v) = subst (IsLate set) begins (stops.late c.in-Limit.is) in
     record {
       exactly = λ each. tt;
       says = tt;
