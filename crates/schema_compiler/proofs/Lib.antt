@@ -10,6 +10,7 @@ pub mod GuardsAgree
 pub mod TablesAgree
 pub mod Nesting
 pub mod Growing
+pub mod Lower
 pub mod Tables
 pub mod Placing
 pub mod Turns

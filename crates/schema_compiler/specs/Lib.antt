@@ -10,7 +10,10 @@ pub mod Passing
 pub mod UnderWay
 pub mod Working
 pub mod Compilation
+pub mod Given
+pub mod MayCompile
 pub mod Agreeing
 pub mod Nesting
 pub mod Rows
 pub mod Numbering
+pub mod Gives

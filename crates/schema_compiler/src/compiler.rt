@@ -4,34 +4,17 @@
 //! What it is given is in `setup`, what it fills in `compilation`. Keys, the contexts where they stand, subschemas, the targets of
 //! references and the check by meta validators are of `schema_keys`, and handed on. The steps are in `vocabularies`, `makers`,
 //! `targets`, `entries` and `annotations`, references are in `ref_`.
-ghost use Rattle.std.specs.Prelude.{◌≡◌, ◌≢◌, ◌<◌, ◌++◌, ℕ, IfErr, IfOk, Option, Some, [], flat_map, map, option_map};
-ghost use Rattle.std.specs.Prelude.{MatchResult, slice_get, string_bytes, true};
-ghost use Rattle.serde_json.specs.Data.{object};
-ghost use Rattle.serde_json.specs.View.{members_view, view};
-ghost use Rattle.schema_definitions.specs.Instance.{Text};
-ghost use Rattle.schema_definitions.specs.Drafts as drafts;
-ghost use Rattle.schema_definitions.specs.Matching as matching;
-ghost use Rattle.schema_definitions.specs.Keywords as words;
-ghost use Rattle.schema_parts.specs.EdgeViews.{edge_of};
-ghost use Rattle.node_table.specs.NodeViews.{entry_of as entry_view, plan_of};
-ghost use Rattle.schema_keys.specs.KeyViews.{key_of, kind_of};
-ghost use Rattle.schema_parts.specs.ResolverViews.{place_of};
-ghost use Rattle.schema_keys.specs.Builtins.{builtin};
-ghost use Rattle.schema_keys.specs.Readings.{IsReading};
+ghost use Rattle.std.specs.Prelude.{◌≡◌, [], IfErr, IfOk, flat_map, map};
+ghost use Rattle.schema_keys.specs.KeyViews.{key_of};
 ghost use Rattle.schema_meaning.specs.Refusals.{undeclared};
 ghost use Rattle.schema_keys.specs.Alone.{RefusesVocabularies};
-ghost use Rattle.schema_compiler.specs.Compilation.{IsCompilation, IsCompilationAlone, RefusesAlone};
-ghost use Rattle.schema_compiler.specs.Compilation.{RefusesInOrder, RefusesRoot, all_parts};
-ghost use Rattle.schema_compiler.specs.Carried.{AnswersChild, AnswersReference, IsWell, LeadsToKey};
-ghost use Rattle.schema_compiler.specs.Carried.{MakesKeyword, MakesMember, MakesMembers};
-ghost use Rattle.schema_compiler.specs.Carried.{Numbers, PlansNode, PlansObject, RefusesChild, RefusesEdge};
-ghost use Rattle.schema_compiler.specs.Carried.{RefusesKey, RefusesMaker, RefusesMember, RefusesMembers};
-ghost use Rattle.schema_compiler.specs.Carried.{RefusesNode, RefusesObject, filled, task};
-ghost use Rattle.schema_compiler.specs.Carried.{keyword_absorbs, member_absorbs, task_of};
+ghost use Rattle.schema_compiler.specs.Compilation.{IsCompilation, IsCompilationAlone, RefusesAlone, RefusesInOrder, RefusesRoot};
 ghost use Rattle.schema_keys.specs.Compiling.{Each};
-ghost use Rattle.schema_compiler.specs.Reserving.{Ends, IsGivenUp, node_made};
-ghost use Rattle.schema_compiler.specs.UnderWay.{GoesChild, GoesMaker, GoesMember, GoesMembers, GoesNode};
-ghost use Rattle.schema_compiler.specs.UnderWay.{GoesObject, GoesRefer, GoesTo, IsUnderWay, Reaches};
+ghost use Rattle.schema_compiler.specs.Reserving.{IsGivenUp};
+ghost use Rattle.schema_compiler.specs.Given.{InAllParts, given_by, given_of};
+ghost use Rattle.schema_compiler.specs.MayCompile.{MayCompile, MayMake, MayReach, MayRefer, TableIsUnderWay, TableIsWell};
+ghost use Rattle.schema_compiler.specs.Gives.{GivesChild, GivesEdge, GivesKeywords, GivesMade, GivesMember, GivesNumber};
+ghost use Rattle.schema_compiler.specs.Gives.{GivesObject, GivesPlan, GivesTarget};
 
 use crate::compiler::annotations::{absorb, object_of, without};
 use crate::compiler::compilation::{Compilation, PlannedNode};
@@ -91,30 +74,18 @@ pub fn compile<R: Resolver, K: Validate, T: KeywordTable<K>>(
     nested_limit: usize,
     root: SchemaKey<R::State>,
 ) -> Result<Compilation<R::State, K>, BuildError>
-    ensures compiled { IfOk result (λ m. (matcher : matching.Matcher)
-        (keywords : words.Keywords K.Shape (K.Run × words.Answer)) (draft : Option drafts.Draft)
-        (base : Option Text) → IsCompilation (all_parts (R.resolving resolver.now)
-        (record { owns = T.owned table.now; builtin = builtin; script = T.script table.now })
-        options.now.formats (map string_bytes options.now.declared.items)
-        matcher keywords draft base) K.shape options.now.node_limit nested_limit (key_of R.point root)
-        (map (key_of R.point) m.keys) m.nodes) }
+    ensures compiled { IfOk result (λ m. InAllParts R.Resolver T.KeywordTable K.Validate resolver.now table.now options.now
+        (λ w. IsCompilation w K.shape options.now.node_limit nested_limit (key_of R.point root)
+        (map (key_of R.point) m.keys) m.nodes)) }
     ensures reserved { IfOk result (λ m. Each IsGivenUp m.reservations) }
-    ensures table { IfOk result (λ m. IsWell (task_of R.resolving T.owned T.script K.shape
-        resolver.now table.now options.now nested_limit) (filled R.point m)) }
-    ensures under_way { IfOk result (λ m. IsUnderWay (task_of R.resolving T.owned T.script K.shape
-        resolver.now table.now options.now nested_limit) (filled R.point m)) }
-    ensures refused { IfErr result (λ e. (matcher : matching.Matcher)
-        (keywords : words.Keywords K.Shape (K.Run × words.Answer)) (draft : Option drafts.Draft)
-        (base : Option Text) → RefusesRoot (all_parts (R.resolving resolver.now)
-        (record { owns = T.owned table.now; builtin = builtin; script = T.script table.now })
-        options.now.formats (map string_bytes options.now.declared.items)
-        matcher keywords draft base) options.now.node_limit (key_of R.point root) e) }
-    ensures first { IfErr result (λ e. (matcher : matching.Matcher)
-        (keywords : words.Keywords K.Shape (K.Run × words.Answer)) (draft : Option drafts.Draft)
-        (base : Option Text) → RefusesInOrder (all_parts (R.resolving resolver.now)
-        (record { owns = T.owned table.now; builtin = builtin; script = T.script table.now })
-        options.now.formats (map string_bytes options.now.declared.items)
-        matcher keywords draft base) options.now.node_limit (key_of R.point root) e) }
+    ensures table { IfOk result (TableIsWell
+        (given_of R.Resolver T.KeywordTable K.Validate resolver.now table.now options.now nested_limit)) }
+    ensures under_way { IfOk result (TableIsUnderWay
+        (given_of R.Resolver T.KeywordTable K.Validate resolver.now table.now options.now nested_limit)) }
+    ensures refused { IfErr result (λ e. InAllParts R.Resolver T.KeywordTable K.Validate resolver.now table.now options.now
+        (λ w. RefusesRoot w options.now.node_limit (key_of R.point root) e)) }
+    ensures first { IfErr result (λ e. InAllParts R.Resolver T.KeywordTable K.Validate resolver.now table.now options.now
+        (λ w. RefusesInOrder w options.now.node_limit (key_of R.point root) e)) }
 {
     check_vocabularies::<R, K, T>(alloc, resolver, table, options, &root)?;
     Ok(compile_subschema(alloc, resolver, table, options, nested_limit, root)?)
@@ -132,18 +103,10 @@ pub fn check_vocabularies<R: Resolver, K: Validate, T: KeywordTable<K>>(
     options: &CompileOptions,
     root: &SchemaKey<R::State>,
 ) -> Result<(), BuildError>
-    ensures declared { IfOk result (λ _. (matcher : matching.Matcher)
-        (keywords : words.Keywords K.Shape (K.Run × words.Answer)) (draft : Option drafts.Draft)
-        (base : Option Text) → flat_map (undeclared (all_parts (R.resolving resolver.now)
-        (record { owns = T.owned table.now; builtin = builtin; script = T.script table.now })
-        options.now.formats (map string_bytes options.now.declared.items)
-        matcher keywords draft base)) root.now.vocabularies ≡ []) }
-    ensures refused { IfErr result (λ e. (matcher : matching.Matcher)
-        (keywords : words.Keywords K.Shape (K.Run × words.Answer)) (draft : Option drafts.Draft)
-        (base : Option Text) → RefusesVocabularies (all_parts (R.resolving resolver.now)
-        (record { owns = T.owned table.now; builtin = builtin; script = T.script table.now })
-        options.now.formats (map string_bytes options.now.declared.items)
-        matcher keywords draft base) (key_of R.point root.now) e) }
+    ensures declared { IfOk result (λ _. InAllParts R.Resolver T.KeywordTable K.Validate resolver.now table.now options.now
+        (λ w. flat_map (undeclared w) root.now.vocabularies ≡ [])) }
+    ensures refused { IfErr result (λ e. InAllParts R.Resolver T.KeywordTable K.Validate resolver.now table.now options.now
+        (λ w. RefusesVocabularies w (key_of R.point root.now) e)) }
 {
     let compiler = Compiler {
         alloc,
@@ -170,24 +133,16 @@ pub fn compile_subschema<R: Resolver, K: Validate, T: KeywordTable<K>>(
     nested_limit: usize,
     root: SchemaKey<R::State>,
 ) -> Result<Compilation<R::State, K>, BuildError>
-    ensures compiled { IfOk result (λ m. (matcher : matching.Matcher)
-        (keywords : words.Keywords K.Shape (K.Run × words.Answer)) (draft : Option drafts.Draft)
-        (base : Option Text) → IsCompilationAlone (all_parts (R.resolving resolver.now)
-        (record { owns = T.owned table.now; builtin = builtin; script = T.script table.now })
-        options.now.formats (map string_bytes options.now.declared.items)
-        matcher keywords draft base) K.shape options.now.node_limit nested_limit (key_of R.point root)
-        (map (key_of R.point) m.keys) m.nodes) }
+    ensures compiled { IfOk result (λ m. InAllParts R.Resolver T.KeywordTable K.Validate resolver.now table.now options.now
+        (λ w. IsCompilationAlone w K.shape options.now.node_limit nested_limit (key_of R.point root)
+        (map (key_of R.point) m.keys) m.nodes)) }
     ensures reserved { IfOk result (λ m. Each IsGivenUp m.reservations) }
-    ensures table { IfOk result (λ m. IsWell (task_of R.resolving T.owned T.script K.shape
-        resolver.now table.now options.now nested_limit) (filled R.point m)) }
-    ensures under_way { IfOk result (λ m. IsUnderWay (task_of R.resolving T.owned T.script K.shape
-        resolver.now table.now options.now nested_limit) (filled R.point m)) }
-    ensures refused { IfErr result (λ e. (matcher : matching.Matcher)
-        (keywords : words.Keywords K.Shape (K.Run × words.Answer)) (draft : Option drafts.Draft)
-        (base : Option Text) → RefusesAlone (all_parts (R.resolving resolver.now)
-        (record { owns = T.owned table.now; builtin = builtin; script = T.script table.now })
-        options.now.formats (map string_bytes options.now.declared.items)
-        matcher keywords draft base) options.now.node_limit (key_of R.point root) e) }
+    ensures table { IfOk result (TableIsWell
+        (given_of R.Resolver T.KeywordTable K.Validate resolver.now table.now options.now nested_limit)) }
+    ensures under_way { IfOk result (TableIsUnderWay
+        (given_of R.Resolver T.KeywordTable K.Validate resolver.now table.now options.now nested_limit)) }
+    ensures refused { IfErr result (λ e. InAllParts R.Resolver T.KeywordTable K.Validate resolver.now table.now options.now
+        (λ w. RefusesAlone w options.now.node_limit (key_of R.point root) e)) }
 {
     let compiler = Compiler {
         alloc,
@@ -226,19 +181,9 @@ impl<'p, R: Resolver, T> Compiler<'p, R, T> {
     ) -> Result<Edge, BuildError>
     where
         T: KeywordTable<K>,
-        requires table { IsWell (task R.resolving T.owned T.script K.shape self.now)
-            (filled R.point compiled.old) }
-        requires under_way { IsUnderWay (task R.resolving T.owned T.script K.shape self.now)
-            (filled R.point compiled.old) }
-        requires reading { IsReading
-            ((R.resolving self.now.resolver.now).value (place_of key.place)) reading }
-        ensures { MatchResult result (λ e. (LeadsToKey (task R.resolving T.owned T.script K.shape self.now)
-            (filled R.point compiled.old) (filled R.point compiled.new) (key_of R.point key) path (edge_of
-            e))
-            × (GoesTo (task R.resolving T.owned T.script K.shape self.now) (filled R.point compiled.old)
-            (filled R.point compiled.new) (key_of R.point key) nests (edge_of e)))
-            (RefusesKey (task R.resolving T.owned T.script K.shape self.now) (filled R.point compiled.old)
-            (key_of R.point key)) }
+        requires { MayReach (given_by R.Resolver T.KeywordTable K.Validate self.now) compiled.old key reading }
+        ensures { GivesEdge (given_by R.Resolver T.KeywordTable K.Validate self.now)
+            compiled.old compiled.new key nests path result }
     {
         let number = self.number_of(compiled, key, reading, nests)?;
         Ok(compiled.edge_at(number, path))
@@ -255,18 +200,9 @@ impl<'p, R: Resolver, T> Compiler<'p, R, T> {
     ) -> Result<usize, BuildError>
     where
         T: KeywordTable<K>,
-        requires table { IsWell (task R.resolving T.owned T.script K.shape self.now)
-            (filled R.point compiled.old) }
-        requires under_way { IsUnderWay (task R.resolving T.owned T.script K.shape self.now)
-            (filled R.point compiled.old) }
-        requires reading { IsReading
-            ((R.resolving self.now.resolver.now).value (place_of key.place)) reading }
-        ensures { MatchResult result (λ n. (Numbers (task R.resolving T.owned T.script K.shape self.now)
-            (filled R.point compiled.old) (filled R.point compiled.new) (key_of R.point key) n)
-            × (Reaches (task R.resolving T.owned T.script K.shape self.now) (filled R.point compiled.old)
-            (filled R.point compiled.new) (key_of R.point key) nests n))
-            (RefusesKey (task R.resolving T.owned T.script K.shape self.now) (filled R.point compiled.old)
-            (key_of R.point key)) }
+        requires { MayReach (given_by R.Resolver T.KeywordTable K.Validate self.now) compiled.old key reading }
+        ensures { GivesNumber (given_by R.Resolver T.KeywordTable K.Validate self.now)
+            compiled.old compiled.new key nests result }
     {
         if let Some(number) = find::<R>(&compiled.keys, &key) {
             return Ok(number);
@@ -290,21 +226,10 @@ impl<'p, R: Resolver, T> Compiler<'p, R, T> {
     ) -> Result<usize, BuildError>
     where
         T: KeywordTable<K>,
-        requires table { IsWell (task R.resolving T.owned T.script K.shape self.now)
-            (filled R.point compiled.old) }
-        requires under_way { IsUnderWay (task R.resolving T.owned T.script K.shape self.now)
-            (filled R.point compiled.old) }
-        requires absent { (i : ℕ) → slice_get (map (key_of R.point) compiled.old.keys) i ≢
-            Some (key_of R.point key.now.value) }
-        requires room { nests ≡ true → compiled.old.progress.depth < self.now.nested_limit }
-        requires reading { IsReading
-            ((R.resolving self.now.resolver.now).value (place_of key.now.value.place)) reading }
-        ensures { MatchResult result (λ n. (Numbers (task R.resolving T.owned T.script K.shape self.now)
-            (filled R.point compiled.old) (filled R.point compiled.new) (key_of R.point key.now.value) n)
-            × (Reaches (task R.resolving T.owned T.script K.shape self.now) (filled R.point compiled.old)
-            (filled R.point compiled.new) (key_of R.point key.now.value) nests n))
-            (RefusesKey (task R.resolving T.owned T.script K.shape self.now) (filled R.point compiled.old)
-            (key_of R.point key.now.value)) }
+        requires { MayCompile (given_by R.Resolver T.KeywordTable K.Validate self.now)
+            compiled.old key.now.value nests reading }
+        ensures { GivesNumber (given_by R.Resolver T.KeywordTable K.Validate self.now)
+            compiled.old compiled.new key.now.value nests result }
     {
         let outer = compiled.progress;
         let number = self.begin_number(compiled, key, nests)?;
@@ -327,19 +252,10 @@ impl<'p, R: Resolver, T> Compiler<'p, R, T> {
     ) -> Result<PlannedNode<K>, BuildError>
     where
         T: KeywordTable<K>,
-        requires table { IsWell (task R.resolving T.owned T.script K.shape self.now)
-            (filled R.point compiled.old) }
-        requires under_way { IsUnderWay (task R.resolving T.owned T.script K.shape self.now)
-            (filled R.point compiled.old) }
-        requires reading { IsReading
-            ((R.resolving self.now.resolver.now).value (place_of key.now.place)) reading }
-        ensures { MatchResult result (λ n. (PlansNode (task R.resolving T.owned T.script K.shape self.now)
-            (filled R.point compiled.old) (filled R.point compiled.new) (key_of R.point key.now) (plan_of
-            n.form) (option_map view n.annotations))
-            × (GoesNode (task R.resolving T.owned T.script K.shape self.now) (filled R.point compiled.old)
-            (filled R.point compiled.new) (key_of R.point key.now) (plan_of n.form)))
-            (RefusesNode (task R.resolving T.owned T.script K.shape self.now) (filled R.point compiled.old)
-            (key_of R.point key.now)) }
+        requires { MayReach (given_by R.Resolver T.KeywordTable K.Validate self.now)
+            compiled.old key.now reading }
+        ensures { GivesPlan (given_by R.Resolver T.KeywordTable K.Validate self.now)
+            compiled.old compiled.new key.now result }
     {
         let context = Context {
             alloc: self.alloc,
@@ -367,20 +283,10 @@ impl<'p, R: Resolver, T> Compiler<'p, R, T> {
     ) -> Result<PlannedNode<K>, BuildError>
     where
         T: KeywordTable<K>,
-        requires table { IsWell (task R.resolving T.owned T.script K.shape self.now)
-            (filled R.point compiled.old) }
-        requires under_way { IsUnderWay (task R.resolving T.owned T.script K.shape self.now)
-            (filled R.point compiled.old) }
-        requires object { (R.resolving self.now.resolver.now).value (place_of key.now.place) ≡
-            Some (object (members_view members.now.entries)) }
-        ensures { MatchResult result (λ n. (PlansObject (task R.resolving T.owned T.script K.shape self.now)
-            (filled R.point compiled.old) (filled R.point compiled.new) (key_of R.point key.now)
-            (members_view members.now.entries) (plan_of n.form) (option_map view n.annotations))
-            × (GoesObject (task R.resolving T.owned T.script K.shape self.now) (filled R.point compiled.old)
-            (filled R.point compiled.new) (key_of R.point key.now) (members_view members.now.entries)
-            (plan_of n.form)))
-            (RefusesObject (task R.resolving T.owned T.script K.shape self.now) (filled R.point
-            compiled.old) (key_of R.point key.now) (members_view members.now.entries)) }
+        requires { MayMake (given_by R.Resolver T.KeywordTable K.Validate self.now)
+            compiled.old key.now members.now.entries }
+        ensures { GivesObject (given_by R.Resolver T.KeywordTable K.Validate self.now)
+            compiled.old compiled.new key.now members.now.entries result }
     {
         let context = Context {
             alloc: self.alloc,
@@ -421,21 +327,10 @@ impl<'p, R: Resolver, T> Compiler<'p, R, T> {
     ) -> Result<ObjectKeywords<K>, BuildError>
     where
         T: KeywordTable<K>,
-        requires table { IsWell (task R.resolving T.owned T.script K.shape self.now)
-            (filled R.point compiled.old) }
-        requires under_way { IsUnderWay (task R.resolving T.owned T.script K.shape self.now)
-            (filled R.point compiled.old) }
-        requires object { (R.resolving self.now.resolver.now).value (place_of key.now.place) ≡
-            Some (object (members_view members.now.entries)) }
-        ensures { MatchResult result (λ o. (MakesMembers (task R.resolving T.owned T.script K.shape
-            self.now) (filled R.point compiled.old) (filled R.point compiled.new) (key_of R.point key.now)
-            (members_view members.now.entries) (map entry_view o.entries.items) (members_view
-            o.annotating.entries))
-            × (GoesMembers (task R.resolving T.owned T.script K.shape self.now) (filled R.point
-            compiled.old) (filled R.point compiled.new) (key_of R.point key.now) (members_view
-            members.now.entries) (map entry_view o.entries.items)))
-            (RefusesMembers (task R.resolving T.owned T.script K.shape self.now) (filled R.point
-            compiled.old) (key_of R.point key.now) (members_view members.now.entries)) }
+        requires { MayMake (given_by R.Resolver T.KeywordTable K.Validate self.now)
+            compiled.old key.now members.now.entries }
+        ensures { GivesKeywords (given_by R.Resolver T.KeywordTable K.Validate self.now)
+            compiled.old compiled.new key.now members.now.entries result }
     {
         let mut entries = Vec::new(self.alloc);
         let mut unknown = Map::new(self.alloc);
@@ -467,25 +362,11 @@ impl<'p, R: Resolver, T> Compiler<'p, R, T> {
     ) -> Result<Option<Entry<K>>, BuildError>
     where
         T: KeywordTable<K>,
-        requires table { IsWell (task R.resolving T.owned T.script K.shape self.now)
-            (filled R.point compiled.old) }
-        requires under_way { IsUnderWay (task R.resolving T.owned T.script K.shape self.now)
-            (filled R.point compiled.old) }
-        requires object { (R.resolving self.now.resolver.now).value (place_of key.now.place) ≡
-            Some (object (members_view members.now.entries)) }
-        ensures { MatchResult result (λ o. (MakesMember (task R.resolving T.owned T.script K.shape self.now)
-            (filled R.point compiled.old) (filled R.point compiled.new) (key_of R.point key.now)
-            (members_view members.now.entries) (string_bytes name.now) (view value.now) (option_map
-            entry_view o))
-            × (map string_bytes absorbed.new.items ≡ map string_bytes absorbed.old.items ++ member_absorbs
-            (task R.resolving T.owned T.script K.shape self.now) (key_of R.point key.now) (members_view
-            members.now.entries) (string_bytes name.now) (view value.now))
-            × (GoesMember (task R.resolving T.owned T.script K.shape self.now) (filled R.point compiled.old)
-            (filled R.point compiled.new) (key_of R.point key.now) (members_view members.now.entries)
-            (string_bytes name.now) (view value.now) (option_map entry_view o)))
-            (RefusesMember (task R.resolving T.owned T.script K.shape self.now) (filled R.point
-            compiled.old) (key_of R.point key.now) (members_view members.now.entries) (string_bytes
-            name.now) (view value.now)) }
+        requires { MayMake (given_by R.Resolver T.KeywordTable K.Validate self.now)
+            compiled.old key.now members.now.entries }
+        ensures { GivesMember (given_by R.Resolver T.KeywordTable K.Validate self.now)
+            compiled.old compiled.new key.now members.now.entries name.now value.now
+            absorbed.old.items absorbed.new.items result }
     {
         let text = name.as_str();
         if self.table.owns(text) {
@@ -539,26 +420,11 @@ impl<'p, R: Resolver, T> Compiler<'p, R, T> {
     ) -> Result<Option<Entry<K>>, BuildError>
     where
         T: KeywordTable<K>,
-        requires table { IsWell (task R.resolving T.owned T.script K.shape self.now)
-            (filled R.point compiled.old) }
-        requires under_way { IsUnderWay (task R.resolving T.owned T.script K.shape self.now)
-            (filled R.point compiled.old) }
-        requires object { (R.resolving self.now.resolver.now).value (place_of key.now.place) ≡
-            Some (object (members_view members.now.entries)) }
-        ensures { MatchResult result (λ o. (MakesKeyword (task R.resolving T.owned T.script K.shape
-            self.now) (filled R.point compiled.old) (filled R.point compiled.new) (key_of R.point key.now)
-            (members_view members.now.entries) own (string_bytes name.now) priority is_leaf (option_map
-            entry_view o))
-            × (map string_bytes absorbed.new.items ≡ map string_bytes absorbed.old.items ++ keyword_absorbs
-            (task R.resolving T.owned T.script K.shape self.now) (key_of R.point key.now) (members_view
-            members.now.entries) own (string_bytes name.now) priority is_leaf)
-            × (GoesMaker (task R.resolving T.owned T.script K.shape self.now) (filled R.point compiled.old)
-            (filled R.point compiled.new) (key_of R.point key.now) (members_view members.now.entries) own
-            (string_bytes name.now) (option_map entry_view o))
-            × (Ends (place_of key.now.place) (string_bytes name.now) (node_made (option_map entry_view o))
-            compiled.old.reservations compiled.new.reservations))
-            (RefusesMaker (task R.resolving T.owned T.script K.shape self.now) (filled R.point compiled.old)
-            (key_of R.point key.now) (members_view members.now.entries) own (string_bytes name.now)) }
+        requires { MayMake (given_by R.Resolver T.KeywordTable K.Validate self.now)
+            compiled.old key.now members.now.entries }
+        ensures { GivesMade (given_by R.Resolver T.KeywordTable K.Validate self.now)
+            compiled.old compiled.new key.now members.now.entries own name.now priority is_leaf
+            absorbed.old.items absorbed.new.items result }
     {
         let first = compiled.reservations.len();
         let mut maker = self.maker_of(key, members, own, name)?;
@@ -610,19 +476,10 @@ impl<'p, R: Resolver, T> Compiler<'p, R, T> {
     ) -> Result<Edge, BuildError>
     where
         T: KeywordTable<K>,
-        requires table { IsWell (task R.resolving T.owned T.script K.shape self.now)
-            (filled R.point compiled.old) }
-        requires under_way { IsUnderWay (task R.resolving T.owned T.script K.shape self.now)
-            (filled R.point compiled.old) }
-        requires object { (R.resolving self.now.resolver.now).value (place_of key.now.place) ≡
-            Some (object (members_view members.now.entries)) }
-        ensures { MatchResult result (λ e. (AnswersChild (task R.resolving T.owned T.script K.shape
-            self.now) (filled R.point compiled.old) (filled R.point compiled.new) (key_of R.point key.now)
-            path.now (edge_of e))
-            × (GoesChild (task R.resolving T.owned T.script K.shape self.now) (filled R.point compiled.old)
-            (filled R.point compiled.new) (key_of R.point key.now) path.now (edge_of e)))
-            (RefusesChild (task R.resolving T.owned T.script K.shape self.now) (filled R.point compiled.old)
-            (key_of R.point key.now) path.now) }
+        requires { MayMake (given_by R.Resolver T.KeywordTable K.Validate self.now)
+            compiled.old key.now members.now.entries }
+        ensures { GivesChild (given_by R.Resolver T.KeywordTable K.Validate self.now)
+            compiled.old compiled.new key.now path.now result }
     {
         let context = Context {
             alloc: self.alloc,
@@ -647,18 +504,9 @@ impl<'p, R: Resolver, T> Compiler<'p, R, T> {
     ) -> Result<Option<Edge>, BuildError>
     where
         T: KeywordTable<K>,
-        requires table { IsWell (task R.resolving T.owned T.script K.shape self.now)
-            (filled R.point compiled.old) }
-        requires under_way { IsUnderWay (task R.resolving T.owned T.script K.shape self.now)
-            (filled R.point compiled.old) }
-        ensures { MatchResult result (λ o. (AnswersReference (task R.resolving T.owned T.script K.shape
-            self.now) (filled R.point compiled.old) (filled R.point compiled.new) (key_of R.point key.now)
-            (string_bytes name.now) (kind_of kind) (string_bytes text.now) (option_map edge_of o))
-            × (GoesRefer (task R.resolving T.owned T.script K.shape self.now) (filled R.point compiled.old)
-            (filled R.point compiled.new) (key_of R.point key.now) (string_bytes name.now) (kind_of kind)
-            (string_bytes text.now) (option_map edge_of o)))
-            (RefusesEdge (task R.resolving T.owned T.script K.shape self.now) (filled R.point compiled.old)
-            (key_of R.point key.now) (string_bytes name.now) (kind_of kind) (string_bytes text.now)) }
+        requires { MayRefer (given_by R.Resolver T.KeywordTable K.Validate self.now) compiled.old }
+        ensures { GivesTarget (given_by R.Resolver T.KeywordTable K.Validate self.now)
+            compiled.old compiled.new key.now name.now kind text.now result }
     {
         let path = Location::new(self.alloc).join(LocationSegment::Property(name.as_str()))?;
         match self.target_of(key, kind, text.as_str())? {

@@ -1,11 +1,9 @@
 //! The keywords that references are.
-ghost use Rattle.std.specs.Prelude.{IfOk, IfErr, MatchResult, Ok, not, option_map, string_bytes};
-ghost use Rattle.serde_json.specs.View.{view};
+ghost use Rattle.std.specs.Prelude.{IfErr, IfOk};
 ghost use Rattle.schema_definitions.specs.Plan.{to_dynamic, to_recursive, to_ref};
-ghost use Rattle.node_table.specs.NodeViews.{entry_of as entry_view};
-ghost use Rattle.schema_keys.specs.KeyViews.{key_of, kind_of};
-ghost use Rattle.schema_compiler.specs.Carried.{IsWell, MakesReference, RefusesReference, filled, task};
-ghost use Rattle.schema_compiler.specs.UnderWay.{GoesReference, IsUnderWay};
+ghost use Rattle.schema_compiler.specs.Given.{given_by};
+ghost use Rattle.schema_compiler.specs.MayCompile.{MayRefer, TableIsUnderWay, TableIsWell};
+ghost use Rattle.schema_compiler.specs.Gives.{GivesReference, ReferenceFound, ReferenceMade, ReferenceRefused};
 
 use crate::compiler::compilation::Compilation;
 use crate::compiler::entries::entry_named;
@@ -38,21 +36,14 @@ impl<'p, R: Resolver, T> Compiler<'p, R, T> {
     ) -> Result<Option<Entry<K>>, BuildError>
     where
         T: KeywordTable<K>,
-        requires table { IsWell (task R.resolving T.owned T.script K.shape self.now)
-            (filled R.point compiled.old) }
-        requires under_way { IsUnderWay (task R.resolving T.owned T.script K.shape self.now)
-            (filled R.point compiled.old) }
-        ensures part { IfOk result (λ o. MakesReference
-            (task R.resolving T.owned T.script K.shape self.now) (filled R.point compiled.old)
-            (filled R.point compiled.new) (key_of R.point key.now) (string_bytes name.now) priority
-            to_ref (view value.now) (option_map entry_view o)) }
-        ensures order { IfOk result (λ o. GoesReference
-            (task R.resolving T.owned T.script K.shape self.now) (filled R.point compiled.old)
-            (filled R.point compiled.new) (key_of R.point key.now) (string_bytes name.now) to_ref
-            (view value.now) (option_map entry_view o)) }
-        ensures refused { IfErr result (RefusesReference
-            (task R.resolving T.owned T.script K.shape self.now) (filled R.point compiled.old)
-            (key_of R.point key.now) (string_bytes name.now) to_ref (view value.now)) }
+        requires table { TableIsWell (given_by R.Resolver T.KeywordTable K.Validate self.now) compiled.old }
+        requires under_way { TableIsUnderWay (given_by R.Resolver T.KeywordTable K.Validate self.now) compiled.old }
+        ensures part { IfOk result (ReferenceMade (given_by R.Resolver T.KeywordTable K.Validate self.now)
+            compiled.old compiled.new key.now name.now priority to_ref value.now) }
+        ensures order { IfOk result (ReferenceFound (given_by R.Resolver T.KeywordTable K.Validate self.now)
+            compiled.old compiled.new key.now name.now to_ref value.now) }
+        ensures refused { IfErr result (ReferenceRefused (given_by R.Resolver T.KeywordTable K.Validate self.now)
+            compiled.old key.now name.now to_ref value.now) }
     {
         self.reference_by(compiled, key, name, priority, ReferenceKind::Ref, value)
     }
@@ -74,21 +65,14 @@ impl<'p, R: Resolver, T> Compiler<'p, R, T> {
     ) -> Result<Option<Entry<K>>, BuildError>
     where
         T: KeywordTable<K>,
-        requires table { IsWell (task R.resolving T.owned T.script K.shape self.now)
-            (filled R.point compiled.old) }
-        requires under_way { IsUnderWay (task R.resolving T.owned T.script K.shape self.now)
-            (filled R.point compiled.old) }
-        ensures part { IfOk result (λ o. MakesReference
-            (task R.resolving T.owned T.script K.shape self.now) (filled R.point compiled.old)
-            (filled R.point compiled.new) (key_of R.point key.now) (string_bytes name.now) priority
-            to_dynamic (view value.now) (option_map entry_view o)) }
-        ensures order { IfOk result (λ o. GoesReference
-            (task R.resolving T.owned T.script K.shape self.now) (filled R.point compiled.old)
-            (filled R.point compiled.new) (key_of R.point key.now) (string_bytes name.now) to_dynamic
-            (view value.now) (option_map entry_view o)) }
-        ensures refused { IfErr result (RefusesReference
-            (task R.resolving T.owned T.script K.shape self.now) (filled R.point compiled.old)
-            (key_of R.point key.now) (string_bytes name.now) to_dynamic (view value.now)) }
+        requires table { TableIsWell (given_by R.Resolver T.KeywordTable K.Validate self.now) compiled.old }
+        requires under_way { TableIsUnderWay (given_by R.Resolver T.KeywordTable K.Validate self.now) compiled.old }
+        ensures part { IfOk result (ReferenceMade (given_by R.Resolver T.KeywordTable K.Validate self.now)
+            compiled.old compiled.new key.now name.now priority to_dynamic value.now) }
+        ensures order { IfOk result (ReferenceFound (given_by R.Resolver T.KeywordTable K.Validate self.now)
+            compiled.old compiled.new key.now name.now to_dynamic value.now) }
+        ensures refused { IfErr result (ReferenceRefused (given_by R.Resolver T.KeywordTable K.Validate self.now)
+            compiled.old key.now name.now to_dynamic value.now) }
     {
         self.reference_by(compiled, key, name, priority, ReferenceKind::Dynamic, value)
     }
@@ -110,21 +94,14 @@ impl<'p, R: Resolver, T> Compiler<'p, R, T> {
     ) -> Result<Option<Entry<K>>, BuildError>
     where
         T: KeywordTable<K>,
-        requires table { IsWell (task R.resolving T.owned T.script K.shape self.now)
-            (filled R.point compiled.old) }
-        requires under_way { IsUnderWay (task R.resolving T.owned T.script K.shape self.now)
-            (filled R.point compiled.old) }
-        ensures part { IfOk result (λ o. MakesReference
-            (task R.resolving T.owned T.script K.shape self.now) (filled R.point compiled.old)
-            (filled R.point compiled.new) (key_of R.point key.now) (string_bytes name.now) priority
-            to_recursive (view value.now) (option_map entry_view o)) }
-        ensures order { IfOk result (λ o. GoesReference
-            (task R.resolving T.owned T.script K.shape self.now) (filled R.point compiled.old)
-            (filled R.point compiled.new) (key_of R.point key.now) (string_bytes name.now) to_recursive
-            (view value.now) (option_map entry_view o)) }
-        ensures refused { IfErr result (RefusesReference
-            (task R.resolving T.owned T.script K.shape self.now) (filled R.point compiled.old)
-            (key_of R.point key.now) (string_bytes name.now) to_recursive (view value.now)) }
+        requires table { TableIsWell (given_by R.Resolver T.KeywordTable K.Validate self.now) compiled.old }
+        requires under_way { TableIsUnderWay (given_by R.Resolver T.KeywordTable K.Validate self.now) compiled.old }
+        ensures part { IfOk result (ReferenceMade (given_by R.Resolver T.KeywordTable K.Validate self.now)
+            compiled.old compiled.new key.now name.now priority to_recursive value.now) }
+        ensures order { IfOk result (ReferenceFound (given_by R.Resolver T.KeywordTable K.Validate self.now)
+            compiled.old compiled.new key.now name.now to_recursive value.now) }
+        ensures refused { IfErr result (ReferenceRefused (given_by R.Resolver T.KeywordTable K.Validate self.now)
+            compiled.old key.now name.now to_recursive value.now) }
     {
         self.reference_by(
             compiled,
@@ -149,18 +126,9 @@ impl<'p, R: Resolver, T> Compiler<'p, R, T> {
     ) -> Result<Option<Entry<K>>, BuildError>
     where
         T: KeywordTable<K>,
-        requires table { IsWell (task R.resolving T.owned T.script K.shape self.now)
-            (filled R.point compiled.old) }
-        requires under_way { IsUnderWay (task R.resolving T.owned T.script K.shape self.now)
-            (filled R.point compiled.old) }
-        ensures { MatchResult result (λ o. (MakesReference (task R.resolving T.owned T.script K.shape
-            self.now) (filled R.point compiled.old) (filled R.point compiled.new) (key_of R.point key.now)
-            (string_bytes name.now) priority (kind_of kind) (view value.now) (option_map entry_view o))
-            × (GoesReference (task R.resolving T.owned T.script K.shape self.now) (filled R.point
-            compiled.old) (filled R.point compiled.new) (key_of R.point key.now) (string_bytes name.now)
-            (kind_of kind) (view value.now) (option_map entry_view o)))
-            (RefusesReference (task R.resolving T.owned T.script K.shape self.now) (filled R.point
-            compiled.old) (key_of R.point key.now) (string_bytes name.now) (kind_of kind) (view value.now)) }
+        requires { MayRefer (given_by R.Resolver T.KeywordTable K.Validate self.now) compiled.old }
+        ensures { GivesReference (given_by R.Resolver T.KeywordTable K.Validate self.now)
+            compiled.old compiled.new key.now name.now priority kind value.now result }
     {
         let context = Context {
             alloc: self.alloc,

@@ -1,13 +1,13 @@
 //! The keys that were reached and their nodes, while they are filled.
-ghost use Rattle.std.specs.Prelude.{◌≡◌, ◌≢◌, ℕ, ◌<◌, ◌≤◌, ◌++◌, ◌∷◌, [], true, false, suc, IfOk, OnOk};
-ghost use Rattle.std.specs.Prelude.{MatchResult, map, Some, None, slice_get, length, if◌then◌else◌};
+ghost use Rattle.std.specs.Prelude.{◌≡◌, ◌<◌, ◌≤◌, ◌++◌, ◌∷◌, [], true, false, suc, IfOk, OnOk};
+ghost use Rattle.std.specs.Prelude.{MatchResult, None, length, if◌then◌else◌};
 ghost use Rattle.schema_keys.specs.KeyViews.{key_of};
-ghost use Rattle.schema_compiler.specs.Carried.{IsWell, RefusesKey, filled, task};
 ghost use Rattle.schema_keys.specs.Compiling.{resolving_parts};
 ghost use Rattle.schema_keys.specs.ShownBases.{shown_base};
 ghost use Rattle.schema_compiler.specs.Passing.{PassesTo};
-ghost use Rattle.schema_compiler.specs.Numbering.{BeginsNext, TakesNext};
-ghost use Rattle.schema_compiler.specs.UnderWay.{IsUnderWay};
+ghost use Rattle.schema_compiler.specs.Given.{given_by};
+ghost use Rattle.schema_compiler.specs.MayCompile.{MayNumber, MayOpen};
+ghost use Rattle.schema_compiler.specs.Gives.{GivesNext, GivesOpened, NextTaken};
 ghost use Rattle.schema_keys.specs.declared.error.BuildError.TheVariants as build;
 
 use crate::compiler::reservations::Reservations;
@@ -176,14 +176,11 @@ impl<'p, R: Resolver, T> Compiler<'p, R, T> {
     ) -> Result<SchemaNode, BuildError>
     where
         T: KeywordTable<K>,
-        requires table { IsWell (task R.resolving T.owned T.script K.shape self.now)
-            (filled R.point compiled.old) }
-        requires absent { (i : ℕ) → slice_get (map (key_of R.point) compiled.old.keys) i ≢
-            Some (key_of R.point key.now.value) }
+        requires may { MayNumber (given_by R.Resolver T.KeywordTable K.Validate self.now)
+            compiled.old key.now.value }
         requires room { length compiled.old.keys < self.now.options.now.node_limit }
-        ensures { MatchResult result (λ n. TakesNext (task R.resolving T.owned T.script K.shape self.now)
-            R.point compiled.old compiled.new (key_of R.point key.now.value) round n.0)
-            (λ e. e ≡ build.OutOfMemory) }
+        ensures { MatchResult result (NextTaken (given_by R.Resolver T.KeywordTable K.Validate self.now)
+            compiled.old compiled.new key.now.value round) (λ e. e ≡ build.OutOfMemory) }
     {
         let number = self.add_node(&mut compiled.nodes, key, round)?;
         let own = key.clone()?;
@@ -200,14 +197,10 @@ impl<'p, R: Resolver, T> Compiler<'p, R, T> {
     ) -> Result<SchemaNode, BuildError>
     where
         T: KeywordTable<K>,
-        requires table { IsWell (task R.resolving T.owned T.script K.shape self.now)
-            (filled R.point compiled.old) }
-        requires absent { (i : ℕ) → slice_get (map (key_of R.point) compiled.old.keys) i ≢
-            Some (key_of R.point key.now.value) }
-        ensures { MatchResult result (λ n. TakesNext (task R.resolving T.owned T.script K.shape self.now)
-            R.point compiled.old compiled.new (key_of R.point key.now.value) round n.0)
-            (RefusesKey (task R.resolving T.owned T.script K.shape self.now)
-            (filled R.point compiled.old) (key_of R.point key.now.value)) }
+        requires { MayNumber (given_by R.Resolver T.KeywordTable K.Validate self.now)
+            compiled.old key.now.value }
+        ensures { GivesNext (given_by R.Resolver T.KeywordTable K.Validate self.now)
+            compiled.old compiled.new key.now.value round result }
     {
         if compiled.keys.len() >= self.options.node_limit {
             return Err(BuildError::NodeLimit(self.options.node_limit));
@@ -225,17 +218,10 @@ impl<'p, R: Resolver, T> Compiler<'p, R, T> {
     ) -> Result<SchemaNode, BuildError>
     where
         T: KeywordTable<K>,
-        requires table { IsWell (task R.resolving T.owned T.script K.shape self.now)
-            (filled R.point compiled.old) }
-        requires under_way { IsUnderWay (task R.resolving T.owned T.script K.shape self.now)
-            (filled R.point compiled.old) }
-        requires absent { (i : ℕ) → slice_get (map (key_of R.point) compiled.old.keys) i ≢
-            Some (key_of R.point key.now.value) }
-        requires room { nests ≡ true → compiled.old.progress.depth < self.now.nested_limit }
-        ensures { MatchResult result (λ n. BeginsNext (task R.resolving T.owned T.script K.shape self.now)
-            R.point compiled.old compiled.new (key_of R.point key.now.value) nests n.0)
-            (RefusesKey (task R.resolving T.owned T.script K.shape self.now)
-            (filled R.point compiled.old) (key_of R.point key.now.value)) }
+        requires { MayOpen (given_by R.Resolver T.KeywordTable K.Validate self.now)
+            compiled.old key.now.value nests }
+        ensures { GivesOpened (given_by R.Resolver T.KeywordTable K.Validate self.now)
+            compiled.old compiled.new key.now.value nests result }
     {
         let outer = compiled.progress;
         let number = self.number_within(compiled, key, Some(outer.round))?;

@@ -2,9 +2,8 @@
 //! of its own, in the order of finding, which is that of the numbers.
 ghost use Rattle.std.specs.Prelude.{◌<◌, MatchResult, length, suc};
 ghost use Rattle.node_table.specs.NodeTable.{Waits};
-ghost use Rattle.schema_keys.specs.KeyViews.{key_of};
-ghost use Rattle.schema_compiler.specs.Carried.{filled, task};
-ghost use Rattle.schema_compiler.specs.Working.{IsAtNumber, IsWorkedOff, RefusesRootKey};
+ghost use Rattle.schema_compiler.specs.Given.{given_by};
+ghost use Rattle.schema_compiler.specs.Gives.{ComesTo, IsAt, IsWorked, RootRefused};
 
 use crate::compiler::compilation::{Compilation, Progress};
 use crate::compiler::setup::Compiler;
@@ -27,13 +26,11 @@ impl<'p, R: Resolver, T> Compiler<'p, R, T> {
     ) -> Result<(), BuildError>
     where
         T: KeywordTable<K>,
-        requires at { IsAtNumber (task R.resolving T.owned T.script K.shape self.now)
-            (key_of R.point root.now.value) (filled R.point compiled.old) number }
+        requires at { IsAt (given_by R.Resolver T.KeywordTable K.Validate self.now)
+            root.now.value compiled.old number }
         requires waits { Waits compiled.old.nodes number }
-        ensures { MatchResult result (λ _. IsAtNumber (task R.resolving T.owned T.script K.shape self.now)
-            (key_of R.point root.now.value) (filled R.point compiled.new) (suc number))
-            (RefusesRootKey (task R.resolving T.owned T.script K.shape self.now)
-            (key_of R.point root.now.value)) }
+        ensures { ComesTo (given_by R.Resolver T.KeywordTable K.Validate self.now)
+            root.now.value compiled.new (suc number) result }
     {
         let key = compiled.keys.shared(number)?;
         compiled.nodes.begin(SchemaNode(number), number);
@@ -58,13 +55,11 @@ impl<'p, R: Resolver, T> Compiler<'p, R, T> {
     ) -> Result<(), BuildError>
     where
         T: KeywordTable<K>,
-        requires at { IsAtNumber (task R.resolving T.owned T.script K.shape self.now)
-            (key_of R.point root.now.value) (filled R.point compiled.old) number }
+        requires at { IsAt (given_by R.Resolver T.KeywordTable K.Validate self.now)
+            root.now.value compiled.old number }
         requires within { number < length compiled.old.keys }
-        ensures { MatchResult result (λ _. IsAtNumber (task R.resolving T.owned T.script K.shape self.now)
-            (key_of R.point root.now.value) (filled R.point compiled.new) (suc number))
-            (RefusesRootKey (task R.resolving T.owned T.script K.shape self.now)
-            (key_of R.point root.now.value)) }
+        ensures { ComesTo (given_by R.Resolver T.KeywordTable K.Validate self.now)
+            root.now.value compiled.new (suc number) result }
     {
         if compiled.nodes.waits(SchemaNode(number)) {
             return self.compile_waiting(compiled, root, number);
@@ -80,12 +75,10 @@ impl<'p, R: Resolver, T> Compiler<'p, R, T> {
     ) -> Result<(), BuildError>
     where
         T: KeywordTable<K>,
-        requires first { IsAtNumber (task R.resolving T.owned T.script K.shape self.now)
-            (key_of R.point root.now.value) (filled R.point compiled.old) 0 }
-        ensures { MatchResult result (λ _. IsWorkedOff (task R.resolving T.owned T.script K.shape self.now)
-            (key_of R.point root.now.value) (filled R.point compiled.new))
-            (RefusesRootKey (task R.resolving T.owned T.script K.shape self.now)
-            (key_of R.point root.now.value)) }
+        requires first { IsAt (given_by R.Resolver T.KeywordTable K.Validate self.now) root.now.value compiled.old 0 }
+        ensures { MatchResult result (λ _. IsWorked (given_by R.Resolver T.KeywordTable K.Validate self.now)
+            root.now.value compiled.new)
+            (RootRefused (given_by R.Resolver T.KeywordTable K.Validate self.now) root.now.value) }
     {
         let mut next = 0;
         while next < compiled.keys.len() {
@@ -102,10 +95,8 @@ impl<'p, R: Resolver, T> Compiler<'p, R, T> {
     ) -> Result<Compilation<R::State, K>, BuildError>
     where
         T: KeywordTable<K>,
-        ensures { MatchResult result (λ m. IsWorkedOff
-            (task R.resolving T.owned T.script K.shape self.now) (key_of R.point root) (filled R.point m))
-            (RefusesRootKey (task R.resolving T.owned T.script K.shape self.now)
-            (key_of R.point root)) }
+        ensures { MatchResult result (IsWorked (given_by R.Resolver T.KeywordTable K.Validate self.now) root)
+            (RootRefused (given_by R.Resolver T.KeywordTable K.Validate self.now) root) }
     {
         let mut compiled = Compilation::new(self.alloc);
         let shared = Rc::new(self.alloc, root)?;

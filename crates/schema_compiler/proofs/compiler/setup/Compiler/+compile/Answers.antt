@@ -29,6 +29,7 @@ use Rattle.schema_compiler.specs.Carried.{Table}
 use Rattle.schema_compiler.specs.declared.compiler.compilation.Progress.{Progress}
 use Rattle.schema_meaning.specs.Reach.{Reached}
 use Rattle.schema_compiler.proofs.Growing.{refusal_map, from_key, blames_key, grown_none, grown_map, step_none}
+use Rattle.schema_compiler.proofs.Lower.{lower_grown}
 use Rattle.schema_compiler.proofs.Tables.{finished_grown, finished_table, finishes, numbered_after, put_grown, put_number, reserved_after}
 use Rattle.schema_compiler.proofs.UnderWay.{goes_none, goes_to, may_be_filled, reaches_found, reaches_opened, reaches_put}
 use Rattle.schema_compiler.specs.Reserving.{of_its_keyword, of_no_entry}
@@ -49,7 +50,7 @@ child_edge-returns-in_err-edge_to g t c =
     let s = task g.R.Resolver.resolving g.T.KeywordTable.owned g.T.KeywordTable.script g.K.Validate.shape c.args.self.now in
     let old = filled g.R.Resolver.point c.args.compiled.now in
     let p = err_from_is_err_and c.from_residual-in_err-edge_to.result c.from_residual-in_err-edge_to.ensures.1 in
-    rw (p.1, p.2) (asked_refused s.parts s.limit _ (record { key = v c.in_ok-below.below.0; path = pointer_to c.args.path.now; is_reference = false; is_recursive = false }) _ old.keys _ c.in_ok-below.ensures.below c.in_err-edge_to.ensures)
+    rw (p.1, p.2) (asked_refused s.parts s.limit _ (record { key = v c.in_ok-below.below.key; path = pointer_to c.args.path.now; is_reference = false; is_recursive = false }) _ old.keys _ c.in_ok-below.ensures.below c.in_err-edge_to.ensures)
 
 pub child_edge-returns : goal.child_edge-returns
 child_edge-returns g t c =
@@ -57,9 +58,9 @@ child_edge-returns g t c =
     let s = task g.R.Resolver.resolving g.T.KeywordTable.owned g.T.KeywordTable.script g.K.Validate.shape c.args.self.now in
     let old = filled g.R.Resolver.point c.args.compiled.now in
     let new = filled g.R.Resolver.point c.edge_to.new.compiled in
-    let edge : Edge _ = record { key = v c.in_ok-below.below.0; path = pointer_to c.args.path.now; is_reference = false; is_recursive = false } in (
-      is_answered s.parts s.shape s.limit _ (record { key = v c.in_ok-below.below.0; path = pointer_to c.args.path.now; is_reference = false; is_recursive = false }) _ old.keys (map v c.edge_to.new.compiled.keys) old.nodes c.edge_to.new.compiled.nodes (edge_of c.in_ok-edge_to.field-0) _ c.in_ok-below.ensures.below
-          (compile_clean s.parts (v c.args.key.now) c.args.path.now (record { key = v c.in_ok-below.below.0; path = pointer_to c.args.path.now; is_reference = false; is_recursive = false }) c.in_ok-below.ensures.below) (λ f. absurd (true≢false (sym f))) c.in_ok-location.ensures.pointer c.in_ok-edge_to.ensures.0,
+    let edge : Edge _ = record { key = v c.in_ok-below.below.key; path = pointer_to c.args.path.now; is_reference = false; is_recursive = false } in (
+      is_answered s.parts s.shape s.limit _ (record { key = v c.in_ok-below.below.key; path = pointer_to c.args.path.now; is_reference = false; is_recursive = false }) _ old.keys (map v c.edge_to.new.compiled.keys) old.nodes c.edge_to.new.compiled.nodes (edge_of c.in_ok-edge_to.field-0) _ c.in_ok-below.ensures.below
+          (compile_clean s.parts (v c.args.key.now) c.args.path.now (record { key = v c.in_ok-below.below.key; path = pointer_to c.args.path.now; is_reference = false; is_recursive = false }) c.in_ok-below.ensures.below) (λ f. absurd (true≢false (sym f))) c.in_ok-below.ensures.pointer c.in_ok-edge_to.ensures.0,
       subst (λ (o : Option (Edge _)). Goes s old new (option_list o) (edge_of c.in_ok-edge_to.field-0 ∷ [])) (sym c.in_ok-below.ensures.below) (c.in_ok-edge_to.ensures.1 edge refl refl),
     )
 
@@ -171,6 +172,13 @@ keywords_of-loop-name-init g t c =
       so_far = rw (all, c.new-entries.ensures.items) (so_far_none s.parts s.shape s.limit s.nested (v c.args.key.now) (members_view c.args.members.now.entries) old.keys old.nodes old c.requires.table c.requires.under_way);
       unknown = ([], sym all, rw c.new-unknown.ensures.empty refl, rw c.new-absorbed.ensures.items refl);
     }
+
+pub keywords_of-entry_of-requires : goal.keywords_of-entry_of-requires
+keywords_of-entry_of-requires g t c =
+    let so = c.loop-name.invariant.so_far in
+    let added = so.steps.grown.added in
+    let lower = lower_grown (key_of g.R.Resolver.point) c.args.compiled.now.keys c.loop-name.compiled.keys added.0 c.args.self.now.options.now.node_limit 7 t added.1 c.decreases in
+    λ κs h. (lower, (h.0, (h.1.0, (h.1.1.0, (h.1.1.1.0, (h.1.1.1.1.0, (h.1.1.1.1.1.0, (h.1.1.1.1.1.1.0, (h.1.1.1.1.1.1.1, record { table = so.steps.table; under_way = so.goes.under_way; object = c.requires.object })))))))))
 
 pub keywords_of-returns-in_err-entry : goal.keywords_of-returns-in_err-entry
 keywords_of-returns-in_err-entry g t c =

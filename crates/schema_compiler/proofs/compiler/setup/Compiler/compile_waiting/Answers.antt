@@ -12,19 +12,17 @@ use Rattle.schema_compiler.proofs.UnderWay.{begun_way}
 use Rattle.schema_compiler.proofs.Working.{at_rounds_end, each_stands, key_stays, round_fills, round_refused}
 use Rattle.schema_compiler.proofs.compiler.setup.Compiler.compile_waiting.Goals as goal
 
-pub planned_node-requires-clause-table : goal.planned_node-requires-clause-table
-planned_node-requires-clause-table g c =
-    let s = task g.R.Resolver.resolving g.T.KeywordTable.owned g.T.KeywordTable.script g.K.Validate.shape c.args.self.now in
-    let old = filled g.R.Resolver.point c.args.compiled.now in
-    begun_table s.parts s.shape s.limit old.keys old.nodes c.begin.new.self c.args.number c.args.number c.requires.at.table c.requires.waits c.begin.ensures.begun
-
-pub planned_node-requires-clause-under_way : goal.planned_node-requires-clause-under_way
-planned_node-requires-clause-under_way g c =
+pub planned_node-requires : goal.planned_node-requires
+planned_node-requires g c =
     let s = task g.R.Resolver.resolving g.T.KeywordTable.owned g.T.KeywordTable.script g.K.Validate.shape c.args.self.now in
     let old = filled g.R.Resolver.point c.args.compiled.now in
     let begun : Table _ _ = record { keys = old.keys; nodes = c.begin.new.self; round = c.at_round-compiled.result.round; depth = c.at_round-compiled.result.depth; loose = c.at_round-compiled.result.reaches_unsettled; reserved = old.reserved } in
-    begun_way s old begun c.args.number (each_stands s (key_of g.R.Resolver.point c.args.root.now.value) old c.args.number c.requires.at) c.requires.at.under_way (λ j n q at is. c.requires.at.rounds j q n at is)
-    c.requires.waits c.begin.ensures.begun c.at_round-compiled.ensures.round c.at_round-compiled.ensures.depth
+    record {
+      table = begun_table s.parts s.shape s.limit old.keys old.nodes c.begin.new.self c.args.number c.args.number c.requires.at.table c.requires.waits c.begin.ensures.begun;
+      under_way = begun_way s old begun c.args.number (each_stands s (key_of g.R.Resolver.point c.args.root.now.value) old c.args.number c.requires.at) c.requires.at.under_way (λ j n q at is. c.requires.at.rounds j q n at is)
+          c.requires.waits c.begin.ensures.begun c.at_round-compiled.ensures.round c.at_round-compiled.ensures.depth;
+      reading = tt;
+    }
 
 pub returns-in_err-planned : goal.returns-in_err-planned
 returns-in_err-planned g c =

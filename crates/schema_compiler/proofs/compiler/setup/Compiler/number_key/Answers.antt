@@ -15,7 +15,7 @@ returns g c =
     let added = rw c.deref.ensures at c.in_ok-number.ensures.added in
     record {
       table = reserved_table w g.K.Validate.shape c.args.self.now.options.now.node_limit keys (map v c.push.new.self) c.args.compiled.now.nodes c.add_node.new.nodes k _
-          c.requires.table c.requires.absent (let r = c.requires.room in omega (arith, length-map c.args.compiled.now.keys v)) pushed added refl refl refl refl;
+          c.requires.may.table c.requires.may.absent (let r = c.requires.room in omega (arith, length-map c.args.compiled.now.keys v)) pushed added refl refl refl refl;
       keys = pushed;
       nodes = (_, added, refl, refl);
       progress = refl;

@@ -1,0 +1,37 @@
+-- What a compiler is given, in one word: by all that the types of its resolver, its table and its keywords say of themselves.
+use Rattle.std.specs.Prelude.{Option, map, string_bytes, ℕ}
+use Rattle.schema_definitions.specs.Instance.{Text}
+use Rattle.schema_definitions.specs.Drafts.{Draft}
+use Rattle.schema_definitions.specs.Matching.{Matcher}
+use Rattle.schema_definitions.specs.Keywords.{Answer, Keywords}
+use Rattle.schema_definitions.specs.Parts.{Parts}
+use Rattle.schema_parts.specs.declared.keyword.Validate.{Ghosts as KeywordMembers}
+use Rattle.schema_parts.specs.declared.resolver.Resolver.{Ghosts as ResolverMembers}
+use Rattle.schema_parts.specs.declared.table.KeywordTable.{Ghosts as TableMembers}
+use Rattle.schema_keys.specs.Builtins.{builtin}
+use Rattle.schema_keys.specs.declared.options.CompileOptions.{CompileOptions}
+use Rattle.schema_compiler.specs.Carried.{Task, task, task_of}
+use Rattle.schema_compiler.specs.Compilation.{all_parts}
+use Rattle.schema_compiler.specs.declared.compiler.setup.Compiler.{Compiler}
+
+-- the task, and the sense of the resolver's states
+pub record Given (P S K C : Type 0) : Type 0 where
+  pub task : Task S K C
+  pub point : P → S
+
+-- what is given by the values themselves
+abbrev pub given_of : {A P S T C Maker Run K : Type 0} → ResolverMembers A P S → TableMembers T C Maker Run K → KeywordMembers C Run K → A → T → CompileOptions → ℕ → Given P S K C
+given_of r t k resolver table options nested = record {
+  task = task_of r.resolving t.owned t.script k.shape resolver table options nested;
+  point = r.point;
+}
+
+-- the same by a compiler that holds them
+abbrev pub given_by : {A P S T C Maker Run K : Type 0} → ResolverMembers A P S → TableMembers T C Maker Run K → KeywordMembers C Run K → Compiler A T → Given P S K C
+given_by r t k compiler = record { task = task r.resolving t.owned t.script k.shape compiler; point = r.point }
+
+module _ {A P S T C Maker Run K : Type 0} (r : ResolverMembers A P S) (t : TableMembers T C Maker Run K) (k : KeywordMembers C Run K) (resolver : A) (table : T) (options : CompileOptions) where
+  -- this holds of the parts that are given, whatever is not read: the matcher, the runs of keywords, and the options' draft and base
+  abbrev pub InAllParts : (Parts S K (Run × Answer) → Type 0) → Type 0
+  InAllParts Holds = (matcher : Matcher) (keywords : Keywords K (Run × Answer)) (draft : Option Draft) (base : Option Text) →
+      Holds (all_parts (r.resolving resolver) (record { owns = t.owned table; builtin = builtin; script = t.script table }) options.formats (map string_bytes options.declared.items) matcher keywords draft base)

@@ -1,0 +1,180 @@
+-- What the functions of the compiler answer, in one word each: what was made and found on the way, or why it is refused.
+use Rattle.std.specs.Prelude.{Bool, List, MatchResult, Option, Result, String, map, option_map, string_bytes, ℕ, ◌++◌, ◌≡◌}
+use Rattle.std.specs.declared.alloc.Global.{Global}
+use Rattle.serde_json.specs.View.{members_view, view}
+use Rattle.serde_json.specs.declared.value.Value.{Value}
+use Rattle.schema_definitions.specs.Instance.{Place, Text}
+use Rattle.schema_definitions.specs.Plan.{Key, Reference}
+use Rattle.schema_parts.specs.EdgeViews.{edge_of}
+use Rattle.schema_parts.specs.ResolverViews.{place_of}
+use Rattle.schema_parts.specs.declared.numbers.Edge.{Edge}
+use Rattle.schema_parts.specs.declared.numbers.SchemaNode.{SchemaNode}
+use Rattle.node_table.specs.NodeViews.{entry_of, plan_of}
+use Rattle.node_table.specs.declared.node.Entry.{Entry}
+use Rattle.schema_keys.specs.KeyViews.{key_of, kind_of}
+use Rattle.schema_keys.specs.declared.error.BuildError.{BuildError}
+use Rattle.schema_keys.specs.declared.key.SchemaKey.{SchemaKey}
+use Rattle.schema_keys.specs.declared.references.ReferenceKind.{ReferenceKind}
+use Rattle.schema_compiler.specs.Carried.{AnswersChild, AnswersReference, LeadsToKey, MakesKeyword, MakesMember, MakesMembers, MakesReference, Numbers, PlansNode, PlansObject}
+use Rattle.schema_compiler.specs.Carried.{RefusesChild, RefusesEdge, RefusesKey, RefusesMaker, RefusesMember, RefusesMembers, RefusesNode, RefusesObject, RefusesReference}
+use Rattle.schema_compiler.specs.Carried.{Table, filled, keyword_absorbs, member_absorbs}
+use Rattle.schema_compiler.specs.Given.{Given}
+use Rattle.schema_compiler.specs.Numbering.{BeginsNext, TakesNext}
+use Rattle.schema_compiler.specs.Reserving.{Ends, node_made}
+use Rattle.schema_compiler.specs.UnderWay.{GoesChild, GoesMaker, GoesMember, GoesMembers, GoesNode, GoesObject, GoesRefer, GoesReference, GoesTo, Reaches}
+use Rattle.schema_compiler.specs.Working.{IsAtNumber, IsWorkedOff, RefusesRootKey}
+use Rattle.schema_compiler.specs.declared.compiler.ObjectKeywords.{ObjectKeywords}
+use Rattle.schema_compiler.specs.declared.compiler.compilation.Compilation.{Compilation}
+use Rattle.schema_compiler.specs.declared.compiler.compilation.PlannedNode.{PlannedNode}
+
+-- the members of an object of the program
+abbrev pub Entries : Type 0
+Entries = List (String Global × Value)
+
+-- these names have come to those that were absorbed before
+abbrev pub Absorbs : List (String Global) → List (String Global) → List Text → Type 0
+Absorbs old new names = map string_bytes new ≡ map string_bytes old ++ names
+
+module _ {P S K C : Type 0} (g : Given P S K C) where
+  module _ (old : Compilation P C) (key : SchemaKey P) where
+    -- why a key gets no number, with what was numbered before
+    abbrev pub KeyRefused : BuildError → Type 0
+    KeyRefused = RefusesKey g.task (filled g.point old) (key_of g.point key)
+
+    -- why there is no reference keyword
+    abbrev pub ReferenceRefused : String Global → Reference → Value → BuildError → Type 0
+    ReferenceRefused name kind value = RefusesReference g.task (filled g.point old) (key_of g.point key) (string_bytes name) kind (view value)
+
+  module _ (old new : Compilation P C) (key : SchemaKey P) where
+    -- the table as it was
+    abbrev pub before : Table S C
+    before = filled g.point old
+
+    -- the table as it is now
+    abbrev pub after : Table S C
+    after = filled g.point new
+
+    -- the key that is asked for
+    abbrev pub asked_key : Key S
+    asked_key = key_of g.point key
+
+    -- ---- the next number
+
+    -- the key has the next number, in progress in this round, or waiting
+    abbrev pub NextTaken : Option ℕ → SchemaNode → Type 0
+    NextTaken round n = TakesNext g.task g.point old new asked_key round n.0
+
+    -- so it is, or the key is refused
+    abbrev pub GivesNext : Option ℕ → Result SchemaNode BuildError → Type 0
+    GivesNext round result = MatchResult result (NextTaken round) (KeyRefused old key)
+
+    -- the key has the next number, and is open; or it is refused
+    abbrev pub GivesOpened : Bool → Result SchemaNode BuildError → Type 0
+    GivesOpened nests result = MatchResult result (λ n. BeginsNext g.task g.point old new asked_key nests n.0) (KeyRefused old key)
+
+    -- ---- a number, and the edge that leads there
+
+    -- the number of the key, as the target of an edge that nests or does not
+    abbrev pub GivesNumber : Bool → Result ℕ BuildError → Type 0
+    GivesNumber nests result = MatchResult result
+        (λ n. (Numbers g.task before after asked_key n)
+        × (Reaches g.task before after asked_key nests n))
+        (KeyRefused old key)
+
+    -- the edge that leads there
+    abbrev pub GivesEdge : Bool → Text → Result Edge BuildError → Type 0
+    GivesEdge nests path result = MatchResult result
+        (λ e. (LeadsToKey g.task before after asked_key path (edge_of e))
+        × (GoesTo g.task before after asked_key nests (edge_of e)))
+        (KeyRefused old key)
+
+    -- the edge to the subschema at a path below
+    abbrev pub GivesChild : Place → Result Edge BuildError → Type 0
+    GivesChild path result = MatchResult result
+        (λ e. (AnswersChild g.task before after asked_key path (edge_of e))
+        × (GoesChild g.task before after asked_key path (edge_of e)))
+        (RefusesChild g.task before asked_key path)
+
+    -- the edge to a reference's target; none where it is skipped
+    abbrev pub GivesTarget : String Global → ReferenceKind → String Global → Result (Option Edge) BuildError → Type 0
+    GivesTarget name kind text result = MatchResult result
+        (λ o. (AnswersReference g.task before after asked_key (string_bytes name) (kind_of kind) (string_bytes text) (option_map edge_of o))
+        × (GoesRefer g.task before after asked_key (string_bytes name) (kind_of kind) (string_bytes text) (option_map edge_of o)))
+        (RefusesEdge g.task before asked_key (string_bytes name) (kind_of kind) (string_bytes text))
+
+    -- ---- what a node asks of an instance, and its annotations
+
+    -- of the key
+    abbrev pub GivesPlan : Result (PlannedNode C) BuildError → Type 0
+    GivesPlan result = MatchResult result
+        (λ n. (PlansNode g.task before after asked_key (plan_of n.form) (option_map view n.annotations))
+        × (GoesNode g.task before after asked_key (plan_of n.form)))
+        (RefusesNode g.task before asked_key)
+
+    -- of the key's object with these members
+    abbrev pub GivesObject : Entries → Result (PlannedNode C) BuildError → Type 0
+    GivesObject members result = MatchResult result
+        (λ n. (PlansObject g.task before after asked_key (members_view members) (plan_of n.form) (option_map view n.annotations))
+        × (GoesObject g.task before after asked_key (members_view members) (plan_of n.form)))
+        (RefusesObject g.task before asked_key (members_view members))
+
+    -- the keywords of an object's members, and the members that become annotations
+    abbrev pub GivesKeywords : Entries → Result (ObjectKeywords C) BuildError → Type 0
+    GivesKeywords members result = MatchResult result
+        (λ o. (MakesMembers g.task before after asked_key (members_view members) (map entry_of o.entries.items) (members_view o.annotating.entries))
+        × (GoesMembers g.task before after asked_key (members_view members) (map entry_of o.entries.items)))
+        (RefusesMembers g.task before asked_key (members_view members))
+
+    -- ---- one keyword, if there is one, and the names that it absorbs
+
+    -- of a member
+    abbrev pub GivesMember : Entries → String Global → Value → List (String Global) → List (String Global) → Result (Option (Entry C)) BuildError → Type 0
+    GivesMember members name value absorbed absorbed' result = MatchResult result
+        (λ o. (MakesMember g.task before after asked_key (members_view members) (string_bytes name) (view value) (option_map entry_of o))
+        × (Absorbs absorbed absorbed' (member_absorbs g.task asked_key (members_view members) (string_bytes name) (view value)))
+        × (GoesMember g.task before after asked_key (members_view members) (string_bytes name) (view value) (option_map entry_of o)))
+        (RefusesMember g.task before asked_key (members_view members) (string_bytes name) (view value))
+
+    -- that a maker makes, and what it reserved is given up
+    abbrev pub GivesMade : Entries → Bool → String Global → ℕ → Bool → List (String Global) → List (String Global) → Result (Option (Entry C)) BuildError → Type 0
+    GivesMade members own name priority is_leaf absorbed absorbed' result = MatchResult result
+        (λ o. (MakesKeyword g.task before after asked_key (members_view members) own (string_bytes name) priority is_leaf (option_map entry_of o))
+        × (Absorbs absorbed absorbed' (keyword_absorbs g.task asked_key (members_view members) own (string_bytes name) priority is_leaf))
+        × (GoesMaker g.task before after asked_key (members_view members) own (string_bytes name) (option_map entry_of o))
+        × (Ends (place_of key.place) (string_bytes name) (node_made (option_map entry_of o)) old.reservations new.reservations))
+        (RefusesMaker g.task before asked_key (members_view members) own (string_bytes name))
+
+    -- ---- a reference keyword, if it is not skipped
+
+    -- what it is made of
+    abbrev pub ReferenceMade : String Global → ℕ → Reference → Value → Option (Entry C) → Type 0
+    ReferenceMade name priority kind value o = MakesReference g.task before after asked_key (string_bytes name) priority kind (view value) (option_map entry_of o)
+
+    -- its edge was found in the one order
+    abbrev pub ReferenceFound : String Global → Reference → Value → Option (Entry C) → Type 0
+    ReferenceFound name kind value o = GoesReference g.task before after asked_key (string_bytes name) kind (view value) (option_map entry_of o)
+
+    -- so it is made and found, or refused
+    abbrev pub GivesReference : String Global → ℕ → ReferenceKind → Value → Result (Option (Entry C)) BuildError → Type 0
+    GivesReference name priority kind value result = MatchResult result
+        (λ o. (ReferenceMade name priority (kind_of kind) value o) × (ReferenceFound name (kind_of kind) value o))
+        (ReferenceRefused old key name (kind_of kind) value)
+
+  -- ---- the worklist of a root
+
+  module _ (root : SchemaKey P) where
+    -- it is worked off up to this number
+    abbrev pub IsAt : Compilation P C → ℕ → Type 0
+    IsAt c i = IsAtNumber g.task (key_of g.point root) (filled g.point c) i
+
+    -- why it is not worked off
+    abbrev pub RootRefused : BuildError → Type 0
+    RootRefused = RefusesRootKey g.task (key_of g.point root)
+
+    -- so it is after a step that gives nothing, or the root is refused
+    abbrev pub ComesTo : {A : Type 0} → Compilation P C → ℕ → Result A BuildError → Type 0
+    ComesTo c i result = MatchResult result (λ _. IsAt c i) RootRefused
+
+    -- it is worked off in this compilation
+    abbrev pub IsWorked : Compilation P C → Type 0
+    IsWorked c = IsWorkedOff g.task (key_of g.point root) (filled g.point c)

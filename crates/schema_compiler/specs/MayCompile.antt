@@ -1,0 +1,73 @@
+-- What holds before a function of the compiler is called: one record for each kind of call.
+use Rattle.std.specs.Prelude.{Bool, List, Option, Some, String, map, slice_get, true, ℕ, ◌<◌, ◌≡◌, ◌≢◌}
+use Rattle.std.specs.declared.alloc.Global.{Global}
+use Rattle.serde_json.specs.Data.{Data, object}
+use Rattle.serde_json.specs.View.{members_view}
+use Rattle.serde_json.specs.declared.value.Value.{Value}
+use Rattle.schema_parts.specs.ResolverViews.{place_of}
+use Rattle.schema_keys.specs.KeyViews.{key_of}
+use Rattle.schema_keys.specs.Readings.{IsReading}
+use Rattle.schema_keys.specs.declared.key.SchemaKey.{SchemaKey}
+use Rattle.schema_keys.specs.declared.values.Reading.{Reading}
+use Rattle.schema_compiler.specs.Carried.{IsWell, filled}
+use Rattle.schema_compiler.specs.Given.{Given}
+use Rattle.schema_compiler.specs.UnderWay.{IsUnderWay}
+use Rattle.schema_compiler.specs.declared.compiler.compilation.Compilation.{Compilation}
+
+module _ {P S K C : Type 0} (g : Given P S K C) where
+  -- the keys and nodes of a compilation are as the parts have them
+  abbrev pub TableIsWell : Compilation P C → Type 0
+  TableIsWell c = IsWell g.task (filled g.point c)
+
+  -- what holds of rounds and guards while keys are found holds of it
+  abbrev pub TableIsUnderWay : Compilation P C → Type 0
+  TableIsUnderWay c = IsUnderWay g.task (filled g.point c)
+
+  -- what stands at the place of a key
+  abbrev pub value_at : SchemaKey P → Option Data
+  value_at k = g.task.parts.resolver.value (place_of k.place)
+
+  -- the key has no number
+  abbrev pub HasNoNumber : Compilation P C → SchemaKey P → Type 0
+  HasNoNumber c k = (i : ℕ) → slice_get (map (key_of g.point) c.keys) i ≢ Some (key_of g.point k)
+
+  -- one more target of references may be open, where it nests
+  abbrev pub HasRoom : Compilation P C → Bool → Type 0
+  HasRoom c nests = nests ≡ true → c.progress.depth < g.task.nested
+
+  -- a reference may be followed
+  pub record MayRefer (c : Compilation P C) : Type 0 where
+    pub table : TableIsWell c
+    pub under_way : TableIsUnderWay c
+
+  -- a key may be led to, of whose value this was read
+  pub record MayReach (c : Compilation P C) (k : SchemaKey P) (known : Reading) : Type 0 where
+    pub table : TableIsWell c
+    pub under_way : TableIsUnderWay c
+    pub reading : IsReading (value_at k) known
+
+  -- keywords may be made of a key's object with these members
+  pub record MayMake (c : Compilation P C) (k : SchemaKey P) (members : List (String Global × Value)) : Type 0 where
+    pub table : TableIsWell c
+    pub under_way : TableIsUnderWay c
+    pub object : value_at k ≡ Some (object (members_view members))
+
+  -- a key may get the next number
+  pub record MayNumber (c : Compilation P C) (k : SchemaKey P) : Type 0 where
+    pub table : TableIsWell c
+    pub absent : HasNoNumber c k
+
+  -- a key may get the next number and be open, as the target of an edge that nests or does not
+  pub record MayOpen (c : Compilation P C) (k : SchemaKey P) (nests : Bool) : Type 0 where
+    pub table : TableIsWell c
+    pub under_way : TableIsUnderWay c
+    pub absent : HasNoNumber c k
+    pub room : HasRoom c nests
+
+  -- the same of a key that is compiled at once, of whose value this was read
+  pub record MayCompile (c : Compilation P C) (k : SchemaKey P) (nests : Bool) (known : Reading) : Type 0 where
+    pub table : TableIsWell c
+    pub under_way : TableIsUnderWay c
+    pub absent : HasNoNumber c k
+    pub room : HasRoom c nests
+    pub reading : IsReading (value_at k) known
