@@ -1,5 +1,4 @@
 mod PlainPlaces
-mod PlainBytes
 mod Pushes
 mod Printing
 mod Opened

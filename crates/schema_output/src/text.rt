@@ -11,27 +11,9 @@ ghost use Rattle.schema_output.specs.Texts.{closing, error_text, objects_below, 
 use crate::list::{schema_location, unit_object};
 use schema_reports::evaluation::{ErrorDescription, EvaluationNode, UnitReport};
 use schema_reports::location::OutOfMemory;
+use schema_reports::shared_location::is_plain;
 use serde_json::Value;
 use std::alloc::Global;
-
-// Whether a byte stands for itself between quotes: it is no quote, no backslash and no control character.
-#[tactic(auto, using(crate::proofs::PlainBytes::plain_byte))]
-fn is_plain_byte(byte: u8) -> bool
-    ensures plain { result ≡ true → escape_byte byte ≡ byte ∷ [] }
-{
-    byte >= 0x20 && byte != b'"' && byte != b'\\'
-}
-
-// Whether a text stands for itself between quotes. No byte ends the walk, so that many bytes are looked at in one step.
-fn is_plain(text: &[u8]) -> bool
-    ensures plain { result ≡ true → escape text.now ≡ text.now }
-{
-    let mut plain = true;
-    for byte in text {
-        plain &= is_plain_byte(*byte);
-    }
-    plain
-}
 
 // Adds a text in quotes.
 fn push_quoted(alloc: Global, out: &mut String, text: &str) -> Result<(), OutOfMemory>

@@ -4,7 +4,8 @@ ghost use Rattle.std.specs.List.{list_all};
 ghost use Rattle.schema_definitions.specs.Reports.{report_of};
 ghost use Rattle.schema_reports.specs.UnitViews.{unit_of};
 
-use crate::location::{Location, OutOfMemory};
+use crate::location::OutOfMemory;
+use crate::shared_location::SharedLocation;
 use std::alloc::Global;
 use std::marker::Model;
 
@@ -24,10 +25,10 @@ pub struct ErrorDescription {
 #[derive(Drop)]
 pub struct UnitReport {
     pub valid: bool,
-    pub evaluation_path: Location,
+    pub evaluation_path: SharedLocation,
     pub absolute_keyword_location: Option<String>,
-    pub schema_location: Location,
-    pub instance_location: Location,
+    pub schema_location: SharedLocation,
+    pub instance_location: SharedLocation,
     pub annotations: Option<Annotations>,
     pub errors: Vec<ErrorDescription>,
 }

@@ -2,8 +2,8 @@ use Rattle.std.proofs.Common.{◌≡◌, ◌∙◌, [], ap, arith, drop, get_or,
 use Rattle.std.proofs.lemmas.Bool.{and_parts}
 use Rattle.std.proofs.lemmas.List.{drop_all, drop_more}
 use Rattle.json.specs.Print.{escape}
-use Rattle.schema_output.proofs.PlainBytes.{plain_turn}
-use Rattle.schema_output.proofs.text.is_plain.Goals as goal
+use Rattle.schema_reports.proofs.PlainBytes.{plain_turn}
+use Rattle.schema_reports.proofs.shared_location.is_plain.Goals as goal
 
 pub loop-byte-init : goal.loop-byte-init
 loop-byte-init c = λ _ h. h

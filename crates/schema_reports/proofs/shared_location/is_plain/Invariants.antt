@@ -1,6 +1,6 @@
 use Rattle.std.proofs.Common.{◌≡◌, drop, true}
 use Rattle.json.specs.Print.{escape}
-use Rattle.schema_output.proofs.text.is_plain.Given as goal
+use Rattle.schema_reports.proofs.shared_location.is_plain.Given as goal
 
 -- where what is still to come stands for itself, all does
 abbrev pub invariant-loop-byte : goal.invariant-loop-byte
