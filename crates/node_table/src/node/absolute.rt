@@ -6,7 +6,7 @@ ghost use Rattle.node_table.specs.NodeViews.{node_of};
 
 use crate::node::Node;
 use percent_encoding::{AsciiSet, NON_ALPHANUMERIC, ascii_set, percent_encode};
-use schema_reports::location::{Location, OutOfMemory};
+use schema_reports::location::OutOfMemory;
 use std::alloc::Global;
 
 // The bytes of ASCII that are escaped in a URI's fragment (RFC 3986, 3.5).
@@ -59,20 +59,32 @@ pub fn push_fragment(text: &mut String, pointer: &str, start: usize) -> Result<(
     push_encoded(text, bytes_from(pointer.as_bytes(), start))
 }
 
+// The URI of a resource, with a pointer from its byte `start` on as a fragment.
+#[inline(never)]
+fn absolute_text(
+    alloc: Global,
+    base: &str,
+    location: &str,
+    start: usize,
+) -> Result<String, OutOfMemory>
+    ensures text { IfOk result (λ t. string_bytes t ≡ base.now ++ (35 ∷ encoded (drop start location.now))) }
+{
+    let mut text = String::from_str(alloc, base)?;
+    push_fragment(&mut text, location, start)?;
+    Ok(text)
+}
+
 /// The absolute location of a location, where the node's resource has a URI that is shown.
+#[inline(always)]
 pub fn absolute_location<K>(
     alloc: Global,
     node: &Node<K>,
-    location: &Location,
+    location: &str,
 ) -> Result<Option<String>, OutOfMemory>
     ensures absolute { IfOk result (λ t. option_map string_bytes t ≡ absolute_in (node_of node.now) location.now) }
 {
     match &node.base {
         None => Ok(None),
-        Some(base) => {
-            let mut text = String::from_str(alloc, base.as_str())?;
-            push_fragment(&mut text, location.as_str(), node.start)?;
-            Ok(Some(text))
-        }
+        Some(base) => Ok(Some(absolute_text(alloc, base.as_str(), location, node.start)?)),
     }
 }
