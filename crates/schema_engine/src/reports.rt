@@ -9,4 +9,5 @@ pub use schema_reports::evaluation::{
 pub use schema_reports::instance::{Instance, InstanceStep, Place, push_step, same_step};
 pub use schema_reports::location::{Location, LocationSegment, OutOfMemory};
 pub use schema_reports::reports::{ErrorIterator, OwnedError, ValidationError};
+pub use schema_reports::shared_location::SharedLocation;
 pub use schema_reports::text::Text;

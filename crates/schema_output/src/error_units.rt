@@ -5,15 +5,18 @@ ghost use Rattle.schema_reports.specs.UnitViews.{unit_of};
 ghost use Rattle.schema_output.specs.ErrorUnits.{error_unit, errors_unit, root_unit};
 
 use schema_reports::evaluation::{ErrorDescription, EvaluationNode, UnitReport};
-use schema_reports::location::{Location, OutOfMemory};
+use schema_reports::location::OutOfMemory;
 use schema_reports::reports::ValidationError;
+use schema_reports::shared_location::SharedLocation;
 use std::alloc::Global;
 
 // The unit of one error, which is the unit's own.
 fn error_unit(alloc: Global, error: ValidationError<'_>) -> Result<EvaluationNode, OutOfMemory>
     ensures unit { IfOk result (λ n. (texts : Bool) → unit_of texts n ≡ error_unit (error_of texts error.entry)) }
 {
-    let instance_location = error.instance_path(alloc)?;
+    let instance_location = SharedLocation::new(alloc, error.instance_path(alloc)?)?;
+    let evaluation_path = SharedLocation::new(alloc, error.evaluation_path)?;
+    let schema_location = SharedLocation::new(alloc, error.schema_path)?;
     let mut errors = Vec::new(alloc);
     errors.push(ErrorDescription {
         keyword: error.keyword,
@@ -22,9 +25,9 @@ fn error_unit(alloc: Global, error: ValidationError<'_>) -> Result<EvaluationNod
     Ok(EvaluationNode {
         report: UnitReport {
             valid: false,
-            evaluation_path: error.evaluation_path,
+            evaluation_path,
             absolute_keyword_location: None,
-            schema_location: error.schema_path,
+            schema_location,
             instance_location,
             annotations: None,
             errors,
@@ -34,21 +37,26 @@ fn error_unit(alloc: Global, error: ValidationError<'_>) -> Result<EvaluationNod
 }
 
 // A root of this verdict with these units inside it, which says nothing else.
-fn root_unit(alloc: Global, valid: bool, children: Vec<EvaluationNode>) -> EvaluationNode
-    ensures unit { (texts : Bool) → unit_of texts result ≡ root_unit valid (map (unit_of texts) children.items) }
+fn root_unit(
+    alloc: Global,
+    valid: bool,
+    children: Vec<EvaluationNode>,
+) -> Result<EvaluationNode, OutOfMemory>
+    ensures unit { IfOk result (λ n. (texts : Bool) → unit_of texts n ≡ root_unit valid (map (unit_of texts) children.items)) }
 {
-    EvaluationNode {
+    let root = SharedLocation::root(alloc)?;
+    Ok(EvaluationNode {
         report: UnitReport {
             valid,
-            evaluation_path: Location::new(alloc),
+            evaluation_path: root.clone()?,
             absolute_keyword_location: None,
-            schema_location: Location::new(alloc),
-            instance_location: Location::new(alloc),
+            schema_location: root.clone()?,
+            instance_location: root,
             annotations: None,
             errors: Vec::new(alloc),
         },
         children,
-    }
+    })
 }
 
 /// Returns a root with one unit inside it for each error, in their order. The root is valid exactly if there is no error, and its
@@ -66,5 +74,6 @@ pub fn unit_of_errors(
     for error in errors {
         children.push(error_unit(alloc, error)?)?;
     }
-    Ok(root_unit(alloc, valid, children))
+    let unit = root_unit(alloc, valid, children)?;
+    Ok(unit)
 }

@@ -1,10 +1,10 @@
 //! The text of the list format, written unit by unit. (Core 2020-12, 12.4.2)
-ghost use Rattle.std.specs.Prelude.{◌≡◌, ◌++◌, ◌∷◌, ◌≤◌, [], IfOk, None, length, string_bytes, true};
-ghost use Rattle.json.specs.Print.{escape, escape_byte, quoted};
+ghost use Rattle.std.specs.Prelude.{◌≡◌, ◌++◌, ◌∷◌, ◌≤◌, IfOk, None, length, string_bytes, true};
+ghost use Rattle.json.specs.Print.{escape, quoted};
 ghost use Rattle.serde_json.specs.Written.{compact_text};
 ghost use Rattle.schema_definitions.specs.Instance.{Text};
 ghost use Rattle.schema_reports.specs.UnitViews.{described_of, report_in, unit_of};
-ghost use Rattle.schema_output.specs.Output.{output_list, unit_object};
+ghost use Rattle.schema_output.specs.Output.{output_list, schema_location, unit_object};
 ghost use Rattle.schema_output.specs.Texts.{Follow, IsJsonText, Prints};
 ghost use Rattle.schema_output.specs.Texts.{closing, error_text, objects_below, places_text, plain_places_text, valid_text};
 
@@ -70,6 +70,16 @@ fn push_plain_places(
     out.push_str(ending_text(valid))
 }
 
+// Whether the URI of a unit's place in the schema, or else that place, stands for itself between quotes.
+fn is_plain_schema(report: &UnitReport) -> bool
+    ensures plain { result ≡ true → escape (schema_location (report_in true report.now)) ≡ schema_location (report_in true report.now) }
+{
+    match &report.absolute_keyword_location {
+        Some(uri) => is_plain(uri.as_bytes()),
+        None => report.schema_location.is_plain(),
+    }
+}
+
 // Adds the members that every unit has, and closes its object.
 fn push_places(alloc: Global, out: &mut String, report: &UnitReport) -> Result<(), OutOfMemory>
     ensures places { IfOk result (λ _. string_bytes out.new ≡ string_bytes out.old ++ places_text (report_in true report.now)) }
@@ -77,7 +87,10 @@ fn push_places(alloc: Global, out: &mut String, report: &UnitReport) -> Result<(
     let path = report.evaluation_path.as_str();
     let place = report.instance_location.as_str();
     let schema = schema_location(report);
-    if is_plain(path.as_bytes()) && is_plain(place.as_bytes()) && is_plain(schema.as_bytes()) {
+    if report.evaluation_path.is_plain()
+        && report.instance_location.is_plain()
+        && is_plain_schema(report)
+    {
         return push_plain_places(out, path, place, schema, report.valid);
     }
     out.push_str("\"evaluationPath\":")?;

@@ -6,6 +6,7 @@ use schema_parts::schema_place::SchemaPath;
 use schema_reports::evaluation::{EvaluationNode, UnitReport};
 use schema_reports::evaluation_result::EvaluationResult;
 use schema_reports::location::{Location, OutOfMemory};
+use schema_reports::shared_location::SharedLocation;
 use serde_json::Value;
 use std::alloc::Global;
 
@@ -28,13 +29,14 @@ fn count_nodes(alloc: Global) -> Result<usize, OutOfMemory> {
 
 /// Whether the result of one valid unit is valid.
 fn is_valid_of_one(alloc: Global) -> Result<bool, OutOfMemory> {
+    let root = SharedLocation::root(alloc)?;
     let unit = EvaluationNode {
         report: UnitReport {
             valid: true,
-            evaluation_path: Location::new(alloc),
+            evaluation_path: root.clone()?,
             absolute_keyword_location: None,
-            schema_location: Location::new(alloc),
-            instance_location: Location::new(alloc),
+            schema_location: root.clone()?,
+            instance_location: root,
             annotations: None,
             errors: Vec::new(alloc),
         },

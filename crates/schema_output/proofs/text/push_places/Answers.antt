@@ -1,4 +1,4 @@
-use Rattle.std.proofs.Common.{◌≡◌, ◌++◌, ◌∙◌, ap, ap₂, codes, string_bytes, subst}
+use Rattle.std.proofs.Common.{◌≡◌, ◌++◌, ◌∙◌, ap, ap₂, codes, string_bytes, subst, sym}
 use Rattle.std.proofs.lemmas.Result.{IfOk-equal}
 use Rattle.json.specs.Print.{escape, quoted}
 use Rattle.schema_definitions.specs.Instance.{Text}
@@ -16,16 +16,16 @@ at_instance = codes ",\"instanceLocation\":"
 abbrev at_schema : Text
 at_schema = codes ",\"schemaLocation\":"
 
-pub returns-then-is_plain-3 : goal.returns-then-is_plain-3
-returns-then-is_plain-3 c =
+pub returns-then-is_plain_schema : goal.returns-then-is_plain_schema
+returns-then-is_plain_schema c =
     let o0 = string_bytes c.args.out.now in
     let path = c.as_str-path.result.now in
     let place = c.as_str-place.result.now in
     let schema = c.schema_location-schema.result.now in
     let valid = c.args.report.now.valid in
-    let first : escape path ≡ path = subst (λ (t : Text). escape t ≡ t) c.as_bytes.ensures.value (c.is_plain.ensures.plain c.if-is_plain.true) in
-    let second : escape place ≡ place = subst (λ (t : Text). escape t ≡ t) c.as_bytes-then-is_plain.ensures.value (c.is_plain-then-is_plain.ensures.plain c.if-is_plain-2.true) in
-    let third : escape schema ≡ schema = subst (λ (t : Text). escape t ≡ t) c.as_bytes-then-is_plain-2.ensures.value (c.is_plain-then-is_plain-2.ensures.plain c.if-is_plain-3.true) in
+    let first : escape path ≡ path = subst (λ (t : Text). escape t ≡ t) (sym c.as_str-path.ensures.text) (c.is_plain.ensures.plain c.if-is_plain.true) in
+    let second : escape place ≡ place = subst (λ (t : Text). escape t ≡ t) (sym c.as_str-place.ensures.text) (c.is_plain-then-is_plain.ensures.plain c.if-is_plain-2.true) in
+    let third : escape schema ≡ schema = subst (λ (t : Text). escape t ≡ t) (sym c.schema_location-schema.ensures.location) (c.is_plain_schema.ensures.plain c.if-is_plain_schema.true) in
     record {
       places = IfOk-equal c.push_plain_places.result _ (o0 ++ plain_places_text path place schema valid) _ c.push_plain_places.ensures.places
           (ap (λ x. o0 ++ x) (plain_places path place schema valid first second third)
