@@ -1,16 +1,18 @@
 -- The path that led to a node, as its text.
 use Rattle.std.specs.Prelude.{◌++◌, Bool, false, true}
 use Rattle.schema_definitions.specs.Instance.{Text}
-use Rattle.schema_contexts.specs.declared.evaluation_path.EvaluationPath.{EvaluationPath, Given, Across', UnderReference'}
+use Rattle.schema_contexts.specs.declared.evaluation_path.EvaluationPath.{EvaluationPath, Given, Across', UnderReference', Kept}
 
 -- the path that was given, with what each edge adds to it
 abbrev pub path_of : EvaluationPath → Text
 path_of (Given path) = path.now
 path_of (Across' pointer before added) = path_of before ++ added.now
 path_of (UnderReference' pointer before) = path_of before
+path_of (Kept texts) = texts.now.path
 
 -- whether it goes on under a reference somewhere
 abbrev pub is_under_reference : EvaluationPath → Bool
 is_under_reference (Given path) = false
 is_under_reference (Across' pointer before added) = is_under_reference before
 is_under_reference (UnderReference' pointer before) = true
+is_under_reference (Kept texts) = texts.now.under_reference

@@ -6,7 +6,7 @@ use Rattle.std.specs.Map.{lookup}
 use Rattle.schema_definitions.specs.Instance.{Text}
 use Rattle.schema_definitions.specs.Pointer.{joined}
 use Rattle.schema_contexts.specs.EvaluationPaths.{path_of}
-use Rattle.schema_contexts.specs.declared.evaluation_path.EvaluationPath.{EvaluationPath, Given, Across', UnderReference'}
+use Rattle.schema_contexts.specs.declared.evaluation_path.EvaluationPath.{EvaluationPath, Given, Across', UnderReference', Kept}
 
 -- what a path is kept for: the path before the keyword, the keyword's name, and what follows
 pub record PathKey : Type 0 where
@@ -36,6 +36,7 @@ abbrev pub hashed : FoldHasher → EvaluationPath → FoldHasher
 hashed h (Given path) = write h path.now
 hashed h (Across' pointer before added) = write (hashed h before) added.now
 hashed h (UnderReference' pointer before) = hashed h before
+hashed h (Kept texts) = write h texts.now.path
 
 abbrev pub hash_for : EvaluationPath → Text → Text → ℕ
 hash_for path name rest = finish (write (write (hashed initial path) name) rest)

@@ -3,16 +3,18 @@ ghost use Rattle.std.specs.Prelude.{◌≡◌, ◌++◌, Bool, IfOk, string_byte
 ghost use Rattle.schema_definitions.specs.Pointer.{joined};
 ghost use Rattle.schema_contexts.specs.EvaluationPaths.{is_under_reference, path_of};
 
+use crate::unit_paths::UnitTexts;
 use schema_reports::location::{Location, LocationSegment, OutOfMemory};
 use std::alloc::Global;
 
-/// A path that was given, the path before an edge and what the edge adds to it, or the same path where it goes on under a
-/// reference.
+/// A path that was given, the path before an edge and what the edge adds to it, the same path where it goes on under a
+/// reference, or the path of a unit whose texts are made.
 #[derive(Clone, Copy)]
 pub enum EvaluationPath<'p> {
     Given(&'p Location),
     Across(&'p EvaluationPath<'p>, &'p Location),
     UnderReference(&'p EvaluationPath<'p>),
+    Kept(&'p UnitTexts),
 }
 
 // Writes the path at the end of another one.
@@ -26,6 +28,7 @@ fn push_path(whole: &mut Location, path: &EvaluationPath<'_>) -> Result<(), OutO
             whole.push_escaped(added.as_str())
         }
         EvaluationPath::UnderReference(before) => push_path(whole, before),
+        EvaluationPath::Kept(texts) => whole.push_escaped(texts.path.as_str()),
     }
 }
 
@@ -66,6 +69,14 @@ impl<'p> EvaluationPath<'p> {
         EvaluationPath::UnderReference(self)
     }
 
+    /// The path of a unit whose texts are made.
+    pub fn kept(texts: &'p UnitTexts) -> EvaluationPath<'p>
+        ensures same { path_of result ≡ texts.now.path }
+        ensures under { is_under_reference result ≡ texts.now.under_reference }
+    {
+        EvaluationPath::Kept(texts)
+    }
+
     /// Returns `true` if the path, or one that it goes on from, is under a reference.
     pub fn is_under_reference(&self) -> bool
         ensures under { result ≡ is_under_reference self.now }
@@ -74,6 +85,7 @@ impl<'p> EvaluationPath<'p> {
             EvaluationPath::Given(_) => false,
             EvaluationPath::Across(before, _) => before.is_under_reference(),
             EvaluationPath::UnderReference(_) => true,
+            EvaluationPath::Kept(texts) => texts.under_reference,
         }
     }
 
@@ -85,6 +97,7 @@ impl<'p> EvaluationPath<'p> {
                 before.len().saturating_add(added.as_str().len())
             }
             EvaluationPath::UnderReference(before) => before.len(),
+            EvaluationPath::Kept(texts) => texts.path.as_str().len(),
         }
     }
 

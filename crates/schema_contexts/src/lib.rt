@@ -6,5 +6,6 @@ pub mod evaluation_path;
 pub mod kept_paths;
 pub mod marks;
 pub mod numbered_pairs;
+pub mod unit_paths;
 pub mod validation;
 pub mod work;

@@ -10,7 +10,7 @@ ghost use Rattle.schema_matches.specs.MatchViews.{reason_of};
 ghost use Rattle.schema_definitions.specs.Pointer.{joined};
 ghost use Rattle.schema_definitions.specs.Runs.{Site, with_mark, without_last};
 ghost use Rattle.schema_definitions.specs.Unfinished.{meet, or_no, starting};
-ghost use Rattle.schema_contexts.specs.EvaluationPaths.{path_of};
+ghost use Rattle.schema_contexts.specs.EvaluationPaths.{is_under_reference, path_of};
 ghost use Rattle.schema_parts.specs.KeywordViews.{marked_of};
 ghost use Rattle.schema_contexts.specs.Matches.{after_match, comes_out};
 ghost use Rattle.schema_parts.specs.EdgeViews.{edge_of};
@@ -22,10 +22,11 @@ ghost use Rattle.schema_contexts.specs.Works.{Asks, IsSpent};
 ghost use Rattle.schema_reports.specs.InstanceViews.{subject_of};
 
 use crate::bit_rows::{Rows, row_words};
-use crate::evaluation_path::EvaluationPath;
+use crate::evaluation_path::{EvaluationPath, path_from};
 use crate::kept_paths::KeptPaths;
 use crate::marks::Marks;
 use crate::numbered_pairs::{NumberedPair, count_at, make_counts, push_within};
+use crate::unit_paths::UnitTexts;
 use crate::work::Work;
 use schema_matches::assumptions::MatchAssumptions;
 use schema_matches::site::{Match, MatchSite, Reason};
@@ -36,6 +37,7 @@ use schema_places::on_demand::PlacesOnDemand;
 use schema_places::places::Places;
 use schema_reports::instance::Instance;
 use schema_reports::location::{Location, OutOfMemory};
+use schema_reports::shared_location::SharedLocation;
 use std::alloc::Global;
 use std::marker::Model;
 use std::mem;
@@ -571,6 +573,62 @@ impl<'i> ValidationContext<'i> {
         ensures stays { self.new ≡ self.old }
     {
         self.kept_paths.evaluation_path(alloc, path, name, rest)
+    }
+
+    /// Returns the texts of the unit of a node that a path has led to, at this location. What contracts see of the context stays.
+    /// Fails only if memory cannot be allocated.
+    pub fn node_texts(
+        &mut self,
+        alloc: Global,
+        path: &EvaluationPath<'_>,
+        location: &Location,
+    ) -> Result<UnitTexts, OutOfMemory>
+        ensures path { IfOk result (λ t. t.path ≡ path_of path.now) }
+        ensures schema { IfOk result (λ t. t.schema ≡ location.now) }
+        ensures under { IfOk result (λ t. t.under_reference ≡ is_under_reference path.now) }
+        ensures stays { self.new ≡ self.old }
+    {
+        let under_reference = path.is_under_reference();
+        Ok(UnitTexts {
+            path: SharedLocation::new(alloc, path.made(alloc)?)?,
+            schema: SharedLocation::new(alloc, location.clone()?)?,
+            under_reference,
+        })
+    }
+
+    /// Returns the texts of the unit of a keyword of this name, of a node at this location that a path has led to. What contracts
+    /// see of the context stays. Fails only if memory cannot be allocated.
+    pub fn keyword_texts(
+        &mut self,
+        alloc: Global,
+        path: &EvaluationPath<'_>,
+        name: &str,
+        location: &Location,
+    ) -> Result<UnitTexts, OutOfMemory>
+        ensures path { IfOk result (λ t. t.path ≡ joined (path_of path.now) name.now) }
+        ensures schema { IfOk result (λ t. t.schema ≡ joined location.now name.now) }
+        ensures stays { self.new ≡ self.old }
+    {
+        let under_reference = path.is_under_reference();
+        Ok(UnitTexts {
+            path: SharedLocation::new(alloc, path.of_keyword(alloc, name, "")?)?,
+            schema: SharedLocation::new(alloc, path_from(alloc, location, name, "")?)?,
+            under_reference,
+        })
+    }
+
+    /// Returns the path of a keyword of this name after the path. What contracts see of the context stays. Fails only if memory
+    /// cannot be allocated.
+    pub fn keyword_path(
+        &mut self,
+        alloc: Global,
+        path: &EvaluationPath<'_>,
+        name: &str,
+    ) -> Result<SharedLocation, OutOfMemory>
+        ensures path { IfOk result (λ l. l ≡ joined (path_of path.now) name.now) }
+        ensures stays { self.new ≡ self.old }
+    {
+        SharedLocation::new(alloc, path.of_keyword(alloc, name, "")?)
     }
 
     /// Returns `true` if the string is a pattern of ECMA-262, as the matcher says.
