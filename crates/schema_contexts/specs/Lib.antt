@@ -16,3 +16,4 @@ pub mod EvaluationPaths
 pub mod KeptPaths
 pub mod Lending
 pub mod Works
+pub mod UnitPaths

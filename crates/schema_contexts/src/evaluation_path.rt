@@ -1,5 +1,5 @@
 //! The path that led to a node, which allocates nothing until it is asked for.
-ghost use Rattle.std.specs.Prelude.{◌≡◌, ◌++◌, Bool, IfOk, string_bytes, true};
+ghost use Rattle.std.specs.Prelude.{◌≡◌, ◌++◌, Bool, IfOk, IfSome, string_bytes, true};
 ghost use Rattle.schema_definitions.specs.Pointer.{joined};
 ghost use Rattle.schema_contexts.specs.EvaluationPaths.{is_under_reference, path_of};
 
@@ -75,6 +75,17 @@ impl<'p> EvaluationPath<'p> {
         ensures under { is_under_reference result ≡ texts.now.under_reference }
     {
         EvaluationPath::Kept(texts)
+    }
+
+    /// Returns the texts that the path begins with and goes no further, under a reference or not; none where there are none.
+    pub fn kept_texts(&self) -> Option<&'p UnitTexts>
+        ensures same { IfSome result (λ t. t.now.path ≡ path_of self.now) }
+    {
+        match self {
+            EvaluationPath::Kept(texts) => Some(*texts),
+            EvaluationPath::UnderReference(before) => before.kept_texts(),
+            _ => None,
+        }
     }
 
     /// Returns `true` if the path, or one that it goes on from, is under a reference.

@@ -22,11 +22,11 @@ ghost use Rattle.schema_contexts.specs.Works.{Asks, IsSpent};
 ghost use Rattle.schema_reports.specs.InstanceViews.{subject_of};
 
 use crate::bit_rows::{Rows, row_words};
-use crate::evaluation_path::{EvaluationPath, path_from};
+use crate::evaluation_path::EvaluationPath;
 use crate::kept_paths::KeptPaths;
 use crate::marks::Marks;
 use crate::numbered_pairs::{NumberedPair, count_at, make_counts, push_within};
-use crate::unit_paths::UnitTexts;
+use crate::unit_paths::{UnitPaths, UnitTexts};
 use crate::work::Work;
 use schema_matches::assumptions::MatchAssumptions;
 use schema_matches::site::{Match, MatchSite, Reason};
@@ -49,7 +49,7 @@ const MEMO_MIN_VISITS: u64 = 16;
 /// unfinished matches, and remembers of those that it met; the marks of the keyword's run that is at work; and the verdicts that
 /// the run remembers of guarded questions and of shared nodes, with how many of the guarded ones it visited; and how many nodes it
 /// may still ask. A context is one run's.
-/// Contracts do not see the paths that it keeps.
+/// Contracts do not see the paths and the texts of units that it keeps.
 ///
 /// Places go by their numbers, which are given when the first is asked for. What is in progress is a row of bits for each node that
 /// was entered, and a count for each place; the verdicts of a node are two rows, of the places that are known and of the verdicts
@@ -67,6 +67,7 @@ pub struct ValidationContext<'i> {
     visits: u64,
     work: Work,
     kept_paths: KeptPaths,
+    unit_paths: UnitPaths,
 }
 
 // Whether the instance is an array or an object.
@@ -140,6 +141,7 @@ impl<'i> ValidationContext<'i> {
             visits: 0,
             work: Work::unlimited(),
             kept_paths: KeptPaths::new(alloc),
+            unit_paths: UnitPaths::new(alloc),
         }
     }
 
@@ -588,12 +590,7 @@ impl<'i> ValidationContext<'i> {
         ensures under { IfOk result (λ t. t.under_reference ≡ is_under_reference path.now) }
         ensures stays { self.new ≡ self.old }
     {
-        let under_reference = path.is_under_reference();
-        Ok(UnitTexts {
-            path: SharedLocation::new(alloc, path.made(alloc)?)?,
-            schema: SharedLocation::new(alloc, location.clone()?)?,
-            under_reference,
-        })
+        self.unit_paths.of_node(alloc, path, location)
     }
 
     /// Returns the texts of the unit of a keyword of this name, of a node at this location that a path has led to. What contracts
@@ -609,12 +606,7 @@ impl<'i> ValidationContext<'i> {
         ensures schema { IfOk result (λ t. t.schema ≡ joined location.now name.now) }
         ensures stays { self.new ≡ self.old }
     {
-        let under_reference = path.is_under_reference();
-        Ok(UnitTexts {
-            path: SharedLocation::new(alloc, path.of_keyword(alloc, name, "")?)?,
-            schema: SharedLocation::new(alloc, path_from(alloc, location, name, "")?)?,
-            under_reference,
-        })
+        self.unit_paths.of_keyword(alloc, path, name, location)
     }
 
     /// Returns the path of a keyword of this name after the path. What contracts see of the context stays. Fails only if memory
@@ -628,7 +620,7 @@ impl<'i> ValidationContext<'i> {
         ensures path { IfOk result (λ l. l ≡ joined (path_of path.now) name.now) }
         ensures stays { self.new ≡ self.old }
     {
-        SharedLocation::new(alloc, path.of_keyword(alloc, name, "")?)
+        self.unit_paths.path_of_keyword(alloc, path, name)
     }
 
     /// Returns `true` if the string is a pattern of ECMA-262, as the matcher says.
