@@ -1,5 +1,5 @@
 -- The code's units of an entry, and those that are placed, as the definitions have them.
-use Rattle.std.specs.Prelude.{Bool, map, string_bytes}
+use Rattle.std.specs.Prelude.{Bool, drop, map, string_bytes, take}
 use Rattle.schema_definitions.specs.Instance.{Text}
 use Rattle.schema_definitions.specs.Reports.{Unit_}
 use Rattle.schema_definitions.specs.Units.{PartUnits}
@@ -18,7 +18,7 @@ entry_units_of texts e = (unit_of texts e.own, map (absorbed_of texts) e.absorbe
 abbrev pub placed_of : Bool → UnitsInOrder → Placed
 placed_of texts u = record {
   types = map (unit_of texts) u.types.items;
-  before = map (unit_of texts) u.before.items;
+  before = map (unit_of texts) (take u.before u.entries.items);
   counts = map (unit_of texts) u.counts.items;
-  after = map (unit_of texts) u.after.items;
+  after = map (unit_of texts) (drop u.before u.entries.items);
 }

@@ -1,6 +1,6 @@
 //! The units of a schema's entries, in their order: that of an absorbed `type` first, those of absorbed counts before the first
 //! entry that looks inside the instance.
-ghost use Rattle.std.specs.Prelude.{◌≡◌, ◌++◌, Bool, IfOk, map};
+ghost use Rattle.std.specs.Prelude.{◌≡◌, Bool, IfOk, map};
 ghost use Rattle.schema_reports.specs.UnitViews.{unit_of};
 ghost use Rattle.schema_definitions.specs.UnitOrder.{all_placed, nothing_placed, placed, with_absorbed};
 ghost use Rattle.run_steps.specs.EntryUnits.{absorbed_of, entry_units_of, placed_of};
@@ -26,43 +26,27 @@ pub struct EntryUnits {
 /// The least priority of the keywords that look inside an array or an object: absorbed counts stand before the first of them.
 const LEAST_INSIDE: u8 = 22;
 
-/// The units of a schema's entries so far: those of absorbed types; those of the entries that come before the absorbed counts;
-/// these counts; and those of the other entries.
+/// The units of a schema's entries so far: those of absorbed types; those of the entries, of which so many come before the absorbed
+/// counts; and these counts.
 #[derive(Drop)]
 pub struct UnitsInOrder {
     types: Vec<EvaluationNode>,
-    before: Vec<EvaluationNode>,
+    entries: Vec<EvaluationNode>,
+    before: usize,
     counts: Vec<EvaluationNode>,
-    after: Vec<EvaluationNode>,
-}
-
-// The units of one list, and then those of another one. A list of none is not copied into.
-fn joined(
-    first: Vec<EvaluationNode>,
-    more: Vec<EvaluationNode>,
-) -> Result<Vec<EvaluationNode>, OutOfMemory>
-    ensures joined { IfOk result (λ nodes. nodes.items ≡ first.items ++ more.items) }
-{
-    if first.is_empty() {
-        return Ok(more);
-    }
-    let mut nodes = first;
-    let mut others = more;
-    nodes.append(&mut others)?;
-    Ok(nodes)
 }
 
 impl UnitsInOrder {
-    /// Returns the units of no entry.
-    pub fn new(alloc: Global) -> UnitsInOrder
-        ensures empty { (texts : Bool) → placed_of texts result ≡ nothing_placed }
+    /// Returns the units of no entry, with room for those of so many. Fails only if memory cannot be allocated.
+    pub fn new(alloc: Global, entries: usize) -> Result<UnitsInOrder, OutOfMemory>
+        ensures empty { IfOk result (λ u. (texts : Bool) → placed_of texts u ≡ nothing_placed) }
     {
-        UnitsInOrder {
+        Ok(UnitsInOrder {
             types: Vec::new(alloc),
-            before: Vec::new(alloc),
+            entries: Vec::with_capacity(alloc, entries)?,
+            before: 0,
             counts: Vec::new(alloc),
-            after: Vec::new(alloc),
-        }
+        })
     }
 
     // Adds the units of absorbed keywords.
@@ -86,10 +70,14 @@ impl UnitsInOrder {
             ≡ placed (placed_of texts self.old) (record { priority = priority; units = entry_units_of texts units })) }
     {
         self.place_absorbed(units.absorbed)?;
-        if LEAST_INSIDE <= priority || !self.after.is_empty() {
-            self.after.push(units.own)?;
-        } else {
-            self.before.push(units.own)?;
+        let placed = self.entries.len();
+        self.entries.push(units.own)?;
+        if placed <= self.before {
+            self.before = if LEAST_INSIDE <= priority {
+                placed
+            } else {
+                self.entries.len()
+            };
         }
         Ok(())
     }
@@ -98,9 +86,17 @@ impl UnitsInOrder {
     pub fn into_children(self) -> Result<ChildList, OutOfMemory>
         ensures children { IfOk result (λ l. (texts : Bool) → map (unit_of texts) l ≡ all_placed (placed_of texts self)) }
     {
-        let nodes = joined(self.types, self.before)?;
-        let nodes = joined(nodes, self.counts)?;
-        let nodes = joined(nodes, self.after)?;
+        let mut nodes = self.types;
+        let mut entries = self.entries;
+        let mut counts = self.counts;
+        if nodes.is_empty() && counts.is_empty() {
+            return Ok(ChildList::from_nodes(entries));
+        }
+        let before = self.before.min(entries.len());
+        let mut after = entries.split_off(before)?;
+        nodes.append(&mut entries)?;
+        nodes.append(&mut counts)?;
+        nodes.append(&mut after)?;
         Ok(ChildList::from_nodes(nodes))
     }
 }

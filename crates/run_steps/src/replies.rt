@@ -130,7 +130,7 @@ pub fn keyword_location<K>(
         return Ok(None);
     }
     let location = node.location.join(LocationSegment::Property(name))?;
-    absolute_location(alloc, node, &location)
+    absolute_location(alloc, node, location.as_str())
 }
 
 // Gives the error the absolute location of a keyword of the node, where it has none yet.
@@ -277,7 +277,7 @@ pub fn false_error<'i, K>(
     ensures place { IfOk result (λ e. e.place ≡ steps_to question.now.place.now) }
     ensures instance { IfOk result (λ e. e.instance ≡ question.now.instance) }
 {
-    let absolute = absolute_location(alloc, node, &node.location)?;
+    let absolute = absolute_location(alloc, node, node.location.as_str())?;
     ValidationError::false_schema(
         alloc,
         question.instance,

@@ -17,33 +17,36 @@ ghost use Rattle.node_table.specs.NodeTable.{absolute_in};
 ghost use Rattle.node_table.specs.NodeViews.{node_of};
 ghost use Rattle.run_steps.specs.EvaluationPlaces.{steps_to};
 ghost use Rattle.run_steps.specs.NodeUnits.{named_gives};
-ghost use Rattle.run_steps.specs.Askings.{asking, where_asked};
+ghost use Rattle.run_steps.specs.Askings.{Asking, asking, where_asked};
 
 use crate::evaluation_order::{AbsorbedUnit, EntryUnits};
 use crate::question::Question;
 use crate::replies::false_error;
 use node_table::node::Node;
 use node_table::node::absolute::absolute_location;
+use schema_contexts::unit_paths::UnitTexts;
 use schema_contexts::validation::ValidationContext;
 use schema_parts::keyword::{Answer, Found};
 use schema_reports::evaluation::{
     Annotations, ChildList, ErrorDescription, EvaluationNode, UnitReport,
 };
 use schema_reports::evaluation_result::{AbsorbedResult, EvaluationResult};
-use schema_reports::location::{Location, LocationSegment, OutOfMemory};
+use schema_reports::location::OutOfMemory;
+use schema_reports::shared_location::SharedLocation;
 use std::alloc::Global;
 
 // Where a unit stands: the way that led to it, its URI, its place in the schema, and the instance's place.
 #[derive(Drop)]
 struct UnitPlaces {
-    evaluation_path: Location,
+    evaluation_path: SharedLocation,
     absolute_keyword_location: Option<String>,
-    schema_location: Location,
-    instance_location: Location,
+    schema_location: SharedLocation,
+    instance_location: SharedLocation,
 }
 
 impl UnitPlaces {
     // The unit that stands there and says this.
+    #[inline(always)]
     fn unit(
         self,
         valid: bool,
@@ -76,42 +79,46 @@ impl UnitPlaces {
     }
 }
 
+// Where a unit of the node stands that has these texts.
+#[inline(always)]
+fn places_by<K>(
+    alloc: Global,
+    node: &Node<K>,
+    kept: UnitTexts,
+    pointer: SharedLocation,
+) -> Result<UnitPlaces, OutOfMemory>
+    ensures instance { IfOk result (λ p. p.instance_location ≡ pointer) }
+    ensures path { IfOk result (λ p. p.evaluation_path ≡ kept.path) }
+    ensures schema { IfOk result (λ p. p.schema_location ≡ kept.schema) }
+    ensures absolute { IfOk result (λ p. option_map string_bytes p.absolute_keyword_location
+        ≡ absolute_in (node_of node.now) kept.schema) }
+{
+    let absolute_keyword_location = absolute_location(alloc, node, kept.schema.as_str())?;
+    Ok(UnitPlaces {
+        evaluation_path: kept.path,
+        absolute_keyword_location,
+        schema_location: kept.schema,
+        instance_location: pointer,
+    })
+}
+
 // Where the unit of the node itself stands.
 fn node_places<K>(
     alloc: Global,
     node: &Node<K>,
     question: &Question<'_, '_>,
+    context: &mut ValidationContext<'_>,
 ) -> Result<UnitPlaces, OutOfMemory>
     ensures instance { IfOk result (λ p. p.instance_location ≡ pointer_to (steps_to question.now.place.now)) }
     ensures path { IfOk result (λ p. p.evaluation_path ≡ path_of question.now.path.now) }
     ensures schema { IfOk result (λ p. p.schema_location ≡ (node_of node.now).location) }
     ensures absolute { IfOk result (λ p. option_map string_bytes p.absolute_keyword_location
         ≡ absolute_in (node_of node.now) (node_of node.now).location) }
+    ensures stays { context.new ≡ context.old }
 {
-    Ok(UnitPlaces {
-        evaluation_path: question.path.made(alloc)?,
-        absolute_keyword_location: absolute_location(alloc, node, &node.location)?,
-        schema_location: node.location.clone()?,
-        instance_location: question.place.pointer(alloc)?,
-    })
-}
-
-// The unit of the node itself.
-fn own_unit<K>(
-    alloc: Global,
-    node: &Node<K>,
-    question: &Question<'_, '_>,
-    valid: bool,
-    annotations: Option<Annotations>,
-    errors: Vec<ErrorDescription>,
-    children: ChildList,
-) -> Result<EvaluationNode, OutOfMemory>
-    ensures unit { IfOk result (λ u. (texts : Bool) → unit_of texts u
-        ≡ schema_unit (where_asked (node_of node.now) (asking question.now)) valid
-        (option_map view annotations) (map (described_of texts) errors.items) (map (unit_of texts) children)) }
-{
-    let places = node_places(alloc, node, question)?;
-    Ok(places.unit(valid, annotations, errors, children))
+    let kept = context.node_texts(alloc, question.path, &node.location)?;
+    let pointer = SharedLocation::new(alloc, question.place.pointer(alloc)?)?;
+    places_by(alloc, node, kept, pointer)
 }
 
 /// The unit of a node that accepts every instance: valid, with nothing in it.
@@ -119,37 +126,33 @@ pub fn accepting_unit<K>(
     alloc: Global,
     node: &Node<K>,
     question: &Question<'_, '_>,
+    context: &mut ValidationContext<'_>,
 ) -> Result<EvaluationNode, OutOfMemory>
     ensures unit { IfOk result (λ u. (texts : Bool) → unit_of texts u
         ≡ true_unit (where_asked (node_of node.now) (asking question.now))) }
+    ensures stays { context.new ≡ context.old }
 {
-    own_unit(
-        alloc,
-        node,
-        question,
-        true,
-        None,
-        Vec::new(alloc),
-        ChildList::new(alloc),
-    )
+    let places = node_places(alloc, node, question, context)?;
+    Ok(places.unit(true, None, Vec::new(alloc), ChildList::new(alloc)))
 }
 
-/// The unit that stands for a child that a keyword got none of: valid, at empty locations.
-pub fn unasked_unit(alloc: Global) -> EvaluationNode
-    ensures unit { (texts : Bool) → unit_of texts result ≡ no_unit }
+/// The unit that stands for a child that a keyword got none of: valid, at empty locations. Fails only if memory cannot be allocated.
+pub fn unasked_unit(alloc: Global) -> Result<EvaluationNode, OutOfMemory>
+    ensures unit { IfOk result (λ u. (texts : Bool) → unit_of texts u ≡ no_unit) }
 {
-    EvaluationNode {
+    let root = SharedLocation::root(alloc)?;
+    Ok(EvaluationNode {
         report: UnitReport {
             valid: true,
-            evaluation_path: Location::new(alloc),
+            evaluation_path: root.clone()?,
             absolute_keyword_location: None,
-            schema_location: Location::new(alloc),
-            instance_location: Location::new(alloc),
+            schema_location: root.clone()?,
+            instance_location: root,
             annotations: None,
             errors: Vec::new(alloc),
         },
         children: Vec::new(alloc),
-    }
+    })
 }
 
 /// The unit of a node that refuses every instance: invalid, with the error of the schema `false`.
@@ -157,10 +160,12 @@ pub fn refusing_unit<K>(
     alloc: Global,
     node: &Node<K>,
     question: &Question<'_, '_>,
+    context: &mut ValidationContext<'_>,
 ) -> Result<EvaluationNode, OutOfMemory>
     ensures unit { IfOk result (λ u. (texts : Bool)
         → (texts ≡ true → subject_has_float (subject_of question.now.instance) ≡ false) → unit_of texts u
         ≡ false_unit texts (where_asked (node_of node.now) (asking question.now)) (subject_of question.now.instance)) }
+    ensures stays { context.new ≡ context.old }
 {
     let error = false_error(alloc, node, question)?;
     let mut errors = Vec::new(alloc);
@@ -168,50 +173,42 @@ pub fn refusing_unit<K>(
         keyword: error.keyword,
         text: error.text,
     })?;
-    own_unit(
-        alloc,
-        node,
-        question,
-        false,
-        None,
-        errors,
-        ChildList::new(alloc),
-    )
+    let places = node_places(alloc, node, question, context)?;
+    Ok(places.unit(false, None, errors, ChildList::new(alloc)))
 }
 
-/// The unit of a node with the units of its entries: valid exactly if each of them is, with the node's annotations.
+/// The unit of a node with the units of its entries: valid exactly if each of them is, with the node's annotations. It stands where
+/// these texts and this pointer say.
+#[inline(always)]
 pub fn entries_unit<K>(
     alloc: Global,
     node: &Node<K>,
-    question: &Question<'_, '_>,
+    kept: UnitTexts,
+    pointer: SharedLocation,
     children: ChildList,
 ) -> Result<EvaluationNode, OutOfMemory>
-    ensures unit { IfOk result (λ u. (texts : Bool) → unit_of texts u
-        ≡ schema_unit (where_asked (node_of node.now) (asking question.now))
+    ensures unit { IfOk result (λ u. (texts : Bool) (q : Asking) → kept.path ≡ q.path → kept.schema ≡ (node_of node.now).location
+        → pointer ≡ pointer_to q.place → unit_of texts u ≡ schema_unit (where_asked (node_of node.now) q)
         (list_all (λ child. (report_of child).valid) (map (unit_of texts) children))
         (option_map view (node_of node.now).annotations) [] (map (unit_of texts) children)) }
 {
+    let places = places_by(alloc, node, kept, pointer)?;
     let valid = children.all_valid();
     let annotations = node.annotations.clone()?;
-    own_unit(
-        alloc,
-        node,
-        question,
-        valid,
-        annotations,
-        Vec::new(alloc),
-        children,
-    )
+    Ok(places.unit(valid, annotations, Vec::new(alloc), children))
 }
 
 // Where the unit of a keyword of this name stands.
+#[inline(always)]
 fn keyword_places<K>(
     alloc: Global,
     node: &Node<K>,
     name: &str,
     question: &Question<'_, '_>,
+    pointer: &SharedLocation,
     context: &mut ValidationContext<'_>,
 ) -> Result<UnitPlaces, OutOfMemory>
+    requires pointed { pointer.now ≡ pointer_to (steps_to question.now.place.now) }
     ensures instance { IfOk result (λ p. p.instance_location ≡ pointer_to (steps_to question.now.place.now)) }
     ensures path { IfOk result (λ p. p.evaluation_path ≡ joined (path_of question.now.path.now) name.now) }
     ensures schema { IfOk result (λ p. p.schema_location ≡ joined (node_of node.now).location name.now) }
@@ -219,14 +216,8 @@ fn keyword_places<K>(
         ≡ absolute_in (node_of node.now) (joined (node_of node.now).location name.now)) }
     ensures stays { context.new ≡ context.old }
 {
-    let evaluation_path = context.evaluation_path(alloc, question.path, name, "")?;
-    let schema_location = node.location.join(LocationSegment::Property(name))?;
-    Ok(UnitPlaces {
-        evaluation_path,
-        absolute_keyword_location: absolute_location(alloc, node, &schema_location)?,
-        schema_location,
-        instance_location: question.place.pointer(alloc)?,
-    })
+    let kept = context.keyword_texts(alloc, question.path, name, &node.location)?;
+    places_by(alloc, node, kept, pointer.clone()?)
 }
 
 // The unit of a keyword of this name, which gives this.
@@ -235,14 +226,16 @@ fn unit_of_keyword<K>(
     node: &Node<K>,
     name: &str,
     question: &Question<'_, '_>,
+    pointer: &SharedLocation,
     given: EvaluationResult,
     context: &mut ValidationContext<'_>,
 ) -> Result<EvaluationNode, OutOfMemory>
+    requires pointed { pointer.now ≡ pointer_to (steps_to question.now.place.now) }
     ensures unit { IfOk result (λ u. (texts : Bool) → unit_of texts u
         ≡ keyword_unit (where_asked (node_of node.now) (asking question.now)) (named_gives name.now (gives_of texts given))) }
     ensures stays { context.new ≡ context.old }
 {
-    let places = keyword_places(alloc, node, name, question, context)?;
+    let places = keyword_places(alloc, node, name, question, pointer, context)?;
     match given {
         EvaluationResult::Valid(annotations, children) => {
             Ok(places.unit(true, annotations, Vec::new(alloc), children))
@@ -258,9 +251,11 @@ fn absorbed_units<K>(
     alloc: Global,
     node: &Node<K>,
     question: &Question<'_, '_>,
+    pointer: &SharedLocation,
     absorbed: Vec<AbsorbedResult>,
     context: &mut ValidationContext<'_>,
 ) -> Result<Vec<AbsorbedUnit>, OutOfMemory>
+    requires pointed { pointer.now ≡ pointer_to (steps_to question.now.place.now) }
     ensures units { IfOk result (λ us. (texts : Bool) → map (absorbed_of texts) us.items
         ≡ map (λ a. (a.name, keyword_unit (where_asked (node_of node.now) (asking question.now)) a))
         (map (named_of texts) absorbed.items)) }
@@ -269,7 +264,15 @@ fn absorbed_units<K>(
     let mut units = Vec::with_capacity(alloc, absorbed.len())?;
     for one in absorbed {
         let keyword = one.keyword;
-        let unit = unit_of_keyword(alloc, node, keyword.as_str(), question, one.result, context)?;
+        let unit = unit_of_keyword(
+            alloc,
+            node,
+            keyword.as_str(),
+            question,
+            pointer,
+            one.result,
+            context,
+        )?;
         units.push(AbsorbedUnit { keyword, unit })?;
     }
     Ok(units)
@@ -281,17 +284,19 @@ pub fn units_of_keyword<K>(
     node: &Node<K>,
     name: &String,
     question: &Question<'_, '_>,
+    pointer: &SharedLocation,
     answer: Answer<'_>,
     context: &mut ValidationContext<'_>,
 ) -> Result<EntryUnits, OutOfMemory>
+    requires pointed { pointer.now ≡ pointer_to (steps_to question.now.place.now) }
     ensures units { IfOk result (λ units. (texts : Bool) → entry_units_of texts units
         ≡ given_units (where_asked (node_of node.now) (asking question.now)) (string_bytes name.now)
         (answer_of texts answer.entry).gives) }
     ensures stays { context.new ≡ context.old }
 {
     let Found { own, absorbed } = Box::into_inner(answer.into_evaluation(alloc)?);
-    let own = unit_of_keyword(alloc, node, name.as_str(), question, own, context)?;
-    let absorbed = absorbed_units(alloc, node, question, absorbed, context)?;
+    let own = unit_of_keyword(alloc, node, name.as_str(), question, pointer, own, context)?;
+    let absorbed = absorbed_units(alloc, node, question, pointer, absorbed, context)?;
     Ok(EntryUnits { own, absorbed })
 }
 
@@ -307,7 +312,7 @@ pub fn units_of_reference(
         → entry_units_of texts units ≡ reference_units x (string_bytes name.now) (unit_of texts unit)) }
     ensures stays { context.new ≡ context.old }
 {
-    let evaluation_path = context.evaluation_path(alloc, question.path, name.as_str(), "")?;
+    let evaluation_path = context.keyword_path(alloc, question.path, name.as_str())?;
     let EvaluationNode { report, children } = unit;
     let own = EvaluationNode {
         report: UnitReport {
