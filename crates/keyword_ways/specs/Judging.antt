@@ -1,14 +1,17 @@
 -- A turn of a run that judges, as the code takes it. Its questions are numbered.
-use Rattle.std.specs.Prelude.{List, None, Option, Some, ℕ}
+use Rattle.std.specs.Prelude.{List, None, Option, Some, ℕ, ◌≡◌}
 use Rattle.schema_definitions.specs.Keywords.{Answer, Question, Reply, Turn, ask, done}
 use Rattle.schema_parts.specs.KeywordViews.{mode_of}
 use Rattle.schema_parts.specs.declared.keyword.Mode.{Mode}
+use Rattle.keyword_ways.specs.declared.judging.Judge.{Judge}
 use Rattle.keyword_ways.specs.declared.judging.Judging.{Judging}
 use Rattle.keyword_ways.specs.declared.judging.Judging.TheVariants.{Asks, Judged, Over}
+use Rattle.keyword_ways.specs.declared.run.Progress.{Progress}
 use Rattle.keyword_ways.specs.declared.run.Stage.{Stage}
 use Rattle.keyword_ways.specs.declared.run.Stage.TheVariants.{Asked, Begun, Counted, Ended}
+use Rattle.keyword_ways.specs.Items.{each_from}
 use Rattle.keyword_ways.specs.Tallies.{Tally, with_child}
-use Rattle.keyword_ways.specs.Ways.{counted_at, noted, nth}
+use Rattle.keyword_ways.specs.Ways.{Way, answer_after, counted_at, judges, noted, nth, stage_after, step_at}
 
 -- the step that it is
 abbrev pub judging_turn : (ℕ → Question) → Judging → Turn
@@ -33,3 +36,25 @@ kept_at Begun a r = a
 kept_at (Asked i) a r = a
 kept_at (Counted i n) a r = with_child a r
 kept_at Ended a r = a
+
+-- ---- what a turn does, by each tally that has the judge's numbers
+
+module _ (judge : Judge) (f : ℕ → Question) where
+  abbrev pub ForTallies : (Tally → Type 0) → Type 0
+  ForTallies Holds = (t : Tally) → t.enough ≡ judge.enough → t.shows ≡ judge.shows → Holds t
+
+  -- the way of a run that judges by the answers to the judge's questions
+  abbrev pub tallied_way : Tally → Way
+  tallied_way t = judges t (each_from f 0 judge.count)
+
+  -- where the run stands after it
+  abbrev pub JudgesStage : Progress → Reply → Progress → Type 0
+  JudgesStage run reply run' = ForTallies (λ t. run' ≡ record run { stage = stage_after (tallied_way t) run.mode run.stage reply })
+
+  -- the step that it takes
+  abbrev pub JudgesStep : Progress → Reply → Judging → Type 0
+  JudgesStep run reply judging = ForTallies (λ t. step_at (tallied_way t) run.mode run.stage reply ≡ judging_turn f judging)
+
+  -- the answer after it, by the one in which what a child gave is kept
+  abbrev pub JudgesAnswer : Progress → Reply → Answer → Judging → Answer → Type 0
+  JudgesAnswer run reply a judging kept = ForTallies (λ t. answer_after (tallied_way t) run.mode run.stage a reply ≡ judging_answer t run.mode kept judging)

@@ -15,6 +15,10 @@ pub mod WayHandsOn
 pub mod Places
 pub mod FaultLists
 pub mod OwnWays
+pub mod Borrowing
+pub mod AnswerWords
+pub mod TurnWords
+pub mod Branching
 pub mod WayUnits
 pub mod WayVerdicts
 pub mod Plans

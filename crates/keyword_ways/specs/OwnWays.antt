@@ -113,3 +113,8 @@ module _ {M : Type 0} (called : M → Text) (enough : M → ℕ) (shows : M → 
   -- each keyword judges by the answers to its numbered questions
   abbrev pub judge_ways : M → Subject → Way
   judge_ways m s = judge_way (called m) (enough m) (shows m) (accepts m s) (error_text m s) (each_from (question m) 0 (count m s))
+
+module _ {M : Type 0} (called : M → Text) (accepts : M → Subject → ℕ → Bool) (error_text : M → Subject → ℕ → Text) (accepted : ℕ) where
+  -- one error where a keyword that judges does not hold by so many answers by yes
+  abbrev pub counted_ways : M → Subject → Way
+  counted_ways m s = leaf_way (called m) (accepts m s accepted) (error_text m s accepted)

@@ -7,6 +7,7 @@ use Rattle.keyword_ways.specs.declared.planned.Asks.{Asks}
 use Rattle.keyword_ways.specs.declared.planned.Asks.TheVariants.{Children, Items, Members}
 use Rattle.keyword_ways.specs.declared.planned.Plan.{Plan}
 use Rattle.keyword_ways.specs.declared.planned.Plan.TheVariants.{AtLeast, Holds, PassesOn, Within}
+use Rattle.keyword_ways.specs.declared.planned.Wanted.{Wanted}
 use Rattle.keyword_ways.specs.Items.{child_here, each_from, first_at_item, item_count}
 use Rattle.keyword_ways.specs.Members.{first_at_member, member_count, name_at}
 use Rattle.keyword_ways.specs.OwnWays.{AlwaysPresent, judge_way, leaf_way}
@@ -84,3 +85,12 @@ module _ {M : Type 0} (plan : M → Subject → Plan) (name : M → Text) (text 
 
   pub plans_present : AlwaysPresent plan_ways
   plans_present m s = plan_present (name m) (text m s) s (plan m s)
+
+module _ {M : Type 0} (name : M → Text) (text : M → Subject → ℕ → Text) where
+  -- a keyword asks nothing, and tells its error by so many answers by yes where it does not hold
+  abbrev pub error_ways : Bool → ℕ → M → Subject → Way
+  error_ways holds accepted m s = leaf_way (name m) holds (text m s accepted)
+
+  -- a keyword wants so many answers by yes
+  abbrev pub wanting_ways : Wanted → M → Subject → Way
+  wanting_ways w m s = wanting_way (name m) (text m s) w.least w.most (asks_count w.asks s) (asks_of w.asks s)

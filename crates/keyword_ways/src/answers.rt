@@ -1,14 +1,16 @@
 //! What is added to the answer of a run.
-ghost use Rattle.std.specs.Prelude.{All, ◌≡◌, ◌++◌, [], Bool, IfOk, map, string_bytes};
+ghost use Rattle.std.specs.Prelude.{◌≡◌, ◌++◌, [], Bool, IfOk, map};
 ghost use Rattle.serde_json.specs.Data.{Data};
-ghost use Rattle.schema_reports.specs.ReportViews.{BorrowsItsPlace, error_of, spoken};
-ghost use Rattle.schema_definitions.specs.Keywords.{own, passed};
+ghost use Rattle.schema_reports.specs.ReportViews.{error_of};
+ghost use Rattle.schema_definitions.specs.Keywords.{passed};
 ghost use Rattle.schema_parts.specs.declared.keyword.Fault.TheVariants.{Passed};
-ghost use Rattle.schema_parts.specs.FaultViews.{errors_in, faults_in, PassesBorrowed};
+ghost use Rattle.schema_parts.specs.FaultViews.{faults_in, PassesBorrowed};
 ghost use Rattle.schema_parts.specs.KeywordViews.{answer_of, fault_of, reply_of};
 ghost use Rattle.keyword_ways.specs.FaultLists.{first_kept};
 ghost use Rattle.keyword_ways.specs.Tallies.{says_yes};
-ghost use Rattle.keyword_ways.specs.Ways.{evaluated, goes_on, noted_one, plain, refused, taken, with_first};
+ghost use Rattle.keyword_ways.specs.Ways.{evaluated, goes_on, with_first};
+ghost use Rattle.keyword_ways.specs.Borrowing.{KeepsBorrows, TakesBorrows};
+ghost use Rattle.keyword_ways.specs.AnswerWords.{Refuses, Notes, Takes, own_fault};
 
 use crate::units::{invalidate, with_unit};
 use schema_parts::keyword::{Answer, Fault, Mode, OwnError, Reply};
@@ -20,7 +22,7 @@ use std::mem;
 
 /// The answer with the verdict no.
 fn refused<'i>(alloc: Global, answer: Answer<'i>) -> Answer<'i>
-    ensures refused { (texts : Bool) → answer_of texts result ≡ refused (answer_of texts answer.entry) }
+    ensures refused { Refuses answer.entry result }
     ensures faults { faults_in result ≡ faults_in answer.entry }
 {
     match answer {
@@ -105,7 +107,7 @@ fn evaluated<'i>(
     before: Answer<'i>,
 ) -> Result<Answer<'i>, OutOfMemory>
     ensures evaluated { IfOk result (λ after. (texts : Bool) → answer_of texts after
-        ≡ evaluated (answer_of texts before.entry) (own (plain keyword.now (spoken texts (string_bytes text))))) }
+        ≡ evaluated (answer_of texts before.entry) (own_fault texts keyword.now text)) }
     ensures faults { IfOk result (λ after. faults_in after ≡ []) }
 {
     let mut found = before.into_evaluation(alloc)?;
@@ -119,8 +121,8 @@ fn evaluated<'i>(
 /// Makes the answer say no, with no error. Where a verdict alone is wanted, this is what a keyword does that refuses. Nothing is
 /// allocated.
 pub fn refuse<'i>(alloc: Global, answer: &mut Answer<'i>)
-    ensures refused { (texts : Bool) → answer_of texts answer.new ≡ refused (answer_of texts answer.old) }
-    ensures borrows { (root : Data) → All (PassesBorrowed root) (faults_in answer.old) → All (PassesBorrowed root) (faults_in answer.new) }
+    ensures refused { Refuses answer.old answer.new }
+    ensures borrows { KeepsBorrows answer.old answer.new }
 {
     let before = mem::replace(answer, Answer::Verdict(false));
     *answer = refused(alloc, before);
@@ -135,10 +137,8 @@ pub fn note<'i>(
     text: String,
     answer: &mut Answer<'i>,
 ) -> Result<(), OutOfMemory>
-    ensures noted { IfOk result (λ _. (texts : Bool) → answer_of texts answer.new
-        ≡ noted_one mode (answer_of texts answer.old) (own (plain keyword.now (spoken texts (string_bytes text))))) }
-    ensures borrows { IfOk result (λ _. (root : Data) → All (PassesBorrowed root) (faults_in answer.old)
-        → All (PassesBorrowed root) (faults_in answer.new)) }
+    ensures noted { IfOk result (λ _. Notes mode keyword.now text answer.old answer.new) }
+    ensures borrows { IfOk result (λ _. KeepsBorrows answer.old answer.new) }
 {
     let before = mem::replace(answer, Answer::Verdict(false));
     *answer = with_own(alloc, mode, keyword, text, before)?;
@@ -153,10 +153,8 @@ fn with_own<'i>(
     text: String,
     before: Answer<'i>,
 ) -> Result<Answer<'i>, OutOfMemory>
-    ensures noted { IfOk result (λ after. (texts : Bool) → answer_of texts after
-        ≡ noted_one mode (answer_of texts before.entry) (own (plain keyword.now (spoken texts (string_bytes text))))) }
-    ensures borrows { IfOk result (λ after. (root : Data) → All (PassesBorrowed root) (faults_in before.entry)
-        → All (PassesBorrowed root) (faults_in after)) }
+    ensures noted { IfOk result (Notes mode keyword.now text before.entry) }
+    ensures borrows { IfOk result (KeepsBorrows before.entry) }
 {
     match mode {
         Mode::Verdict => {
@@ -176,10 +174,8 @@ fn with_own_first<'i>(
     text: String,
     before: Answer<'i>,
 ) -> Result<Answer<'i>, OutOfMemory>
-    ensures noted { IfOk result (λ after. (texts : Bool) → answer_of texts after
-        ≡ noted_one Mode.First (answer_of texts before.entry) (own (plain keyword.now (spoken texts (string_bytes text))))) }
-    ensures borrows { IfOk result (λ after. (root : Data) → All (PassesBorrowed root) (faults_in before.entry)
-        → All (PassesBorrowed root) (faults_in after)) }
+    ensures noted { IfOk result (Notes Mode.First keyword.now text before.entry) }
+    ensures borrows { IfOk result (KeepsBorrows before.entry) }
 {
     let fault = own_fault(alloc, keyword, text)?;
     Ok(with_first(before, Box::new(alloc, fault)?))
@@ -192,10 +188,8 @@ fn with_own_last<'i>(
     text: String,
     before: Answer<'i>,
 ) -> Result<Answer<'i>, OutOfMemory>
-    ensures noted { IfOk result (λ after. (texts : Bool) → answer_of texts after
-        ≡ noted_one Mode.All (answer_of texts before.entry) (own (plain keyword.now (spoken texts (string_bytes text))))) }
-    ensures borrows { IfOk result (λ after. (root : Data) → All (PassesBorrowed root) (faults_in before.entry)
-        → All (PassesBorrowed root) (faults_in after)) }
+    ensures noted { IfOk result (Notes Mode.All keyword.now text before.entry) }
+    ensures borrows { IfOk result (KeepsBorrows before.entry) }
 {
     let mut faults = faults_of(alloc, before)?;
     faults.push(own_fault(alloc, keyword, text)?)?;
@@ -205,7 +199,7 @@ fn with_own_last<'i>(
 /// An error at the keyword itself.
 fn own_fault<'i>(alloc: Global, keyword: &str, text: String) -> Result<Fault<'i>, OutOfMemory>
     ensures own { IfOk result (λ fault. (texts : Bool) → fault_of texts fault
-        ≡ own (plain keyword.now (spoken texts (string_bytes text)))) }
+        ≡ own_fault texts keyword.now text) }
     ensures borrows { IfOk result (λ fault. (root : Data) → PassesBorrowed root fault) }
 {
     Ok(Fault::Own(OwnError {
@@ -245,10 +239,8 @@ pub fn says_yes(reply: &Reply<'_>) -> bool
 
 /// Takes what a child answered. A verdict that lets the answer be moves nothing.
 pub fn take<'i>(alloc: Global, reply: Reply<'i>, answer: &mut Answer<'i>) -> Result<(), OutOfMemory>
-    ensures taken { IfOk result (λ _. (texts : Bool) → answer_of texts answer.new
-        ≡ taken (answer_of texts answer.old) (reply_of texts reply.entry)) }
-    ensures borrows { IfOk result (λ _. (root : Data) → All (BorrowsItsPlace root) (errors_in reply.entry)
-        → All (PassesBorrowed root) (faults_in answer.old) → All (PassesBorrowed root) (faults_in answer.new)) }
+    ensures taken { IfOk result (λ _. Takes reply.entry answer.old answer.new) }
+    ensures borrows { IfOk result (λ _. TakesBorrows reply.entry answer.old answer.new) }
 {
     match reply {
         Reply::Truth(holds) => {
@@ -268,10 +260,8 @@ fn take_told<'i>(
     reply: Reply<'i>,
     answer: &mut Answer<'i>,
 ) -> Result<(), OutOfMemory>
-    ensures taken { IfOk result (λ _. (texts : Bool) → answer_of texts answer.new
-        ≡ taken (answer_of texts answer.old) (reply_of texts reply.entry)) }
-    ensures borrows { IfOk result (λ _. (root : Data) → All (BorrowsItsPlace root) (errors_in reply.entry)
-        → All (PassesBorrowed root) (faults_in answer.old) → All (PassesBorrowed root) (faults_in answer.new)) }
+    ensures taken { IfOk result (λ _. Takes reply.entry answer.old answer.new) }
+    ensures borrows { IfOk result (λ _. TakesBorrows reply.entry answer.old answer.new) }
 {
     let before = mem::replace(answer, Answer::Verdict(false));
     *answer = with_reply(alloc, reply, before)?;
@@ -284,10 +274,8 @@ fn with_reply<'i>(
     reply: Reply<'i>,
     before: Answer<'i>,
 ) -> Result<Answer<'i>, OutOfMemory>
-    ensures taken { IfOk result (λ after. (texts : Bool) → answer_of texts after
-        ≡ taken (answer_of texts before.entry) (reply_of texts reply.entry)) }
-    ensures borrows { IfOk result (λ after. (root : Data) → All (BorrowsItsPlace root) (errors_in reply.entry)
-        → All (PassesBorrowed root) (faults_in before.entry) → All (PassesBorrowed root) (faults_in after)) }
+    ensures taken { IfOk result (Takes reply.entry before.entry) }
+    ensures borrows { IfOk result (TakesBorrows reply.entry before.entry) }
 {
     match reply {
         Reply::Nothing => Ok(before),

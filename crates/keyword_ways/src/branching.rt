@@ -1,11 +1,10 @@
 //! A run that branches: it asks whether one child accepts, and passes on what the child of the branch that follows answers.
-ghost use Rattle.std.specs.Prelude.{All, ◌≡◌, Bool, option_map, IfOk};
-ghost use Rattle.serde_json.specs.Data.{Data};
-ghost use Rattle.schema_reports.specs.ReportViews.{BorrowsItsPlace};
-ghost use Rattle.schema_parts.specs.FaultViews.{errors_in, faults_in, PassesBorrowed};
-ghost use Rattle.schema_parts.specs.KeywordViews.{answer_of, reply_of, turn_of};
-ghost use Rattle.keyword_ways.specs.Items.{child_here};
-ghost use Rattle.keyword_ways.specs.Ways.{asked, branch_number, branches, chosen, stage_at, way_step, way_turn};
+ghost use Rattle.std.specs.Prelude.{◌≡◌, IfOk};
+ghost use Rattle.schema_parts.specs.KeywordViews.{turn_of};
+ghost use Rattle.keyword_ways.specs.Ways.{asked, branch_number, stage_at};
+ghost use Rattle.keyword_ways.specs.Borrowing.{TakesBorrows};
+ghost use Rattle.keyword_ways.specs.TurnWords.{Turns, Steps};
+ghost use Rattle.keyword_ways.specs.Branching.{branches_here, chosen_here};
 
 use crate::answers::{says_yes, take};
 use crate::run::{Progress, Stage};
@@ -22,9 +21,9 @@ fn ask_branch<'s>(
 ) -> Step<'s>
     ensures stage { run.new ≡ record run.old {
       stage = stage_at (branch_number accepts)
-          (chosen accepts (option_map child_here accepted) (option_map child_here refused));
+          (chosen_here accepts accepted refused);
     } }
-    ensures step { turn_of result ≡ asked run.old.mode (chosen accepts (option_map child_here accepted) (option_map child_here refused)) }
+    ensures step { turn_of result ≡ asked run.old.mode (chosen_here accepts accepted refused) }
 {
     let branch = if accepts { accepted } else { refused };
     match branch {
@@ -50,16 +49,9 @@ pub fn branch_on<'s, 'i>(
     reply: Reply<'i>,
     answer: &mut Answer<'i>,
 ) -> Result<Step<'s>, OutOfMemory>
-    ensures turns { IfOk result (λ _. (texts : Bool) → way_turn
-        (branches (child_here 0) (option_map child_here accepted) (option_map child_here refused)) (run.old, answer_of texts answer.old)
-        (reply_of texts reply.entry)
-        ≡ (run.new, answer_of texts answer.new)) }
-    ensures steps { IfOk result (λ step. (texts : Bool) → way_step
-        (branches (child_here 0) (option_map child_here accepted) (option_map child_here refused)) (run.old, answer_of texts answer.old)
-        (reply_of texts reply.entry)
-        ≡ turn_of step) }
-    ensures borrows { IfOk result (λ _. (root : Data) → All (BorrowsItsPlace root) (errors_in reply.entry)
-        → All (PassesBorrowed root) (faults_in answer.old) → All (PassesBorrowed root) (faults_in answer.new)) }
+    ensures turns { IfOk result (λ _. Turns (branches_here accepted refused) run.old answer.old reply.entry run.new answer.new) }
+    ensures steps { IfOk result (Steps (branches_here accepted refused) run.old answer.old reply.entry) }
+    ensures borrows { IfOk result (λ _. TakesBorrows reply.entry answer.old answer.new) }
 {
     match run.stage {
         Stage::Begun => {

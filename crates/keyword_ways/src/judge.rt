@@ -1,19 +1,17 @@
 //! Keywords that judge by how many questions are answered by yes. An author says which questions it asks, of how many such answers
 //! it holds, its name and its error's text; its turns and all laws follow.
-ghost use Rattle.std.specs.Prelude.{All, ◌≡◌, ℕ, Bool, false, IfOk, map, string_bytes, true};
-ghost use Rattle.serde_json.specs.Data.{Data};
+ghost use Rattle.std.specs.Prelude.{◌≡◌, ℕ, Bool, IfOk, string_bytes, true};
 ghost use Rattle.schema_definitions.specs.Instance.{Subject, Text};
-ghost use Rattle.schema_reports.specs.InstanceTexts.{subject_has_float};
 ghost use Rattle.schema_reports.specs.InstanceViews.{subject_of};
 ghost use Rattle.schema_definitions.specs.Keywords.{Question, ask};
-ghost use Rattle.schema_reports.specs.ReportViews.{BorrowsItsPlace, spoken};
-ghost use Rattle.schema_parts.specs.FaultViews.{errors_in, faults_in, PassesBorrowed};
-ghost use Rattle.schema_parts.specs.KeywordViews.{answer_of, mode_of, reply_of, turn_of, Tells};
+ghost use Rattle.schema_parts.specs.KeywordViews.{mode_of, turn_of};
 ghost use Rattle.keyword_ways.specs.Items.{each_from};
-ghost use Rattle.keyword_ways.specs.OwnWays.{judge_way, spoken_way};
+ghost use Rattle.keyword_ways.specs.OwnWays.{counted_ways, judge_ways};
 ghost use Rattle.keyword_ways.specs.Places.{AsksPresent};
 ghost use Rattle.keyword_ways.specs.WayGrows.{never_falls};
-ghost use Rattle.keyword_ways.specs.Ways.{noted, unless, way_step, way_turn};
+ghost use Rattle.keyword_ways.specs.Borrowing.{KeepsBorrows, TakesBorrows};
+ghost use Rattle.keyword_ways.specs.AnswerWords.{IfNoFraction, TellsAtOnce};
+ghost use Rattle.keyword_ways.specs.TurnWords.{TellsTurn, StepsSpoken};
 
 use crate::answers::{note, refuse};
 use crate::judging::{Judge, Judging, judge_on};
@@ -76,8 +74,8 @@ pub trait JudgeKeyword: Drop {
         instance: Instance<'_>,
         accepted: usize,
     ) -> Result<String, OutOfMemory>
-        ensures text { IfOk result (λ text. subject_has_float (subject_of instance.entry) ≡ false → string_bytes text
-            ≡ error_text (shape self.now) (subject_of instance.entry) accepted) };
+        ensures text { IfOk result (λ text. IfNoFraction instance.entry (string_bytes text
+            ≡ error_text (shape self.now) (subject_of instance.entry) accepted)) };
 
     /// Whether the keyword says of itself that it is monotone: a yes more among the answers never turns its own from yes to no.
     /// `false` says nothing, and is always right.
@@ -100,12 +98,9 @@ fn tell_judged<'i, J: JudgeKeyword>(
     instance: Instance<'i>,
     answer: &mut Answer<'i>,
 ) -> Result<(), OutOfMemory>
-    ensures told { IfOk result (λ _. (texts : Bool) → Tells texts true (subject_of instance.entry) → answer_of texts answer.new
-        ≡ noted mode (J.called (J.shape judge.now)) (answer_of texts answer.old)
-        (map (spoken texts) (unless (J.accepts (J.shape judge.now) (subject_of instance.entry) accepted)
-        (J.error_text (J.shape judge.now) (subject_of instance.entry) accepted)))) }
-    ensures borrows { IfOk result (λ _. (root : Data) → All (PassesBorrowed root) (faults_in answer.old)
-        → All (PassesBorrowed root) (faults_in answer.new)) }
+    ensures told { IfOk result (λ _. TellsAtOnce true instance.entry (counted_ways J.called J.accepts J.error_text accepted
+        (J.shape judge.now)) mode answer.old answer.new) }
+    ensures borrows { IfOk result (λ _. KeepsBorrows answer.old answer.new) }
 {
     if judge.holds(instance, accepted) {
         return Ok(());
@@ -127,20 +122,11 @@ pub fn turn_judge<'s, 'i, J: JudgeKeyword>(
     reply: Reply<'i>,
     answer: &mut Answer<'i>,
 ) -> Result<Step<'s>, OutOfMemory>
-    ensures turns { IfOk result (λ _. (texts : Bool) → Tells texts true (subject_of instance.entry)
-        → way_turn (spoken_way texts (judge_way (J.called (J.shape keyword.now)) (J.enough (J.shape keyword.now))
-        (J.shows (J.shape keyword.now)) (J.accepts (J.shape keyword.now) (subject_of instance.entry))
-        (J.error_text (J.shape keyword.now) (subject_of instance.entry))
-        (each_from (J.question (J.shape keyword.now)) 0 (J.count (J.shape keyword.now) (subject_of instance.entry)))))
-        (run.old, answer_of texts answer.old) (reply_of texts reply.entry) ≡ (run.new, answer_of texts answer.new)) }
-    ensures steps { IfOk result (λ step. (texts : Bool)
-        → way_step (spoken_way texts (judge_way (J.called (J.shape keyword.now)) (J.enough (J.shape keyword.now))
-        (J.shows (J.shape keyword.now)) (J.accepts (J.shape keyword.now) (subject_of instance.entry))
-        (J.error_text (J.shape keyword.now) (subject_of instance.entry))
-        (each_from (J.question (J.shape keyword.now)) 0 (J.count (J.shape keyword.now) (subject_of instance.entry)))))
-        (run.old, answer_of texts answer.old) (reply_of texts reply.entry) ≡ turn_of step) }
-    ensures borrows { IfOk result (λ _. (root : Data) → All (BorrowsItsPlace root) (errors_in reply.entry)
-        → All (PassesBorrowed root) (faults_in answer.old) → All (PassesBorrowed root) (faults_in answer.new)) }
+    ensures turns { IfOk result (λ _. TellsTurn true instance.entry (judge_ways J.called J.enough J.shows J.accepts J.error_text
+        J.question J.count (J.shape keyword.now)) run.old answer.old reply.entry run.new answer.new) }
+    ensures steps { IfOk result (StepsSpoken instance.entry (judge_ways J.called J.enough J.shows J.accepts J.error_text J.question
+        J.count (J.shape keyword.now)) run.old answer.old reply.entry) }
+    ensures borrows { IfOk result (λ _. TakesBorrows reply.entry answer.old answer.new) }
 {
     let mode = run.mode;
     let judging = judge_on(alloc, keyword.judge(instance), run, reply, answer)?;
@@ -166,7 +152,7 @@ impl<J: JudgeKeyword> Validate for Judged<J> {
     ghost use Rattle.keyword_ways.specs.WayUnits.{own_ask_no_units};
     ghost use Rattle.keyword_ways.specs.WayVerdicts.{own_ask_verdicts};
     ghost use Rattle.std.specs.Prelude.{refl};
-    ghost use Rattle.keyword_ways.specs.OwnWays.{judge_ways, own_absorbed, own_can_be, own_ends, own_fits, own_function_laws};
+    ghost use Rattle.keyword_ways.specs.OwnWays.{own_absorbed, own_can_be, own_ends, own_fits, own_function_laws};
     ghost use Rattle.keyword_ways.specs.OwnWays.{own_remaining, own_turn_laws, own_words};
 
     type Run = Progress;

@@ -1,14 +1,13 @@
 //! A run that judges: it asks one numbered question after the other, and tells errors by how many are answered by yes.
-ghost use Rattle.std.specs.Prelude.{All, ◌≡◌, ◌+◌, ℕ, Bool, IfOk, min, not};
-ghost use Rattle.serde_json.specs.Data.{Data};
+ghost use Rattle.std.specs.Prelude.{◌≡◌, ◌+◌, ℕ, Bool, IfOk, min, not};
 ghost use Rattle.schema_definitions.specs.Keywords.{Answer as AnswerOfRun, Question, Reply as ReplyOfRun};
-ghost use Rattle.schema_parts.specs.FaultViews.{faults_in, PassesBorrowed};
 ghost use Rattle.schema_parts.specs.KeywordViews.{answer_of, reply_of};
 ghost use Rattle.keyword_ways.specs.Asking.{nth_at};
 ghost use Rattle.keyword_ways.specs.Items.{child_here, each_from};
-ghost use Rattle.keyword_ways.specs.Judging.{counted_of, judging_answer, judging_turn, kept_at};
+ghost use Rattle.keyword_ways.specs.Judging.{counted_of, judging_answer, judging_turn, kept_at, JudgesStage, JudgesStep, JudgesAnswer};
 ghost use Rattle.keyword_ways.specs.Tallies.{Tally, asked_in, counted, is_settled, says_yes, wants_units};
-ghost use Rattle.keyword_ways.specs.Ways.{answer_after, asked, counted_at, judged_at, judges, next_if, nth, stage_after, step_at};
+ghost use Rattle.keyword_ways.specs.Ways.{asked, counted_at, judged_at, next_if, nth};
+ghost use Rattle.keyword_ways.specs.Borrowing.{KeepsBorrows};
 
 use crate::answers::says_yes;
 use crate::run::{Progress, Stage};
@@ -117,16 +116,10 @@ fn place_after(last: usize, count: usize, settled: bool) -> Option<usize>
 
 /// Counts a reply that says yes or not, and says what the turn does.
 fn count_on(judge: Judge, run: &mut Progress, yes: bool) -> Judging
-    ensures stage { (f : ℕ → Question) (t : Tally) (r : ReplyOfRun) → t.enough ≡ judge.enough → t.shows ≡ judge.shows → yes ≡ says_yes r
-        → run.new ≡ record run.old {
-          stage = stage_after (judges t (each_from f 0 judge.count)) run.old.mode run.old.stage r;
-        } }
-    ensures step { (f : ℕ → Question) (t : Tally) (r : ReplyOfRun) → t.enough ≡ judge.enough → t.shows ≡ judge.shows → yes ≡ says_yes r
-        → step_at (judges t (each_from f 0 judge.count)) run.old.mode run.old.stage r ≡ judging_turn f result }
-    ensures answer { (f : ℕ → Question) (t : Tally) (a : AnswerOfRun) (r : ReplyOfRun)
-        → t.enough ≡ judge.enough → t.shows ≡ judge.shows → yes ≡ says_yes r
-        → answer_after (judges t (each_from f 0 judge.count)) run.old.mode run.old.stage a r
-        ≡ judging_answer t run.old.mode (kept_at run.old.stage a r) result }
+    ensures stage { (f : ℕ → Question) (r : ReplyOfRun) → yes ≡ says_yes r → JudgesStage judge f run.old r run.new }
+    ensures step { (f : ℕ → Question) (r : ReplyOfRun) → yes ≡ says_yes r → JudgesStep judge f run.old r result }
+    ensures answer { (f : ℕ → Question) (a : AnswerOfRun) (r : ReplyOfRun) → yes ≡ says_yes r
+        → JudgesAnswer judge f run.old r a result (kept_at run.old.stage a r) }
 {
     let units = wants_units(judge.shows, run.mode);
     match run.stage {
@@ -152,21 +145,13 @@ pub fn judge_on<'i>(
     reply: Reply<'i>,
     answer: &mut Answer<'i>,
 ) -> Result<Judging, OutOfMemory>
-    ensures stage { IfOk result (λ _. (texts : Bool) (f : ℕ → Question) (t : Tally) → t.enough ≡ judge.enough → t.shows ≡ judge.shows
-        → run.new ≡ record run.old {
-          stage = stage_after (judges t (each_from f 0 judge.count)) run.old.mode run.old.stage
-              (reply_of texts reply.entry);
-        }) }
-    ensures step { IfOk result (λ judging. (texts : Bool) (f : ℕ → Question) (t : Tally) → t.enough ≡ judge.enough → t.shows ≡ judge.shows
-        → step_at (judges t (each_from f 0 judge.count)) run.old.mode run.old.stage (reply_of texts reply.entry)
-        ≡ judging_turn f judging) }
-    ensures answer { IfOk result (λ judging. (texts : Bool) (f : ℕ → Question) (t : Tally) → t.enough ≡ judge.enough
-        → t.shows ≡ judge.shows
-        → answer_after (judges t (each_from f 0 judge.count)) run.old.mode run.old.stage (answer_of texts answer.old)
-        (reply_of texts reply.entry)
-        ≡ judging_answer t run.old.mode (answer_of texts answer.new) judging) }
-    ensures borrows { IfOk result (λ _. (root : Data) → All (PassesBorrowed root) (faults_in answer.old)
-        → All (PassesBorrowed root) (faults_in answer.new)) }
+    ensures stage { IfOk result (λ _. (texts : Bool) (f : ℕ → Question)
+        → JudgesStage judge f run.old (reply_of texts reply.entry) run.new) }
+    ensures step { IfOk result (λ judging. (texts : Bool) (f : ℕ → Question)
+        → JudgesStep judge f run.old (reply_of texts reply.entry) judging) }
+    ensures answer { IfOk result (λ judging. (texts : Bool) (f : ℕ → Question)
+        → JudgesAnswer judge f run.old (reply_of texts reply.entry) (answer_of texts answer.old) judging (answer_of texts answer.new)) }
+    ensures borrows { IfOk result (λ _. KeepsBorrows answer.old answer.new) }
 {
     let yes = says_yes(&reply);
     keep_child(alloc, run.stage, reply, answer)?;
@@ -181,20 +166,11 @@ pub fn judge_children<'i>(
     reply: Reply<'i>,
     answer: &mut Answer<'i>,
 ) -> Result<Judging, OutOfMemory>
-    ensures stage { IfOk result (λ _. (texts : Bool) (t : Tally) → t.enough ≡ judge.enough → t.shows ≡ judge.shows
-        → run.new ≡ record run.old {
-          stage = stage_after (judges t (each_from child_here 0 judge.count)) run.old.mode run.old.stage
-              (reply_of texts reply.entry);
-        }) }
-    ensures step { IfOk result (λ judging. (texts : Bool) (t : Tally) → t.enough ≡ judge.enough → t.shows ≡ judge.shows
-        → step_at (judges t (each_from child_here 0 judge.count)) run.old.mode run.old.stage (reply_of texts reply.entry)
-        ≡ judging_turn child_here judging) }
-    ensures answer { IfOk result (λ judging. (texts : Bool) (t : Tally) → t.enough ≡ judge.enough → t.shows ≡ judge.shows
-        → answer_after (judges t (each_from child_here 0 judge.count)) run.old.mode run.old.stage (answer_of texts answer.old)
-        (reply_of texts reply.entry)
-        ≡ judging_answer t run.old.mode (answer_of texts answer.new) judging) }
-    ensures borrows { IfOk result (λ _. (root : Data) → All (PassesBorrowed root) (faults_in answer.old)
-        → All (PassesBorrowed root) (faults_in answer.new)) }
+    ensures stage { IfOk result (λ _. (texts : Bool) → JudgesStage judge child_here run.old (reply_of texts reply.entry) run.new) }
+    ensures step { IfOk result (λ judging. (texts : Bool) → JudgesStep judge child_here run.old (reply_of texts reply.entry) judging) }
+    ensures answer { IfOk result (λ judging. (texts : Bool) → JudgesAnswer judge child_here run.old (reply_of texts reply.entry)
+        (answer_of texts answer.old) judging (answer_of texts answer.new)) }
+    ensures borrows { IfOk result (λ _. KeepsBorrows answer.old answer.new) }
 {
     judge_on(alloc, judge, run, reply, answer)
 }

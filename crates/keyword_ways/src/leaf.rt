@@ -1,15 +1,13 @@
 //! Keywords that ask nothing. An author says when such a keyword holds, its name and its error's text; all laws follow.
-ghost use Rattle.std.specs.Prelude.{All, ◌≡◌, Bool, false, IfOk, map, string_bytes, true};
-ghost use Rattle.serde_json.specs.Data.{Data};
+ghost use Rattle.std.specs.Prelude.{◌≡◌, Bool, IfOk, string_bytes, true};
 ghost use Rattle.schema_definitions.specs.Instance.{Subject, Text};
-ghost use Rattle.schema_reports.specs.InstanceTexts.{subject_has_float};
 ghost use Rattle.schema_reports.specs.InstanceViews.{subject_of};
 ghost use Rattle.schema_definitions.specs.Keywords.{done};
-ghost use Rattle.schema_reports.specs.ReportViews.{BorrowsItsPlace, spoken};
-ghost use Rattle.schema_parts.specs.FaultViews.{errors_in, faults_in, PassesBorrowed};
-ghost use Rattle.schema_parts.specs.KeywordViews.{answer_of, reply_of, turn_of, Tells};
-ghost use Rattle.keyword_ways.specs.OwnWays.{leaf_way, spoken_way};
-ghost use Rattle.keyword_ways.specs.Ways.{noted, unless, way_turn};
+ghost use Rattle.schema_parts.specs.KeywordViews.{turn_of};
+ghost use Rattle.keyword_ways.specs.OwnWays.{leaf_ways};
+ghost use Rattle.keyword_ways.specs.Borrowing.{KeepsBorrows, TakesBorrows};
+ghost use Rattle.keyword_ways.specs.AnswerWords.{IfNoFraction, TellsAtOnce};
+ghost use Rattle.keyword_ways.specs.TurnWords.{TellsTurn};
 
 use crate::answers::{note, refuse};
 use crate::run::Progress;
@@ -43,8 +41,8 @@ pub trait LeafKeyword: Drop {
 
     /// The error's text. It is asked for only where the keyword does not hold and an error is wanted.
     fn text(&self, alloc: Global, instance: Instance<'_>) -> Result<String, OutOfMemory>
-        ensures text { IfOk result (λ text. subject_has_float (subject_of instance.entry) ≡ false → string_bytes text
-            ≡ error_text (shape self.now) (subject_of instance.entry)) };
+        ensures text { IfOk result (λ text. IfNoFraction instance.entry (string_bytes text
+            ≡ error_text (shape self.now) (subject_of instance.entry))) };
 }
 
 /// Notes the keyword's error where it does not hold.
@@ -55,12 +53,9 @@ fn tell_leaf<'i, L: LeafKeyword>(
     instance: Instance<'i>,
     answer: &mut Answer<'i>,
 ) -> Result<(), OutOfMemory>
-    ensures told { IfOk result (λ _. (texts : Bool) → Tells texts true (subject_of instance.entry) → answer_of texts answer.new
-        ≡ noted mode (L.called (L.shape leaf.now)) (answer_of texts answer.old)
-        (map (spoken texts) (unless (L.accepts (L.shape leaf.now) (subject_of instance.entry))
-        (L.error_text (L.shape leaf.now) (subject_of instance.entry))))) }
-    ensures borrows { IfOk result (λ _. (root : Data) → All (PassesBorrowed root) (faults_in answer.old)
-        → All (PassesBorrowed root) (faults_in answer.new)) }
+    ensures told { IfOk result (λ _. TellsAtOnce true instance.entry (leaf_ways L.called L.accepts L.error_text (L.shape leaf.now)) mode
+        answer.old answer.new) }
+    ensures borrows { IfOk result (λ _. KeepsBorrows answer.old answer.new) }
 {
     if leaf.holds(instance) {
         return Ok(());
@@ -82,13 +77,10 @@ pub fn turn_leaf<'s, 'i, L: LeafKeyword>(
     reply: Reply<'i>,
     answer: &mut Answer<'i>,
 ) -> Result<Step<'s>, OutOfMemory>
-    ensures turns { IfOk result (λ _. (texts : Bool) → Tells texts true (subject_of instance.entry)
-        → way_turn (spoken_way texts (leaf_way (L.called (L.shape leaf.now)) (L.accepts (L.shape leaf.now) (subject_of instance.entry))
-        (L.error_text (L.shape leaf.now) (subject_of instance.entry)))) (run.old, answer_of texts answer.old)
-        (reply_of texts reply.entry) ≡ (run.new, answer_of texts answer.new)) }
+    ensures turns { IfOk result (λ _. TellsTurn true instance.entry (leaf_ways L.called L.accepts L.error_text (L.shape leaf.now)) run.old
+        answer.old reply.entry run.new answer.new) }
     ensures step { IfOk result (λ step. turn_of step ≡ done) }
-    ensures borrows { IfOk result (λ _. (root : Data) → All (BorrowsItsPlace root) (errors_in reply.entry)
-        → All (PassesBorrowed root) (faults_in answer.old) → All (PassesBorrowed root) (faults_in answer.new)) }
+    ensures borrows { IfOk result (λ _. TakesBorrows reply.entry answer.old answer.new) }
 {
     drop(reply);
     if tell_on(run) {
@@ -109,7 +101,7 @@ impl<L: LeafKeyword> Validate for Leaf<L> {
     ghost use Rattle.keyword_ways.specs.WayUnits.{own_ask_no_units};
     ghost use Rattle.keyword_ways.specs.WayVerdicts.{own_ask_verdicts};
     ghost use Rattle.std.specs.Prelude.{refl};
-    ghost use Rattle.keyword_ways.specs.OwnWays.{leaf_present, leaf_ways, own_absorbed, own_ends, own_fits, own_function_laws};
+    ghost use Rattle.keyword_ways.specs.OwnWays.{leaf_present, own_absorbed, own_ends, own_fits, own_function_laws};
     ghost use Rattle.keyword_ways.specs.OwnWays.{own_can_be, own_remaining, own_turn_laws, own_words};
 
     type Run = Progress;

@@ -1,16 +1,16 @@
 //! Keywords that ask nothing and have an error or several. An author says when such a keyword holds, its name and its errors' texts;
 //! all laws follow. `crate::leaf` is the same of one error, in a type that shows no fraction of the schema.
-ghost use Rattle.std.specs.Prelude.{All, ◌≡◌, Bool, IfOk, IfSome, List, false, length, map, string_bytes, true};
-ghost use Rattle.serde_json.specs.Data.{Data};
+ghost use Rattle.std.specs.Prelude.{◌≡◌, Bool, IfOk, IfSome, List, false, length, map, string_bytes, true};
 ghost use Rattle.schema_definitions.specs.Instance.{Subject, Text};
-ghost use Rattle.schema_reports.specs.InstanceTexts.{subject_has_float};
 ghost use Rattle.schema_reports.specs.InstanceViews.{subject_of};
 ghost use Rattle.schema_definitions.specs.Keywords.{done};
-ghost use Rattle.schema_reports.specs.ReportViews.{BorrowsItsPlace, spoken};
-ghost use Rattle.schema_parts.specs.FaultViews.{errors_in, faults_in, PassesBorrowed};
-ghost use Rattle.schema_parts.specs.KeywordViews.{answer_of, is_nil, reply_of, turn_of, Tells};
-ghost use Rattle.keyword_ways.specs.OwnWays.{spoken_way};
-ghost use Rattle.keyword_ways.specs.Ways.{noted, tells, way_turn};
+ghost use Rattle.schema_reports.specs.ReportViews.{spoken};
+ghost use Rattle.schema_parts.specs.KeywordViews.{answer_of, is_nil, turn_of};
+ghost use Rattle.keyword_ways.specs.OwnWays.{telling_ways};
+ghost use Rattle.keyword_ways.specs.Ways.{noted};
+ghost use Rattle.keyword_ways.specs.Borrowing.{KeepsBorrows, TakesBorrows};
+ghost use Rattle.keyword_ways.specs.AnswerWords.{IfNoFraction, TellsAtOnce};
+ghost use Rattle.keyword_ways.specs.TurnWords.{TellsTurn};
 
 use crate::answers::{note, refuse};
 use crate::run::Progress;
@@ -59,8 +59,8 @@ pub trait TellingKeyword: Drop {
         requires refuses { is_nil (error_texts (shape self.now) (subject_of instance)) ≡ false }
         ensures count { IfOk result (λ found. length found.items
             ≡ length (error_texts (shape self.now) (subject_of instance.entry))) }
-        ensures texts { IfOk result (λ found. shows_no_fraction (shape self.now) ≡ true → subject_has_float (subject_of instance.entry)
-            ≡ false → map string_bytes found.items ≡ error_texts (shape self.now) (subject_of instance.entry)) };
+        ensures texts { IfOk result (λ found. shows_no_fraction (shape self.now) ≡ true
+            → IfNoFraction instance.entry (map string_bytes found.items ≡ error_texts (shape self.now) (subject_of instance.entry))) };
 }
 
 /// A keyword that asks nothing, as the engine takes it.
@@ -79,8 +79,7 @@ fn note_each<'i>(
 ) -> Result<(), OutOfMemory>
     ensures noted { IfOk result (λ _. (texts : Bool) → answer_of texts answer.new
         ≡ noted mode name.now (answer_of texts answer.old) (map (λ text. spoken texts (string_bytes text)) found.items)) }
-    ensures borrows { IfOk result (λ _. (root : Data) → All (PassesBorrowed root) (faults_in answer.old)
-        → All (PassesBorrowed root) (faults_in answer.new)) }
+    ensures borrows { IfOk result (λ _. KeepsBorrows answer.old answer.new) }
 {
     for text in found {
         note(alloc, mode, name, text, answer)?;
@@ -97,12 +96,9 @@ fn tell_each<'i, T: TellingKeyword>(
     instance: Instance<'i>,
     answer: &mut Answer<'i>,
 ) -> Result<(), OutOfMemory>
-    ensures told { IfOk result (λ _. (texts : Bool)
-        → Tells texts (T.shows_no_fraction (T.shape keyword.now)) (subject_of instance.entry) → answer_of texts answer.new
-        ≡ noted mode (T.called (T.shape keyword.now)) (answer_of texts answer.old)
-        (map (spoken texts) (T.error_texts (T.shape keyword.now) (subject_of instance.entry)))) }
-    ensures borrows { IfOk result (λ _. (root : Data) → All (PassesBorrowed root) (faults_in answer.old)
-        → All (PassesBorrowed root) (faults_in answer.new)) }
+    ensures told { IfOk result (λ _. TellsAtOnce (T.shows_no_fraction (T.shape keyword.now)) instance.entry
+        (telling_ways T.called T.error_texts (T.shape keyword.now)) mode answer.old answer.new) }
+    ensures borrows { IfOk result (λ _. KeepsBorrows answer.old answer.new) }
 {
     if keyword.holds(alloc, instance)? {
         return Ok(());
@@ -125,14 +121,10 @@ pub fn turn_telling<'s, 'i, T: TellingKeyword>(
     reply: Reply<'i>,
     answer: &mut Answer<'i>,
 ) -> Result<Step<'s>, OutOfMemory>
-    ensures turns { IfOk result (λ _. (texts : Bool)
-        → Tells texts (T.shows_no_fraction (T.shape keyword.now)) (subject_of instance.entry)
-        → way_turn (spoken_way texts (tells (T.called (T.shape keyword.now))
-        (T.error_texts (T.shape keyword.now) (subject_of instance.entry)))) (run.old, answer_of texts answer.old)
-        (reply_of texts reply.entry) ≡ (run.new, answer_of texts answer.new)) }
+    ensures turns { IfOk result (λ _. TellsTurn (T.shows_no_fraction (T.shape keyword.now)) instance.entry
+        (telling_ways T.called T.error_texts (T.shape keyword.now)) run.old answer.old reply.entry run.new answer.new) }
     ensures step { IfOk result (λ step. turn_of step ≡ done) }
-    ensures borrows { IfOk result (λ _. (root : Data) → All (BorrowsItsPlace root) (errors_in reply.entry)
-        → All (PassesBorrowed root) (faults_in answer.old) → All (PassesBorrowed root) (faults_in answer.new)) }
+    ensures borrows { IfOk result (λ _. TakesBorrows reply.entry answer.old answer.new) }
 {
     drop(reply);
     if tell_on(run) {
@@ -148,7 +140,7 @@ impl<T: TellingKeyword> Validate for Telling<T> {
     ghost use Rattle.keyword_ways.specs.WayVerdicts.{own_ask_verdicts};
     ghost use Rattle.std.specs.Prelude.{refl};
     ghost use Rattle.keyword_ways.specs.OwnWays.{own_absorbed, own_ends, own_fits, own_function_laws, own_words, telling_present};
-    ghost use Rattle.keyword_ways.specs.OwnWays.{own_can_be, own_remaining, own_turn_laws, telling_ways};
+    ghost use Rattle.keyword_ways.specs.OwnWays.{own_can_be, own_remaining, own_turn_laws};
 
     type Run = Progress;
 

@@ -1,15 +1,12 @@
 //! Keywords of an author's own. An author says in which way a keyword goes about an instance and takes its turns; all laws of a
 //! keyword follow.
-ghost use Rattle.std.specs.Prelude.{All, ◌≡◌, Bool, IfOk};
-ghost use Rattle.serde_json.specs.Data.{Data};
+ghost use Rattle.std.specs.Prelude.{◌≡◌, Bool, IfOk};
 ghost use Rattle.schema_definitions.specs.Instance.{Subject};
-ghost use Rattle.schema_reports.specs.InstanceViews.{subject_of};
-ghost use Rattle.schema_reports.specs.ReportViews.{BorrowsItsPlace};
-ghost use Rattle.schema_parts.specs.FaultViews.{errors_in, faults_in, PassesBorrowed};
-ghost use Rattle.schema_parts.specs.KeywordViews.{answer_of, reply_of, turn_of, Tells};
-ghost use Rattle.keyword_ways.specs.OwnWays.{spoken_way, AlwaysPresent};
+ghost use Rattle.keyword_ways.specs.OwnWays.{AlwaysPresent};
 ghost use Rattle.keyword_ways.specs.WayGrows.{EachGrows};
-ghost use Rattle.keyword_ways.specs.Ways.{Way, way_step, way_turn};
+ghost use Rattle.keyword_ways.specs.Ways.{Way};
+ghost use Rattle.keyword_ways.specs.Borrowing.{TakesBorrows};
+ghost use Rattle.keyword_ways.specs.TurnWords.{TellsTurn, TellsStep};
 
 use crate::run::Progress;
 use schema_parts::keyword::{Answer, Mode, Reply, Step, Validate};
@@ -48,14 +45,11 @@ pub trait OwnKeyword: Drop {
         reply: Reply<'i>,
         answer: &mut Answer<'i>,
     ) -> Result<Step<'s>, OutOfMemory>
-        ensures turns { IfOk result (λ _. (texts : Bool) → Tells texts (shows_no_fraction (shape self.now)) (subject_of instance.entry)
-            → way_turn (spoken_way texts (way (shape self.now) (subject_of instance.entry))) (run.old, answer_of texts answer.old)
-            (reply_of texts reply.entry) ≡ (run.new, answer_of texts answer.new)) }
-        ensures steps { IfOk result (λ step. (texts : Bool) → Tells texts (shows_no_fraction (shape self.now)) (subject_of instance.entry)
-            → way_step (spoken_way texts (way (shape self.now) (subject_of instance.entry))) (run.old, answer_of texts answer.old)
-            (reply_of texts reply.entry) ≡ turn_of step) }
-        ensures borrows { IfOk result (λ _. (root : Data) → All (BorrowsItsPlace root) (errors_in reply.entry)
-            → All (PassesBorrowed root) (faults_in answer.old) → All (PassesBorrowed root) (faults_in answer.new)) };
+        ensures turns { IfOk result (λ _. TellsTurn (shows_no_fraction (shape self.now)) instance.entry (way (shape self.now)) run.old
+            answer.old reply.entry run.new answer.new) }
+        ensures steps { IfOk result (TellsStep (shows_no_fraction (shape self.now)) instance.entry (way (shape self.now)) run.old
+            answer.old reply.entry) }
+        ensures borrows { IfOk result (λ _. TakesBorrows reply.entry answer.old answer.new) };
 
     /// Whether the keyword says of itself that it is monotone: a yes more among the answers never turns its own from yes to no.
     /// `false` says nothing, and is always right.

@@ -1,14 +1,13 @@
 //! A run that passes on: it asks one question after the other, and passes on what each answers.
-ghost use Rattle.std.specs.Prelude.{All, ◌≡◌, ◌≤◌, ◌+◌, ◌^◌, ◌<◌, ℕ, Bool, List, Option, length, option_map, IfOk};
-ghost use Rattle.serde_json.specs.Data.{Data};
-ghost use Rattle.schema_reports.specs.ReportViews.{BorrowsItsPlace};
+ghost use Rattle.std.specs.Prelude.{◌≡◌, ◌≤◌, ◌+◌, ◌^◌, ◌<◌, ℕ, Bool, List, Option, length, option_map, IfOk};
 ghost use Rattle.schema_definitions.specs.Keywords.{Question};
-ghost use Rattle.schema_parts.specs.FaultViews.{errors_in, faults_in, PassesBorrowed};
 ghost use Rattle.schema_parts.specs.KeywordViews.{answer_of, reply_of, turn_of};
 ghost use Rattle.schema_parts.specs.declared.keyword.Mode.{Mode as ModeOfRun};
 ghost use Rattle.keyword_ways.specs.Asking.{IsNext, IsNextFrom, nth_at, stage_of};
 ghost use Rattle.keyword_ways.specs.Items.{child_here, each_from};
-ghost use Rattle.keyword_ways.specs.Ways.{answer_after, asked, passes_on, way_step, way_turn};
+ghost use Rattle.keyword_ways.specs.Ways.{answer_after, asked, passes_on};
+ghost use Rattle.keyword_ways.specs.Borrowing.{TakesBorrows};
+ghost use Rattle.keyword_ways.specs.TurnWords.{TurnsIn, StepsIn};
 
 use crate::answers::{goes_on, take};
 use crate::run::{Progress, Stage};
@@ -25,8 +24,7 @@ fn take_asked<'i>(
 ) -> Result<(), OutOfMemory>
     ensures answered { IfOk result (λ _. (texts : Bool) (qs : List Question) (m : ModeOfRun) → answer_of texts answer.new
         ≡ answer_after (passes_on qs) m stage (answer_of texts answer.old) (reply_of texts reply.entry)) }
-    ensures borrows { IfOk result (λ _. (root : Data) → All (BorrowsItsPlace root) (errors_in reply.entry)
-        → All (PassesBorrowed root) (faults_in answer.old) → All (PassesBorrowed root) (faults_in answer.new)) }
+    ensures borrows { IfOk result (λ _. TakesBorrows reply.entry answer.old answer.new) }
 {
     match stage {
         Stage::Asked(_) => take(alloc, reply, answer),
@@ -53,8 +51,7 @@ pub fn onward<'i>(
         → IsNext qs run.now.stage (reply_of texts reply.entry) place) }
     ensures next_from { IfOk result (λ start. (texts : Bool) (os : List (Option Question)) → length os ≤ limit
         → IsNextFrom os run.now.stage (reply_of texts reply.entry) start) }
-    ensures borrows { IfOk result (λ _. (root : Data) → All (BorrowsItsPlace root) (errors_in reply.entry)
-        → All (PassesBorrowed root) (faults_in answer.old) → All (PassesBorrowed root) (faults_in answer.new)) }
+    ensures borrows { IfOk result (λ _. TakesBorrows reply.entry answer.old answer.new) }
 {
     let onward = goes_on(&reply);
     take_asked(alloc, run.stage, reply, answer)?;
@@ -104,13 +101,10 @@ pub fn next_number<'i>(
 ) -> Result<Option<usize>, OutOfMemory>
     requires { first + count < 2 ^ 64 }
     ensures turns { IfOk result (λ _. (texts : Bool) (f : ℕ → Question)
-        → way_turn (passes_on (each_from f first count)) (run.old, answer_of texts answer.old) (reply_of texts reply.entry)
-        ≡ (run.new, answer_of texts answer.new)) }
+        → TurnsIn texts (passes_on (each_from f first count)) run.old answer.old reply.entry run.new answer.new) }
     ensures steps { IfOk result (λ number. (texts : Bool) (f : ℕ → Question)
-        → way_step (passes_on (each_from f first count)) (run.old, answer_of texts answer.old) (reply_of texts reply.entry)
-        ≡ asked run.old.mode (option_map f number)) }
-    ensures borrows { IfOk result (λ _. (root : Data) → All (BorrowsItsPlace root) (errors_in reply.entry)
-        → All (PassesBorrowed root) (faults_in answer.old) → All (PassesBorrowed root) (faults_in answer.new)) }
+        → StepsIn texts (passes_on (each_from f first count)) run.old answer.old reply.entry (asked run.old.mode (option_map f number))) }
+    ensures borrows { IfOk result (λ _. TakesBorrows reply.entry answer.old answer.new) }
 {
     let place = onward(alloc, count, run, reply, answer)?;
     Ok(number_at(place, first, count, run))

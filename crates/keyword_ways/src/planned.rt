@@ -1,16 +1,14 @@
 //! Keywords that say by a plan how they go about an instance. Their runs and their laws are the same for all of them.
-ghost use Rattle.std.specs.Prelude.{All, ◌≡◌, ◌∷◌, [], ℕ, Bool, IfOk, Some, false, refl, string_bytes, true};
-ghost use Rattle.serde_json.specs.Data.{Data};
+ghost use Rattle.std.specs.Prelude.{◌≡◌, ℕ, Bool, IfOk, Some, false, refl, string_bytes, true};
 ghost use Rattle.schema_definitions.specs.Instance.{Subject, Text};
-ghost use Rattle.schema_reports.specs.InstanceTexts.{subject_has_float};
 ghost use Rattle.schema_reports.specs.InstanceViews.{subject_of};
 ghost use Rattle.schema_definitions.specs.Keywords.{done};
-ghost use Rattle.schema_reports.specs.ReportViews.{BorrowsItsPlace, spoken};
-ghost use Rattle.schema_parts.specs.FaultViews.{errors_in, faults_in, PassesBorrowed};
-ghost use Rattle.schema_parts.specs.KeywordViews.{answer_of, reply_of, turn_of, Tells};
-ghost use Rattle.keyword_ways.specs.Plans.{asks_count, asks_of, enough_of, is_wanted, plan_ways, question_of, wanting_way};
-ghost use Rattle.keyword_ways.specs.OwnWays.{leaf_way, spoken_way};
-ghost use Rattle.keyword_ways.specs.Ways.{asked, noted, passes_on, way_step, way_turn};
+ghost use Rattle.schema_parts.specs.KeywordViews.{turn_of};
+ghost use Rattle.keyword_ways.specs.Plans.{asks_count, asks_of, enough_of, is_wanted, plan_ways, question_of, error_ways, wanting_ways};
+ghost use Rattle.keyword_ways.specs.Ways.{asked, passes_on};
+ghost use Rattle.keyword_ways.specs.Borrowing.{KeepsBorrows, TakesBorrows};
+ghost use Rattle.keyword_ways.specs.AnswerWords.{IfNoFraction, TellsAtOnce};
+ghost use Rattle.keyword_ways.specs.TurnWords.{Turns, Steps, TellsTurn, StepsSpoken};
 
 use crate::answers::{note, refuse};
 use crate::items::item_count;
@@ -101,8 +99,8 @@ pub trait PlannedKeyword: Drop {
         instance: Instance<'_>,
         accepted: usize,
     ) -> Result<String, OutOfMemory>
-        ensures text { IfOk result (λ text. shows_no_fraction (shape self.now) ≡ true → subject_has_float (subject_of instance.entry)
-            ≡ false → string_bytes text ≡ error_text (shape self.now) (subject_of instance.entry) accepted) };
+        ensures text { IfOk result (λ text. shows_no_fraction (shape self.now) ≡ true → IfNoFraction instance.entry (string_bytes text
+            ≡ error_text (shape self.now) (subject_of instance.entry) accepted)) };
 
     /// Returns whether the keyword says of itself that it is monotone: a yes more among the answers never turns its own from yes to
     /// no. So it is where none of its plans has a most. `false` says nothing, and is always right.
@@ -128,12 +126,9 @@ fn tell<'i, P: PlannedKeyword>(
     accepted: usize,
     answer: &mut Answer<'i>,
 ) -> Result<(), OutOfMemory>
-    ensures told { IfOk result (λ _. (texts : Bool)
-        → Tells texts (P.shows_no_fraction (P.shape keyword.now)) (subject_of instance.entry) → answer_of texts answer.new
-        ≡ noted mode (P.called (P.shape keyword.now)) (answer_of texts answer.old)
-        (spoken texts (P.error_text (P.shape keyword.now) (subject_of instance.entry) accepted) ∷ [])) }
-    ensures borrows { IfOk result (λ _. (root : Data) → All (PassesBorrowed root) (faults_in answer.old)
-        → All (PassesBorrowed root) (faults_in answer.new)) }
+    ensures told { IfOk result (λ _. TellsAtOnce (P.shows_no_fraction (P.shape keyword.now)) instance.entry
+        (error_ways P.called P.error_text false accepted (P.shape keyword.now)) mode answer.old answer.new) }
+    ensures borrows { IfOk result (λ _. KeepsBorrows answer.old answer.new) }
 {
     if mode == Mode::Verdict {
         refuse(alloc, answer);
@@ -175,15 +170,10 @@ fn turn_telling<'s, 'i, P: PlannedKeyword>(
     reply: Reply<'i>,
     answer: &mut Answer<'i>,
 ) -> Result<Step<'s>, OutOfMemory>
-    ensures turns { IfOk result (λ _. (texts : Bool)
-        → Tells texts (P.shows_no_fraction (P.shape keyword.now)) (subject_of instance.entry)
-        → way_turn (spoken_way texts (leaf_way (P.called (P.shape keyword.now)) holds
-        (P.error_text (P.shape keyword.now) (subject_of instance.entry) 0)))
-        (run.old, answer_of texts answer.old) (reply_of texts reply.entry) ≡ (run.new, answer_of texts answer.new)) }
+    ensures turns { IfOk result (λ _. TellsTurn (P.shows_no_fraction (P.shape keyword.now)) instance.entry
+        (error_ways P.called P.error_text holds 0 (P.shape keyword.now)) run.old answer.old reply.entry run.new answer.new) }
     ensures step { IfOk result (λ step. turn_of step ≡ done) }
-    ensures borrows { IfOk result (λ _. (root : Data) → All (BorrowsItsPlace root) (errors_in reply.entry)
-        → All (PassesBorrowed root) (faults_in answer.old)
-        → All (PassesBorrowed root) (faults_in answer.new)) }
+    ensures borrows { IfOk result (λ _. TakesBorrows reply.entry answer.old answer.new) }
 {
     drop(reply);
     let first = tell_on(run);
@@ -202,12 +192,10 @@ fn turn_passing<'s, 'i: 's>(
     reply: Reply<'i>,
     answer: &mut Answer<'i>,
 ) -> Result<Step<'s>, OutOfMemory>
-    ensures turns { IfOk result (λ _. (texts : Bool) → way_turn (passes_on (asks_of asks (subject_of instance.entry)))
-        (run.old, answer_of texts answer.old) (reply_of texts reply.entry) ≡ (run.new, answer_of texts answer.new)) }
-    ensures steps { IfOk result (λ step. (texts : Bool) → way_step (passes_on (asks_of asks (subject_of instance.entry)))
-        (run.old, answer_of texts answer.old) (reply_of texts reply.entry) ≡ turn_of step) }
-    ensures borrows { IfOk result (λ _. (root : Data) → All (BorrowsItsPlace root) (errors_in reply.entry)
-        → All (PassesBorrowed root) (faults_in answer.old) → All (PassesBorrowed root) (faults_in answer.new)) }
+    ensures turns { IfOk result (λ _. Turns (passes_on (asks_of asks (subject_of instance.entry))) run.old answer.old reply.entry run.new
+        answer.new) }
+    ensures steps { IfOk result (Steps (passes_on (asks_of asks (subject_of instance.entry))) run.old answer.old reply.entry) }
+    ensures borrows { IfOk result (λ _. TakesBorrows reply.entry answer.old answer.new) }
 {
     let mode = run.mode;
     let count = count_of(asks, instance);
@@ -261,19 +249,11 @@ fn turn_judging<'s, 'i: 's, P: PlannedKeyword>(
     reply: Reply<'i>,
     answer: &mut Answer<'i>,
 ) -> Result<Step<'s>, OutOfMemory>
-    ensures turns { IfOk result (λ _. (texts : Bool)
-        → Tells texts (P.shows_no_fraction (P.shape keyword.now)) (subject_of instance.entry)
-        → way_turn (spoken_way texts (wanting_way (P.called (P.shape keyword.now))
-        (P.error_text (P.shape keyword.now) (subject_of instance.entry)) wanted.least wanted.most
-        (asks_count wanted.asks (subject_of instance.entry)) (asks_of wanted.asks (subject_of instance.entry))))
-        (run.old, answer_of texts answer.old) (reply_of texts reply.entry) ≡ (run.new, answer_of texts answer.new)) }
-    ensures steps { IfOk result (λ step. (texts : Bool)
-        → way_step (spoken_way texts (wanting_way (P.called (P.shape keyword.now))
-        (P.error_text (P.shape keyword.now) (subject_of instance.entry)) wanted.least wanted.most
-        (asks_count wanted.asks (subject_of instance.entry)) (asks_of wanted.asks (subject_of instance.entry))))
-        (run.old, answer_of texts answer.old) (reply_of texts reply.entry) ≡ turn_of step) }
-    ensures borrows { IfOk result (λ _. (root : Data) → All (BorrowsItsPlace root) (errors_in reply.entry)
-        → All (PassesBorrowed root) (faults_in answer.old) → All (PassesBorrowed root) (faults_in answer.new)) }
+    ensures turns { IfOk result (λ _. TellsTurn (P.shows_no_fraction (P.shape keyword.now)) instance.entry
+        (wanting_ways P.called P.error_text wanted (P.shape keyword.now)) run.old answer.old reply.entry run.new answer.new) }
+    ensures steps { IfOk result (StepsSpoken instance.entry (wanting_ways P.called P.error_text wanted (P.shape keyword.now)) run.old
+        answer.old reply.entry) }
+    ensures borrows { IfOk result (λ _. TakesBorrows reply.entry answer.old answer.new) }
 {
     let mode = run.mode;
     let judging = judge_on(alloc, judge_of(wanted, instance), run, reply, answer)?;

@@ -1,13 +1,14 @@
 //! Units that children gave, in the answer of a run.
-ghost use Rattle.std.specs.Prelude.{All, ◌≡◌, [], Bool, false, IfOk};
-ghost use Rattle.serde_json.specs.Data.{Data};
+ghost use Rattle.std.specs.Prelude.{◌≡◌, [], Bool, false, IfOk};
 ghost use Rattle.schema_reports.specs.EvaluationResults.{gives_of};
 ghost use Rattle.schema_reports.specs.UnitViews.{unit_of};
-ghost use Rattle.schema_parts.specs.FaultViews.{faults_in, PassesBorrowed};
+ghost use Rattle.schema_parts.specs.FaultViews.{faults_in};
 ghost use Rattle.schema_parts.specs.KeywordViews.{answer_of, reply_of};
 ghost use Rattle.keyword_ways.specs.Judging.{kept_at};
-ghost use Rattle.keyword_ways.specs.Tallies.{in_evaluation, with_inside};
+ghost use Rattle.keyword_ways.specs.Tallies.{with_inside};
 ghost use Rattle.keyword_ways.specs.Ways.{with_unit};
+ghost use Rattle.keyword_ways.specs.Borrowing.{KeepsBorrows};
+ghost use Rattle.keyword_ways.specs.AnswerWords.{KeepsUnit};
 
 use crate::run::Stage;
 use schema_parts::keyword::{Answer, Reply};
@@ -67,9 +68,7 @@ fn with_kept<'i>(
     node: EvaluationNode,
     before: Answer<'i>,
 ) -> Result<Answer<'i>, OutOfMemory>
-    ensures kept { IfOk result (λ after. (texts : Bool) → answer_of texts after
-        ≡ in_evaluation (answer_of texts before.entry).verdict
-        (with_inside (answer_of texts before.entry).gives (unit_of texts node))) }
+    ensures kept { IfOk result (KeepsUnit node before.entry) }
     ensures faults { IfOk result (λ after. faults_in after ≡ []) }
 {
     let mut found = before.into_evaluation(alloc)?;
@@ -85,9 +84,7 @@ fn keep_unit<'i>(
     node: EvaluationNode,
     answer: &mut Answer<'i>,
 ) -> Result<(), OutOfMemory>
-    ensures kept { IfOk result (λ _. (texts : Bool) → answer_of texts answer.new
-        ≡ in_evaluation (answer_of texts answer.old).verdict
-        (with_inside (answer_of texts answer.old).gives (unit_of texts node))) }
+    ensures kept { IfOk result (λ _. KeepsUnit node answer.old answer.new) }
     ensures faults { IfOk result (λ _. faults_in answer.new ≡ []) }
 {
     let before = mem::replace(answer, Answer::Verdict(false));
@@ -104,8 +101,7 @@ pub fn keep_child<'i>(
 ) -> Result<(), OutOfMemory>
     ensures kept { IfOk result (λ _. (texts : Bool)
         → answer_of texts answer.new ≡ kept_at stage (answer_of texts answer.old) (reply_of texts reply.entry)) }
-    ensures borrows { IfOk result (λ _. (root : Data) → All (PassesBorrowed root) (faults_in answer.old)
-        → All (PassesBorrowed root) (faults_in answer.new)) }
+    ensures borrows { IfOk result (λ _. KeepsBorrows answer.old answer.new) }
 {
     match stage {
         Stage::Counted(_, _) => match reply {

@@ -1,0 +1,45 @@
+-- What a turn does that is taken by a way: from the run, the answer and the reply that are given, to the run and the answer after, and
+-- with the step that it takes.
+use Rattle.std.specs.Prelude.{Bool, ◌≡◌}
+use Rattle.schema_definitions.specs.Instance.{Subject}
+use Rattle.schema_definitions.specs.Keywords as spec
+use Rattle.schema_reports.specs.InstanceViews.{subject_of}
+use Rattle.schema_reports.specs.declared.instance.Instance.{Instance}
+use Rattle.schema_parts.specs.KeywordViews.{Tells, answer_of, reply_of, turn_of}
+use Rattle.schema_parts.specs.declared.keyword.Answer.{Answer}
+use Rattle.schema_parts.specs.declared.keyword.Reply.{Reply}
+use Rattle.schema_parts.specs.declared.keyword.Step.{Step}
+use Rattle.keyword_ways.specs.declared.run.Progress.{Progress}
+use Rattle.keyword_ways.specs.OwnWays.{spoken_way}
+use Rattle.keyword_ways.specs.Ways.{Way, way_step, way_turn}
+
+-- the run and the answer after, where texts are spoken of or not
+abbrev pub TurnsIn : Bool → Way → Progress → Answer → Reply → Progress → Answer → Type 0
+TurnsIn texts way run old reply run' new = way_turn way (run, answer_of texts old) (reply_of texts reply) ≡ (run', answer_of texts new)
+
+-- the step, as the definitions have it, where texts are spoken of or not
+abbrev pub StepsIn : Bool → Way → Progress → Answer → Reply → spec.Turn → Type 0
+StepsIn texts way run old reply step = way_step way (run, answer_of texts old) (reply_of texts reply) ≡ step
+
+-- the run and the answer after, whether texts are spoken of or not
+abbrev pub Turns : Way → Progress → Answer → Reply → Progress → Answer → Type 0
+Turns way run old reply run' new = (texts : Bool) → TurnsIn texts way run old reply run' new
+
+-- the step, whether texts are spoken of or not
+abbrev pub Steps : Way → Progress → Answer → Reply → Step → Type 0
+Steps way run old reply step = (texts : Bool) → StepsIn texts way run old reply (turn_of step)
+
+-- the run and the answer after, by a way with texts; they are spoken of only where neither the keyword nor the instance holds a
+-- fraction
+abbrev pub TellsTurn : Bool → Instance → (Subject → Way) → Progress → Answer → Reply → Progress → Answer → Type 0
+TellsTurn whole instance way run old reply run' new = (texts : Bool) → Tells texts whole (subject_of instance)
+    → TurnsIn texts (spoken_way texts (way (subject_of instance))) run old reply run' new
+
+-- the step by such a way
+abbrev pub TellsStep : Bool → Instance → (Subject → Way) → Progress → Answer → Reply → Step → Type 0
+TellsStep whole instance way run old reply step = (texts : Bool) → Tells texts whole (subject_of instance)
+    → StepsIn texts (spoken_way texts (way (subject_of instance))) run old reply (turn_of step)
+
+-- the step by such a way, whatever they hold
+abbrev pub StepsSpoken : Instance → (Subject → Way) → Progress → Answer → Reply → Step → Type 0
+StepsSpoken instance way run old reply step = (texts : Bool) → StepsIn texts (spoken_way texts (way (subject_of instance))) run old reply (turn_of step)
