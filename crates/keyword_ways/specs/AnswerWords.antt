@@ -21,6 +21,10 @@ use Rattle.keyword_ways.specs.OwnWays.{spoken_way}
 abbrev pub own_fault : Bool → Text → String Global → spec.Fault
 own_fault texts name text = spec.own (plain name (spoken texts (string_bytes text)))
 
+-- the answer before becomes this
+abbrev pub Becomes : Answer → (Bool → spec.Answer → spec.Answer) → Answer → Type 0
+Becomes old f new = (texts : Bool) → answer_of texts new ≡ f texts (answer_of texts old)
+
 -- the answer says no
 abbrev pub Refuses : Answer → Answer → Type 0
 Refuses old new = (texts : Bool) → answer_of texts new ≡ refused (answer_of texts old)
@@ -40,10 +44,10 @@ KeepsUnit node old new = (texts : Bool) → answer_of texts new ≡ in_evaluatio
 -- ---- texts are spoken of only where neither the keyword nor the instance holds a fraction
 
 -- this holds where the instance holds none
-abbrev pub IfNoFraction : Instance → Type 0 → Type 0
-IfNoFraction instance Holds = subject_has_float (subject_of instance) ≡ false → Holds
+abbrev pub IfNoFraction : Instance → (Subject → Type 0) → Type 0
+IfNoFraction instance Holds = subject_has_float (subject_of instance) ≡ false → Holds (subject_of instance)
 
 -- what a keyword tells at once that goes about the instance in this way is noted
-abbrev pub TellsAtOnce : Bool → Instance → (Subject → Way) → Mode → Answer → Answer → Type 0
-TellsAtOnce whole instance way mode old new = (texts : Bool) → Tells texts whole (subject_of instance)
-    → answer_of texts new ≡ told_at_once (spoken_way texts (way (subject_of instance))) mode (answer_of texts old)
+abbrev pub TellsAtOnce : {M : Type 0} → (M → Bool) → (M → Subject → Way) → M → Instance → Mode → Answer → Answer → Type 0
+TellsAtOnce is_whole ways m instance mode old new = (texts : Bool) → Tells texts (is_whole m) (subject_of instance)
+    → answer_of texts new ≡ told_at_once (spoken_way texts (ways m (subject_of instance))) mode (answer_of texts old)

@@ -1,8 +1,10 @@
 -- A turn of a run that judges, as the code takes it. Its questions are numbered.
-use Rattle.std.specs.Prelude.{List, None, Option, Some, ℕ, ◌≡◌}
+use Rattle.std.specs.Prelude.{Bool, List, None, Option, Some, ℕ, ◌≡◌}
 use Rattle.schema_definitions.specs.Keywords.{Answer, Question, Reply, Turn, ask, done}
-use Rattle.schema_parts.specs.KeywordViews.{mode_of}
+use Rattle.schema_parts.specs.KeywordViews.{answer_of, mode_of, reply_of}
+use Rattle.schema_parts.specs.declared.keyword.Answer.{Answer as AnswerOfCall}
 use Rattle.schema_parts.specs.declared.keyword.Mode.{Mode}
+use Rattle.schema_parts.specs.declared.keyword.Reply.{Reply as ReplyOfCall}
 use Rattle.keyword_ways.specs.declared.judging.Judge.{Judge}
 use Rattle.keyword_ways.specs.declared.judging.Judging.{Judging}
 use Rattle.keyword_ways.specs.declared.judging.Judging.TheVariants.{Asks, Judged, Over}
@@ -58,3 +60,7 @@ module _ (judge : Judge) (f : ℕ → Question) where
   -- the answer after it, by the one in which what a child gave is kept
   abbrev pub JudgesAnswer : Progress → Reply → Answer → Judging → Answer → Type 0
   JudgesAnswer run reply a judging kept = ForTallies (λ t. answer_after (tallied_way t) run.mode run.stage a reply ≡ judging_answer t run.mode kept judging)
+
+  -- the same by the answer that is given, and the one after
+  abbrev pub JudgesIn : Bool → Progress → ReplyOfCall → AnswerOfCall → Judging → AnswerOfCall → Type 0
+  JudgesIn texts run reply old judging new = JudgesAnswer run (reply_of texts reply) (answer_of texts old) judging (answer_of texts new)

@@ -7,11 +7,13 @@ use Rattle.schema_reports.specs.InstanceViews.{subject_of}
 use Rattle.schema_reports.specs.declared.instance.Instance.{Instance}
 use Rattle.schema_parts.specs.KeywordViews.{Tells, answer_of, reply_of, turn_of}
 use Rattle.schema_parts.specs.declared.keyword.Answer.{Answer}
+use Rattle.schema_parts.specs.declared.keyword.Mode.{Mode}
 use Rattle.schema_parts.specs.declared.keyword.Reply.{Reply}
 use Rattle.schema_parts.specs.declared.keyword.Step.{Step}
 use Rattle.keyword_ways.specs.declared.run.Progress.{Progress}
+use Rattle.keyword_ways.specs.declared.run.Stage.{Stage}
 use Rattle.keyword_ways.specs.OwnWays.{spoken_way}
-use Rattle.keyword_ways.specs.Ways.{Way, way_step, way_turn}
+use Rattle.keyword_ways.specs.Ways.{Way, answer_after, way_step, way_turn}
 
 -- the run and the answer after, where texts are spoken of or not
 abbrev pub TurnsIn : Bool → Way → Progress → Answer → Reply → Progress → Answer → Type 0
@@ -20,6 +22,10 @@ TurnsIn texts way run old reply run' new = way_turn way (run, answer_of texts ol
 -- the step, as the definitions have it, where texts are spoken of or not
 abbrev pub StepsIn : Bool → Way → Progress → Answer → Reply → spec.Turn → Type 0
 StepsIn texts way run old reply step = way_step way (run, answer_of texts old) (reply_of texts reply) ≡ step
+
+-- the answer after a turn of a run in this mode at this stage
+abbrev pub AnswersIn : Bool → Way → Mode → Stage → Reply → Answer → Answer → Type 0
+AnswersIn texts way mode stage reply old new = answer_of texts new ≡ answer_after way mode stage (answer_of texts old) (reply_of texts reply)
 
 -- the run and the answer after, whether texts are spoken of or not
 abbrev pub Turns : Way → Progress → Answer → Reply → Progress → Answer → Type 0
@@ -31,15 +37,15 @@ Steps way run old reply step = (texts : Bool) → StepsIn texts way run old repl
 
 -- the run and the answer after, by a way with texts; they are spoken of only where neither the keyword nor the instance holds a
 -- fraction
-abbrev pub TellsTurn : Bool → Instance → (Subject → Way) → Progress → Answer → Reply → Progress → Answer → Type 0
-TellsTurn whole instance way run old reply run' new = (texts : Bool) → Tells texts whole (subject_of instance)
-    → TurnsIn texts (spoken_way texts (way (subject_of instance))) run old reply run' new
+abbrev pub TellsTurn : {M : Type 0} → (M → Bool) → (M → Subject → Way) → M → Instance → Progress → Answer → Reply → Progress → Answer → Type 0
+TellsTurn is_whole ways m instance run old reply run' new = (texts : Bool) → Tells texts (is_whole m) (subject_of instance)
+    → TurnsIn texts (spoken_way texts (ways m (subject_of instance))) run old reply run' new
 
 -- the step by such a way
-abbrev pub TellsStep : Bool → Instance → (Subject → Way) → Progress → Answer → Reply → Step → Type 0
-TellsStep whole instance way run old reply step = (texts : Bool) → Tells texts whole (subject_of instance)
-    → StepsIn texts (spoken_way texts (way (subject_of instance))) run old reply (turn_of step)
+abbrev pub TellsStep : {M : Type 0} → (M → Bool) → (M → Subject → Way) → M → Instance → Progress → Answer → Reply → Step → Type 0
+TellsStep is_whole ways m instance run old reply step = (texts : Bool) → Tells texts (is_whole m) (subject_of instance)
+    → StepsIn texts (spoken_way texts (ways m (subject_of instance))) run old reply (turn_of step)
 
 -- the step by such a way, whatever they hold
-abbrev pub StepsSpoken : Instance → (Subject → Way) → Progress → Answer → Reply → Step → Type 0
-StepsSpoken instance way run old reply step = (texts : Bool) → StepsIn texts (spoken_way texts (way (subject_of instance))) run old reply (turn_of step)
+abbrev pub StepsSpoken : {M : Type 0} → (M → Subject → Way) → M → Instance → Progress → Answer → Reply → Step → Type 0
+StepsSpoken ways m instance run old reply step = (texts : Bool) → StepsIn texts (spoken_way texts (ways m (subject_of instance))) run old reply (turn_of step)

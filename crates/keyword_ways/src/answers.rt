@@ -10,7 +10,7 @@ ghost use Rattle.keyword_ways.specs.FaultLists.{first_kept};
 ghost use Rattle.keyword_ways.specs.Tallies.{says_yes};
 ghost use Rattle.keyword_ways.specs.Ways.{evaluated, goes_on, with_first};
 ghost use Rattle.keyword_ways.specs.Borrowing.{KeepsBorrows, TakesBorrows};
-ghost use Rattle.keyword_ways.specs.AnswerWords.{Refuses, Notes, Takes, own_fault};
+ghost use Rattle.keyword_ways.specs.AnswerWords.{Refuses, Notes, Takes, own_fault, Becomes};
 
 use crate::units::{invalidate, with_unit};
 use schema_parts::keyword::{Answer, Fault, Mode, OwnError, Reply};
@@ -48,8 +48,7 @@ fn refused<'i>(alloc: Global, answer: Answer<'i>) -> Answer<'i>
 
 /// The answer with this first error, where it has none.
 fn with_first<'i>(answer: Answer<'i>, fault: Box<Fault<'i>>) -> Answer<'i>
-    ensures first { (texts : Bool) → answer_of texts result ≡ with_first (answer_of texts answer.entry)
-        (answer_of texts answer.entry).errors (fault_of texts fault.entry.value) }
+    ensures first { Becomes answer.entry (λ texts a. with_first a a.errors (fault_of texts fault.entry.value)) result }
     ensures faults { faults_in result ≡ first_kept (faults_in answer.entry) fault.entry.value }
 {
     match answer {
@@ -106,8 +105,7 @@ fn evaluated<'i>(
     text: String,
     before: Answer<'i>,
 ) -> Result<Answer<'i>, OutOfMemory>
-    ensures evaluated { IfOk result (λ after. (texts : Bool) → answer_of texts after
-        ≡ evaluated (answer_of texts before.entry) (own_fault texts keyword.now text)) }
+    ensures evaluated { IfOk result (Becomes before.entry (λ texts a. evaluated a (own_fault texts keyword.now text))) }
     ensures faults { IfOk result (λ after. faults_in after ≡ []) }
 {
     let mut found = before.into_evaluation(alloc)?;

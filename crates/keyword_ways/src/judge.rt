@@ -74,8 +74,8 @@ pub trait JudgeKeyword: Drop {
         instance: Instance<'_>,
         accepted: usize,
     ) -> Result<String, OutOfMemory>
-        ensures text { IfOk result (λ text. IfNoFraction instance.entry (string_bytes text
-            ≡ error_text (shape self.now) (subject_of instance.entry) accepted)) };
+        ensures text { IfOk result (λ text. IfNoFraction instance.entry (λ s. string_bytes text
+            ≡ error_text (shape self.now) s accepted)) };
 
     /// Whether the keyword says of itself that it is monotone: a yes more among the answers never turns its own from yes to no.
     /// `false` says nothing, and is always right.
@@ -98,8 +98,8 @@ fn tell_judged<'i, J: JudgeKeyword>(
     instance: Instance<'i>,
     answer: &mut Answer<'i>,
 ) -> Result<(), OutOfMemory>
-    ensures told { IfOk result (λ _. TellsAtOnce true instance.entry (counted_ways J.called J.accepts J.error_text accepted
-        (J.shape judge.now)) mode answer.old answer.new) }
+    ensures told { IfOk result (λ _. TellsAtOnce (λ _. true) (counted_ways J.called J.accepts J.error_text accepted) (J.shape judge.now)
+        instance.entry mode answer.old answer.new) }
     ensures borrows { IfOk result (λ _. KeepsBorrows answer.old answer.new) }
 {
     if judge.holds(instance, accepted) {
@@ -122,10 +122,10 @@ pub fn turn_judge<'s, 'i, J: JudgeKeyword>(
     reply: Reply<'i>,
     answer: &mut Answer<'i>,
 ) -> Result<Step<'s>, OutOfMemory>
-    ensures turns { IfOk result (λ _. TellsTurn true instance.entry (judge_ways J.called J.enough J.shows J.accepts J.error_text
-        J.question J.count (J.shape keyword.now)) run.old answer.old reply.entry run.new answer.new) }
-    ensures steps { IfOk result (StepsSpoken instance.entry (judge_ways J.called J.enough J.shows J.accepts J.error_text J.question
-        J.count (J.shape keyword.now)) run.old answer.old reply.entry) }
+    ensures turns { IfOk result (λ _. TellsTurn (λ _. true) (judge_ways J.called J.enough J.shows J.accepts J.error_text J.question
+        J.count) (J.shape keyword.now) instance.entry run.old answer.old reply.entry run.new answer.new) }
+    ensures steps { IfOk result (StepsSpoken (judge_ways J.called J.enough J.shows J.accepts J.error_text J.question J.count)
+        (J.shape keyword.now) instance.entry run.old answer.old reply.entry) }
     ensures borrows { IfOk result (λ _. TakesBorrows reply.entry answer.old answer.new) }
 {
     let mode = run.mode;

@@ -1,10 +1,11 @@
 //! A run that judges: it asks one numbered question after the other, and tells errors by how many are answered by yes.
 ghost use Rattle.std.specs.Prelude.{◌≡◌, ◌+◌, ℕ, Bool, IfOk, min, not};
 ghost use Rattle.schema_definitions.specs.Keywords.{Answer as AnswerOfRun, Question, Reply as ReplyOfRun};
-ghost use Rattle.schema_parts.specs.KeywordViews.{answer_of, reply_of};
+ghost use Rattle.schema_parts.specs.KeywordViews.{reply_of};
 ghost use Rattle.keyword_ways.specs.Asking.{nth_at};
 ghost use Rattle.keyword_ways.specs.Items.{child_here, each_from};
-ghost use Rattle.keyword_ways.specs.Judging.{counted_of, judging_answer, judging_turn, kept_at, JudgesStage, JudgesStep, JudgesAnswer};
+ghost use Rattle.keyword_ways.specs.Judging.{counted_of, judging_answer, judging_turn, kept_at};
+ghost use Rattle.keyword_ways.specs.Judging.{JudgesAnswer, JudgesIn, JudgesStage, JudgesStep};
 ghost use Rattle.keyword_ways.specs.Tallies.{Tally, asked_in, counted, is_settled, says_yes, wants_units};
 ghost use Rattle.keyword_ways.specs.Ways.{asked, counted_at, judged_at, next_if, nth};
 ghost use Rattle.keyword_ways.specs.Borrowing.{KeepsBorrows};
@@ -150,7 +151,7 @@ pub fn judge_on<'i>(
     ensures step { IfOk result (λ judging. (texts : Bool) (f : ℕ → Question)
         → JudgesStep judge f run.old (reply_of texts reply.entry) judging) }
     ensures answer { IfOk result (λ judging. (texts : Bool) (f : ℕ → Question)
-        → JudgesAnswer judge f run.old (reply_of texts reply.entry) (answer_of texts answer.old) judging (answer_of texts answer.new)) }
+        → JudgesIn judge f texts run.old reply.entry answer.old judging answer.new) }
     ensures borrows { IfOk result (λ _. KeepsBorrows answer.old answer.new) }
 {
     let yes = says_yes(&reply);
@@ -168,8 +169,8 @@ pub fn judge_children<'i>(
 ) -> Result<Judging, OutOfMemory>
     ensures stage { IfOk result (λ _. (texts : Bool) → JudgesStage judge child_here run.old (reply_of texts reply.entry) run.new) }
     ensures step { IfOk result (λ judging. (texts : Bool) → JudgesStep judge child_here run.old (reply_of texts reply.entry) judging) }
-    ensures answer { IfOk result (λ judging. (texts : Bool) → JudgesAnswer judge child_here run.old (reply_of texts reply.entry)
-        (answer_of texts answer.old) judging (answer_of texts answer.new)) }
+    ensures answer { IfOk result (λ judging. (texts : Bool) → JudgesIn judge child_here texts run.old reply.entry answer.old judging
+        answer.new) }
     ensures borrows { IfOk result (λ _. KeepsBorrows answer.old answer.new) }
 {
     judge_on(alloc, judge, run, reply, answer)

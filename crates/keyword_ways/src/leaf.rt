@@ -41,8 +41,7 @@ pub trait LeafKeyword: Drop {
 
     /// The error's text. It is asked for only where the keyword does not hold and an error is wanted.
     fn text(&self, alloc: Global, instance: Instance<'_>) -> Result<String, OutOfMemory>
-        ensures text { IfOk result (λ text. IfNoFraction instance.entry (string_bytes text
-            ≡ error_text (shape self.now) (subject_of instance.entry))) };
+        ensures text { IfOk result (λ text. IfNoFraction instance.entry (λ s. string_bytes text ≡ error_text (shape self.now) s)) };
 }
 
 /// Notes the keyword's error where it does not hold.
@@ -53,8 +52,8 @@ fn tell_leaf<'i, L: LeafKeyword>(
     instance: Instance<'i>,
     answer: &mut Answer<'i>,
 ) -> Result<(), OutOfMemory>
-    ensures told { IfOk result (λ _. TellsAtOnce true instance.entry (leaf_ways L.called L.accepts L.error_text (L.shape leaf.now)) mode
-        answer.old answer.new) }
+    ensures told { IfOk result (λ _. TellsAtOnce (λ _. true) (leaf_ways L.called L.accepts L.error_text) (L.shape leaf.now) instance.entry
+        mode answer.old answer.new) }
     ensures borrows { IfOk result (λ _. KeepsBorrows answer.old answer.new) }
 {
     if leaf.holds(instance) {
@@ -77,8 +76,8 @@ pub fn turn_leaf<'s, 'i, L: LeafKeyword>(
     reply: Reply<'i>,
     answer: &mut Answer<'i>,
 ) -> Result<Step<'s>, OutOfMemory>
-    ensures turns { IfOk result (λ _. TellsTurn true instance.entry (leaf_ways L.called L.accepts L.error_text (L.shape leaf.now)) run.old
-        answer.old reply.entry run.new answer.new) }
+    ensures turns { IfOk result (λ _. TellsTurn (λ _. true) (leaf_ways L.called L.accepts L.error_text) (L.shape leaf.now) instance.entry
+        run.old answer.old reply.entry run.new answer.new) }
     ensures step { IfOk result (λ step. turn_of step ≡ done) }
     ensures borrows { IfOk result (λ _. TakesBorrows reply.entry answer.old answer.new) }
 {

@@ -5,11 +5,11 @@ ghost use Rattle.schema_definitions.specs.Instance.{Subject, Text};
 ghost use Rattle.schema_reports.specs.InstanceViews.{subject_of};
 ghost use Rattle.schema_definitions.specs.Keywords.{done};
 ghost use Rattle.schema_reports.specs.ReportViews.{spoken};
-ghost use Rattle.schema_parts.specs.KeywordViews.{answer_of, is_nil, turn_of};
+ghost use Rattle.schema_parts.specs.KeywordViews.{is_nil, turn_of};
 ghost use Rattle.keyword_ways.specs.OwnWays.{telling_ways};
 ghost use Rattle.keyword_ways.specs.Ways.{noted};
 ghost use Rattle.keyword_ways.specs.Borrowing.{KeepsBorrows, TakesBorrows};
-ghost use Rattle.keyword_ways.specs.AnswerWords.{IfNoFraction, TellsAtOnce};
+ghost use Rattle.keyword_ways.specs.AnswerWords.{IfNoFraction, TellsAtOnce, Becomes};
 ghost use Rattle.keyword_ways.specs.TurnWords.{TellsTurn};
 
 use crate::answers::{note, refuse};
@@ -57,10 +57,9 @@ pub trait TellingKeyword: Drop {
     /// Memory cannot be allocated.
     fn texts(&self, alloc: Global, instance: Instance<'_>) -> Result<Vec<String>, OutOfMemory>
         requires refuses { is_nil (error_texts (shape self.now) (subject_of instance)) ≡ false }
-        ensures count { IfOk result (λ found. length found.items
-            ≡ length (error_texts (shape self.now) (subject_of instance.entry))) }
+        ensures count { IfOk result (λ found. length found.items ≡ length (error_texts (shape self.now) (subject_of instance.entry))) }
         ensures texts { IfOk result (λ found. shows_no_fraction (shape self.now) ≡ true
-            → IfNoFraction instance.entry (map string_bytes found.items ≡ error_texts (shape self.now) (subject_of instance.entry))) };
+            → IfNoFraction instance.entry (λ s. map string_bytes found.items ≡ error_texts (shape self.now) s)) };
 }
 
 /// A keyword that asks nothing, as the engine takes it.
@@ -77,8 +76,8 @@ fn note_each<'i>(
     found: Vec<String>,
     answer: &mut Answer<'i>,
 ) -> Result<(), OutOfMemory>
-    ensures noted { IfOk result (λ _. (texts : Bool) → answer_of texts answer.new
-        ≡ noted mode name.now (answer_of texts answer.old) (map (λ text. spoken texts (string_bytes text)) found.items)) }
+    ensures noted { IfOk result (λ _. Becomes answer.old (λ texts a. noted mode name.now a
+        (map (λ text. spoken texts (string_bytes text)) found.items)) answer.new) }
     ensures borrows { IfOk result (λ _. KeepsBorrows answer.old answer.new) }
 {
     for text in found {
@@ -96,8 +95,8 @@ fn tell_each<'i, T: TellingKeyword>(
     instance: Instance<'i>,
     answer: &mut Answer<'i>,
 ) -> Result<(), OutOfMemory>
-    ensures told { IfOk result (λ _. TellsAtOnce (T.shows_no_fraction (T.shape keyword.now)) instance.entry
-        (telling_ways T.called T.error_texts (T.shape keyword.now)) mode answer.old answer.new) }
+    ensures told { IfOk result (λ _. TellsAtOnce T.shows_no_fraction (telling_ways T.called T.error_texts) (T.shape keyword.now)
+        instance.entry mode answer.old answer.new) }
     ensures borrows { IfOk result (λ _. KeepsBorrows answer.old answer.new) }
 {
     if keyword.holds(alloc, instance)? {
@@ -121,8 +120,8 @@ pub fn turn_telling<'s, 'i, T: TellingKeyword>(
     reply: Reply<'i>,
     answer: &mut Answer<'i>,
 ) -> Result<Step<'s>, OutOfMemory>
-    ensures turns { IfOk result (λ _. TellsTurn (T.shows_no_fraction (T.shape keyword.now)) instance.entry
-        (telling_ways T.called T.error_texts (T.shape keyword.now)) run.old answer.old reply.entry run.new answer.new) }
+    ensures turns { IfOk result (λ _. TellsTurn T.shows_no_fraction (telling_ways T.called T.error_texts) (T.shape keyword.now)
+        instance.entry run.old answer.old reply.entry run.new answer.new) }
     ensures step { IfOk result (λ step. turn_of step ≡ done) }
     ensures borrows { IfOk result (λ _. TakesBorrows reply.entry answer.old answer.new) }
 {

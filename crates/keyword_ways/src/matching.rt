@@ -1,11 +1,9 @@
 //! A run that asks whether a pattern matches a text, and tells an error where it does not.
-ghost use Rattle.std.specs.Prelude.{◌≡◌, Bool};
-ghost use Rattle.schema_definitions.specs.Instance.{Text};
-ghost use Rattle.schema_definitions.specs.Keywords.{Answer as AnswerOfRun, match_text};
-ghost use Rattle.schema_definitions.specs.Matching.{Pair};
-ghost use Rattle.schema_parts.specs.KeywordViews.{reply_of, turn_of};
-ghost use Rattle.keyword_ways.specs.MatchTurns.{match_answer, match_turn};
-ghost use Rattle.keyword_ways.specs.Ways.{asks_match, is_located, match_point, way_step, way_turn};
+ghost use Rattle.std.specs.Prelude.{◌≡◌};
+ghost use Rattle.schema_definitions.specs.Keywords.{match_text};
+ghost use Rattle.schema_parts.specs.KeywordViews.{turn_of};
+ghost use Rattle.keyword_ways.specs.MatchTurns.{TurnsMatch, StepsMatch};
+ghost use Rattle.keyword_ways.specs.Ways.{is_located, match_point};
 
 use crate::answers::says_yes;
 use crate::run::{Progress, Stage};
@@ -25,11 +23,8 @@ pub enum MatchTurn {
 /// Takes a turn of a run that asks a match.
 #[inline(always)]
 pub fn match_on(run: &mut Progress, reply: Reply<'_>) -> MatchTurn
-    ensures turns { (texts : Bool) (name text : Text) (p : Pair) (a : AnswerOfRun)
-        → way_turn (asks_match name p text) (run.old, a) (reply_of texts reply.entry)
-        ≡ (run.new, match_answer name text run.old.mode a result) }
-    ensures steps { (texts : Bool) (name text : Text) (p : Pair) (a : AnswerOfRun)
-        → way_step (asks_match name p text) (run.old, a) (reply_of texts reply.entry) ≡ match_turn p run.old.mode result }
+    ensures turns { TurnsMatch run.old reply.entry result run.new }
+    ensures steps { StepsMatch run.old reply.entry result }
 {
     let matches = says_yes(&reply);
     match run.stage {

@@ -45,10 +45,9 @@ pub trait OwnKeyword: Drop {
         reply: Reply<'i>,
         answer: &mut Answer<'i>,
     ) -> Result<Step<'s>, OutOfMemory>
-        ensures turns { IfOk result (λ _. TellsTurn (shows_no_fraction (shape self.now)) instance.entry (way (shape self.now)) run.old
-            answer.old reply.entry run.new answer.new) }
-        ensures steps { IfOk result (TellsStep (shows_no_fraction (shape self.now)) instance.entry (way (shape self.now)) run.old
-            answer.old reply.entry) }
+        ensures turns { IfOk result (λ _. TellsTurn shows_no_fraction way (shape self.now) instance.entry run.old answer.old reply.entry
+            run.new answer.new) }
+        ensures steps { IfOk result (TellsStep shows_no_fraction way (shape self.now) instance.entry run.old answer.old reply.entry) }
         ensures borrows { IfOk result (λ _. TakesBorrows reply.entry answer.old answer.new) };
 
     /// Whether the keyword says of itself that it is monotone: a yes more among the answers never turns its own from yes to no.

@@ -1,13 +1,13 @@
 //! A run that passes on: it asks one question after the other, and passes on what each answers.
 ghost use Rattle.std.specs.Prelude.{◌≡◌, ◌≤◌, ◌+◌, ◌^◌, ◌<◌, ℕ, Bool, List, Option, length, option_map, IfOk};
 ghost use Rattle.schema_definitions.specs.Keywords.{Question};
-ghost use Rattle.schema_parts.specs.KeywordViews.{answer_of, reply_of, turn_of};
+ghost use Rattle.schema_parts.specs.KeywordViews.{reply_of, turn_of};
 ghost use Rattle.schema_parts.specs.declared.keyword.Mode.{Mode as ModeOfRun};
 ghost use Rattle.keyword_ways.specs.Asking.{IsNext, IsNextFrom, nth_at, stage_of};
 ghost use Rattle.keyword_ways.specs.Items.{child_here, each_from};
-ghost use Rattle.keyword_ways.specs.Ways.{answer_after, asked, passes_on};
+ghost use Rattle.keyword_ways.specs.Ways.{asked, passes_on};
 ghost use Rattle.keyword_ways.specs.Borrowing.{TakesBorrows};
-ghost use Rattle.keyword_ways.specs.TurnWords.{TurnsIn, StepsIn};
+ghost use Rattle.keyword_ways.specs.TurnWords.{TurnsIn, StepsIn, AnswersIn};
 
 use crate::answers::{goes_on, take};
 use crate::run::{Progress, Stage};
@@ -22,8 +22,8 @@ fn take_asked<'i>(
     reply: Reply<'i>,
     answer: &mut Answer<'i>,
 ) -> Result<(), OutOfMemory>
-    ensures answered { IfOk result (λ _. (texts : Bool) (qs : List Question) (m : ModeOfRun) → answer_of texts answer.new
-        ≡ answer_after (passes_on qs) m stage (answer_of texts answer.old) (reply_of texts reply.entry)) }
+    ensures answered { IfOk result (λ _. (texts : Bool) (qs : List Question) (m : ModeOfRun)
+        → AnswersIn texts (passes_on qs) m stage reply.entry answer.old answer.new) }
     ensures borrows { IfOk result (λ _. TakesBorrows reply.entry answer.old answer.new) }
 {
     match stage {
@@ -45,8 +45,8 @@ pub fn onward<'i>(
     reply: Reply<'i>,
     answer: &mut Answer<'i>,
 ) -> Result<Option<usize>, OutOfMemory>
-    ensures answered { IfOk result (λ place. (texts : Bool) (qs : List Question) → answer_of texts answer.new
-        ≡ answer_after (passes_on qs) run.now.mode run.now.stage (answer_of texts answer.old) (reply_of texts reply.entry)) }
+    ensures answered { IfOk result (λ place. (texts : Bool) (qs : List Question)
+        → AnswersIn texts (passes_on qs) run.now.mode run.now.stage reply.entry answer.old answer.new) }
     ensures next { IfOk result (λ place. (texts : Bool) (qs : List Question) → length qs ≤ limit
         → IsNext qs run.now.stage (reply_of texts reply.entry) place) }
     ensures next_from { IfOk result (λ start. (texts : Bool) (os : List (Option Question)) → length os ≤ limit

@@ -99,8 +99,8 @@ pub trait PlannedKeyword: Drop {
         instance: Instance<'_>,
         accepted: usize,
     ) -> Result<String, OutOfMemory>
-        ensures text { IfOk result (λ text. shows_no_fraction (shape self.now) ≡ true → IfNoFraction instance.entry (string_bytes text
-            ≡ error_text (shape self.now) (subject_of instance.entry) accepted)) };
+        ensures text { IfOk result (λ text. shows_no_fraction (shape self.now) ≡ true
+            → IfNoFraction instance.entry (λ s. string_bytes text ≡ error_text (shape self.now) s accepted)) };
 
     /// Returns whether the keyword says of itself that it is monotone: a yes more among the answers never turns its own from yes to
     /// no. So it is where none of its plans has a most. `false` says nothing, and is always right.
@@ -126,8 +126,8 @@ fn tell<'i, P: PlannedKeyword>(
     accepted: usize,
     answer: &mut Answer<'i>,
 ) -> Result<(), OutOfMemory>
-    ensures told { IfOk result (λ _. TellsAtOnce (P.shows_no_fraction (P.shape keyword.now)) instance.entry
-        (error_ways P.called P.error_text false accepted (P.shape keyword.now)) mode answer.old answer.new) }
+    ensures told { IfOk result (λ _. TellsAtOnce P.shows_no_fraction (error_ways P.called P.error_text false accepted)
+        (P.shape keyword.now) instance.entry mode answer.old answer.new) }
     ensures borrows { IfOk result (λ _. KeepsBorrows answer.old answer.new) }
 {
     if mode == Mode::Verdict {
@@ -170,8 +170,8 @@ fn turn_telling<'s, 'i, P: PlannedKeyword>(
     reply: Reply<'i>,
     answer: &mut Answer<'i>,
 ) -> Result<Step<'s>, OutOfMemory>
-    ensures turns { IfOk result (λ _. TellsTurn (P.shows_no_fraction (P.shape keyword.now)) instance.entry
-        (error_ways P.called P.error_text holds 0 (P.shape keyword.now)) run.old answer.old reply.entry run.new answer.new) }
+    ensures turns { IfOk result (λ _. TellsTurn P.shows_no_fraction (error_ways P.called P.error_text holds 0) (P.shape keyword.now)
+        instance.entry run.old answer.old reply.entry run.new answer.new) }
     ensures step { IfOk result (λ step. turn_of step ≡ done) }
     ensures borrows { IfOk result (λ _. TakesBorrows reply.entry answer.old answer.new) }
 {
@@ -249,9 +249,9 @@ fn turn_judging<'s, 'i: 's, P: PlannedKeyword>(
     reply: Reply<'i>,
     answer: &mut Answer<'i>,
 ) -> Result<Step<'s>, OutOfMemory>
-    ensures turns { IfOk result (λ _. TellsTurn (P.shows_no_fraction (P.shape keyword.now)) instance.entry
-        (wanting_ways P.called P.error_text wanted (P.shape keyword.now)) run.old answer.old reply.entry run.new answer.new) }
-    ensures steps { IfOk result (StepsSpoken instance.entry (wanting_ways P.called P.error_text wanted (P.shape keyword.now)) run.old
+    ensures turns { IfOk result (λ _. TellsTurn P.shows_no_fraction (wanting_ways P.called P.error_text wanted) (P.shape keyword.now)
+        instance.entry run.old answer.old reply.entry run.new answer.new) }
+    ensures steps { IfOk result (StepsSpoken (wanting_ways P.called P.error_text wanted) (P.shape keyword.now) instance.entry run.old
         answer.old reply.entry) }
     ensures borrows { IfOk result (λ _. TakesBorrows reply.entry answer.old answer.new) }
 {

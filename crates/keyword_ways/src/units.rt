@@ -3,12 +3,12 @@ ghost use Rattle.std.specs.Prelude.{◌≡◌, [], Bool, false, IfOk};
 ghost use Rattle.schema_reports.specs.EvaluationResults.{gives_of};
 ghost use Rattle.schema_reports.specs.UnitViews.{unit_of};
 ghost use Rattle.schema_parts.specs.FaultViews.{faults_in};
-ghost use Rattle.schema_parts.specs.KeywordViews.{answer_of, reply_of};
+ghost use Rattle.schema_parts.specs.KeywordViews.{reply_of};
 ghost use Rattle.keyword_ways.specs.Judging.{kept_at};
 ghost use Rattle.keyword_ways.specs.Tallies.{with_inside};
 ghost use Rattle.keyword_ways.specs.Ways.{with_unit};
 ghost use Rattle.keyword_ways.specs.Borrowing.{KeepsBorrows};
-ghost use Rattle.keyword_ways.specs.AnswerWords.{KeepsUnit};
+ghost use Rattle.keyword_ways.specs.AnswerWords.{KeepsUnit, Becomes};
 
 use crate::run::Stage;
 use schema_parts::keyword::{Answer, Reply};
@@ -49,8 +49,7 @@ pub fn with_unit<'i>(
     node: EvaluationNode,
     before: Answer<'i>,
 ) -> Result<Answer<'i>, OutOfMemory>
-    ensures taken { IfOk result (λ after. (texts : Bool)
-        → answer_of texts after ≡ with_unit (answer_of texts before.entry) (unit_of texts node)) }
+    ensures taken { IfOk result (Becomes before.entry (λ texts a. with_unit a (unit_of texts node))) }
     ensures faults { IfOk result (λ after. faults_in after ≡ []) }
 {
     let accepts = node.report.valid;
@@ -99,8 +98,7 @@ pub fn keep_child<'i>(
     reply: Reply<'i>,
     answer: &mut Answer<'i>,
 ) -> Result<(), OutOfMemory>
-    ensures kept { IfOk result (λ _. (texts : Bool)
-        → answer_of texts answer.new ≡ kept_at stage (answer_of texts answer.old) (reply_of texts reply.entry)) }
+    ensures kept { IfOk result (λ _. Becomes answer.old (λ texts a. kept_at stage a (reply_of texts reply.entry)) answer.new) }
     ensures borrows { IfOk result (λ _. KeepsBorrows answer.old answer.new) }
 {
     match stage {
