@@ -4,6 +4,11 @@ use Rattle.schema_definitions.specs.Instance.{Text}
 use Rattle.schema_definitions.specs.Drafts.{Draft, Vocabularies}
 use Rattle.schema_definitions.specs.Making.{Builtin}
 use Rattle.schema_keywords.specs.KeywordTable.{builtin_in}
+use Rattle.schema_keywords.specs.declared.keywords.BuiltinRow.{BuiltinRow}
 
 unfoldable pub builtin : Draft → Vocabularies → Text → Option Builtin
 builtin draft vocabularies name = builtin_in draft vocabularies name
+
+-- a row of the code's table, as the definitions have it
+abbrev pub row_of : Text → BuiltinRow → Builtin
+row_of name r = record { name = name; priority = r.priority; is_leaf = r.is_leaf }

@@ -1,7 +1,7 @@
 -- What the check of a schema by meta-schemas answers: each of the schema's documents is accepted, or the first that is not is
 -- named.
 -- (Core 2020-12, 8.1.1 and 9.3.3)
-use Rattle.std.specs.Prelude.{Bool, List, None, Option, Some, [], false, if◌then◌else◌, true, ◌∷◌, ◌≡◌, ◌⊎◌}
+use Rattle.std.specs.Prelude.{Bool, List, MatchOption, None, Option, Some, [], false, if◌then◌else◌, true, ◌∷◌, ◌≡◌, ◌⊎◌}
 use Rattle.serde_json.specs.Data.{Data}
 use Rattle.serde_json.specs.Written.{has_float}
 use Rattle.schema_definitions.specs.Instance.{Subject, Text, subject_at}
@@ -36,6 +36,10 @@ abbrev pub IsErrorBelow : MetaChecks → Text → Draft → Data → OwnedError 
 IsErrorBelow refuses location draft value e = (texts : Bool) → (texts ≡ true → has_float value ≡ false)
     → (error : Error) × (instance : Subject) × (refuses texts draft value ≡ Some error)
     × (subject_at value error.place ≡ Some instance) × (owned_spoken texts e ≡ prefixed location (owned instance error))
+
+-- the error of a value in a draft, seen from its own place; none where the value is accepted
+abbrev pub IsVerdict : MetaChecks → Draft → Data → Option OwnedError → Type 0
+IsVerdict refuses draft value o = MatchOption o (refuses false draft value ≡ None) (IsErrorBelow refuses [] draft value)
 
 module _ {S K R : Type 0} (w : Parts S K R) (refuses : MetaChecks) where
   -- nothing is refused in a document

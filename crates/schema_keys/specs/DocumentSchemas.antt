@@ -3,6 +3,7 @@
 use Rattle.std.specs.Prelude.{List, None, Option, Some, [], ℕ, ◌+◌, ◌++◌, ◌<◌, ◌∷◌, ◌^◌}
 use Rattle.serde_json.specs.Data.{Data, Items, Members, array, boolean, item, member, no_items, no_members, null, number, object, string}
 use Rattle.schema_definitions.specs.Instance.{Place, to_item, to_member}
+use Rattle.schema_keys.specs.Compiling.{Each}
 
 abbrev mutual
   -- of the value at a path
@@ -32,3 +33,7 @@ abbrev pub IndicesFit : Place → Type 0
 IndicesFit [] = Unit {0}
 IndicesFit (to_item n ∷ p) = (n < 2 ^ 64) × IndicesFit p
 IndicesFit (s ∷ p) = IndicesFit p
+
+-- if they fit in this place and in each of the old ones, they fit in each of the new ones
+abbrev pub StaysFit : Place → List Place → List Place → Type 0
+StaysFit p old new = IndicesFit p → Each IndicesFit old → Each IndicesFit new

@@ -1,4 +1,5 @@
 -- The code's keys and kinds of references, as the definitions have them.
+use Rattle.std.specs.Prelude.{List, MatchOption, Option, Some, slice_get, ℕ, ◌≡◌, ◌≢◌}
 use Rattle.schema_definitions.specs.Plan as plan
 use Rattle.schema_keywords.specs.KeywordViews.{draft_of}
 use Rattle.schema_parts.specs.ResolverViews.{place_of}
@@ -18,3 +19,7 @@ abbrev pub kind_of : ReferenceKind → plan.Reference
 kind_of kind.Ref = plan.to_ref
 kind_of kind.Dynamic = plan.to_dynamic
 kind_of kind.Recursive = plan.to_recursive
+
+-- the number of a key among these; none where it has none
+abbrev pub IsNumberOf : {S : Type 0} → List (plan.Key S) → plan.Key S → Option ℕ → Type 0
+IsNumberOf keys k o = MatchOption o ((i : ℕ) → slice_get keys i ≢ Some k) (λ n. slice_get keys n ≡ Some k)

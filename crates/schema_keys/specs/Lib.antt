@@ -10,4 +10,7 @@ pub mod Readings
 pub mod ShownBases
 pub mod DocumentSchemas
 pub mod Checking
+pub mod Showing
+pub mod Here
+pub mod CheckHere
 pub mod CutViews

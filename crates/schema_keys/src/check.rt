@@ -2,8 +2,7 @@
 //!
 //! An embedded resource of another known draft counts as `{}` in the document around it, and is a document of its own: `embedded`
 //! finds where these resources lie, `masked` copies a document without them.
-ghost use Rattle.std.specs.Prelude.{◌≡◌, ◌<◌, ℕ, IfErr, IfOk, MatchOption, Some, None, [], false, map, suc};
-ghost use Rattle.serde_json.specs.Data.{depth};
+ghost use Rattle.std.specs.Prelude.{◌≡◌, IfErr, IfOk};
 ghost use Rattle.serde_json.specs.View.{view};
 ghost use Rattle.schema_definitions.specs.Plan.{schema_at};
 ghost use Rattle.schema_meaning.specs.Documents as documents;
@@ -11,10 +10,11 @@ ghost use Rattle.schema_keywords.specs.KeywordViews.{draft_of};
 ghost use Rattle.schema_reports.specs.Owned.{prefixed};
 ghost use Rattle.schema_reports.specs.ReportViews.{owned_error_of};
 ghost use Rattle.schema_parts.specs.ResolverViews.{place_of};
-ghost use Rattle.schema_keys.specs.Compiling.{resolving_parts};
-ghost use Rattle.schema_keys.specs.Checking.{AcceptsSchema, EachAccepted, IsErrorBelow, RefusesOne, RefusesSchema};
-ghost use Rattle.schema_keys.specs.Checking.{location_from, own_document};
-ghost use Rattle.schema_keys.specs.CutViews.{cut_of};
+ghost use Rattle.schema_keys.specs.Checking.{AcceptsSchema, RefusesSchema, IsVerdict};
+ghost use Rattle.schema_keys.specs.Checking.{location_from};
+ghost use Rattle.schema_keys.specs.CheckHere.{parts_asked, masked_at, AcceptsOwn};
+ghost use Rattle.schema_keys.specs.CheckHere.{RefusesOwn, AcceptsAll, RefusesFirst};
+ghost use Rattle.schema_keys.specs.Showing.{Shows};
 
 mod embedded;
 mod masked;
@@ -72,8 +72,7 @@ pub fn validate_schema<R: Resolver, V: MetaValidators>(
 impl<'p, R: Resolver, V: MetaValidators> SchemaCheck<'p, R, V> {
     /// Whether a value is accepted without a look at it: a boolean, or `{}`.
     fn passes_unseen(&self, value: &Value) -> bool
-        ensures unseen { result ≡
-            documents.passes_unseen (resolving_parts (R.resolving self.now.resolver.now)) (view value.now) }
+        ensures unseen { result ≡ documents.passes_unseen (parts_asked R.Resolver self.now) (view value.now) }
     {
         match value {
             Value::Bool(_) => true,
@@ -84,9 +83,8 @@ impl<'p, R: Resolver, V: MetaValidators> SchemaCheck<'p, R, V> {
 
     /// The error of a document; none where it is accepted.
     fn refusal(&self, draft: Draft, document: &Value) -> Result<Option<OwnedError>, OutOfMemory>
-        ensures refusal { IfOk result (λ o. MatchOption o
-            (V.checked self.now.metas.now false (draft_of draft) (view document.now) ≡ None)
-            (IsErrorBelow (V.checked self.now.metas.now) [] (draft_of draft) (view document.now))) }
+        ensures refusal { IfOk result (IsVerdict (V.checked self.now.metas.now) (draft_of draft)
+            (view document.now)) }
     {
         match self.metas.check(self.alloc, draft, document)? {
             Some(error) => Ok(Some(error.to_owned(self.alloc)?)),
@@ -102,13 +100,8 @@ impl<'p, R: Resolver, V: MetaValidators> SchemaCheck<'p, R, V> {
         schema: &Value,
         cuts: &[Cut],
     ) -> Result<Option<OwnedError>, OutOfMemory>
-        ensures refusal { IfOk result (λ o. MatchOption o
-            (V.checked self.now.metas.now false (draft_of draft)
-            (documents.masked (resolving_parts (R.resolving self.now.resolver.now))
-            (map cut_of cuts.now) (place_of place.now) (view schema.now)) ≡ None)
-            (IsErrorBelow (V.checked self.now.metas.now) [] (draft_of draft)
-            (documents.masked (resolving_parts (R.resolving self.now.resolver.now))
-            (map cut_of cuts.now) (place_of place.now) (view schema.now)))) }
+        ensures refusal { IfOk result (IsVerdict (V.checked self.now.metas.now) (draft_of draft)
+            (masked_at R.Resolver self.now cuts.now place.now schema.now)) }
     {
         if cuts.is_empty() {
             return self.refusal(draft, schema);
@@ -119,8 +112,8 @@ impl<'p, R: Resolver, V: MetaValidators> SchemaCheck<'p, R, V> {
 
     /// An error in the document at a place, as it is seen from the schema that is checked.
     fn located(&self, place: &SchemaPlace, error: OwnedError) -> Result<OwnedError, OutOfMemory>
-        ensures located { IfOk result (λ e. owned_error_of e ≡
-            prefixed (location_from (place_of self.now.root.now) (place_of place.now)) (owned_error_of error)) }
+        ensures located { Shows owned_error_of result
+            (prefixed (location_from (place_of self.now.root.now) (place_of place.now)) (owned_error_of error)) }
     {
         let below = place.path.after(self.alloc, self.root.path.len())?;
         error.with_instance_path_prefix(&below.pointer(self.alloc)?)
@@ -134,17 +127,10 @@ impl<'p, R: Resolver, V: MetaValidators> SchemaCheck<'p, R, V> {
         schema: &Value,
         cuts: &[Cut],
     ) -> Result<(), BuildError>
-        requires read { view schema.now ≡
-            schema_at (resolving_parts (R.resolving self.now.resolver.now)) (place_of place.now) }
-        ensures accepted { IfOk result (λ _. EachAccepted
-            (resolving_parts (R.resolving self.now.resolver.now)) (V.checked self.now.metas.now)
-            (own_document (resolving_parts (R.resolving self.now.resolver.now))
-            (map cut_of cuts.now) (draft_of draft) (place_of place.now))) }
-        ensures refused { IfErr result (RefusesOne
-            (resolving_parts (R.resolving self.now.resolver.now)) (V.checked self.now.metas.now)
-            (place_of self.now.root.now)
-            (own_document (resolving_parts (R.resolving self.now.resolver.now))
-            (map cut_of cuts.now) (draft_of draft) (place_of place.now))) }
+        requires read { view schema.now ≡ schema_at (parts_asked R.Resolver self.now) (place_of place.now) }
+        ensures accepted { IfOk result (λ _. AcceptsOwn R.Resolver self.now V.MetaValidators draft place.now
+            cuts.now) }
+        ensures refused { IfErr result (RefusesOwn R.Resolver self.now V.MetaValidators draft place.now cuts.now) }
     {
         if self.passes_unseen(schema) {
             return Ok(());
@@ -162,15 +148,9 @@ impl<'p, R: Resolver, V: MetaValidators> SchemaCheck<'p, R, V> {
         place: &SchemaPlace,
         cuts: &[Cut],
     ) -> Result<(), BuildError>
-        ensures accepted { IfOk result (λ _. EachAccepted
-            (resolving_parts (R.resolving self.now.resolver.now)) (V.checked self.now.metas.now)
-            (own_document (resolving_parts (R.resolving self.now.resolver.now))
-            (map cut_of cuts.now) (draft_of draft) (place_of place.now))) }
-        ensures refused { IfErr result (RefusesOne
-            (resolving_parts (R.resolving self.now.resolver.now)) (V.checked self.now.metas.now)
-            (place_of self.now.root.now)
-            (own_document (resolving_parts (R.resolving self.now.resolver.now))
-            (map cut_of cuts.now) (draft_of draft) (place_of place.now))) }
+        ensures accepted { IfOk result (λ _. AcceptsOwn R.Resolver self.now V.MetaValidators draft place.now
+            cuts.now) }
+        ensures refused { IfErr result (RefusesOwn R.Resolver self.now V.MetaValidators draft place.now cuts.now) }
     {
         match self.resolver.value(place) {
             Some(schema) => self.check_schema(draft, place, schema, cuts),
@@ -180,18 +160,8 @@ impl<'p, R: Resolver, V: MetaValidators> SchemaCheck<'p, R, V> {
 
     /// Checks the document at a place, and then each of its embedded resources by its own draft.
     fn check_documents(&self, draft: Draft, place: &SchemaPlace) -> Result<(), BuildError>
-        ensures accepted { IfOk result (λ _. (n : ℕ) →
-            depth (schema_at (resolving_parts (R.resolving self.now.resolver.now)) (place_of place.now)) < n →
-            EachAccepted (resolving_parts (R.resolving self.now.resolver.now))
-            (V.checked self.now.metas.now)
-            (documents.documents (resolving_parts (R.resolving self.now.resolver.now)) n
-            (draft_of draft) (place_of place.now))) }
-        ensures refused { IfErr result (λ e. (n : ℕ) →
-            depth (schema_at (resolving_parts (R.resolving self.now.resolver.now)) (place_of place.now)) < n →
-            RefusesOne (resolving_parts (R.resolving self.now.resolver.now))
-            (V.checked self.now.metas.now) (place_of self.now.root.now)
-            (documents.documents (resolving_parts (R.resolving self.now.resolver.now)) n
-            (draft_of draft) (place_of place.now)) e) }
+        ensures accepted { IfOk result (λ _. AcceptsAll R.Resolver self.now V.MetaValidators draft place.now) }
+        ensures refused { IfErr result (RefusesFirst R.Resolver self.now V.MetaValidators draft place.now) }
     {
         let cuts = self.cuts(draft, place)?;
         self.check_document(draft, place, cuts.as_slice())?;

@@ -1,19 +1,19 @@
 //! The place where a schema is compiled: its key, with the memory, the resolver and the options of the compilation. Its
 //! draft, its vocabularies and its location, and what follows from them. References are in `references`, subschemas in `subschema`.
-ghost use Rattle.std.specs.Prelude.{◌≡◌, ◌≢◌, ◌||◌, ◌++◌, ◌∷◌, None, IfOk, IfSome, MatchOption, drop, not, unwrap_or, option_map, codes};
+ghost use Rattle.std.specs.Prelude.{◌≡◌, ◌||◌, ◌++◌, ◌∷◌, None, IfOk};
+ghost use Rattle.std.specs.Prelude.{IfSome, drop, not, unwrap_or, option_map, codes};
 ghost use Rattle.std.specs.Prelude.{string_bytes, if◌then◌else◌};
 ghost use Rattle.serde_json.specs.View.{view, members_view};
-ghost use Rattle.schema_definitions.specs.Instance.{Text, member_of};
+ghost use Rattle.schema_definitions.specs.Instance.{member_of};
 ghost use Rattle.schema_definitions.specs.Pointer.{joined};
 ghost use Rattle.schema_definitions.specs.Drafts.{ref_stands_alone};
 ghost use Rattle.schema_keywords.specs.KeywordTable.{is_in_force};
-ghost use Rattle.schema_keywords.specs.KeywordViews.{draft_of, vocabulary_of};
-ghost use Rattle.schema_definitions.specs.Plan.{absolute_of, encoded};
-ghost use Rattle.schema_keys.specs.Builtins.{builtin};
-ghost use Rattle.schema_keys.specs.Compiling.{resolving_parts};
+ghost use Rattle.schema_keywords.specs.KeywordViews.{vocabulary_of};
+ghost use Rattle.schema_definitions.specs.Plan.{encoded};
+ghost use Rattle.schema_keys.specs.Builtins.{builtin, row_of};
 ghost use Rattle.schema_keys.specs.Dialects.{asserts_formats, integer_valued_numbers};
-ghost use Rattle.schema_keys.specs.ShownBases.{shown_base};
-ghost use Rattle.schema_keys.specs.KeyViews.{key_of};
+ghost use Rattle.schema_keys.specs.Here.{draft_here, base_here, absolute_here};
+ghost use Rattle.schema_keys.specs.Showing.{Yields, Shows, IsRest};
 
 use crate::key::SchemaKey;
 use crate::options::CompileOptions;
@@ -45,8 +45,8 @@ impl DeferredAbsoluteLocation {
     /// Returns the absolute location of a location in the resource: the URI, `#`, and the location from where the resource
     /// starts, as a fragment. Fails only if memory cannot be allocated.
     pub fn resolve(self, location: &Location) -> Result<String, OutOfMemory>
-        ensures absolute { IfOk result (λ t. string_bytes t ≡
-            string_bytes self.base ++ (35 ∷ encoded (drop self.resource_start location.now))) }
+        ensures absolute { Shows string_bytes result (string_bytes self.base ++
+            (35 ∷ encoded (drop self.resource_start location.now))) }
     {
         let mut text = self.base;
         push_fragment(&mut text, location.as_str(), self.resource_start)?;
@@ -71,7 +71,7 @@ impl<'p, 'c, R: Resolver> Context<'p, 'c, R> {
 
     /// Returns the location of the schema's keyword of this name. Fails only if memory cannot be allocated.
     pub fn new_at_location(&self, name: &str) -> Result<Location, OutOfMemory>
-        ensures location { IfOk result (λ l. l ≡ joined self.now.key.now.location name.now) }
+        ensures location { Yields result (joined self.now.key.now.location name.now) }
     {
         self.location().join(LocationSegment::Property(name))
     }
@@ -79,9 +79,7 @@ impl<'p, 'c, R: Resolver> Context<'p, 'c, R> {
     /// Returns what follows in the schema's location on the part that the last reference gave; none if the location does
     /// not begin with that part.
     pub fn suffix(&self) -> Option<&str>
-        ensures suffix { MatchOption result
-            ((rest : Text) → self.now.key.now.location ≢ self.now.key.now.resource_base ++ rest)
-            (λ rest. self.now.key.now.location ≡ self.now.key.now.resource_base ++ rest.now) }
+        ensures suffix { IsRest self.now.key.now.resource_base self.now.key.now.location result }
     {
         self.location()
             .as_str()
@@ -91,9 +89,7 @@ impl<'p, 'c, R: Resolver> Context<'p, 'c, R> {
     /// Returns the URI that absolute locations in the schema's resource begin with; none if its scheme is `json-schema`.
     /// Fails only if memory cannot be allocated.
     pub fn base_uri(&self) -> Result<Option<String>, OutOfMemory>
-        ensures base { IfOk result (λ o. option_map string_bytes o ≡
-            shown_base (resolving_parts (R.resolving self.now.resolver.now))
-            (key_of R.point self.now.key.now)) }
+        ensures base { Shows (option_map string_bytes) result (base_here R.Resolver self.now) }
     {
         let uri = self.resolver.base_uri(&self.key.state);
         if has_own_scheme(uri) {
@@ -107,9 +103,7 @@ impl<'p, 'c, R: Resolver> Context<'p, 'c, R> {
     pub fn deferred_absolute_location(
         &self,
     ) -> Result<Option<DeferredAbsoluteLocation>, OutOfMemory>
-        ensures base { IfOk result (λ o. option_map (λ d. string_bytes d.base) o ≡
-            shown_base (resolving_parts (R.resolving self.now.resolver.now))
-            (key_of R.point self.now.key.now)) }
+        ensures base { Shows (option_map (λ d. string_bytes d.base)) result (base_here R.Resolver self.now) }
         ensures start { IfOk result (λ o. IfSome o (λ d. d.resource_start ≡ self.now.key.now.resource_start)) }
     {
         match self.base_uri()? {
@@ -124,9 +118,7 @@ impl<'p, 'c, R: Resolver> Context<'p, 'c, R> {
     /// Returns the absolute location of a location in the schema's resource; none if that resource has no URI that is
     /// shown. Fails only if memory cannot be allocated.
     pub fn absolute_location(&self, location: &Location) -> Result<Option<String>, OutOfMemory>
-        ensures absolute { IfOk result (λ o. option_map string_bytes o ≡
-            absolute_of (resolving_parts (R.resolving self.now.resolver.now))
-            (key_of R.point self.now.key.now) location.now) }
+        ensures absolute { Shows (option_map string_bytes) result (absolute_here R.Resolver self.now location.now) }
     {
         match self.base_uri()? {
             None => Ok(None),
@@ -141,8 +133,8 @@ impl<'p, 'c, R: Resolver> Context<'p, 'c, R> {
     /// Returns whether a vocabulary is in force: always before draft 2019-09, always if it is the core vocabulary, and
     /// otherwise if it is in the schema's set.
     pub fn has_vocabulary(&self, vocabulary: &Vocabulary) -> bool
-        ensures in_force { result ≡ is_in_force (draft_of self.now.key.now.draft)
-            self.now.key.now.vocabularies (vocabulary_of vocabulary.now) }
+        ensures in_force { result ≡ is_in_force (draft_here self.now) self.now.key.now.vocabularies
+            (vocabulary_of vocabulary.now) }
     {
         has_vocabulary(self.key.draft, &self.key.vocabularies, vocabulary)
     }
@@ -150,18 +142,15 @@ impl<'p, 'c, R: Resolver> Context<'p, 'c, R> {
     /// What the standard's table says of a keyword's name.
     #[tactic(auto, unfolding(crate::specs::Builtins::builtin))]
     pub fn builtin_row(&self, name: &str) -> Option<BuiltinRow>
-        ensures row { option_map (λ r. record {
-          name = name.now;
-          priority = r.priority;
-          is_leaf = r.is_leaf;
-        }) result ≡ builtin (draft_of self.now.key.now.draft) self.now.key.now.vocabularies name.now }
+        ensures row { option_map (row_of name.now) result ≡
+            builtin (draft_here self.now) self.now.key.now.vocabularies name.now }
     {
         builtin_row(self.draft(), &self.key.vocabularies, name)
     }
 
     /// Returns whether keywords beside a `$ref` are applied: from draft 2019-09 on.
     pub fn supports_adjacent_validation(&self) -> bool
-        ensures beside { result ≡ not (ref_stands_alone (draft_of self.now.key.now.draft)) }
+        ensures beside { result ≡ not (ref_stands_alone (draft_here self.now)) }
     {
         !self.key.draft.is_before_2019_09()
     }
@@ -169,7 +158,7 @@ impl<'p, 'c, R: Resolver> Context<'p, 'c, R> {
     /// The value of the `$ref` that is taken alone in an object.
     pub fn lone_reference<'v>(&self, members: &'v Map<String, Value>) -> Option<&'v Value>
         ensures alone { option_map (λ v. view v.now) result ≡
-            (if ref_stands_alone (draft_of self.now.key.now.draft) then
+            (if ref_stands_alone (draft_here self.now) then
             member_of (codes "$ref") (members_view members.now.entries) else None) }
     {
         if self.supports_adjacent_validation() {
@@ -181,7 +170,7 @@ impl<'p, 'c, R: Resolver> Context<'p, 'c, R> {
 
     /// Returns whether a number with an integer's value, such as 1.0, is an integer: from draft 6 on.
     pub fn supports_integer_valued_numbers(&self) -> bool
-        ensures integers { result ≡ integer_valued_numbers (draft_of self.now.key.now.draft) }
+        ensures integers { result ≡ integer_valued_numbers (draft_here self.now) }
     {
         match self.key.draft {
             Draft::Draft4 => false,
@@ -202,8 +191,7 @@ impl<'p, 'c, R: Resolver> Context<'p, 'c, R> {
     /// is taken alone, and in later ones if the schema's vocabularies ask for it.
     pub fn validates_formats_by_default(&self) -> bool
         ensures formats { result ≡ unwrap_or self.now.options.now.formats
-            (ref_stands_alone (draft_of self.now.key.now.draft)
-            || asserts_formats self.now.key.now.vocabularies) }
+            (ref_stands_alone (draft_here self.now) || asserts_formats self.now.key.now.vocabularies) }
     {
         match self.options.formats {
             Some(checked) => checked,

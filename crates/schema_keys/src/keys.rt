@@ -1,9 +1,9 @@
 //! The keys that were reached, in the order of their numbers. A key is found by a hash, from number to number. It is shared with
 //! the step that compiles its node, since a copy of it is as long as its schema is deep.
-ghost use Rattle.std.specs.Prelude.{◌≡◌, ◌≢◌, ◌≤◌, ◌<◌, ◌+◌, ◌++◌, ◌∷◌, ℕ, [], IfOk, MatchOption, OnErr, OnOk, Some};
+ghost use Rattle.std.specs.Prelude.{◌≡◌, ◌≤◌, ◌<◌, ◌+◌, ◌++◌, ◌∷◌, ℕ, [], IfOk, OnErr, OnOk, Some};
 ghost use Rattle.std.specs.Prelude.{if◌then◌else◌, length, map, nat_eq, slice_get, vec_capacity, vec_len};
 ghost use Rattle.std.specs.HashMap.{IsUnchanged, get};
-ghost use Rattle.schema_keys.specs.KeyViews.{key_of};
+ghost use Rattle.schema_keys.specs.KeyViews.{key_of, IsNumberOf};
 ghost use Rattle.schema_keys.specs.KeyHashes.{hash_of};
 
 use crate::key::{SchemaKey, same_key};
@@ -117,9 +117,7 @@ fn hash_of<S: Hash>(key: &SchemaKey<S>) -> u64
 
 /// The number of a key, if it has one.
 pub fn find<R: Resolver>(keys: &Keys<R::State>, key: &SchemaKey<R::State>) -> Option<usize>
-    ensures found { MatchOption result
-        ((i : ℕ) → slice_get (map (key_of R.point) keys.now) i ≢ Some (key_of R.point key.now))
-        (λ n. slice_get (map (key_of R.point) keys.now) n ≡ Some (key_of R.point key.now)) }
+    ensures found { IsNumberOf (map (key_of R.point) keys.now) (key_of R.point key.now) result }
 {
     let mut next = keys.last.get(&hash_of(key)).copied();
     while let Some(number) = next {

@@ -1,17 +1,17 @@
 //! References: where they lead, and the keys of their targets.
-ghost use Rattle.std.specs.Prelude.{◌≡◌, ◌==◌, IfOk, IfErr, MatchResult, Ok, not, option_map, string_bytes};
+ghost use Rattle.std.specs.Prelude.{◌≡◌, IfOk, IfErr, Ok, not, option_map, string_bytes, []};
 ghost use Rattle.std.specs.Str.Lossy.{utf8_lossy};
 ghost use Rattle.percent_encoding.specs.Percent.{percent_decode};
 ghost use Rattle.schema_definitions.specs.Pointer.{pointer_to};
-ghost use Rattle.schema_definitions.specs.Plan.{found, fragment, location_by, looked_up, resolved, start_by, referred_at, reference_named};
-ghost use Rattle.schema_definitions.specs.Plan.{is_recursive_ref, without_prefix};
-ghost use Rattle.schema_meaning.specs.Refusals.{lookup_causes};
-ghost use Rattle.schema_parts.specs.ResolverViews.{Refuses, found_of, place_of};
+ghost use Rattle.schema_definitions.specs.Plan.{fragment, reference_named, to_recursive};
+ghost use Rattle.schema_definitions.specs.Plan.{is_recursive_ref};
+ghost use Rattle.schema_parts.specs.ResolverViews.{found_of, place_of};
 ghost use Rattle.schema_keys.specs.KeyViews.{key_of, kind_of};
-ghost use Rattle.schema_keys.specs.Compiling.{resolving_parts, skips};
-ghost use Rattle.schema_keys.specs.Referring.{LeadsBy};
-ghost use Rattle.schema_keys.specs.Referring.{IsReferredBy, by_flag, referred_by};
-ghost use Rattle.schema_keys.specs.Refusing.{Names};
+ghost use Rattle.schema_keys.specs.Compiling.{skips};
+ghost use Rattle.schema_keys.specs.Referring.{by_flag};
+ghost use Rattle.schema_keys.specs.Here.{place_here, resolves, finds, looks_up, RefersBy, RefusesReference};
+ghost use Rattle.schema_keys.specs.Here.{LeadsTo, path_in_resource, target_location, target_start, target_key, target_key_at};
+ghost use Rattle.schema_keys.specs.Showing.{Yields, Shows, Agrees};
 
 use crate::context::Context;
 use crate::error::BuildError;
@@ -59,7 +59,7 @@ pub fn reference_kind(name: &str) -> Option<ReferenceKind>
 
 // The text of a pointer in a fragment.
 fn decoded_pointer(alloc: Global, fragment: &str) -> Result<Location, OutOfMemory>
-    ensures decoded { IfOk result (λ l. l ≡ utf8_lossy (percent_decode fragment.now)) }
+    ensures decoded { Yields result (utf8_lossy (percent_decode fragment.now)) }
 {
     let bytes = percent_decode(fragment.as_bytes()).into_cow(alloc)?;
     let text = decode_utf8_lossy(alloc, bytes)?;
@@ -86,11 +86,7 @@ impl<'p, 'c, R: Resolver> Context<'p, 'c, R> {
     /// Returns the URI that a reference stands for in the schema's resource. An empty reference is read as `#`. Fails if the
     /// resolver refuses the reference, or if memory cannot be allocated.
     pub fn resolve_reference_uri(&self, reference: &str) -> Result<String, LookupError>
-        ensures uri { MatchResult result
-            (λ t. resolved (resolving_parts (R.resolving self.now.resolver.now))
-            (key_of R.point self.now.key.now) reference.now ≡ Ok (string_bytes t))
-            (Refuses (resolved (resolving_parts (R.resolving self.now.resolver.now))
-            (key_of R.point self.now.key.now) reference.now)) }
+        ensures uri { Agrees string_bytes result (resolves R.Resolver self.now reference.now) }
     {
         let text = if reference.is_empty() { "#" } else { reference };
         self.resolver.resolve_uri(self.alloc, &self.key.state, text)
@@ -99,11 +95,7 @@ impl<'p, 'c, R: Resolver> Context<'p, 'c, R> {
     /// Returns what a reference leads to; `dynamic` says that it is a `$dynamicRef`. An empty reference is read as `#`.
     /// Fails if the resolver refuses the reference, or if memory cannot be allocated.
     pub fn lookup(&self, reference: &str, dynamic: bool) -> Result<Target<R::State>, LookupError>
-        ensures found { MatchResult result
-            (λ t. looked_up (resolving_parts (R.resolving self.now.resolver.now))
-            (key_of R.point self.now.key.now) dynamic reference.now ≡ Ok (found_of R.point t))
-            (Refuses (looked_up (resolving_parts (R.resolving self.now.resolver.now))
-            (key_of R.point self.now.key.now) dynamic reference.now)) }
+        ensures found { Agrees (found_of R.point) result (looks_up R.Resolver self.now dynamic reference.now) }
     {
         let reference = if reference.is_empty() { "#" } else { reference };
         self.resolver
@@ -112,11 +104,7 @@ impl<'p, 'c, R: Resolver> Context<'p, 'c, R> {
 
     /// Returns what a `$recursiveRef` leads to. Fails if the resolver refuses it, or if memory cannot be allocated.
     pub fn lookup_recursive_reference(&self) -> Result<Target<R::State>, LookupError>
-        ensures found { MatchResult result
-            (λ t. (R.resolving self.now.resolver.now).lookup_recursive (R.point self.now.key.now.state) ≡
-            Ok (found_of R.point t))
-            (Refuses ((R.resolving self.now.resolver.now).lookup_recursive
-            (R.point self.now.key.now.state))) }
+        ensures found { Agrees (found_of R.point) result (finds R.Resolver self.now to_recursive []) }
     {
         self.resolver
             .lookup_recursive_ref(self.alloc, &self.key.state)
@@ -124,13 +112,8 @@ impl<'p, 'c, R: Resolver> Context<'p, 'c, R> {
 
     // What the resolver finds for a `$ref`'s or a `$dynamicRef`'s text, and the URI that the text stands for.
     fn sought_by_uri(&self, text: &str, dynamic: bool) -> Result<Sought<R::State>, LookupError>
-        ensures found { MatchResult result
-            (λ s. found (resolving_parts (R.resolving self.now.resolver.now))
-            (key_of R.point self.now.key.now) (by_flag dynamic) text.now ≡ Ok (found_of R.point s.target))
-            (Refuses (found (resolving_parts (R.resolving self.now.resolver.now))
-            (key_of R.point self.now.key.now) (by_flag dynamic) text.now)) }
-        ensures uri { IfOk result (λ s. resolved (resolving_parts (R.resolving self.now.resolver.now))
-            (key_of R.point self.now.key.now) text.now ≡ Ok (string_bytes s.uri)) }
+        ensures found { Agrees (λ s. found_of R.point s.target) result (finds R.Resolver self.now (by_flag dynamic) text.now) }
+        ensures uri { IfOk result (λ s. resolves R.Resolver self.now text.now ≡ Ok (string_bytes s.uri)) }
     {
         let uri = self.resolve_reference_uri(text)?;
         let target = self.lookup(text, dynamic)?;
@@ -139,13 +122,8 @@ impl<'p, 'c, R: Resolver> Context<'p, 'c, R> {
 
     // What the resolver finds for a reference's text, and the URI that the text stands for; a `$recursiveRef` has none.
     fn sought(&self, kind: ReferenceKind, text: &str) -> Result<Sought<R::State>, LookupError>
-        ensures found { MatchResult result
-            (λ s. found (resolving_parts (R.resolving self.now.resolver.now))
-            (key_of R.point self.now.key.now) (kind_of kind) text.now ≡ Ok (found_of R.point s.target))
-            (Refuses (found (resolving_parts (R.resolving self.now.resolver.now))
-            (key_of R.point self.now.key.now) (kind_of kind) text.now)) }
-        ensures uri { IfOk result (λ s. IsReferredBy (resolving_parts (R.resolving self.now.resolver.now))
-            (key_of R.point self.now.key.now) (kind_of kind) text.now (string_bytes s.uri)) }
+        ensures found { Agrees (λ s. found_of R.point s.target) result (finds R.Resolver self.now (kind_of kind) text.now) }
+        ensures uri { IfOk result (λ s. RefersBy R.Resolver self.now (kind_of kind) text.now s.uri) }
     {
         match kind {
             ReferenceKind::Ref => self.sought_by_uri(text, false),
@@ -163,23 +141,17 @@ impl<'p, 'c, R: Resolver> Context<'p, 'c, R> {
         kind: ReferenceKind,
         text: &str,
     ) -> Result<Sought<R::State>, BuildError>
-        ensures found { IfOk result (λ s.
-            found (resolving_parts (R.resolving self.now.resolver.now))
-            (key_of R.point self.now.key.now) (kind_of kind) text.now ≡ Ok (found_of R.point s.target)) }
-        ensures uri { IfOk result (λ s. IsReferredBy (resolving_parts (R.resolving self.now.resolver.now))
-            (key_of R.point self.now.key.now) (kind_of kind) text.now (string_bytes s.uri)) }
-        ensures refused { IfErr result (Names
-            (lookup_causes (resolving_parts (R.resolving self.now.resolver.now))
-            (found (resolving_parts (R.resolving self.now.resolver.now))
-            (key_of R.point self.now.key.now) (kind_of kind) text.now))) }
+        ensures found { IfOk result (λ s. finds R.Resolver self.now (kind_of kind) text.now ≡
+            Ok (found_of R.point s.target)) }
+        ensures uri { IfOk result (λ s. RefersBy R.Resolver self.now (kind_of kind) text.now s.uri) }
+        ensures refused { IfErr result (RefusesReference R.Resolver self.now (kind_of kind) text.now) }
     {
         Ok(self.sought(kind, text)?)
     }
 
     // Whether a reference leads to the object that holds it; `$recursiveRef` counts as one that does not.
     fn is_skipped(&self, kind: ReferenceKind, target: &Target<R::State>) -> bool
-        ensures skipped { result ≡
-            skips (kind_of kind) (place_of target.now.place) (place_of self.now.key.now.place) }
+        ensures skipped { result ≡ skips (kind_of kind) (place_of target.now.place) (place_here self.now) }
     {
         match kind {
             ReferenceKind::Recursive => false,
@@ -191,8 +163,7 @@ impl<'p, 'c, R: Resolver> Context<'p, 'c, R> {
     /// Returns the location in its resource of a target that a name leads to: its path below the resource's root. Fails
     /// only if memory cannot be allocated.
     pub fn anchor_location(&self, target: &Target<R::State>) -> Result<Location, OutOfMemory>
-        ensures location { IfOk result (λ l. l ≡ pointer_to (without_prefix target.now.place.path
-            ((R.resolving self.now.resolver.now).resource_root (R.point target.now.state)).path)) }
+        ensures location { Yields result (pointer_to (path_in_resource R.Resolver self.now target.now)) }
     {
         let root = self.resolver.resource_root(self.alloc, &target.state)?;
         let path = target.place.path.after(self.alloc, root.path.len())?;
@@ -205,9 +176,7 @@ impl<'p, 'c, R: Resolver> Context<'p, 'c, R> {
         target: &Target<R::State>,
         fragment: &str,
     ) -> Result<Location, OutOfMemory>
-        ensures location { IfOk result (λ l. l ≡
-            location_by (resolving_parts (R.resolving self.now.resolver.now))
-            (found_of R.point target.now) fragment.now) }
+        ensures location { Yields result (target_location R.Resolver self.now target.now fragment.now) }
     {
         if fragment.is_empty() {
             return Ok(Location::new(self.alloc));
@@ -225,12 +194,8 @@ impl<'p, 'c, R: Resolver> Context<'p, 'c, R> {
         fragment: &str,
         location: &Location,
     ) -> Result<usize, OutOfMemory>
-        requires location { location.now ≡
-            location_by (resolving_parts (R.resolving self.now.resolver.now))
-            (found_of R.point target.now) fragment.now }
-        ensures start { IfOk result (λ n. n ≡
-            start_by (resolving_parts (R.resolving self.now.resolver.now))
-            (found_of R.point target.now) fragment.now) }
+        requires location { location.now ≡ target_location R.Resolver self.now target.now fragment.now }
+        ensures start { Yields result (target_start R.Resolver self.now target.now fragment.now) }
     {
         if fragment.is_empty() {
             return Ok(0);
@@ -244,11 +209,8 @@ impl<'p, 'c, R: Resolver> Context<'p, 'c, R> {
     /// Returns where a reference's target stands, by the URI that the reference stands for. Fails only if memory cannot be allocated.
     pub fn ref_target(&self, uri: &str, target: &Target<R::State>) -> Result<RefTarget, OutOfMemory>
         ensures location { IfOk result (λ t. t.location ≡
-            location_by (resolving_parts (R.resolving self.now.resolver.now))
-            (found_of R.point target.now) (fragment uri.now)) }
-        ensures start { IfOk result (λ t. t.start ≡
-            start_by (resolving_parts (R.resolving self.now.resolver.now))
-            (found_of R.point target.now) (fragment uri.now)) }
+            target_location R.Resolver self.now target.now (fragment uri.now)) }
+        ensures start { IfOk result (λ t. t.start ≡ target_start R.Resolver self.now target.now (fragment uri.now)) }
     {
         let fragment = fragment_of(uri);
         let location = self.location_of_target(target, fragment)?;
@@ -263,9 +225,8 @@ impl<'p, 'c, R: Resolver> Context<'p, 'c, R> {
         target: Target<R::State>,
         stands: RefTarget,
     ) -> Result<SchemaKey<R::State>, OutOfMemory>
-        ensures key { IfOk result (λ k. key_of R.point k ≡
-            referred_at (resolving_parts (R.resolving self.now.resolver.now))
-            (found_of R.point target) stands.location stands.start) }
+        ensures key { Shows (key_of R.point) result
+            (target_key_at R.Resolver self.now target stands.location stands.start) }
     {
         let vocabularies = self
             .resolver
@@ -283,9 +244,8 @@ impl<'p, 'c, R: Resolver> Context<'p, 'c, R> {
 
     // The key of a reference's target.
     fn referred_key(&self, sought: Sought<R::State>) -> Result<SchemaKey<R::State>, OutOfMemory>
-        ensures key { IfOk result (λ k. key_of R.point k ≡
-            referred_by (resolving_parts (R.resolving self.now.resolver.now))
-            (found_of R.point sought.target) (string_bytes sought.uri)) }
+        ensures key { Shows (key_of R.point) result
+            (target_key R.Resolver self.now sought.target (string_bytes sought.uri)) }
     {
         let stands = self.ref_target(sought.uri.as_str(), &sought.target)?;
         self.with_resolver_and_draft(sought.target, stands)
@@ -297,13 +257,8 @@ impl<'p, 'c, R: Resolver> Context<'p, 'c, R> {
         kind: ReferenceKind,
         text: &str,
     ) -> Result<Option<SchemaKey<R::State>>, BuildError>
-        ensures target { IfOk result
-            (LeadsBy (resolving_parts (R.resolving self.now.resolver.now)) R.point
-            (key_of R.point self.now.key.now) (kind_of kind) text.now) }
-        ensures refused { IfErr result (Names
-            (lookup_causes (resolving_parts (R.resolving self.now.resolver.now))
-            (found (resolving_parts (R.resolving self.now.resolver.now))
-            (key_of R.point self.now.key.now) (kind_of kind) text.now))) }
+        ensures target { IfOk result (LeadsTo R.Resolver self.now (kind_of kind) text.now) }
+        ensures refused { IfErr result (RefusesReference R.Resolver self.now (kind_of kind) text.now) }
     {
         let sought = self.lookup_reference(kind, text)?;
         if self.is_skipped(kind, &sought.target) {

@@ -3,7 +3,9 @@ ghost use Rattle.std.specs.Prelude.{◌≡◌, ◌++◌, ◌∷◌, [], IfOk};
 ghost use Rattle.serde_json.specs.View.{items_view, members_view, view};
 ghost use Rattle.schema_parts.specs.SchemaViews.{schema_step_of};
 ghost use Rattle.schema_keys.specs.Compiling.{Each};
-ghost use Rattle.schema_keys.specs.DocumentSchemas.{IndicesFit, schemas_in, schemas_in_items, schemas_in_members};
+ghost use Rattle.schema_keys.specs.DocumentSchemas.{IndicesFit, schemas_in, schemas_in_items};
+ghost use Rattle.schema_keys.specs.DocumentSchemas.{schemas_in_members, StaysFit};
+ghost use Rattle.schema_keys.specs.Showing.{Yields};
 
 use schema_parts::schema_place::{SchemaPath, SchemaStep};
 use schema_reports::location::OutOfMemory;
@@ -24,7 +26,7 @@ pub fn schemas_in(alloc: Global, document: &Value) -> Result<Vec<SchemaPath>, Ou
 
 /// The path one step below a path.
 fn one_below(path: &SchemaPath, step: SchemaStep) -> Result<SchemaPath, OutOfMemory>
-    ensures below { IfOk result (λ p. p ≡ path.now ++ schema_step_of step ∷ []) }
+    ensures below { Yields result (path.now ++ schema_step_of step ∷ []) }
 {
     let mut below = path.clone()?;
     below.push(step)?;
@@ -40,7 +42,7 @@ fn push_schemas(
     paths: &mut Vec<SchemaPath>,
 ) -> Result<(), OutOfMemory>
     ensures added { IfOk result (λ _. paths.new.items ≡ paths.old.items ++ schemas_in path.now (view value.now)) }
-    ensures fit { IfOk result (λ _. IndicesFit path.now → Each IndicesFit paths.old.items → Each IndicesFit paths.new.items) }
+    ensures fit { IfOk result (λ _. StaysFit path.now paths.old.items paths.new.items) }
 {
     match value {
         Value::Bool(_) => {
@@ -66,7 +68,7 @@ fn push_item_schemas(
 ) -> Result<(), OutOfMemory>
     ensures added { IfOk result (λ _. paths.new.items ≡
         paths.old.items ++ schemas_in_items path.now 0 (items_view items.now.items)) }
-    ensures fit { IfOk result (λ _. IndicesFit path.now → Each IndicesFit paths.old.items → Each IndicesFit paths.new.items) }
+    ensures fit { IfOk result (λ _. StaysFit path.now paths.old.items paths.new.items) }
 {
     for (index, item) in items.iter().enumerate() {
         let below = one_below(path, SchemaStep::Item(index))?;
@@ -85,7 +87,7 @@ fn push_member_schemas(
 ) -> Result<(), OutOfMemory>
     ensures added { IfOk result (λ _. paths.new.items ≡
         paths.old.items ++ schemas_in_members path.now (members_view members.now.entries)) }
-    ensures fit { IfOk result (λ _. IndicesFit path.now → Each IndicesFit paths.old.items → Each IndicesFit paths.new.items) }
+    ensures fit { IfOk result (λ _. StaysFit path.now paths.old.items paths.new.items) }
 {
     for (name, member) in members.iter() {
         let step = SchemaStep::Member(RcStr::from_str(alloc, name.as_str())?);

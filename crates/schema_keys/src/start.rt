@@ -1,8 +1,9 @@
 //! How much of a pointer lies outside the resource of the target that it leads to.
-ghost use Rattle.std.specs.Prelude.{◌≡◌, IfOk};
+ghost use Rattle.std.specs.Prelude.{◌≡◌};
 ghost use Rattle.schema_definitions.specs.Plan.{lies_in, resource_depth, segment_count, segments_length, start_of};
 ghost use Rattle.schema_parts.specs.ResolverViews.{found_of, place_of};
-ghost use Rattle.schema_keys.specs.Compiling.{resolving_parts};
+ghost use Rattle.schema_keys.specs.Here.{parts_here};
+ghost use Rattle.schema_keys.specs.Showing.{Yields};
 
 use crate::context::Context;
 use schema_parts::resolver::{Resolver, Target};
@@ -49,8 +50,8 @@ impl<'p, 'c, R: Resolver> Context<'p, 'c, R> {
         target: &Target<R::State>,
         segments: usize,
     ) -> Result<usize, OutOfMemory>
-        ensures depth { IfOk result (λ n. n ≡ resource_depth
-            (resolving_parts (R.resolving self.now.resolver.now)) (found_of R.point target.now) segments) }
+        ensures depth { Yields result (resource_depth (parts_here R.Resolver self.now) (found_of R.point target.now)
+            segments) }
     {
         let root = self.resolver.resource_root(self.alloc, &target.state)?;
         if !lies_in(&target.place, &root) {
@@ -66,8 +67,8 @@ impl<'p, 'c, R: Resolver> Context<'p, 'c, R> {
         target: &Target<R::State>,
         location: &Location,
     ) -> Result<usize, OutOfMemory>
-        ensures start { IfOk result (λ n. n ≡ start_of (resolving_parts (R.resolving self.now.resolver.now))
-            (found_of R.point target.now) location.now) }
+        ensures start { Yields result (start_of (parts_here R.Resolver self.now) (found_of R.point target.now)
+            location.now) }
     {
         let depth = self.resource_depth(target, segment_count(location.as_str()))?;
         Ok(segments_length(depth, location.as_str()))

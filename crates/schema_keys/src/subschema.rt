@@ -1,19 +1,15 @@
 //! The key of a subschema.
-ghost use Rattle.std.specs.Prelude.{◌≡◌, ◌++◌, true, false, IfOk, IfErr};
-ghost use Rattle.std.specs.Prelude.{MatchResult, Ok, Some, if◌then◌else◌, is_some, option_map, unwrap_or};
-ghost use Rattle.serde_json.specs.Data.{null, object};
-ghost use Rattle.serde_json.specs.View.{members_view, view};
+ghost use Rattle.std.specs.Prelude.{◌≡◌, IfOk, IfErr};
+ghost use Rattle.std.specs.Prelude.{Some, is_some};
 ghost use Rattle.schema_definitions.specs.Pointer.{pointer_to};
-ghost use Rattle.schema_definitions.specs.Making.{compile};
-ghost use Rattle.schema_definitions.specs.Drafts.{same_draft, at_path};
-ghost use Rattle.schema_definitions.specs.Plan.{subschema, inside, schema_at};
-ghost use Rattle.schema_meaning.specs.Refusals.{request_causes};
 ghost use Rattle.schema_keywords.specs.KeywordViews.{draft_of};
-ghost use Rattle.schema_parts.specs.ResolverViews.{Refuses, place_of};
+ghost use Rattle.schema_parts.specs.ResolverViews.{place_of};
 ghost use Rattle.schema_keys.specs.KeyViews.{key_of};
-ghost use Rattle.schema_keys.specs.Alone.{RefusesKeyAlone, key_alone};
-ghost use Rattle.schema_keys.specs.Compiling.{resolving_parts};
-ghost use Rattle.schema_keys.specs.Refusing.{Names};
+ghost use Rattle.schema_keys.specs.Alone.{RefusesKeyAlone};
+ghost use Rattle.schema_keys.specs.Here.{LiesBelow, resolver_here, HasMembers, enters, vocabularies_at};
+ghost use Rattle.schema_keys.specs.Here.{is_identified_at, key_inside, IsSubschemaKey, key_by_itself, RefusesSubschema};
+ghost use Rattle.schema_keys.specs.Showing.{Yields, Agrees};
+ghost use Rattle.schema_keys.specs.Readings.{read_value, IsReadAt};
 
 use crate::context::Context;
 use crate::error::BuildError;
@@ -35,8 +31,8 @@ pub struct Subschema<'p, S> {
 impl<'p, 'c, R: Resolver> Context<'p, 'c, R> {
     /// Whether a value that was read has an identifier.
     pub(crate) fn identifies(&self, draft: Draft, value: Option<&Value>) -> bool
-        ensures identified { result ≡ is_some ((R.resolving self.now.resolver.now).id (draft_of draft)
-            (unwrap_or (option_map (λ v. view v.now) value.entry) null)) }
+        ensures identified { result ≡ is_some ((resolver_here R.Resolver self.now).id (draft_of draft)
+            (read_value value.entry)) }
     {
         match value {
             Some(value) => self.resolver.id(draft, value).is_some(),
@@ -46,9 +42,8 @@ impl<'p, 'c, R: Resolver> Context<'p, 'c, R> {
 
     /// The draft of a value that was read, inside a schema of this draft; no value counts as null.
     pub(crate) fn detected(&self, draft: Draft, value: Option<&Value>) -> Draft
-        ensures detected { draft_of result ≡
-            (R.resolving self.now.resolver.now).detect (draft_of draft)
-            (unwrap_or (option_map (λ v. view v.now) value.entry) null) }
+        ensures detected { draft_of result ≡ (resolver_here R.Resolver self.now).detect (draft_of draft)
+            (read_value value.entry) }
     {
         match value {
             Some(value) => self.resolver.detect(draft, value),
@@ -58,11 +53,7 @@ impl<'p, 'c, R: Resolver> Context<'p, 'c, R> {
 
     // The vocabularies in force at a place inside the schema.
     fn vocabularies_inside(&self, below: &Target<R::State>) -> Result<VocabularySet, OutOfMemory>
-        ensures vocabularies { IfOk result (λ v. v ≡
-            (if same_draft (draft_of below.now.draft) (draft_of self.now.key.now.draft)
-            then self.now.key.now.vocabularies
-            else (R.resolving self.now.resolver.now).find_vocabularies
-            (R.point below.now.state) (draft_of below.now.draft) (place_of below.now.place))) }
+        ensures vocabularies { Yields result (vocabularies_at R.Resolver self.now below.now) }
     {
         if below.draft == self.key.draft {
             self.key.vocabularies.clone()
@@ -79,14 +70,10 @@ impl<'p, 'c, R: Resolver> Context<'p, 'c, R> {
         below: Target<R::State>,
         has_id: bool,
     ) -> Result<(SchemaKey<R::State>, Location), OutOfMemory>
-        requires below { place_of below.place ≡ at_path (place_of self.now.key.now.place) path.now }
-        requires identified { has_id ≡ is_some ((R.resolving self.now.resolver.now).id
-            (draft_of below.draft)
-            (schema_at (resolving_parts (R.resolving self.now.resolver.now)) (place_of below.place))) }
+        requires below { LiesBelow self.now path.now below.place }
+        requires identified { has_id ≡ is_identified_at R.Resolver self.now below }
         ensures pointer { IfOk result (λ k. k.1 ≡ pointer_to path.now) }
-        ensures inside { IfOk result (λ k. key_of R.point k.0 ≡
-            inside (resolving_parts (R.resolving self.now.resolver.now))
-            (key_of R.point self.now.key.now) path.now (R.point below.state) (draft_of below.draft)) }
+        ensures inside { IfOk result (λ k. key_of R.point k.0 ≡ key_inside R.Resolver self.now path.now below) }
     {
         let pointer = path.pointer(self.alloc)?;
         let location = self.location().append(&pointer)?;
@@ -116,11 +103,9 @@ impl<'p, 'c, R: Resolver> Context<'p, 'c, R> {
         path: &SchemaPath,
         place: &SchemaPlace,
     ) -> Option<&'p Value>
-        requires object { (R.resolving self.now.resolver.now).value (place_of self.now.key.now.place) ≡
-            Some (object (members_view members.now.entries)) }
-        requires below { place_of place.now ≡ at_path (place_of self.now.key.now.place) path.now }
-        ensures read { option_map (λ v. view v.now) result ≡
-            (R.resolving self.now.resolver.now).value (place_of place.now) }
+        requires object { HasMembers R.Resolver self.now members.now.entries }
+        requires below { LiesBelow self.now path.now place.now }
+        ensures read { IsReadAt (resolver_here R.Resolver self.now) place.now result }
     {
         self.resolver.value_below(members, path, place)
     }
@@ -132,13 +117,8 @@ impl<'p, 'c, R: Resolver> Context<'p, 'c, R> {
         place: &SchemaPlace,
         value: Option<&Value>,
     ) -> Result<R::State, LookupError>
-        requires read { option_map (λ v. view v.now) value ≡
-            (R.resolving self.now.resolver.now).value (place_of place.now) }
-        ensures inside { MatchResult result
-            (λ s. (R.resolving self.now.resolver.now).in_subresource (R.point self.now.key.now.state)
-            (draft_of draft) (place_of place.now) ≡ Ok (R.point s))
-            (Refuses ((R.resolving self.now.resolver.now).in_subresource
-            (R.point self.now.key.now.state) (draft_of draft) (place_of place.now))) }
+        requires read { IsReadAt (resolver_here R.Resolver self.now) place.now value }
+        ensures inside { Agrees R.point result (enters R.Resolver self.now (draft_of draft) (place_of place.now)) }
     {
         self.resolver
             .in_subresource_read(self.alloc, &self.key.state, draft, place, value)
@@ -151,18 +131,11 @@ impl<'p, 'c, R: Resolver> Context<'p, 'c, R> {
         members: &'p Map<String, Value>,
         path: &SchemaPath,
     ) -> Result<Subschema<'p, R::State>, BuildError>
-        requires object { (R.resolving self.now.resolver.now).value (place_of self.now.key.now.place) ≡
-            Some (object (members_view members.now.entries)) }
-        ensures below { IfOk result (λ s.
-            subschema (resolving_parts (R.resolving self.now.resolver.now))
-            (key_of R.point self.now.key.now) path.now ≡
-            Some (record { key = key_of R.point s.key; path = pointer_to path.now; is_reference = false; is_recursive = false })) }
+        requires object { HasMembers R.Resolver self.now members.now.entries }
+        ensures below { IfOk result (λ s. IsSubschemaKey R.Resolver self.now path.now s.key) }
         ensures pointer { IfOk result (λ s. s.pointer ≡ pointer_to path.now) }
-        ensures read { IfOk result (λ s. option_map (λ v. view v.now) s.value ≡
-            (R.resolving self.now.resolver.now).value (place_of s.key.place)) }
-        ensures refused { IfErr result (Names
-            (request_causes (resolving_parts (R.resolving self.now.resolver.now))
-            (key_of R.point self.now.key.now) (compile path.now))) }
+        ensures read { IfOk result (λ s. IsReadAt (resolver_here R.Resolver self.now) s.key.place s.value) }
+        ensures refused { IfErr result (RefusesSubschema R.Resolver self.now path.now) }
     {
         let place = self.key.place.below(self.alloc, path)?;
         let value = self.value_inside(members, path, &place);
@@ -186,15 +159,9 @@ impl<'p, 'c, R: Resolver> Context<'p, 'c, R> {
     /// nothing before it that lies outside its resource. Fails with the resolver's text if the resolver refuses the state there, or
     /// out of memory.
     pub fn subschema_alone(&self, path: &SchemaPath) -> Result<SchemaKey<R::State>, BuildError>
-        ensures key { IfOk result (λ k.
-            key_alone (resolving_parts (R.resolving self.now.resolver.now))
-            (key_of R.point self.now.key.now) path.now ≡ Some (key_of R.point k)) }
-        ensures refused { IfErr result (RefusesKeyAlone
-            (key_alone (resolving_parts (R.resolving self.now.resolver.now))
-            (key_of R.point self.now.key.now) path.now)) }
-        ensures told { IfErr result (Names
-            (request_causes (resolving_parts (R.resolving self.now.resolver.now))
-            (key_of R.point self.now.key.now) (compile path.now))) }
+        ensures key { IfOk result (λ k. key_by_itself R.Resolver self.now path.now ≡ Some (key_of R.point k)) }
+        ensures refused { IfErr result (RefusesKeyAlone (key_by_itself R.Resolver self.now path.now)) }
+        ensures told { IfErr result (RefusesSubschema R.Resolver self.now path.now) }
     {
         let place = self.key.place.below(self.alloc, path)?;
         let value = self.resolver.value(&place);

@@ -1,14 +1,14 @@
 //! The value at a key's place, and the text of a reference.
-ghost use Rattle.std.specs.Prelude.{◌≡◌, ◌∷◌, [], Bool, IfErr, IfOk, None, Some, option_map, string_bytes, unwrap_or};
-ghost use Rattle.serde_json.specs.Data.{null, string};
+ghost use Rattle.std.specs.Prelude.{◌≡◌, ◌∷◌, [], Bool, IfErr, IfOk, None, Some, option_map, string_bytes};
+ghost use Rattle.serde_json.specs.Data.{string};
 ghost use Rattle.serde_json.specs.Find.{as_bool, as_object, as_str};
 ghost use Rattle.serde_json.specs.View.{view, members_view};
-ghost use Rattle.schema_definitions.specs.Pointer.{joined};
-ghost use Rattle.schema_meaning.specs.Refusals.{not_a_schema, reference_not_text};
+ghost use Rattle.schema_meaning.specs.Refusals.{not_a_schema};
 ghost use Rattle.node_table.specs.NodeViews.{boolean_plan, plan_of};
 ghost use Rattle.schema_parts.specs.ResolverViews.{place_of};
-ghost use Rattle.schema_keys.specs.Readings.{IsReading};
+ghost use Rattle.schema_keys.specs.Readings.{IsReading, read_value, IsReadAt};
 ghost use Rattle.schema_keys.specs.Refusing.{Names};
+ghost use Rattle.schema_keys.specs.Here.{RefusesText};
 
 use crate::context::Context;
 use crate::error::BuildError;
@@ -32,8 +32,7 @@ pub fn value_of<'p, R: Resolver>(
 ) -> Option<&'p Value>
     requires reading { IsReading
         ((R.resolving resolver.now).value (place_of key.now.place)) reading }
-    ensures value { option_map (λ v. view v.now) result ≡
-        (R.resolving resolver.now).value (place_of key.now.place) }
+    ensures value { IsReadAt (R.resolving resolver.now) key.now.place result }
 {
     match reading {
         Reading::Read(value) => value,
@@ -43,8 +42,7 @@ pub fn value_of<'p, R: Resolver>(
 
 /// The members of a value that was read at a place, if it is an object.
 pub fn object_of<'v>(value: Option<&'v Value>) -> Option<&'v Map<String, Value>>
-    ensures object { option_map (λ m. members_view m.now.entries) result ≡
-        as_object (unwrap_or (option_map (λ v. view v.now) value.entry) null) }
+    ensures object { option_map (λ m. members_view m.now.entries) result ≡ as_object (read_value value.entry) }
 {
     match value {
         Some(value) => value.as_object(),
@@ -55,12 +53,10 @@ pub fn object_of<'v>(value: Option<&'v Value>) -> Option<&'v Map<String, Value>>
 impl<'p, 'c, R: Resolver> Context<'p, 'c, R> {
     /// What a value that is no object asks of an instance; only a boolean is a schema.
     pub fn plain_form<K: Drop>(&self, value: Option<&Value>) -> Result<NodeForm<K>, BuildError>
-        ensures form { IfOk result (λ form. (b : Bool) ×
-            (as_bool (unwrap_or (option_map (λ v. view v.now) value.entry) null) ≡ Some b) ×
+        ensures form { IfOk result (λ form. (b : Bool) × (as_bool (read_value value.entry) ≡ Some b) ×
             (plan_of form ≡ boolean_plan b)) }
         ensures refused { IfErr result (Names (not_a_schema self.now.key.now.location ∷ [])) }
-        ensures other { IfErr result (λ _.
-            as_bool (unwrap_or (option_map (λ v. view v.now) value.entry) null) ≡ None) }
+        ensures other { IfErr result (λ _. as_bool (read_value value.entry) ≡ None) }
     {
         match value.and_then(|value| value.as_bool()) {
             Some(accepts) => Ok(form_of_boolean(accepts)),
@@ -71,8 +67,7 @@ impl<'p, 'c, R: Resolver> Context<'p, 'c, R> {
     /// The text of the schema's reference of this name; only a text is one.
     pub fn text_of<'v>(&self, name: &String, value: &'v Value) -> Result<&'v String, BuildError>
         ensures text { IfOk result (λ text. view value.now ≡ string (string_bytes text.now)) }
-        ensures refused { IfErr result (Names (reference_not_text
-            (joined self.now.key.now.location (string_bytes name.now)) ∷ [])) }
+        ensures refused { IfErr result (RefusesText self.now name.now) }
         ensures other { IfErr result (λ _. as_str (view value.now) ≡ None) }
     {
         match value {
@@ -87,8 +82,7 @@ impl<'p, 'c, R: Resolver> Context<'p, 'c, R> {
 
     // That the reference of this name is no text, or want of memory.
     fn not_text(&self, name: &String) -> BuildError
-        ensures refused { Names (reference_not_text
-            (joined self.now.key.now.location (string_bytes name.now)) ∷ []) result }
+        ensures refused { RefusesText self.now name.now result }
     {
         match self.new_at_location(name.as_str()) {
             Ok(location) => BuildError::ReferenceNotText(location),

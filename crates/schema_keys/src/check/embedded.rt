@@ -1,14 +1,11 @@
 //! The embedded resources of a document.
-ghost use Rattle.std.specs.Prelude.{◌≡◌, ◌<◌, ◌++◌, ℕ, IfOk, is_some, map, option_map, suc, unwrap_or};
-ghost use Rattle.serde_json.specs.Data.{depth, null};
-ghost use Rattle.serde_json.specs.View.{view};
-ghost use Rattle.schema_definitions.specs.Plan.{schema_at};
-ghost use Rattle.schema_meaning.specs.Documents as documents;
+ghost use Rattle.std.specs.Prelude.{◌≡◌, ◌<◌, ◌++◌, ℕ, IfOk, is_some, map, suc};
 ghost use Rattle.schema_meaning.specs.Documents.{embedded};
 ghost use Rattle.schema_keywords.specs.KeywordViews.{draft_of};
-ghost use Rattle.schema_parts.specs.ResolverViews.{place_of};
-ghost use Rattle.schema_keys.specs.Compiling.{resolving_parts};
 ghost use Rattle.schema_keys.specs.CutViews.{cut_of};
+ghost use Rattle.schema_keys.specs.CheckHere.{parts_asked, depth_at, cuts_at};
+ghost use Rattle.schema_keys.specs.Showing.{Shows};
+ghost use Rattle.schema_keys.specs.Readings.{read_value, IsReadAt};
 
 use crate::check::SchemaCheck;
 use schema_keywords::keywords::Draft;
@@ -29,7 +26,7 @@ impl<'p, R: Resolver, V: MetaValidators> SchemaCheck<'p, R, V> {
     /// The draft of a schema inside a schema of this draft; no value counts as null.
     fn own_draft(&self, draft: Draft, schema: Option<&Value>) -> Draft
         ensures own { draft_of result ≡ (R.resolving self.now.resolver.now).detect (draft_of draft)
-            (unwrap_or (option_map (λ v. view v.now) schema.entry) null) }
+            (read_value schema.entry) }
     {
         match schema {
             Some(schema) => self.resolver.detect(draft, schema),
@@ -40,7 +37,7 @@ impl<'p, R: Resolver, V: MetaValidators> SchemaCheck<'p, R, V> {
     /// Whether a schema has an identifier in this draft; no value counts as null.
     fn has_identifier(&self, draft: Draft, schema: Option<&Value>) -> bool
         ensures identified { result ≡ is_some ((R.resolving self.now.resolver.now).id (draft_of draft)
-            (unwrap_or (option_map (λ v. view v.now) schema.entry) null)) }
+            (read_value schema.entry)) }
     {
         match schema {
             Some(schema) => self.resolver.id(draft, schema).is_some(),
@@ -57,9 +54,8 @@ impl<'p, R: Resolver, V: MetaValidators> SchemaCheck<'p, R, V> {
         own: Draft,
         schema: Option<&Value>,
     ) -> bool
-        ensures embedded { result ≡ embedded (resolving_parts (R.resolving self.now.resolver.now))
-            (draft_of document) (draft_of around) (draft_of own)
-            (unwrap_or (option_map (λ v. view v.now) schema.entry) null) }
+        ensures embedded { result ≡ embedded (parts_asked R.Resolver self.now) (draft_of document) (draft_of around)
+            (draft_of own) (read_value schema.entry) }
     {
         own != document
             && own != Draft::Unknown
@@ -75,12 +71,10 @@ impl<'p, R: Resolver, V: MetaValidators> SchemaCheck<'p, R, V> {
         schema: Option<&Value>,
         cuts: &mut Vec<Cut>,
     ) -> Result<(), OutOfMemory>
-        requires read { option_map (λ v. view v.now) schema ≡ (R.resolving self.now.resolver.now).value (place_of place.now) }
-        ensures found { IfOk result (λ _. (n : ℕ) →
-            depth (schema_at (resolving_parts (R.resolving self.now.resolver.now)) (place_of place.now)) < n →
-            map cut_of cuts.new.items ≡ map cut_of cuts.old.items
-            ++ documents.cuts (resolving_parts (R.resolving self.now.resolver.now)) n
-            (draft_of document) (draft_of draft) (place_of place.now)) }
+        requires read { IsReadAt (R.resolving self.now.resolver.now) place.now schema }
+        ensures found { IfOk result (λ _. (n : ℕ) → depth_at R.Resolver self.now place.now < n →
+            map cut_of cuts.new.items ≡ map cut_of cuts.old.items ++
+            cuts_at R.Resolver self.now n document draft place.now) }
     {
         for below in &self
             .resolver
@@ -99,10 +93,8 @@ impl<'p, R: Resolver, V: MetaValidators> SchemaCheck<'p, R, V> {
 
     /// The outermost embedded resources of the document at a place. They are looked for only where a draft may change below it.
     pub(crate) fn cuts(&self, draft: Draft, place: &SchemaPlace) -> Result<Vec<Cut>, OutOfMemory>
-        ensures cuts { IfOk result (λ v. map cut_of v.items ≡
-            documents.cuts (resolving_parts (R.resolving self.now.resolver.now))
-            (suc (depth (schema_at (resolving_parts (R.resolving self.now.resolver.now)) (place_of place.now))))
-            (draft_of draft) (draft_of draft) (place_of place.now)) }
+        ensures cuts { Shows (λ v. map cut_of v.items) result
+            (cuts_at R.Resolver self.now (suc (depth_at R.Resolver self.now place.now)) draft draft place.now) }
     {
         let mut cuts = Vec::new(self.alloc);
         let schema = self.resolver.value(place);

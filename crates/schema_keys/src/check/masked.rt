@@ -1,14 +1,12 @@
 //! The copy of a document with `{}` in place of its embedded resources.
-ghost use Rattle.std.specs.Prelude.{◌≡◌, ◌++◌, ◌∷◌, [], IfOk, map, if◌then◌else◌};
+ghost use Rattle.std.specs.Prelude.{◌≡◌, ◌∷◌, [], IfOk, if◌then◌else◌};
 ghost use Rattle.serde_json.specs.Data.{no_members, object};
 ghost use Rattle.serde_json.specs.View.{items_view, members_view, view};
-ghost use Rattle.schema_definitions.specs.Instance.{to_item, to_member};
 ghost use Rattle.schema_definitions.specs.Drafts.{at_path};
-ghost use Rattle.schema_meaning.specs.Documents.{masked, masked_items, masked_members, is_cut};
 ghost use Rattle.schema_parts.specs.ResolverViews.{place_of};
 ghost use Rattle.schema_parts.specs.SchemaViews.{schema_step_of};
-ghost use Rattle.schema_keys.specs.Compiling.{resolving_parts};
-ghost use Rattle.schema_keys.specs.CutViews.{cut_of};
+ghost use Rattle.schema_keys.specs.CheckHere.{is_cut_out, masked_at, masked_items_at, masked_members_at};
+ghost use Rattle.schema_keys.specs.Showing.{Shows};
 
 use crate::check::SchemaCheck;
 use crate::check::embedded::Cut;
@@ -21,7 +19,7 @@ use std::rc::RcStr;
 
 /// The place one step below a place.
 fn one_below(place: &SchemaPlace, step: SchemaStep) -> Result<SchemaPlace, OutOfMemory>
-    ensures below { IfOk result (λ p. place_of p ≡ at_path (place_of place.now) (schema_step_of step ∷ [])) }
+    ensures below { Shows place_of result (at_path (place_of place.now) (schema_step_of step ∷ [])) }
 {
     let mut below = place.clone()?;
     below.path.push(step)?;
@@ -31,8 +29,7 @@ fn one_below(place: &SchemaPlace, step: SchemaStep) -> Result<SchemaPlace, OutOf
 impl<'p, R: Resolver, V: MetaValidators> SchemaCheck<'p, R, V> {
     /// Whether a place is one of these.
     fn is_cut(&self, cuts: &[Cut], place: &SchemaPlace) -> bool
-        ensures cut { result ≡
-            is_cut (resolving_parts (R.resolving self.now.resolver.now)) (map cut_of cuts.now) (place_of place.now) }
+        ensures cut { result ≡ is_cut_out R.Resolver self.now cuts.now place.now }
     {
         cuts.iter().any(|cut| cut.place.path == place.path)
     }
@@ -45,8 +42,7 @@ impl<'p, R: Resolver, V: MetaValidators> SchemaCheck<'p, R, V> {
         place: &SchemaPlace,
         value: &Value,
     ) -> Result<Value, OutOfMemory>
-        ensures masked { IfOk result (λ v. view v ≡ masked (resolving_parts (R.resolving self.now.resolver.now))
-            (map cut_of cuts.now) (place_of place.now) (view value.now)) }
+        ensures masked { Shows view result (masked_at R.Resolver self.now cuts.now place.now value.now) }
     {
         match value {
             Value::Array(items) => Ok(Value::Array(self.masked_items(cuts, place, items)?)),
@@ -67,8 +63,7 @@ impl<'p, R: Resolver, V: MetaValidators> SchemaCheck<'p, R, V> {
         items: &Vec<Value>,
     ) -> Result<Vec<Value>, OutOfMemory>
         ensures masked { IfOk result (λ v. items_view v.items ≡
-            masked_items (resolving_parts (R.resolving self.now.resolver.now))
-            (map cut_of cuts.now) (place_of place.now) 0 (items_view items.now.items)) }
+            masked_items_at R.Resolver self.now cuts.now place.now items.now.items) }
     {
         let mut copies = Vec::new(self.alloc);
         for (index, item) in items.iter().enumerate() {
@@ -88,8 +83,7 @@ impl<'p, R: Resolver, V: MetaValidators> SchemaCheck<'p, R, V> {
         members: &Map<String, Value>,
     ) -> Result<Map<String, Value>, OutOfMemory>
         ensures masked { IfOk result (λ v. members_view v.entries ≡
-            masked_members (resolving_parts (R.resolving self.now.resolver.now))
-            (map cut_of cuts.now) (place_of place.now) (members_view members.now.entries)) }
+            masked_members_at R.Resolver self.now cuts.now place.now members.now.entries) }
     {
         let mut copies = Map::new(self.alloc);
         for (name, member) in members.iter() {
@@ -110,11 +104,8 @@ impl<'p, R: Resolver, V: MetaValidators> SchemaCheck<'p, R, V> {
         place: &SchemaPlace,
         value: &Value,
     ) -> Result<Value, OutOfMemory>
-        ensures masked { IfOk result (λ v. view v ≡
-            (if is_cut (resolving_parts (R.resolving self.now.resolver.now)) (map cut_of cuts.now) (place_of place.now)
-            then object no_members
-            else masked (resolving_parts (R.resolving self.now.resolver.now))
-            (map cut_of cuts.now) (place_of place.now) (view value.now))) }
+        ensures masked { Shows view result (if is_cut_out R.Resolver self.now cuts.now place.now then
+            object no_members else masked_at R.Resolver self.now cuts.now place.now value.now) }
     {
         if self.is_cut(cuts, place) {
             Ok(Value::Object(Map::new(self.alloc)))

@@ -1,0 +1,67 @@
+-- What a check says of the documents that it looks at.
+use Rattle.std.specs.Prelude.{Bool, List, String, map, ℕ, ◌<◌}
+use Rattle.std.specs.declared.alloc.Global.{Global}
+use Rattle.serde_json.specs.Data.{Data, Items, Members, depth}
+use Rattle.serde_json.specs.View.{items_view, members_view, view}
+use Rattle.serde_json.specs.declared.value.Value.{Value}
+use Rattle.schema_definitions.specs.Parts.{Parts}
+use Rattle.schema_definitions.specs.Plan.{schema_at}
+use Rattle.schema_meaning.specs.Documents as documents
+use Rattle.schema_meaning.specs.Documents.{is_cut, masked, masked_items, masked_members}
+use Rattle.schema_keywords.specs.KeywordViews.{draft_of}
+use Rattle.schema_keywords.specs.declared.keywords.Draft.{Draft}
+use Rattle.schema_parts.specs.ResolverViews.{place_of}
+use Rattle.schema_parts.specs.declared.meta.MetaValidators.{Ghosts as MetaMembers}
+use Rattle.schema_parts.specs.declared.resolver.Resolver.{Ghosts as ResolverMembers}
+use Rattle.schema_parts.specs.declared.schema_place.SchemaPlace.{SchemaPlace}
+use Rattle.schema_keys.specs.Checking.{EachAccepted, RefusesOne, own_document}
+use Rattle.schema_keys.specs.Compiling.{resolving_parts}
+use Rattle.schema_keys.specs.CutViews.{cut_of}
+use Rattle.schema_keys.specs.declared.check.SchemaCheck.{SchemaCheck}
+use Rattle.schema_keys.specs.declared.check.embedded.Cut.{Cut}
+use Rattle.schema_keys.specs.declared.error.BuildError.{BuildError}
+
+module _ {A P S V : Type 0} (r : ResolverMembers A P S) (c : SchemaCheck A V) where
+  -- what its resolver answers, as parts
+  abbrev pub parts_asked : Parts S (Unit {0}) (Unit {0})
+  parts_asked = resolving_parts (r.resolving c.resolver.now)
+
+  -- how deep the value at a place is
+  abbrev pub depth_at : SchemaPlace → ℕ
+  depth_at place = depth (schema_at parts_asked (place_of place))
+
+  -- a place is one of the cuts
+  abbrev pub is_cut_out : List Cut → SchemaPlace → Bool
+  is_cut_out cuts place = is_cut parts_asked (map cut_of cuts) (place_of place)
+
+  -- the value at a place, with `{}` at the cuts
+  abbrev pub masked_at : List Cut → SchemaPlace → Value → Data
+  masked_at cuts place value = masked parts_asked (map cut_of cuts) (place_of place) (view value)
+
+  -- the same of the items of an array there, and of the members of an object
+  abbrev pub masked_items_at : List Cut → SchemaPlace → List Value → Items
+  masked_items_at cuts place items = masked_items parts_asked (map cut_of cuts) (place_of place) 0 (items_view items)
+
+  abbrev pub masked_members_at : List Cut → SchemaPlace → List (String Global × Value) → Members
+  masked_members_at cuts place members = masked_members parts_asked (map cut_of cuts) (place_of place) (members_view members)
+
+  -- the outermost cuts of a document, so many levels below a schema of this draft at a place
+  abbrev pub cuts_at : ℕ → Draft → Draft → SchemaPlace → List documents.Cut
+  cuts_at n document draft place = documents.cuts parts_asked n (draft_of document) (draft_of draft) (place_of place)
+
+  module _ (m : MetaMembers V) (draft : Draft) (place : SchemaPlace) where
+    -- the document at a place, without its cuts, is accepted
+    abbrev pub AcceptsOwn : List Cut → Type 0
+    AcceptsOwn cuts = EachAccepted parts_asked (m.checked c.metas.now) (own_document parts_asked (map cut_of cuts) (draft_of draft) (place_of place))
+
+    -- or it is refused by this error
+    abbrev pub RefusesOwn : List Cut → BuildError → Type 0
+    RefusesOwn cuts = RefusesOne parts_asked (m.checked c.metas.now) (place_of c.root.now) (own_document parts_asked (map cut_of cuts) (draft_of draft) (place_of place))
+
+    -- each document at and below a place is accepted
+    abbrev pub AcceptsAll : Type 0
+    AcceptsAll = (n : ℕ) → depth_at place < n → EachAccepted parts_asked (m.checked c.metas.now) (documents.documents parts_asked n (draft_of draft) (place_of place))
+
+    -- the first of them that is not accepted is refused by this error
+    abbrev pub RefusesFirst : BuildError → Type 0
+    RefusesFirst e = (n : ℕ) → depth_at place < n → RefusesOne parts_asked (m.checked c.metas.now) (place_of c.root.now) (documents.documents parts_asked n (draft_of draft) (place_of place)) e

@@ -1,0 +1,146 @@
+-- What stands where a context is: its schema's key, and what the definitions find from there by what its resolver answers.
+use Rattle.std.specs.Prelude.{Bool, List, Option, Result, Some, String, [], false, if◌then◌else◌, is_some, string_bytes, ℕ, ◌∷◌, ◌≡◌}
+use Rattle.std.specs.declared.alloc.Global.{Global}
+use Rattle.serde_json.specs.Data.{object}
+use Rattle.serde_json.specs.View.{members_view}
+use Rattle.serde_json.specs.declared.value.Value.{Value}
+use Rattle.schema_definitions.specs.Instance.{Place, Text}
+use Rattle.schema_definitions.specs.Pointer.{joined, pointer_to}
+use Rattle.schema_definitions.specs.Drafts.{Draft, SchemaPlace, Vocabularies, at_path, same_draft}
+use Rattle.schema_definitions.specs.Resolving.{Found, Resolver}
+use Rattle.schema_definitions.specs.Making.{compile}
+use Rattle.schema_definitions.specs.Parts.{Parts}
+use Rattle.schema_definitions.specs.Plan.{Key, Reference, absolute_of, found, inside, location_by, looked_up, referred_at, resolved, schema_at, start_by, subschema, without_prefix}
+use Rattle.schema_meaning.specs.Refusals.{lookup_causes, reference_not_text, request_causes}
+use Rattle.schema_keywords.specs.KeywordViews.{draft_of}
+use Rattle.schema_parts.specs.ResolverViews.{found_of, place_of}
+use Rattle.schema_parts.specs.declared.resolver.Resolver.{Ghosts as ResolverMembers}
+use Rattle.schema_parts.specs.declared.resolver.Target.{Target}
+use Rattle.schema_parts.specs.declared.schema_place.SchemaPlace as code
+use Rattle.schema_keys.specs.Alone.{key_alone}
+use Rattle.schema_keys.specs.Compiling.{resolving_parts}
+use Rattle.schema_keys.specs.KeyViews.{key_of}
+use Rattle.schema_keys.specs.Referring.{IsReferredBy, LeadsBy, referred_by}
+use Rattle.schema_keys.specs.Refusing.{Names}
+use Rattle.schema_keys.specs.ShownBases.{shown_base}
+use Rattle.schema_keys.specs.declared.context.Context.{Context}
+use Rattle.schema_keys.specs.declared.error.BuildError.{BuildError}
+use Rattle.schema_keys.specs.declared.key.SchemaKey.{SchemaKey}
+
+module _ {A P S : Type 0} (c : Context A P S) where
+  -- the draft of its schema
+  abbrev pub draft_here : Draft
+  draft_here = draft_of c.key.now.draft
+
+  -- the place of its schema
+  abbrev pub place_here : SchemaPlace
+  place_here = place_of c.key.now.place
+
+  -- the place lies at this path below its schema
+  abbrev pub LiesBelow : Place → code.SchemaPlace → Type 0
+  LiesBelow path place = place_of place ≡ at_path place_here path
+
+  -- a refusal says that the schema's reference of this name is no text; want of memory says nothing
+  abbrev pub RefusesText : String Global → BuildError → Type 0
+  RefusesText name = Names (reference_not_text (joined c.key.now.location (string_bytes name)) ∷ [])
+
+module _ {A P S : Type 0} (r : ResolverMembers A P S) (c : Context A P S) where
+  -- what its resolver answers, and the same as parts
+  abbrev pub resolver_here : Resolver S
+  resolver_here = r.resolving c.resolver.now
+
+  abbrev pub parts_here : Parts S (Unit {0}) (Unit {0})
+  parts_here = resolving_parts resolver_here
+
+  -- its schema's key
+  abbrev pub key_here : Key S
+  key_here = key_of r.point c.key.now
+
+  -- its schema is an object with these members
+  abbrev pub HasMembers : List (String Global × Value) → Type 0
+  HasMembers members = resolver_here.value (place_here c) ≡ Some (object (members_view members))
+
+  -- the URI that absolute locations in its resource begin with
+  abbrev pub base_here : Option Text
+  base_here = shown_base parts_here key_here
+
+  -- the absolute location of a location in its resource
+  abbrev pub absolute_here : Text → Option Text
+  absolute_here location = absolute_of parts_here key_here location
+
+  -- ---- references
+
+  -- the URI that a reference's text stands for
+  abbrev pub resolves : Text → Result Text Text
+  resolves text = resolved parts_here key_here text
+
+  -- what a reference's text leads to
+  abbrev pub finds : Reference → Text → Result (Found S) Text
+  finds kind text = found parts_here key_here kind text
+
+  -- what the resolver has for a text
+  abbrev pub looks_up : Bool → Text → Result (Found S) Text
+  looks_up dynamic text = looked_up parts_here key_here dynamic text
+
+  -- a reference's targets are reached by this URI
+  abbrev pub RefersBy : Reference → Text → String Global → Type 0
+  RefersBy kind text uri = IsReferredBy parts_here key_here kind text (string_bytes uri)
+
+  -- a refusal names why a reference leads to nothing
+  abbrev pub RefusesReference : Reference → Text → BuildError → Type 0
+  RefusesReference kind text = Names (lookup_causes parts_here (finds kind text))
+
+  -- a reference leads to this key; to none where it is skipped
+  abbrev pub LeadsTo : Reference → Text → Option (SchemaKey P) → Type 0
+  LeadsTo kind text o = LeadsBy parts_here r.point key_here kind text o
+
+  -- the path of a target below the root of its resource
+  abbrev pub path_in_resource : Target P → Place
+  path_in_resource target = without_prefix target.place.path (resolver_here.resource_root (r.point target.state)).path
+
+  -- where a target stands that a fragment leads to
+  abbrev pub target_location : Target P → Text → Text
+  target_location target fragment = location_by parts_here (found_of r.point target) fragment
+
+  -- how much of its location lies outside its resource
+  abbrev pub target_start : Target P → Text → ℕ
+  target_start target fragment = start_by parts_here (found_of r.point target) fragment
+
+  -- the key of a target that a URI was resolved to
+  abbrev pub target_key : Target P → Text → Key S
+  target_key target uri = referred_by parts_here (found_of r.point target) uri
+
+  -- the key of a target that stands at a location, so much of which lies outside its resource
+  abbrev pub target_key_at : Target P → Text → ℕ → Key S
+  target_key_at target location start = referred_at parts_here (found_of r.point target) location start
+
+  -- ---- subschemas
+
+  -- the state inside a schema at a place, in a draft
+  abbrev pub enters : Draft → SchemaPlace → Result S Text
+  enters draft place = resolver_here.in_subresource (r.point c.key.now.state) draft place
+
+  -- the vocabularies in force at a target inside its schema
+  abbrev pub vocabularies_at : Target P → Vocabularies
+  vocabularies_at t = if same_draft (draft_of t.draft) (draft_here c) then c.key.now.vocabularies
+      else resolver_here.find_vocabularies (r.point t.state) (draft_of t.draft) (place_of t.place)
+
+  -- what stands at a target has an identifier
+  abbrev pub is_identified_at : Target P → Bool
+  is_identified_at t = is_some (resolver_here.id (draft_of t.draft) (schema_at parts_here (place_of t.place)))
+
+  -- the key of the subschema at a path, in the state and the draft of a target
+  abbrev pub key_inside : Place → Target P → Key S
+  key_inside path t = inside parts_here key_here path (r.point t.state) (draft_of t.draft)
+
+  -- the key is that of the subschema at a path
+  abbrev pub IsSubschemaKey : Place → SchemaKey P → Type 0
+  IsSubschemaKey path key = subschema parts_here key_here path ≡ Some (record { key = key_of r.point key; path = pointer_to path; is_reference = false; is_recursive = false })
+
+  -- the key of the subschema at a path, by itself
+  abbrev pub key_by_itself : Place → Option (Key S)
+  key_by_itself path = key_alone parts_here key_here path
+
+  -- a refusal names why there is no subschema at a path
+  abbrev pub RefusesSubschema : Place → BuildError → Type 0
+  RefusesSubschema path = Names (request_causes parts_here key_here (compile path))
