@@ -2,3 +2,4 @@ pub mod Makers
 pub mod MakerLaws
 pub mod BenchMatching
 pub mod BenchMeta
+pub mod MetaPlaces

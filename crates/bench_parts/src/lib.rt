@@ -4,4 +4,5 @@
 
 pub mod matcher;
 pub mod meta;
+mod meta_place;
 pub mod table;

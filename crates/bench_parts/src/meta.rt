@@ -10,7 +10,9 @@ ghost use Rattle.schema_reports.specs.ReportViews.{BorrowsItsPlace, error_of};
 ghost use Rattle.bench_parts.specs.BenchMeta.{HasNoFaultInside, HasNoFaultItself};
 ghost use Rattle.bench_parts.specs.BenchMeta.{fault_in, fault_in_items, fault_in_members, is_2020_12, is_schema, member_fault};
 ghost use Rattle.bench_parts.specs.BenchMeta.{is_list_of_items, is_no_length, mistyped, type_text};
+ghost use Rattle.bench_parts.specs.MetaPlaces.{steps_to};
 
+use crate::meta_place::MetaPlace;
 use schema_keywords::keywords::Draft;
 use schema_parts::meta::MetaValidators;
 use schema_reports::instance::{Instance, InstanceStep, Place};
@@ -107,22 +109,22 @@ fn may_have_fault(name: &str, member: &Value) -> bool
 fn member_fault<'v>(
     alloc: Global,
     draft: Draft,
-    place: &Place<'v>,
+    place: &MetaPlace<'_, 'v>,
     name: &str,
     member: &'v Value,
 ) -> Result<Option<ValidationError<'v>>, OutOfMemory>
     ensures fault { IfOk result (λ o. (texts : Bool) → (texts ≡ true → has_float (view member.now) ≡ false)
-        → option_map (error_of texts) o ≡ member_fault texts (draft_of draft) place.now name.now (view member.now)) }
-    ensures borrows { IfOk result (λ o. (root : Data) → subject_at root place.now ≡ Some (a_value (view member.now))
+        → option_map (error_of texts) o ≡ member_fault texts (draft_of draft) (steps_to place.now) name.now (view member.now)) }
+    ensures borrows { IfOk result (λ o. (root : Data) → subject_at root (steps_to place.now) ≡ Some (a_value (view member.now))
         → IfSome o (BorrowsItsPlace root)) }
 {
     if is_no_length(name, member) {
-        return Ok(Some(mistyped(alloc, place.clone()?, member, "type \"number\"")?));
+        return Ok(Some(mistyped(alloc, place.made(alloc)?, member, "type \"number\"")?));
     }
     if is_list_of_items(draft, name, member) {
         return Ok(Some(mistyped(
             alloc,
-            place.clone()?,
+            place.made(alloc)?,
             member,
             "types \"boolean\", \"object\"",
         )?));
@@ -135,12 +137,12 @@ fn member_fault<'v>(
 fn fault_in<'v>(
     alloc: Global,
     draft: Draft,
-    place: &Place<'v>,
+    place: &MetaPlace<'_, 'v>,
     value: &'v Value,
 ) -> Result<Option<ValidationError<'v>>, OutOfMemory>
     ensures fault { IfOk result (λ o. (texts : Bool) → (texts ≡ true → has_float (view value.now) ≡ false)
-        → option_map (error_of texts) o ≡ fault_in texts (draft_of draft) place.now (view value.now)) }
-    ensures borrows { IfOk result (λ o. (root : Data) → subject_at root place.now ≡ Some (a_value (view value.now))
+        → option_map (error_of texts) o ≡ fault_in texts (draft_of draft) (steps_to place.now) (view value.now)) }
+    ensures borrows { IfOk result (λ o. (root : Data) → subject_at root (steps_to place.now) ≡ Some (a_value (view value.now))
         → IfSome o (BorrowsItsPlace root)) }
 {
     match value {
@@ -155,19 +157,19 @@ fn fault_in<'v>(
 fn fault_in_items<'v>(
     alloc: Global,
     draft: Draft,
-    place: &Place<'v>,
+    place: &MetaPlace<'_, 'v>,
     items: &'v Vec<Value>,
 ) -> Result<Option<ValidationError<'v>>, OutOfMemory>
     ensures fault { IfOk result (λ o. (texts : Bool) → (texts ≡ true → items_have_float (items_view items.now.items) ≡ false)
-        → option_map (error_of texts) o ≡ fault_in_items texts (draft_of draft) place.now 0 (items_view items.now.items)) }
+        → option_map (error_of texts) o ≡ fault_in_items texts (draft_of draft) (steps_to place.now) 0 (items_view items.now.items)) }
     ensures borrows { IfOk result (λ o. (root : Data)
-        → subject_at root place.now ≡ Some (a_value (array (items_view items.now.items))) → IfSome o (BorrowsItsPlace root)) }
+        → subject_at root (steps_to place.now) ≡ Some (a_value (array (items_view items.now.items))) → IfSome o (BorrowsItsPlace root)) }
 {
     for (index, item) in items.iter().enumerate() {
         if !has_inside(item) {
             continue;
         }
-        let below = place.below(InstanceStep::Item(index))?;
+        let below = (&*place).below(InstanceStep::Item(index));
         if let Some(error) = fault_in(alloc, draft, &below, item)? {
             return Ok(Some(error));
         }
@@ -180,20 +182,22 @@ fn fault_in_items<'v>(
 fn fault_in_members<'v>(
     alloc: Global,
     draft: Draft,
-    place: &Place<'v>,
+    place: &MetaPlace<'_, 'v>,
     members: &'v Map<String, Value>,
 ) -> Result<Option<ValidationError<'v>>, OutOfMemory>
     ensures fault { IfOk result (λ o. (texts : Bool) → (texts ≡ true → members_have_float (members_view members.now.entries) ≡ false)
-        → option_map (error_of texts) o ≡ fault_in_members texts (draft_of draft) place.now (members_view members.now.entries)) }
+        → option_map (error_of texts) o
+        ≡ fault_in_members texts (draft_of draft) (steps_to place.now) (members_view members.now.entries)) }
     ensures borrows { IfOk result (λ o. (root : Data)
-        → subject_at root place.now ≡ Some (a_value (object (members_view members.now.entries))) → IfSome o (BorrowsItsPlace root)) }
+        → subject_at root (steps_to place.now) ≡ Some (a_value (object (members_view members.now.entries)))
+        → IfSome o (BorrowsItsPlace root)) }
 {
     for (name, member) in members.iter() {
         let named = name.as_str();
         if !may_have_fault(named, member) {
             continue;
         }
-        let below = place.below(InstanceStep::Member(named))?;
+        let below = (&*place).below(InstanceStep::Member(named));
         if let Some(error) = member_fault(alloc, draft, &below, named, member)? {
             return Ok(Some(error));
         }
@@ -215,10 +219,14 @@ impl MetaValidators for BenchMeta {
         draft: Draft,
         schema: &'v Value,
     ) -> Result<Option<ValidationError<'v>>, OutOfMemory> {
-        let root = Place::root(alloc);
         if is_schema(schema) {
-            return fault_in(alloc, draft, &root, schema);
+            return fault_in(alloc, draft, &MetaPlace::Root, schema);
         }
-        Ok(Some(mistyped(alloc, root, schema, "types \"boolean\", \"object\"")?))
+        Ok(Some(mistyped(
+            alloc,
+            Place::root(alloc),
+            schema,
+            "types \"boolean\", \"object\"",
+        )?))
     }
 }
