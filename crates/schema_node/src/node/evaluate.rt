@@ -2,6 +2,7 @@
 ghost use Rattle.std.specs.Prelude.{◌≡◌, ◌≤◌, IfOk, map, option_map, string_bytes};
 ghost use Rattle.schema_reports.specs.InstanceViews.{subject_of};
 ghost use Rattle.schema_definitions.specs.Laws.{IsPresent, steps_below};
+ghost use Rattle.schema_definitions.specs.Pointer.{pointer_to};
 ghost use Rattle.schema_parts.specs.KeywordViews.{below_of};
 ghost use Rattle.node_table.specs.NodeTable.{numbered, shaped_form, shaped_part};
 ghost use Rattle.schema_parts.specs.EdgeViews.{edge_of};
@@ -9,7 +10,7 @@ ghost use Rattle.node_table.specs.NodeViews.{entry_of, form_of};
 ghost use Rattle.run_steps.specs.NodeRuns.{HasForm, HasParts, HasChildren, form_at_work};
 ghost use Rattle.schema_contexts.specs.Progress.{places_in};
 ghost use Rattle.run_steps.specs.Askings.{asking};
-ghost use Rattle.run_steps.specs.EvaluationPlaces.{CarriesItsNumber};
+ghost use Rattle.run_steps.specs.EvaluationPlaces.{CarriesItsNumber, steps_to};
 ghost use Rattle.schema_runs.specs.Answered.{ChildGiven, EdgeGiven, FormGiven, NodeGiven, PartsGiven, PlanGiven, setting_by};
 ghost use Rattle.schema_runs.specs.RunStates.{setting};
 ghost use Rattle.schema_runs.specs.RunStates.{Keeps, StaysRight};
@@ -26,6 +27,7 @@ use run_steps::spots::one_below;
 use run_steps::units::{
     accepting_unit, entries_unit, refusing_unit, unasked_unit, units_of_keyword, units_of_reference,
 };
+use schema_contexts::evaluation_path::EvaluationPath;
 use schema_contexts::marks::child_edge;
 use schema_contexts::validation::ValidationContext;
 use schema_parts::keyword::{Below, Validate};
@@ -33,6 +35,7 @@ use schema_parts::matcher::Matcher;
 use schema_parts::numbers::{Edge, SchemaNode};
 use schema_reports::evaluation::{ChildList, EvaluationNode};
 use schema_reports::location::OutOfMemory;
+use schema_reports::shared_location::SharedLocation;
 
 // The unit of a node at a place. It is one more that is asked.
 #[cycle(run)]
@@ -69,19 +72,30 @@ fn evaluate_plan<'i, K: Validate, M: Matcher>(
 {
     let found = engine.nodes.node(node);
     match &found.form {
-        None => accepting_unit(engine.alloc, found, question),
+        None => accepting_unit(engine.alloc, found, question, context),
         Some(form) => match form {
-            NodeForm::Always => accepting_unit(engine.alloc, found, question),
-            NodeForm::Never => refusing_unit(engine.alloc, found, question),
+            NodeForm::Always => accepting_unit(engine.alloc, found, question, context),
+            NodeForm::Never => refusing_unit(engine.alloc, found, question, context),
             NodeForm::Keywords(entries) => {
+                let kept = context.node_texts(engine.alloc, question.path, &found.location)?;
+                let place = question.place.pointer(engine.alloc)?;
+                let pointer = SharedLocation::new(engine.alloc, place)?;
+                let path = EvaluationPath::kept(&kept);
+                let asked = Question {
+                    instance: question.instance,
+                    place: question.place,
+                    path: &path,
+                    mode: question.mode,
+                };
                 let children = evaluate_entries(
                     engine,
                     node,
                     entries.as_slice(),
-                    question,
+                    &asked,
+                    &pointer,
                     context,
                 )?;
-                entries_unit(engine.alloc, found, question, children)
+                entries_unit(engine.alloc, found, kept, pointer, children)
             }
         },
     }
@@ -94,18 +108,20 @@ fn evaluate_entries<'i, K: Validate, M: Matcher>(
     node: SchemaNode,
     entries: &[Entry<K>],
     question: &Question<'_, 'i>,
+    pointer: &SharedLocation,
     context: &mut ValidationContext<'i>,
 ) -> Result<ChildList, OutOfMemory>
     requires may { MayEvaluate (setting_by K.Validate M.Matcher.own engine.now) (asking question.now)
         context.old node.0 }
     requires carries { CarriesItsNumber (places_in context.old) question.now.place.now }
+    requires pointed { pointer.now ≡ pointer_to (steps_to question.now.place.now) }
     requires parts { HasParts (numbered K.shape engine.now.nodes.now) node.0 (map (shaped_part K.shape) (map entry_of entries.now)) }
     ensures { PartsGiven (setting_by K.Validate M.Matcher.own engine.now) question.now
         node.0 (map (shaped_part K.shape) (map entry_of entries.now)) context.old context.new result }
 {
-    let mut units = UnitsInOrder::new(engine.alloc);
+    let mut units = UnitsInOrder::new(engine.alloc, entries.len())?;
     for entry in entries {
-        let given = evaluate_entry(engine, node, entry, question, context)?;
+        let given = evaluate_entry(engine, node, entry, question, pointer, context)?;
         units.place(entry.priority, given)?;
     }
     units.into_children()
@@ -118,11 +134,13 @@ fn evaluate_entry<'i, K: Validate, M: Matcher>(
     node: SchemaNode,
     entry: &Entry<K>,
     question: &Question<'_, 'i>,
+    pointer: &SharedLocation,
     context: &mut ValidationContext<'i>,
 ) -> Result<EntryUnits, OutOfMemory>
     requires may { MayEvaluate (setting_by K.Validate M.Matcher.own engine.now) (asking question.now)
         context.old node.0 }
     requires carries { CarriesItsNumber (places_in context.old) question.now.place.now }
+    requires pointed { pointer.now ≡ pointer_to (steps_to question.now.place.now) }
     requires form { HasForm (numbered K.shape engine.now.nodes.now) node.0 (shaped_form K.shape (form_of entry.now.form)) }
     ensures { FormGiven (setting_by K.Validate M.Matcher.own engine.now) question.now
         node.0 (string_bytes entry.now.name) (shaped_form K.shape (form_of entry.now.form)) context.old context.new result }
@@ -134,7 +152,7 @@ fn evaluate_entry<'i, K: Validate, M: Matcher>(
                 keyword,
                 children: children.as_slice(),
             };
-            evaluate_keyword(engine, node, &named, question, context)
+            evaluate_keyword(engine, node, &named, question, pointer, context)
         }
         EntryForm::Reference(edge) => {
             let path = question.path.under_reference();
@@ -157,11 +175,13 @@ fn evaluate_keyword<'i, K: Validate, M: Matcher>(
     node: SchemaNode,
     keyword: &NamedKeyword<'_, K>,
     question: &Question<'_, 'i>,
+    pointer: &SharedLocation,
     context: &mut ValidationContext<'i>,
 ) -> Result<EntryUnits, OutOfMemory>
     requires may { MayEvaluate (setting_by K.Validate M.Matcher.own engine.now) (asking question.now)
         context.old node.0 }
     requires carries { CarriesItsNumber (places_in context.old) question.now.place.now }
+    requires pointed { pointer.now ≡ pointer_to (steps_to question.now.place.now) }
     requires form { HasForm (numbered K.shape engine.now.nodes.now) node.0 (form_at_work K.shape keyword.now) }
     ensures { FormGiven (setting_by K.Validate M.Matcher.own engine.now) question.now
         node.0 (string_bytes keyword.now.name.now) (form_at_work K.shape keyword.now) context.old context.new result }
@@ -172,6 +192,7 @@ fn evaluate_keyword<'i, K: Validate, M: Matcher>(
         engine.nodes.node(node),
         keyword.name,
         question,
+        pointer,
         answer,
         context,
     )
@@ -198,7 +219,7 @@ pub(crate) fn evaluate_child<'i, K: Validate, M: Matcher>(
         context.old context.new result }
 {
     match child_edge(children, child) {
-        None => Ok(unasked_unit(engine.alloc)),
+        None => unasked_unit(engine.alloc),
         Some(edge) => match one_below(question.instance, below) {
             None => evaluate_edge(engine, edge, question, context),
             Some((inner, step)) => {
@@ -248,7 +269,7 @@ fn evaluate_edge<'i, K: Validate, M: Matcher>(
         mode: question.mode,
     };
     if pair.is_in_progress(context) {
-        return accepting_unit(engine.alloc, engine.nodes.node(edge.node), &asked);
+        return accepting_unit(engine.alloc, engine.nodes.node(edge.node), &asked, context);
     }
     pair.enter(context)?;
     let unit = evaluate_node(engine, edge.node, &asked, context)?;

@@ -3,10 +3,10 @@ use Rattle.std.proofs.lemmas.Grind.{common_steps}
 use Rattle.std.specs.Prelude.{All, option_and_then}
 use Rattle.schema_reports.specs.ReportViews.{BorrowsItsPlace}
 use Rattle.schema_parts.specs.FaultViews.{PassesBorrowed}
-use Rattle.std.proofs.Common.{rules, arith, ◌≡◌, ◌∙◌, ◌==◌, ◌+◌, Bool, sym, refl, ap, subst, map, option_map, string_bytes, length, Some, false, true, List, [], ◌∷◌, ◌++◌, drop}
+use Rattle.std.proofs.Common.{rules, arith, ◌≡◌, ◌≤◌, ◌∙◌, ◌==◌, ◌+◌, Bool, sym, refl, ap, subst, map, option_map, string_bytes, length, Some, false, true, List, [], ◌∷◌, ◌++◌, drop}
 use Rattle.schema_reports.specs.InstanceViews.{subject_of, step_of}
 use Rattle.schema_definitions.specs.Keywords.{Question, ask, ecma, mark, match_text, no_reply, truth, unmark}
-use Rattle.run_steps.specs.EvaluationPlaces.{steps_to}
+use Rattle.run_steps.specs.EvaluationPlaces.{CarriesItsNumber, steps_to}
 use Rattle.run_steps.specs.GuardedPairs.{place_of}
 use Rattle.schema_runs.proofs.Placing.{carries_on, may_on, pair_busy, pair_entered, stands_at, stands_below, stands_on}
 use Rattle.schema_contexts.specs.Progress.{places_in}
@@ -31,7 +31,7 @@ use Rattle.run_steps.specs.NodeRuns.{EdgeReplies, child_says, edge_needs, parts_
 use Rattle.schema_contexts.specs.Progress.{Context, NoDeeper, busy_at}
 use Rattle.schema_runs.specs.RightVerdicts.{LaysOut}
 use Rattle.run_steps.specs.Askings.{asking, Asking}
-use Rattle.schema_runs.specs.RunStates.{MeetsNode, NodeSays, RemembersRightly, StaysRight, setting}
+use Rattle.schema_runs.specs.RunStates.{Keeps, MeetsNode, MeetsParts, NodeSays, RemembersRightly, StaysRight, setting}
 use Rattle.schema_parts.specs.declared.keyword.Reply.TheVariants as told
 use Rattle.schema_runs.proofs.GoesOn.{asked_across, computed_meets, computed_says, computed_stays, right_matched, right_same}
 use Rattle.schema_runs.proofs.RightVerdicts.{laid_below}
@@ -52,7 +52,7 @@ use Rattle.schema_definitions.specs.UnitOrder.{each_placed}
 use Rattle.schema_definitions.specs.Units.{true_unit}
 use Rattle.serde_json.specs.View.{view}
 use Rattle.schema_meaning.proofs.TurnsGiveRuns.{keeps_of_turns}
-use Rattle.schema_runs.specs.UnitStates.{child_unit, parts_units}
+use Rattle.schema_runs.specs.UnitStates.{MayEvaluate, PartsGive, child_unit, parts_units}
 use Rattle.schema_runs.proofs.NodeUnits.{entered_meets, finds_moved, finds_units, form_moved, gives_always, gives_below, gives_busy, gives_entered, gives_here, gives_keyword, gives_never, gives_reference, gives_these, placed_last, placed_next, tells_moved}
 use Rattle.schema_runs.proofs.UnitsAsked.{answer_is, child_valid, told_is}
 use Rattle.schema_contexts.specs.Works.{Spends}
@@ -1037,7 +1037,7 @@ evaluate::evaluate_entries-loop-entry-init g t c =
       worked = spends_none c.args.context.now.work;
       stays = λ layout laid right. right;
       met = λ texts root depth reads l. ([], refl, refl);
-      so_far = λ x reads l. ap (λ placed. each_placed placed (parts_units g.K.Validate.words (numbered g.K.Validate.shape c.args.engine.now.nodes.now) x c.args.node.0 (path_of c.args.question.now.path.now) (steps_to c.args.question.now.place.now) (busy_at (steps_to c.args.question.now.place.now) c.args.context.now.in_progress) (map (shaped_part g.K.Validate.shape) (map entry_of c.args.entries.now)))) (c.new-units.ensures.empty x.texts);
+      so_far = λ x reads l. ap (λ placed. each_placed placed (parts_units g.K.Validate.words (numbered g.K.Validate.shape c.args.engine.now.nodes.now) x c.args.node.0 (path_of c.args.question.now.path.now) (steps_to c.args.question.now.place.now) (busy_at (steps_to c.args.question.now.place.now) c.args.context.now.in_progress) (map (shaped_part g.K.Validate.shape) (map entry_of c.args.entries.now)))) (c.in_ok-units.ensures.empty x.texts);
     }
 
 pub evaluate::evaluate_entries-evaluate_entry-requires : goal.evaluate::evaluate_entries-evaluate_entry-requires
@@ -1047,7 +1047,7 @@ evaluate::evaluate_entries-evaluate_entry-requires g t c =
     let kept = c.loop-entry.invariant.kept in
     let l = ap (λ es. left ns (length c.args.engine.now.nodes.now) c.args.node.0 (subject_of c.args.question.now.instance) (busy_at p es)) kept in
     let here = part_at entry_of (shaped_part g.K.Validate.shape) c.args.entries.now c.loop-entry.entry-index c.entry-item.result c.loop-entry-test.true c.entry-item.is in
-    λ κs h. (lower_same _ _ t 8 0 l c.decreases, (h.0, (h.1.0, (h.1.1.0, (h.1.1.1, (record { known = c.requires.may.known; ranked = c.requires.may.ranked; above = subst (NoDeeper p) (sym kept) c.requires.may.above; wanted = c.requires.may.wanted; stands = stands_on c.args.context.now.root _ (asking c.args.question.now) c.loop-entry.invariant.root c.requires.may.stands; goes_on = (c.requires.may.goes_on.0, c.requires.may.goes_on.1, c.loop-entry.invariant.stays c.requires.may.goes_on.0 c.requires.may.goes_on.1 c.requires.may.goes_on.2) }, (carries_on c.args.context.now.root _ c.args.question.now.place.now c.loop-entry.invariant.root c.requires.carries, (c.requires.parts.0, c.requires.parts.1, shaped_part g.K.Validate.shape (entry_of c.entry-item.result), c.requires.parts.2 _ here, refl))))))))
+    λ κs h. (lower_same _ _ t 8 0 l c.decreases, (h.0, (h.1.0, (h.1.1.0, (h.1.1.1, (record { known = c.requires.may.known; ranked = c.requires.may.ranked; above = subst (NoDeeper p) (sym kept) c.requires.may.above; wanted = c.requires.may.wanted; stands = stands_on c.args.context.now.root _ (asking c.args.question.now) c.loop-entry.invariant.root c.requires.may.stands; goes_on = (c.requires.may.goes_on.0, c.requires.may.goes_on.1, c.loop-entry.invariant.stays c.requires.may.goes_on.0 c.requires.may.goes_on.1 c.requires.may.goes_on.2) }, (carries_on c.args.context.now.root _ c.args.question.now.place.now c.loop-entry.invariant.root c.requires.carries, (c.requires.pointed, (c.requires.parts.0, c.requires.parts.1, shaped_part g.K.Validate.shape (entry_of c.entry-item.result), c.requires.parts.2 _ here, refl)))))))))
 
 pub evaluate::evaluate_entries-loop-entry-preserved : goal.evaluate::evaluate_entries-loop-entry-preserved
 evaluate::evaluate_entries-loop-entry-preserved g t c =
@@ -1208,9 +1208,17 @@ evaluate::evaluate_node-returns g t c =
 
 pub evaluate::evaluate_plan-evaluate_entries-requires : goal.evaluate::evaluate_plan-evaluate_entries-requires
 evaluate::evaluate_plan-evaluate_entries-requires g t c =
+    let set = setting g.K.Validate.words g.K.Validate.is_whole g.K.Validate.shape g.M.Matcher.matching c.args.engine.now in
+    let ns = numbered g.K.Validate.shape c.args.engine.now.nodes.now in
     let n = node_of c.node-found.result.now in
     let plan = plan_is g.K.Validate.shape c.args.engine.now.nodes.now c.args.node.0 n _ c.node-found.ensures.found (ap (option_map plan_of) c.in-Some.is ∙ ap (λ f. Some (plan_of f)) c.in-Keywords.is) in
-    λ κs h. (lower_same _ _ t 9 0 refl c.decreases, (h.0, (h.1.0, (h.1.1.0, (h.1.1.1, (c.requires.may, (c.requires.carries, rw c.as_slice.ensures.value (_, plan, λ y k. k))))))))
+    let q = asking c.args.question.now in
+    let asked : Asking = record { subject = q.subject; place = q.place; path = path_of c.kept-path.result; mode = q.mode } in
+    let is : asked ≡ q = λ i. record { subject = q.subject; place = q.place; path = (c.kept-path.ensures.same ∙ c.in_ok-kept-in-Keywords.ensures.path) i; mode = q.mode } in
+    let l = ap (λ (z : Context). left ns (length c.args.engine.now.nodes.now) c.args.node.0 q.subject (busy_at q.place z.in_progress)) c.node_texts.ensures.stays in
+    let may = subst (λ z. MayEvaluate set z c.node_texts.new.self c.args.node.0) (sym is) (subst (λ z. MayEvaluate set q z c.args.node.0) (sym c.node_texts.ensures.stays) c.requires.may) in
+    let carries = subst (λ z. CarriesItsNumber (places_in z) c.args.question.now.place.now) (sym c.node_texts.ensures.stays) c.requires.carries in
+    λ κs h. (lower_same _ _ t 9 0 l c.decreases, (h.0, (h.1.0, (h.1.1.0, (h.1.1.1, (may, (carries, (c.in_ok-pointer-in-Keywords.ensures.same ∙ c.in_ok-place-in-Keywords.ensures.pointer, rw c.as_slice.ensures.value (_, plan, λ y k. k)))))))))
 
 pub evaluate::evaluate_plan-returns-in-None : goal.evaluate::evaluate_plan-returns-in-None
 evaluate::evaluate_plan-returns-in-None g t c = record {
@@ -1232,7 +1240,7 @@ evaluate::evaluate_plan-returns-in-None g t c = record {
       let busy = busy_at p c.args.context.now.in_progress in
       let n = node_of c.node-found.result.now in
       let plan = plan_none g.K.Validate.shape c.args.engine.now.nodes.now c.args.node.0 n c.node-found.ensures.found (ap (option_map plan_of) c.in-None.is) in
-      if_ok_always c.accepting_unit.result _ (meets_by_plan g.K.Validate.words g.K.Validate.is_whole ns (length c.args.engine.now.nodes.now) w (mode_of c.args.question.now.mode) (path_of c.args.question.now.path.now) p busy s c.args.node.0 _ _ node_always plan (λ texts root depth reads l. refl));
+      if_ok_always c.accepting_unit.result _ (meets_by_plan g.K.Validate.words g.K.Validate.is_whole ns (length c.args.engine.now.nodes.now) w (mode_of c.args.question.now.mode) (path_of c.args.question.now.path.now) p busy s c.args.node.0 _ _ node_always plan (λ texts root depth reads l. sym (ap (λ (z : Context). z.remembered) c.accepting_unit.ensures.stays)));
   stays = first_of (search rules, grind (arith, common_steps));
 }
 
@@ -1256,7 +1264,7 @@ evaluate::evaluate_plan-returns-in-Always g t c = record {
       let busy = busy_at p c.args.context.now.in_progress in
       let n = node_of c.node-found.result.now in
       let plan = plan_is g.K.Validate.shape c.args.engine.now.nodes.now c.args.node.0 n _ c.node-found.ensures.found (ap (option_map plan_of) c.in-Some.is ∙ ap (λ f. Some (plan_of f)) c.in-Always.is) in
-      if_ok_always c.accepting_unit-in-Always.result _ (meets_by_plan g.K.Validate.words g.K.Validate.is_whole ns (length c.args.engine.now.nodes.now) w (mode_of c.args.question.now.mode) (path_of c.args.question.now.path.now) p busy s c.args.node.0 _ _ node_always plan (λ texts root depth reads l. refl));
+      if_ok_always c.accepting_unit-in-Always.result _ (meets_by_plan g.K.Validate.words g.K.Validate.is_whole ns (length c.args.engine.now.nodes.now) w (mode_of c.args.question.now.mode) (path_of c.args.question.now.path.now) p busy s c.args.node.0 _ _ node_always plan (λ texts root depth reads l. sym (ap (λ (z : Context). z.remembered) c.accepting_unit-in-Always.ensures.stays)));
   stays = first_of (search rules, grind (arith, common_steps));
 }
 
@@ -1283,35 +1291,43 @@ evaluate::evaluate_plan-returns-in-Never g t c = record {
       let busy = busy_at p c.args.context.now.in_progress in
       let n = node_of c.node-found.result.now in
       let plan = plan_is g.K.Validate.shape c.args.engine.now.nodes.now c.args.node.0 n _ c.node-found.ensures.found (ap (option_map plan_of) c.in-Some.is ∙ ap (λ f. Some (plan_of f)) c.in-Never.is) in
-      if_ok_always c.refusing_unit.result _ (meets_never g.K.Validate.words g.K.Validate.is_whole ns (length c.args.engine.now.nodes.now) w (mode_of c.args.question.now.mode) (path_of c.args.question.now.path.now) p busy s c.args.node.0 _ _ plan refl);
+      if_ok_always c.refusing_unit.result _ (meets_never g.K.Validate.words g.K.Validate.is_whole ns (length c.args.engine.now.nodes.now) w (mode_of c.args.question.now.mode) (path_of c.args.question.now.path.now) p busy s c.args.node.0 _ _ plan (sym (ap (λ (z : Context). z.remembered) c.refusing_unit.ensures.stays)));
   stays = first_of (search rules, grind (arith, common_steps));
 }
 
 pub evaluate::evaluate_plan-returns-in_ok-children-in-Keywords : goal.evaluate::evaluate_plan-returns-in_ok-children-in-Keywords
-evaluate::evaluate_plan-returns-in_ok-children-in-Keywords g t c = record {
-  keeps = first_of (search rules, grind (arith, common_steps));
-  counts = first_of (search rules, grind (arith, common_steps));
-  works = first_of (search rules, grind (arith, common_steps));
-  says =
-      let set = setting g.K.Validate.words g.K.Validate.is_whole g.K.Validate.shape g.M.Matcher.matching c.args.engine.now in
-      let q = asking c.args.question.now in
-      let p = steps_to c.args.question.now.place.now in
-      let n = node_of c.node-found.result.now in
-      let plan = plan_is g.K.Validate.shape c.args.engine.now.nodes.now c.args.node.0 n _ c.node-found.ensures.found (ap (option_map plan_of) c.in-Some.is ∙ ap (λ f. Some (plan_of f)) c.in-Keywords.is) in
-      let notes = ap (λ o. option_and_then (λ n. option_map view n.annotations) o) c.node-found.ensures.found in
-      let gives = rw c.as_slice.ensures.value at c.in_ok-children-in-Keywords.ensures.says in
-      if_ok_mono c.entries_unit.result _ _ (λ u is. gives_these set q c.args.context.now c.args.node.0 u (entry_where n (path_of c.args.question.now.path.now) p) (λ x. where_is g.K.Validate.shape c.args.engine.now.nodes.now (g.K.Validate.words x.texts) x.matcher (subject_in x.root) c.args.node.0 n (path_of c.args.question.now.path.now) p c.node-found.ensures.found) _ c.in_ok-children-in-Keywords.children _ plan notes is gives) c.entries_unit.ensures.unit;
-  meets =
-      let ns = numbered g.K.Validate.shape c.args.engine.now.nodes.now in
-      let w = settling (g.M.Matcher.matching c.args.engine.now.matcher.now) c.args.context.now.remembered.assumptions in
-      let p = steps_to c.args.question.now.place.now in
-      let s = subject_of c.args.question.now.instance in
-      let busy = busy_at p c.args.context.now.in_progress in
-      let n = node_of c.node-found.result.now in
-      let plan = plan_is g.K.Validate.shape c.args.engine.now.nodes.now c.args.node.0 n _ c.node-found.ensures.found (ap (option_map plan_of) c.in-Some.is ∙ ap (λ f. Some (plan_of f)) c.in-Keywords.is) in
-      if_ok_always c.entries_unit.result _ (meets_these g.K.Validate.words g.K.Validate.is_whole ns (length c.args.engine.now.nodes.now) w (mode_of c.args.question.now.mode) (path_of c.args.question.now.path.now) p busy s c.args.node.0 _ _ _ plan (rw c.as_slice.ensures.value at c.in_ok-children-in-Keywords.ensures.meets));
-  stays = first_of (search rules, grind (arith, common_steps));
-}
+evaluate::evaluate_plan-returns-in_ok-children-in-Keywords g t c =
+    let ns = numbered g.K.Validate.shape c.args.engine.now.nodes.now in
+    let set = setting g.K.Validate.words g.K.Validate.is_whole g.K.Validate.shape g.M.Matcher.matching c.args.engine.now in
+    let w = settling (g.M.Matcher.matching c.args.engine.now.matcher.now) c.args.context.now.remembered.assumptions in
+    let q = asking c.args.question.now in
+    let p = steps_to c.args.question.now.place.now in
+    let s = subject_of c.args.question.now.instance in
+    let busy = busy_at p c.args.context.now.in_progress in
+    let n = node_of c.node-found.result.now in
+    let plan = plan_is g.K.Validate.shape c.args.engine.now.nodes.now c.args.node.0 n _ c.node-found.ensures.found (ap (option_map plan_of) c.in-Some.is ∙ ap (λ f. Some (plan_of f)) c.in-Keywords.is) in
+    let notes = ap (λ o. option_and_then (λ n. option_map view n.annotations) o) c.node-found.ensures.found in
+    let path = c.in_ok-kept-in-Keywords.ensures.path in
+    let asked : Asking = record { subject = q.subject; place = q.place; path = path_of c.kept-path.result; mode = q.mode } in
+    let is : asked ≡ q = λ i. record { subject = q.subject; place = q.place; path = (c.kept-path.ensures.same ∙ path) i; mode = q.mode } in
+    let before = c.node_texts.new.self in
+    let after = c.evaluate_entries.new.context in
+    let back : (P : Asking → Context → Type 0) → P asked before → P q c.args.context.now = λ P h. subst (λ z. P z c.args.context.now) is (subst (P asked) c.node_texts.ensures.stays h) in
+    let given = c.in_ok-children-in-Keywords.ensures in
+    let xs = map (shaped_part g.K.Validate.shape) (map entry_of c.as_slice.result.now) in
+    record {
+      keeps = if_ok_always c.entries_unit.result _ (back (λ _ z. Keeps z after) given.keeps);
+      counts = if_ok_always c.entries_unit.result _ (back (λ _ z. z.visits ≤ after.visits) given.counts);
+      works = if_ok_always c.entries_unit.result _ (back (λ _ z. Spends z.work after.work) given.works);
+      says =
+          let there = back (λ z y. PartsGive set z y c.args.node.0 xs c.in_ok-children-in-Keywords.children) given.says in
+          let gives = rw c.as_slice.ensures.value at there in
+          if_ok_mono c.entries_unit.result _ _ (λ u at. gives_these set q c.args.context.now c.args.node.0 u (entry_where n (path_of c.args.question.now.path.now) p) (λ x. where_is g.K.Validate.shape c.args.engine.now.nodes.now (g.K.Validate.words x.texts) x.matcher (subject_in x.root) c.args.node.0 n (path_of c.args.question.now.path.now) p c.node-found.ensures.found) _ c.in_ok-children-in-Keywords.children _ plan notes (λ texts. at texts q path c.in_ok-kept-in-Keywords.ensures.schema (c.in_ok-pointer-in-Keywords.ensures.same ∙ c.in_ok-place-in-Keywords.ensures.pointer)) gives) c.entries_unit.ensures.unit;
+      meets =
+          let met = back (λ z y. MeetsParts set z y after c.args.node.0 xs) given.meets in
+          if_ok_always c.entries_unit.result _ (meets_these g.K.Validate.words g.K.Validate.is_whole ns (length c.args.engine.now.nodes.now) w (mode_of c.args.question.now.mode) (path_of c.args.question.now.path.now) p busy s c.args.node.0 _ _ _ plan (rw c.as_slice.ensures.value at met));
+      stays = if_ok_always c.entries_unit.result _ (back (λ z y. StaysRight set z y after) given.stays);
+    }
 
 pub turns::keyword_answer-returns-clause-quiet : goal.turns::keyword_answer-returns-clause-quiet
 turns::keyword_answer-returns-clause-quiet g t c = λ none. c.put_back.ensures.visits ∙ c.in_ok-run_turns.ensures.quiet none ∙ c.set_aside-aside.ensures.visits
@@ -1449,8 +1465,8 @@ evaluate::evaluate_edge-returns-then-not-edge g t c = record {
 pub evaluate::evaluate_edge-returns-then-is_in_progress : goal.evaluate::evaluate_edge-returns-then-is_in_progress
 evaluate::evaluate_edge-returns-then-is_in_progress g t c = record {
   keeps = first_of (search rules, grind (arith, common_steps));
-  counts = if_ok_always c.accepting_unit.result _ (as_many _ _ (ap (λ (z : Context). z.visits) c.in_ok-pair.ensures.unchanged));
-  works = if_ok_always c.accepting_unit.result _ (spends_same _ _ (ap (λ (z : Context). z.work) c.in_ok-pair.ensures.unchanged));
+  counts = if_ok_always c.accepting_unit.result _ (as_many _ _ (ap (λ (z : Context). z.visits) (c.accepting_unit.ensures.stays ∙ c.in_ok-pair.ensures.unchanged)));
+  works = if_ok_always c.accepting_unit.result _ (spends_same _ _ (ap (λ (z : Context). z.work) (c.accepting_unit.ensures.stays ∙ c.in_ok-pair.ensures.unchanged)));
   says =
       let set = setting g.K.Validate.words g.K.Validate.is_whole g.K.Validate.shape g.M.Matcher.matching c.args.engine.now in
       let q = asking c.args.question.now in
@@ -1473,7 +1489,7 @@ evaluate::evaluate_edge-returns-then-is_in_progress g t c = record {
       let busy = busy_at p c.args.context.now.in_progress in
       let e = edge_of c.args.edge.now in
       let old = pair_busy e.node c.in_ok-pair.pair.node.0 p (place_of c.in_ok-pair.pair) c.args.context.now c.new.new.context _ true (ap (λ (n : SchemaNode). n.0) c.in_ok-pair.ensures.node) c.in_ok-pair.ensures.place c.in_ok-pair.ensures.unchanged c.is_in_progress.ensures.found c.if-is_in_progress.true in
-      if_ok_always c.accepting_unit.result _ (meets_busy g.K.Validate.words g.K.Validate.is_whole ns (length c.args.engine.now.nodes.now) w s busy e (mode_of c.args.question.now.mode) (path_of c.args.question.now.path.now) p _ _ c.if-not-edge.false old (sym (ap (λ (z : Context). z.remembered) c.in_ok-pair.ensures.unchanged)));
+      if_ok_always c.accepting_unit.result _ (meets_busy g.K.Validate.words g.K.Validate.is_whole ns (length c.args.engine.now.nodes.now) w s busy e (mode_of c.args.question.now.mode) (path_of c.args.question.now.path.now) p _ _ c.if-not-edge.false old (sym (ap (λ (z : Context). z.remembered) (c.accepting_unit.ensures.stays ∙ c.in_ok-pair.ensures.unchanged))));
   stays = first_of (search rules, grind (arith, common_steps));
 }
 
