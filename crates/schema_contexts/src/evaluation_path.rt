@@ -77,7 +77,7 @@ impl<'p> EvaluationPath<'p> {
         EvaluationPath::Kept(texts)
     }
 
-    /// Returns the texts that the path begins with and goes no further, under a reference or not; none where there are none.
+    /// Returns the texts whose path this is, under a reference or not; none where it has none.
     pub fn kept_texts(&self) -> Option<&'p UnitTexts>
         ensures same { IfSome result (λ t. t.now.path ≡ path_of self.now) }
     {

@@ -1,4 +1,4 @@
-//! The texts of units, which are kept by the way that led to them: most are made once, and shared from then on.
+//! The texts of units, which are kept by the way that led to them: those that are asked for again soon are made once, and shared.
 ghost use Rattle.std.specs.Prelude.{◌≡◌, ◌++◌, [], IfOk, IfSome, true};
 ghost use Rattle.schema_definitions.specs.Pointer.{escaped, joined};
 ghost use Rattle.schema_contexts.specs.EvaluationPaths.{is_under_reference, path_of};
@@ -10,8 +10,8 @@ use schema_reports::shared_location::SharedLocation;
 use std::alloc::Global;
 use std::mem;
 
-/// How many of the units whose paths go on from a path are looked at.
-const LOOKS: usize = 4;
+/// How many of the units whose paths go on from a path are looked at, from the one that was asked for last on.
+const LOOKS: usize = 8;
 
 /// The texts of a unit: its path and its place in the schema, and whether the path is under a reference; and the number at which
 /// they are kept.
@@ -162,11 +162,11 @@ impl UnitPaths {
             return None;
         }
         for _ in 0..LOOKS {
-            at = kept.get(at)?.next;
             let unit = kept.get(at)?;
             if is_after(unit.path.as_str(), before, added) {
                 return Some(unit);
             }
+            at = unit.next;
         }
         None
     }
