@@ -14,7 +14,7 @@ ghost use Rattle.schema_keys.specs.Checking.{AcceptsSchema, RefusesSchema, IsVer
 ghost use Rattle.schema_keys.specs.Checking.{location_from};
 ghost use Rattle.schema_keys.specs.CheckHere.{parts_asked, masked_at, AcceptsOwn};
 ghost use Rattle.schema_keys.specs.CheckHere.{RefusesOwn, AcceptsAll, RefusesFirst};
-ghost use Rattle.schema_keys.specs.Showing.{Shows};
+ghost use Rattle.schema_parts.specs.Showing.{Shows};
 
 mod embedded;
 mod masked;

@@ -13,7 +13,8 @@ ghost use Rattle.schema_definitions.specs.Plan.{encoded};
 ghost use Rattle.schema_keys.specs.Builtins.{builtin, row_of};
 ghost use Rattle.schema_keys.specs.Dialects.{asserts_formats, integer_valued_numbers};
 ghost use Rattle.schema_keys.specs.Here.{draft_here, base_here, absolute_here};
-ghost use Rattle.schema_keys.specs.Showing.{Yields, Shows, IsRest};
+ghost use Rattle.schema_parts.specs.Showing.{Yields, Shows};
+ghost use Rattle.schema_keys.specs.Showing.{IsRest};
 
 use crate::key::SchemaKey;
 use crate::options::CompileOptions;

@@ -1,17 +1,17 @@
 //! References: where they lead, and the keys of their targets.
-ghost use Rattle.std.specs.Prelude.{◌≡◌, IfOk, IfErr, Ok, not, option_map, string_bytes, []};
+ghost use Rattle.std.specs.Prelude.{◌≡◌, IfOk, IfErr, Ok, not, option_map, string_bytes};
 ghost use Rattle.std.specs.Str.Lossy.{utf8_lossy};
 ghost use Rattle.percent_encoding.specs.Percent.{percent_decode};
 ghost use Rattle.schema_definitions.specs.Pointer.{pointer_to};
-ghost use Rattle.schema_definitions.specs.Plan.{fragment, reference_named, to_recursive};
+ghost use Rattle.schema_definitions.specs.Plan.{fragment, reference_named};
 ghost use Rattle.schema_definitions.specs.Plan.{is_recursive_ref};
 ghost use Rattle.schema_parts.specs.ResolverViews.{found_of, place_of};
 ghost use Rattle.schema_keys.specs.KeyViews.{key_of, kind_of};
 ghost use Rattle.schema_keys.specs.Compiling.{skips};
 ghost use Rattle.schema_keys.specs.Referring.{by_flag};
-ghost use Rattle.schema_keys.specs.Here.{place_here, resolves, finds, looks_up, RefersBy, RefusesReference};
+ghost use Rattle.schema_keys.specs.Here.{place_here, resolver_here, resolves, finds, looks_up, RefersBy, RefusesReference};
 ghost use Rattle.schema_keys.specs.Here.{LeadsTo, path_in_resource, target_location, target_start, target_key, target_key_at};
-ghost use Rattle.schema_keys.specs.Showing.{Yields, Shows, Agrees};
+ghost use Rattle.schema_parts.specs.Showing.{Yields, Shows, Agrees};
 
 use crate::context::Context;
 use crate::error::BuildError;
@@ -104,7 +104,8 @@ impl<'p, 'c, R: Resolver> Context<'p, 'c, R> {
 
     /// Returns what a `$recursiveRef` leads to. Fails if the resolver refuses it, or if memory cannot be allocated.
     pub fn lookup_recursive_reference(&self) -> Result<Target<R::State>, LookupError>
-        ensures found { Agrees (found_of R.point) result (finds R.Resolver self.now to_recursive []) }
+        ensures found { Agrees (found_of R.point) result
+            ((resolver_here R.Resolver self.now).lookup_recursive (R.point self.now.key.now.state)) }
     {
         self.resolver
             .lookup_recursive_ref(self.alloc, &self.key.state)

@@ -5,7 +5,7 @@ ghost use Rattle.schema_parts.specs.SchemaViews.{schema_step_of};
 ghost use Rattle.schema_keys.specs.Compiling.{Each};
 ghost use Rattle.schema_keys.specs.DocumentSchemas.{IndicesFit, schemas_in, schemas_in_items};
 ghost use Rattle.schema_keys.specs.DocumentSchemas.{schemas_in_members, StaysFit};
-ghost use Rattle.schema_keys.specs.Showing.{Yields};
+ghost use Rattle.schema_parts.specs.Showing.{Yields};
 
 use schema_parts::schema_place::{SchemaPath, SchemaStep};
 use schema_reports::location::OutOfMemory;

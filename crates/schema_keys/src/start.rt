@@ -3,7 +3,7 @@ ghost use Rattle.std.specs.Prelude.{◌≡◌};
 ghost use Rattle.schema_definitions.specs.Plan.{lies_in, resource_depth, segment_count, segments_length, start_of};
 ghost use Rattle.schema_parts.specs.ResolverViews.{found_of, place_of};
 ghost use Rattle.schema_keys.specs.Here.{parts_here};
-ghost use Rattle.schema_keys.specs.Showing.{Yields};
+ghost use Rattle.schema_parts.specs.Showing.{Yields};
 
 use crate::context::Context;
 use schema_parts::resolver::{Resolver, Target};

@@ -8,7 +8,7 @@ ghost use Rattle.schema_keys.specs.KeyViews.{key_of};
 ghost use Rattle.schema_keys.specs.Alone.{RefusesKeyAlone};
 ghost use Rattle.schema_keys.specs.Here.{LiesBelow, resolver_here, HasMembers, enters, vocabularies_at};
 ghost use Rattle.schema_keys.specs.Here.{is_identified_at, key_inside, IsSubschemaKey, key_by_itself, RefusesSubschema};
-ghost use Rattle.schema_keys.specs.Showing.{Yields, Agrees};
+ghost use Rattle.schema_parts.specs.Showing.{Yields, Agrees};
 ghost use Rattle.schema_keys.specs.Readings.{read_value, IsReadAt};
 
 use crate::context::Context;

@@ -3,6 +3,7 @@ pub mod AskedAtOnce
 pub mod Ascending
 pub mod SchemaViews
 pub mod ResolverViews
+pub mod Showing
 pub mod KeywordViews
 pub mod MakerViews
 pub mod UnitQuestions

@@ -6,8 +6,9 @@ ghost use Rattle.serde_json.specs.View.{members_view, view};
 ghost use Rattle.schema_definitions.specs.Drafts as schemas;
 ghost use Rattle.schema_definitions.specs.Resolving as spec;
 ghost use Rattle.schema_keywords.specs.KeywordViews.{draft_of};
-ghost use Rattle.schema_parts.specs.ResolverViews.{place_of, entrance_of, found_of, Refuses, RefusesValue, IsInside, SubschemasStandBelow};
+ghost use Rattle.schema_parts.specs.ResolverViews.{place_of, entrance_of, found_of, RefusesValue, IsInside, SubschemasStandBelow};
 ghost use Rattle.schema_parts.specs.ResolverViews.{KeepsDraft, placed_in, placed_of};
+ghost use Rattle.schema_parts.specs.Showing.{Agrees};
 
 use crate::schema_place::{SchemaPath, SchemaPlace};
 use schema_keywords::keywords::{Draft, VocabularySet};
@@ -109,9 +110,7 @@ pub trait Resolver {
         reference: &str,
         dynamic: bool,
     ) -> Result<Target<Self::State>, LookupError>
-        ensures leads { MatchResult result
-            (λ t. (resolving self.now).lookup (point state.now) reference.now dynamic ≡ Ok (found_of point t))
-            (Refuses ((resolving self.now).lookup (point state.now) reference.now dynamic)) };
+        ensures leads { Agrees (found_of point) result ((resolving self.now).lookup (point state.now) reference.now dynamic) };
 
     /// Where a `$recursiveRef` leads.
     fn lookup_recursive_ref(
@@ -119,9 +118,7 @@ pub trait Resolver {
         alloc: Global,
         state: &Self::State,
     ) -> Result<Target<Self::State>, LookupError>
-        ensures leads { MatchResult result
-            (λ t. (resolving self.now).lookup_recursive (point state.now) ≡ Ok (found_of point t))
-            (Refuses ((resolving self.now).lookup_recursive (point state.now))) };
+        ensures leads { Agrees (found_of point) result ((resolving self.now).lookup_recursive (point state.now)) };
 
     /// The state inside a subschema.
     fn in_subresource(
@@ -131,9 +128,8 @@ pub trait Resolver {
         draft: Draft,
         place: &SchemaPlace,
     ) -> Result<Self::State, LookupError>
-        ensures inside { MatchResult result
-            (λ s. (resolving self.now).in_subresource (point state.now) (draft_of draft) (place_of place.now) ≡ Ok (point s))
-            (Refuses ((resolving self.now).in_subresource (point state.now) (draft_of draft) (place_of place.now))) };
+        ensures inside { Agrees point result
+            ((resolving self.now).in_subresource (point state.now) (draft_of draft) (place_of place.now)) };
 
     /// The state inside a subschema, whose value was read at its place. It is asked for each subschema: a resolver that finds
     /// the state from the value gives its own body.
@@ -146,9 +142,7 @@ pub trait Resolver {
         _value: Option<&Value>,
     ) -> Result<Self::State, LookupError>
         ensures inside { option_map (λ v. view v.now) _value.entry ≡ (resolving self.now).value (place_of place.now) →
-            MatchResult result
-            (λ s. (resolving self.now).in_subresource (point state.now) (draft_of draft) (place_of place.now) ≡ Ok (point s))
-            (Refuses ((resolving self.now).in_subresource (point state.now) (draft_of draft) (place_of place.now))) }
+            Agrees point result ((resolving self.now).in_subresource (point state.now) (draft_of draft) (place_of place.now)) }
     {
         self.in_subresource(alloc, state, draft, place)
     }
@@ -160,9 +154,7 @@ pub trait Resolver {
         state: &Self::State,
         reference: &str,
     ) -> Result<String, LookupError>
-        ensures uri { MatchResult result
-            (λ t. (resolving self.now).resolve_uri (point state.now) reference.now ≡ Ok (string_bytes t))
-            (Refuses ((resolving self.now).resolve_uri (point state.now) reference.now)) };
+        ensures uri { Agrees string_bytes result ((resolving self.now).resolve_uri (point state.now) reference.now) };
 
     /// The base URI.
     fn base_uri<'s>(&self, state: &'s Self::State) -> &'s str

@@ -4,7 +4,7 @@ ghost use Rattle.schema_meaning.specs.Documents.{embedded};
 ghost use Rattle.schema_keywords.specs.KeywordViews.{draft_of};
 ghost use Rattle.schema_keys.specs.CutViews.{cut_of};
 ghost use Rattle.schema_keys.specs.CheckHere.{parts_asked, depth_at, cuts_at};
-ghost use Rattle.schema_keys.specs.Showing.{Shows};
+ghost use Rattle.schema_parts.specs.Showing.{Shows};
 ghost use Rattle.schema_keys.specs.Readings.{read_value, IsReadAt};
 
 use crate::check::SchemaCheck;

@@ -6,7 +6,7 @@ ghost use Rattle.schema_definitions.specs.Drafts.{at_path};
 ghost use Rattle.schema_parts.specs.ResolverViews.{place_of};
 ghost use Rattle.schema_parts.specs.SchemaViews.{schema_step_of};
 ghost use Rattle.schema_keys.specs.CheckHere.{is_cut_out, masked_at, masked_items_at, masked_members_at};
-ghost use Rattle.schema_keys.specs.Showing.{Shows};
+ghost use Rattle.schema_parts.specs.Showing.{Shows};
 
 use crate::check::SchemaCheck;
 use crate::check::embedded::Cut;
