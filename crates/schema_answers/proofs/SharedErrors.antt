@@ -59,13 +59,13 @@ module _ {C Run K M : Type 0} (keywords : KeywordMembers C Run K) (matchers : Ma
         → AreRuns (keywords.words texts) (each texts) (matchers.matching p.matcher) (numbered keywords.shape p.nodes) instance p.root n p.runs some_run Step start Has begins keeps first none texts
     are_runs told texts speaks n enough s as' r es end has step once = let h = told s as' r es end has step in (h.0 texts speaks once n enough, h.1 texts speaks once n enough)
 
-    pub shared_of : is_some first.unassumed ≡ true → IsToldRun → (es : Vec ValidationError)
+    shared_within : is_some first.unassumed ≡ true → IsToldRun → (es : Vec ValidationError)
         → ((u : Sense) (call : Call) → WantsAllLater call → Follows u → IsRunOf u call Step first start errors_in (errors_of u) → ErrorsOf u p.runs call (errors_in es))
         → ((u : Sense) → Follows u → IsRunOf u validate Step first start errors_in (errors_of u) → FirstSays u p.runs (first_error (errors_in es)))
         → ((u : Sense) (call : Call) → Follows u → IsRunOf u call Step first start none_in (λ m. is_nil (errors_of u m)) → VerdictSays u p.runs call (none_in es))
         → ((u : Sense) (call : Call) → IsRunOf u call Step first start none_in (λ m. is_nil (errors_of u m)) → GivesErrors u call p.runs Step start instance es.items)
         → AreShared keywords matchers p instance first es.items
-    shared_of some told es says says_first verdict gives =
+    shared_within some told es says says_first verdict gives =
         let matcher = matchers.matching p.matcher in
         let nodes = numbered keywords.shape p.nodes in
         let deep = left nodes (length p.nodes) p.root (subject_in instance []) [] in
@@ -96,12 +96,22 @@ module _ {C Run K M : Type 0} (keywords : KeywordMembers C Run K) (matchers : Ma
               borrowed (keywords.words false) (each false) matcher nodes instance p.root n p.runs some_run Step start Has begins keeps first none call later (began false speaks nothing_twice n enough) false (runs false speaks n enough) (λ s as' r es end has step. (told s as' r es end has step).2) es.items gives;
         }
 
+    -- the same by a number that is the limit of runs
+    pub shared_of : is_some first.unassumed ≡ true → IsToldRun → (es : Vec ValidationError) (most : ℕ) → most ≡ p.runs
+        → ((u : Sense) (call : Call) → WantsAllLater call → Follows u → IsRunOf u call Step first start errors_in (errors_of u) → ErrorsOf u most call (errors_in es))
+        → ((u : Sense) → Follows u → IsRunOf u validate Step first start errors_in (errors_of u) → FirstSays u most (first_error (errors_in es)))
+        → ((u : Sense) (call : Call) → Follows u → IsRunOf u call Step first start none_in (λ m. is_nil (errors_of u m)) → VerdictSays u most call (none_in es))
+        → ((u : Sense) (call : Call) → IsRunOf u call Step first start none_in (λ m. is_nil (errors_of u m)) → GivesErrors u call most Step start instance es.items)
+        → AreShared keywords matchers p instance first es.items
+    shared_of some told es most same says says_first verdict gives = shared_within some told es (rw same at says) (rw same at says_first) (rw same at verdict) (rw same at gives)
+
     -- what such a search takes of a budget, of which its states hold what is left
     pub shared_takes : IsToldRun → (work : S → Budget) → ((s : S) (given r : Remembered) (es : Vec ValidationError) (end : S) → Step s given r es end → Asks (work s) (work end))
-        → (end : S) → Reaches Step start end
-        → ((u : Sense) (call : Call) → IsRunOf u call Step first start none_in (λ m. is_nil (errors_of u m)) → MakesFurther u p.runs call Step start end)
+        → (end : S) → Reaches Step start end → (most : ℕ) → most ≡ p.runs
+        → ((u : Sense) (call : Call) → IsRunOf u call Step first start none_in (λ m. is_nil (errors_of u m)) → MakesFurther u most call Step start end)
         → (call : Call) → WantsAllLater call → Begins keywords matchers p instance first call → TakesByRuns keywords matchers p instance call (work start) (work end)
-    shared_takes told work asks end reaches makes call later began =
+    shared_takes told work asks end reaches most same makes_most call later began =
+        let makes = rw same at makes_most in
         let matcher = matchers.matching p.matcher in
         let nodes = numbered keywords.shape p.nodes in
         takes_searched keywords matchers p instance call Step work asks start end reaches (λ texts speaks n enough.

@@ -47,17 +47,20 @@ module _ {C Run K M : Type 0} (keywords : KeywordMembers C Run K) (matchers : Ma
         (λ (b : Bool). b) first none (met texts speaks nothing_twice n enough)
         (λ s as' r b end has step once. let h = told s as' r b end has step in (h.0 texts speaks once n enough, h.1 texts speaks once n enough))
 
-    pub is_searched : {E : Type 0} (result : Result Bool E) (end : S)
-        → ((v : Sense) (call : Call) → Follows v → IsRunOf v call Step first start (λ (b : Bool). b) (verdict_of v) → IfOk result (λ b. VerdictSays v p.runs call b))
-        → ((v : Sense) (call : Call) → IsRunOf v call Step first start (λ (b : Bool). b) (verdict_of v) → IfOk result (λ _. MakesFurther v p.runs call Step start end))
+    pub is_searched : {E : Type 0} (result : Result Bool E) (end : S) (most : ℕ) → most ≡ p.runs
+        → ((v : Sense) (call : Call) → Follows v → IsRunOf v call Step first start (λ (b : Bool). b) (verdict_of v) → IfOk result (λ b. VerdictSays v most call b))
+        → ((v : Sense) (call : Call) → IsRunOf v call Step first start (λ (b : Bool). b) (verdict_of v) → IfOk result (λ _. MakesFurther v most call Step start end))
         → IfOk result (λ _. Reaches Step start end)
         → IfOk result (IsSearched keywords matchers p instance Has work start end)
-    is_searched (Err e) end says makes reaches = tt
-    is_searched (Ok b) end says makes reaches = record {
-      decides = λ texts speaks. (
-        suc (left (numbered keywords.shape p.nodes) (length p.nodes) p.root (subject_in instance []) []),
-        λ n more. says (sense_at texts n) is_valid (follows (keywords.words texts) (each texts) (matchers.matching p.matcher) (numbered keywords.shape p.nodes) instance p.root n) (is_run texts speaks n (omega (arith, more))),
-      );
-      takes = takes_searched keywords matchers p instance is_valid Step work asks start end reaches (λ texts speaks n enough. makes (sense_at texts n) is_valid (is_run texts speaks n enough));
-      has = reached_has (keywords.words false) (each false) (matchers.matching p.matcher) (numbered keywords.shape p.nodes) instance p.root 0 Step start Has begins keeps end reaches;
-    }
+    is_searched (Err e) end most same says makes reaches = tt
+    is_searched (Ok b) end most same says_most makes_most reaches =
+        let says = rw same at says_most in
+        let makes = rw same at makes_most in
+        record {
+          decides = λ texts speaks. (
+            suc (left (numbered keywords.shape p.nodes) (length p.nodes) p.root (subject_in instance []) []),
+            λ n more. says (sense_at texts n) is_valid (follows (keywords.words texts) (each texts) (matchers.matching p.matcher) (numbered keywords.shape p.nodes) instance p.root n) (is_run texts speaks n (omega (arith, more))),
+          );
+          takes = takes_searched keywords matchers p instance is_valid Step work asks start end reaches (λ texts speaks n enough. makes (sense_at texts n) is_valid (is_run texts speaks n enough));
+          has = reached_has (keywords.words false) (each false) (matchers.matching p.matcher) (numbered keywords.shape p.nodes) instance p.root 0 Step start Has begins keeps end reaches;
+        }

@@ -1,6 +1,6 @@
 -- What the search answers.
 use Rattle.std.specs.List.{list_all}
-use Rattle.std.specs.Prelude.{Bool, List, false, map, true, ℕ, ◌≡◌}
+use Rattle.std.specs.Prelude.{Bool, List, Ok, Result, false, map, true, ℕ, ◌≡◌}
 use Rattle.std.specs.Global.{Vec}
 use Rattle.serde_json.specs.Data.{Data}
 use Rattle.schema_definitions.specs.Reports.{Error}
@@ -11,6 +11,10 @@ use Rattle.schema_search.specs.SharedResults.{AreShared, OneError, is_empty}
 use Rattle.schema_reports.specs.declared.reports.ValidationError.{ValidationError}
 use Rattle.schema_search.specs.declared.unfinished_matches.search.Outcomes.{Outcomes}
 use Rattle.schema_search.specs.declared.unfinished_matches.search.Outcomes.TheVariants as outcomes
+
+-- a step of a search, where a run answers what it remembers and what it gives
+abbrev pub by_run : {S X M T E : Type 0} → (S → X → Result (M × T) E → S → Type 0) → S → X → M → T → S → Type 0
+by_run Step start given remembered gives end = Step start given (Ok (remembered, gives)) end
 
 module _ {S T : Type 0} (Step : S → Remembered → Remembered → T → S → Type 0) (first : Remembered) (start : S) (limit : ℕ) where
   -- one result for each member of the cover that the run grows, within the limit; or the limit is reached before the cover is whole.

@@ -3,7 +3,7 @@ ghost use Rattle.std.specs.Prelude.{[], IfOk, IsSome, None, Ok, Some, false, tru
 ghost use Rattle.schema_definitions.specs.Cover.{assuming};
 ghost use Rattle.schema_meaning.specs.Search.{UsesBelow};
 ghost use Rattle.schema_definitions.specs.Unfinished.{Failure, FirstIsNew, located_by, starting};
-ghost use Rattle.schema_search.specs.Outcomes.{AreOutcomes};
+ghost use Rattle.schema_search.specs.Outcomes.{AreOutcomes, by_run};
 
 use schema_matches::assumptions::{AssumedOutcomes, MatchAssumptions};
 use schema_matches::site::{MatchFailure, UnfinishedMatch};
@@ -168,7 +168,7 @@ pub fn assume_within<
     requires met { IsSome first.unassumed }
     requires limit { 1 ≤ run_limit }
     ensures outcomes { IfOk result
-        (AreOutcomes (λ s x m t end. F.step s x (Ok (m, t)) end) first.entry run.old run_limit run.new) }
+        (AreOutcomes (by_run F.step) first.entry run.old run_limit run.new) }
     ensures uses { UsesBelow run_limit F.step run.old run.new }
 {
     let (mut pending, mut failure) = begin(alloc, first)?;
@@ -223,7 +223,7 @@ pub fn assume_each_outcome<
     requires met { IsSome first.0.unassumed }
     requires limit { 1 ≤ run_limit }
     ensures outcomes { IfOk result
-        (AreOutcomes (λ s x m t end. F.step s x (Ok (m, t)) end) first.entry.0 run.old run_limit run.new) }
+        (AreOutcomes (by_run F.step) first.entry.0 run.old run_limit run.new) }
     ensures uses { UsesBelow run_limit F.step run.old run.new }
 {
     let (first, result) = first;

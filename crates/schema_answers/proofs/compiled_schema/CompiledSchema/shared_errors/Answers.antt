@@ -26,7 +26,7 @@ returns g c =
           both_on (ap (λ b. b.now) self) (ap (λ b. b.now) instance) has)
           first c.requires.none c.requires.met
           (λ z as' r es end has step. told_of w g.M.Matcher z.0.now c.args.self.now z.2.now c.args.instance.now as' r es.items (search rules) (search rules) (search rules) has)
-          c.in_ok-shared.shared (rw same at found.errors) (rw same at found.first) (rw same at found.verdict) (rw same at found.gives);
+          c.in_ok-shared.shared _ same found.errors found.first found.verdict found.gives;
       works = λ call later began.
           let name = c.errors_under_each-arg-1.given in
           let before = c.args.work.now in
@@ -45,5 +45,5 @@ returns g c =
           (λ z. z.3.now)
           (λ z given r es end step.
           let asks : Asks z.3.now end.3.now = search rules in
-          asks) c.errors_under_each.new.run found.reaches (rw same at found.makes) call later began);
+          asks) c.errors_under_each.new.run found.reaches _ same found.makes call later began);
     }

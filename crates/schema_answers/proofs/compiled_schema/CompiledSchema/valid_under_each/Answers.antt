@@ -91,7 +91,7 @@ returns g c =
       subst (λ q. SaysVerdict w.shape w.words w.is_whole g.M.Matcher.matching q d as' b) has.0 (subst (λ (v : Value). SaysVerdict w.shape w.words w.is_whole g.M.Matcher.matching z.0.now (view v) as' b) has.1 fact),
       subst (λ q. MeetsMatches w.shape w.words w.is_whole g.M.Matcher.matching q d for_verdict (starting as') r) has.0 (subst (λ (v : Value). MeetsMatches w.shape w.words w.is_whole g.M.Matcher.matching z.0.now (view v) for_verdict (starting as') r) has.1 met),
     ))
-    c.validity_under_each.result c.validity_under_each.new.run (rw same at c.validity_under_each.ensures.says) (rw same at c.validity_under_each.ensures.makes) c.validity_under_each.ensures.reaches in
+    c.validity_under_each.result c.validity_under_each.new.run _ same c.validity_under_each.ensures.says c.validity_under_each.ensures.makes c.validity_under_each.ensures.reaches in
     record {
       depth = if_ok_mono c.validity_under_each.result _ _ (λ b h. h.decides) searched;
       works = if_ok_mono c.validity_under_each.result _ _ (λ b h.
