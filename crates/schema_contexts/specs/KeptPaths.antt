@@ -1,5 +1,5 @@
 -- What a run keeps of the paths under a reference that it made.
-use Rattle.std.specs.Prelude.{ℕ, ◌+◌, ◌++◌, ◌&&◌, Bool, List, Option, if◌then◌else◌, nat_eq, nat_lt}
+use Rattle.std.specs.Prelude.{ℕ, ◌+◌, ◌++◌, ◌&&◌, ◌≡◌, Bool, List, Option, Some, if◌then◌else◌, nat_eq, nat_lt}
 use Rattle.std.specs.declared.hash.FoldHasher.{FoldHasher}
 use Rattle.std.specs.Hash.FoldHasher.{finish, initial, write}
 use Rattle.std.specs.Map.{lookup}
@@ -40,6 +40,13 @@ hashed h (Kept texts) = write h texts.now.path
 
 abbrev pub hash_for : EvaluationPath → Text → Text → ℕ
 hash_for path name rest = finish (write (write (hashed initial path) name) rest)
+
+-- the path of a keyword of this name is kept at a hash, and at its own
+abbrev pub IsKeptAt : List (ℕ × PathKey) → ℕ → EvaluationPath → Text → Text → Type 0
+IsKeptAt kept hash path name rest = kept_at kept hash ≡ Some (key_for path name rest)
+
+abbrev pub IsKept : List (ℕ × PathKey) → EvaluationPath → Text → Text → Type 0
+IsKept kept path name rest = IsKeptAt kept (hash_for path name rest) path name rest
 
 -- the count after a call: it stays once it has reached the threshold, and where the path is not under a reference
 abbrev pub counted : ℕ → Bool → ℕ → ℕ

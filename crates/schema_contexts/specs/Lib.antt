@@ -17,3 +17,4 @@ pub mod KeptPaths
 pub mod Lending
 pub mod Works
 pub mod UnitPaths
+pub mod RunMatches

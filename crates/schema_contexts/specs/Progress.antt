@@ -1,11 +1,12 @@
 -- The pairs of a node's number and a place that are in progress, the last entered last; and what a run holds.
-use Rattle.std.specs.Prelude.{ℕ, ◌≤◌, ◌≡◌, ◌↔◌, ◌+◌, ◌*◌, ◌/◌, ◌||◌, ◌==◌, Bool, IsTrue, List, [], ◌∷◌, ◌++◌, length, nat_eq, not, if◌then◌else◌, All, Contains}
+use Rattle.std.specs.Prelude.{ℕ, ◌≤◌, ◌<◌, ◌≡◌, ◌↔◌, ◌+◌, ◌*◌, ◌/◌, ◌||◌, ◌==◌, Bool, IsTrue, List, [], ◌∷◌, ◌++◌, length, nat_eq, not, if◌then◌else◌, All, Contains}
 use Rattle.std.specs.List.{filter, list_any}
 use Rattle.serde_json.specs.View.{view}
 use Rattle.serde_json.specs.declared.value.Value.{Value}
 use Rattle.schema_definitions.specs.Instance.{Place, places, same_place}
 use Rattle.schema_definitions.specs.Keywords.{Marked}
 use Rattle.schema_definitions.specs.Unfinished.{Remembered}
+use Rattle.schema_places.specs.Numbers.{place_at}
 use Rattle.schema_contexts.specs.Works.{Budget, unlimited}
 
 abbrev pub Pairs : Type 0
@@ -33,6 +34,10 @@ Enters n p old b new = (IsTrue b ↔ Contains old (n, p)) × (new ≡ (if b then
 abbrev pub EndsWith : ℕ → Place → Pairs → Type 0
 EndsWith n p es = (rest : Pairs) × (es ≡ rest ++ (n, p) ∷ [])
 
+-- a pair goes last
+abbrev pub GoesLast : ℕ → Place → Pairs → Pairs → Type 0
+GoesLast n p old new = new ≡ old ++ (n, p) ∷ []
+
 -- a verdict of each of some pairs, no pair twice
 abbrev pub Verdicts : Type 0
 Verdicts = List ((ℕ × Place) × Bool)
@@ -59,6 +64,17 @@ root_places v = places (view v)
 
 abbrev pub places_in : Context → List Place
 places_in c = root_places c.root
+
+-- the place of a number, and that there is one
+abbrev pub place_in : Context → ℕ → Place
+place_in c k = place_at (places_in c) k
+
+abbrev pub IsPlaceIn : Context → ℕ → Type 0
+IsPlaceIn c k = k < length (places_in c)
+
+-- a pair is in progress
+abbrev pub is_busy : ℕ → Place → Context → Bool
+is_busy n p c = list_any (λ i. i == n) (busy_at p c.in_progress)
 
 -- a run that has begun on this instance, with what it remembers of matches; it may ask any number of nodes
 abbrev pub begun : Value → Remembered → Context

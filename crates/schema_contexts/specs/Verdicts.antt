@@ -3,7 +3,9 @@ use Rattle.std.specs.Prelude.{ℕ, ◌≡◌, ◌≤◌, ◌==◌, ◌+◌, ◌&
 use Rattle.std.specs.List.{list_all}
 use Rattle.serde_json.specs.Data.{array, object}
 use Rattle.schema_definitions.specs.Instance.{Place, Subject, a_value, same_place}
-use Rattle.schema_contexts.specs.Progress.{Context, Pairs, Verdicts, busy_at}
+use Rattle.schema_reports.specs.InstanceViews.{subject_of}
+use Rattle.schema_reports.specs.declared.instance.Instance.{Instance}
+use Rattle.schema_contexts.specs.Progress.{Context, Pairs, Verdicts, busy_at, place_in}
 
 -- the pair is this one
 abbrev pub is_pair : ℕ → Place → ℕ × Place → Bool
@@ -43,6 +45,18 @@ pub record MayKeep (i : ℕ) (p : Place) (s : Subject) (mark : ℕ) (c : Context
   pub container : is_container s ≡ true
   pub alone : is_alone i p c.in_progress ≡ true
   pub enough : mark + least_visits ≤ c.visits
+
+-- the same of a node at the place of a number
+abbrev pub MayKeepAt : ℕ → ℕ → Instance → ℕ → Context → Type 0
+MayKeepAt n k instance mark c = MayKeep n (place_in c k) (subject_of instance) mark c
+
+-- the verdict of that node is remembered
+abbrev pub RemembersAt : ℕ → ℕ → Bool → Context → Context → Type 0
+RemembersAt n k v old new = Remembers n (place_in old k) v old.verdicts new.verdicts
+
+-- nothing changes but what is remembered of verdicts
+abbrev pub OnlyVerdicts : Context → Context → Type 0
+OnlyVerdicts old new = new ≡ record old { verdicts = new.verdicts; kept = new.kept; words = new.words }
 
 -- the verdict that is read of a pair
 abbrev pub read_verdict : ℕ → Place → Context → Option Bool

@@ -1,7 +1,7 @@
 //! The path that led to a node, which allocates nothing until it is asked for.
 ghost use Rattle.std.specs.Prelude.{◌≡◌, ◌++◌, Bool, IfOk, IfSome, string_bytes, true};
 ghost use Rattle.schema_definitions.specs.Pointer.{joined};
-ghost use Rattle.schema_contexts.specs.EvaluationPaths.{is_under_reference, path_of};
+ghost use Rattle.schema_contexts.specs.EvaluationPaths.{GivesPath, is_under_reference, path_of};
 
 use crate::unit_paths::UnitTexts;
 use schema_reports::location::{Location, LocationSegment, OutOfMemory};
@@ -130,7 +130,7 @@ impl<'p> EvaluationPath<'p> {
 
     /// Returns the path of a keyword of this name after the path, and of what follows. Fails only if memory cannot be allocated.
     pub fn of_keyword(&self, alloc: Global, name: &str, rest: &str) -> Result<Location, OutOfMemory>
-        ensures path { IfOk result (λ l. l ≡ joined (path_of self.now) name.now ++ rest.now) }
+        ensures path { GivesPath self.now name.now rest.now result }
     {
         let mut whole = self.with_room(alloc, room_for(name, rest))?;
         push_keyword(&mut whole, name, rest)?;

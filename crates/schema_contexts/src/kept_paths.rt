@@ -1,9 +1,9 @@
 //! Evaluation paths under a reference, which are kept once many of them were asked for.
-ghost use Rattle.std.specs.Prelude.{◌≡◌, ◌≢◌, ◌<◌, ◌≤◌, ◌++◌, ℕ, [], List, Some, false, length, take, true};
+ghost use Rattle.std.specs.Prelude.{◌≡◌, ◌≢◌, ◌<◌, ◌≤◌, ◌++◌, ℕ, [], List, false, length, take, true};
 ghost use Rattle.std.specs.Prelude.{IfNone, IfOk, IfSome, OnErr, OnOk};
 ghost use Rattle.schema_definitions.specs.Pointer.{joined};
-ghost use Rattle.schema_contexts.specs.EvaluationPaths.{is_under_reference, path_of};
-ghost use Rattle.schema_contexts.specs.KeptPaths.{counted, hash_for, hashed, kept_at, key_for, right_path};
+ghost use Rattle.schema_contexts.specs.EvaluationPaths.{GivesPath, IsPathTo, is_under_reference, path_of};
+ghost use Rattle.schema_contexts.specs.KeptPaths.{IsKept, IsKeptAt, counted, hash_for, hashed, key_for, right_path};
 
 use crate::evaluation_path::{EvaluationPath, path_from};
 use schema_reports::location::{Location, OutOfMemory};
@@ -185,9 +185,9 @@ impl KeptPaths {
         name: &str,
         rest: &str,
     ) -> Option<&Location>
-        ensures right { IfSome result (λ l. l.now ≡ joined (path_of path.now) name.now ++ rest.now) }
-        ensures found { IfSome result (λ _. kept_at self.now.kept hash ≡ Some (key_for path.now name.now rest.now)) }
-        ensures none { IfNone result (kept_at self.now.kept hash ≢ Some (key_for path.now name.now rest.now)) }
+        ensures right { IfSome result (λ l. IsPathTo path.now name.now rest.now l.now) }
+        ensures found { IfSome result (λ _. IsKeptAt self.now.kept hash path.now name.now rest.now) }
+        ensures none { IfNone result (¬ IsKeptAt self.now.kept hash path.now name.now rest.now) }
     {
         let kept = self.paths.get(&hash)?;
         if kept.is(path, name, rest) {
@@ -206,9 +206,9 @@ impl KeptPaths {
         name: &str,
         rest: &str,
     ) -> Result<Location, OutOfMemory>
-        ensures path { IfOk result (λ l. l ≡ joined (path_of path.now) name.now ++ rest.now) }
+        ensures path { GivesPath path.now name.now rest.now result }
         ensures calls { self.new.calls ≡ self.old.calls }
-        ensures kept { OnOk result (kept_at self.new.kept hash ≡ Some (key_for path.now name.now rest.now)) }
+        ensures kept { OnOk result (IsKeptAt self.new.kept hash path.now name.now rest.now) }
         ensures unchanged { OnErr result (self.new.kept ≡ self.old.kept) }
     {
         let before = path.made(alloc)?;
@@ -229,15 +229,14 @@ impl KeptPaths {
         name: &str,
         rest: &str,
     ) -> Result<Location, OutOfMemory>
-        ensures path { IfOk result (λ l. l ≡ joined (path_of path.now) name.now ++ rest.now) }
+        ensures path { GivesPath path.now name.now rest.now result }
         ensures calls { self.new.calls
             ≡ counted EVALUATION_PATH_CACHE_THRESHOLD (is_under_reference path.now) self.old.calls }
         ensures plain { is_under_reference path.now ≡ false → self.new.kept ≡ self.old.kept }
         ensures early { self.new.calls < EVALUATION_PATH_CACHE_THRESHOLD → self.new.kept ≡ self.old.kept }
         ensures keeps { OnOk result (is_under_reference path.now ≡ true → self.new.calls ≡ EVALUATION_PATH_CACHE_THRESHOLD
-            → kept_at self.new.kept (hash_for path.now name.now rest.now) ≡ Some (key_for path.now name.now rest.now)) }
-        ensures reads { kept_at self.old.kept (hash_for path.now name.now rest.now) ≡ Some (key_for path.now name.now rest.now)
-            → self.new.kept ≡ self.old.kept }
+            → IsKept self.new.kept path.now name.now rest.now) }
+        ensures reads { IsKept self.old.kept path.now name.now rest.now → self.new.kept ≡ self.old.kept }
         ensures unchanged { OnErr result (self.new.kept ≡ self.old.kept) }
     {
         if !path.is_under_reference() || !self.counts() {

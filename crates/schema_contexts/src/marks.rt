@@ -1,10 +1,10 @@
 //! What a keyword's run has marked, and which marks are one.
 ghost use Rattle.std.specs.List.{list_any};
-ghost use Rattle.std.specs.Prelude.{◌≡◌, [], IfOk, IfErr, OnOk, Some, map, option_map};
+ghost use Rattle.std.specs.Prelude.{◌≡◌, [], IfOk, IfErr, OnOk, Some, option_map};
 ghost use Rattle.schema_definitions.specs.Guarded.{node_child, same_edge, same_node};
-ghost use Rattle.schema_definitions.specs.Runs.{with_mark, without_last};
+ghost use Rattle.schema_definitions.specs.Runs.{without_last};
 ghost use Rattle.schema_parts.specs.KeywordViews.{marked_of};
-ghost use Rattle.schema_contexts.specs.MarkViews.{last_first};
+ghost use Rattle.schema_contexts.specs.MarkViews.{edges_of, is_marked, last_first, marks_with};
 ghost use Rattle.schema_parts.specs.EdgeViews.{edge_of};
 
 use schema_parts::keyword::Marked;
@@ -15,7 +15,7 @@ use std::marker::Model;
 
 /// The edge that a request got.
 pub fn child_edge(children: &[Option<Edge>], child: usize) -> Option<&Edge>
-    ensures edge { option_map (λ e. edge_of e.now) result ≡ node_child (map (option_map edge_of) children.now) child }
+    ensures edge { option_map (λ e. edge_of e.now) result ≡ node_child (edges_of children.now) child }
 {
     match children.get(child) {
         Some(Some(edge)) => Some(edge),
@@ -39,8 +39,7 @@ fn are_alike(edge: &Edge, second: &Edge) -> bool
 
 // Whether two children have such edges.
 fn lead_to_one(children: &[Option<Edge>], child: usize, other: usize) -> bool
-    ensures one { result ≡ same_node (node_child (map (option_map edge_of) children.now) child)
-        (node_child (map (option_map edge_of) children.now) other) }
+    ensures one { result ≡ same_node (node_child (edges_of children.now) child) (node_child (edges_of children.now) other) }
 {
     match child_edge(children, child) {
         None => false,
@@ -53,7 +52,7 @@ fn lead_to_one(children: &[Option<Edge>], child: usize, other: usize) -> bool
 
 // Whether two marks are one: of one request, or of children that are answered alike.
 fn are_one(children: &[Option<Edge>], mark: Marked, other: Marked) -> bool
-    ensures one { result ≡ same_edge (map (option_map edge_of) children.now) (marked_of mark) (marked_of other) }
+    ensures one { result ≡ same_edge (edges_of children.now) (marked_of mark) (marked_of other) }
 {
     match mark {
         Marked::Child(child) => match other {
@@ -69,8 +68,8 @@ fn are_one(children: &[Option<Edge>], mark: Marked, other: Marked) -> bool
 
 // Whether one of these marks is the same as this one.
 fn is_among(children: &[Option<Edge>], mark: Marked, marks: &[Marked]) -> bool
-    ensures found { result ≡ list_any
-        (λ other. same_edge (map (option_map edge_of) children.now) (marked_of mark) (marked_of other)) marks.now }
+    ensures found { result ≡ list_any (λ other. same_edge (edges_of children.now) (marked_of mark) (marked_of other))
+        marks.now }
 {
     marks.iter().any(|other| are_one(children, mark, *other))
 }
@@ -104,10 +103,8 @@ impl Marks {
     /// Returns `true` if the list holds a mark that is the same; otherwise adds this one and returns `false`. On `Err` nothing
     /// has changed.
     pub fn enter(&mut self, children: &[Option<Edge>], mark: Marked) -> Result<bool, OutOfMemory>
-        ensures held { IfOk result (λ b. b
-            ≡ list_any (same_edge (map (option_map edge_of) children.now) (marked_of mark)) self.old) }
-        ensures marks { OnOk result (self.new
-            ≡ with_mark (same_edge (map (option_map edge_of) children.now)) (marked_of mark) self.old) }
+        ensures held { IfOk result (λ b. b ≡ is_marked children.now mark self.old) }
+        ensures marks { OnOk result (self.new ≡ marks_with children.now mark self.old) }
         ensures unchanged { IfErr result (λ _. self.new ≡ self.old) }
     {
         if is_among(children, mark, self.marks.as_slice()) {

@@ -1,8 +1,8 @@
 //! The texts of units, which are kept by the way that led to them: those that are asked for again soon are made once, and shared.
-ghost use Rattle.std.specs.Prelude.{◌≡◌, ◌++◌, [], IfOk, IfSome, true};
+ghost use Rattle.std.specs.Prelude.{◌≡◌, [], IfOk, IfSome, true};
 ghost use Rattle.schema_definitions.specs.Pointer.{escaped, joined};
 ghost use Rattle.schema_contexts.specs.EvaluationPaths.{is_under_reference, path_of};
-ghost use Rattle.schema_contexts.specs.UnitPaths.{added_text};
+ghost use Rattle.schema_contexts.specs.UnitPaths.{GivesAfter, IsAfter, added_text};
 
 use crate::evaluation_path::{EvaluationPath, path_from};
 use schema_reports::location::{Location, OutOfMemory};
@@ -87,7 +87,7 @@ fn is_added(text: &[u8], added: Added<'_>) -> bool
 // Whether a text is another one with what is added. What is added is looked at first, since most texts differ there.
 #[inline(always)]
 fn is_after(text: &str, before: &str, added: Added<'_>) -> bool
-    ensures after { result ≡ true → text.now ≡ before.now ++ added_text added.entry }
+    ensures after { result ≡ true → IsAfter before.now added.entry text.now }
 {
     let text = text.as_bytes();
     let before = before.as_bytes();
@@ -100,7 +100,7 @@ fn is_after(text: &str, before: &str, added: Added<'_>) -> bool
 
 // The text of one with what is added.
 fn made(alloc: Global, before: &str, added: Added<'_>) -> Result<SharedLocation, OutOfMemory>
-    ensures made { IfOk result (λ l. l ≡ before.now ++ added_text added.entry) }
+    ensures made { GivesAfter before.now added.entry result }
 {
     let room = added.text.len().saturating_add(1);
     let mut text = Location::with_capacity(alloc, before.len().saturating_add(room))?;
@@ -119,7 +119,7 @@ fn schema_of(
     location: &Location,
     more: Added<'_>,
 ) -> Result<SharedLocation, OutOfMemory>
-    ensures made { IfOk result (λ l. l ≡ location.now ++ added_text more.entry) }
+    ensures made { GivesAfter location.now more.entry result }
 {
     if is_after(path.as_str(), location.as_str(), more) {
         return Ok(path.clone()?);
@@ -135,7 +135,7 @@ impl KeptUnit {
         location: &Location,
         more: Added<'_>,
     ) -> Result<SharedLocation, OutOfMemory>
-        ensures made { IfOk result (λ l. l ≡ location.now ++ added_text more.entry) }
+        ensures made { GivesAfter location.now more.entry result }
     {
         if is_after(self.schema.as_str(), location.as_str(), more) {
             return Ok(self.schema.clone()?);
@@ -154,7 +154,7 @@ impl UnitPaths {
 
     // The unit at the path before with what is added, where it is found soon among those that go on from this number.
     fn find(&self, number: usize, before: &str, added: Added<'_>) -> Option<&KeptUnit>
-        ensures found { IfSome result (λ k. k.now.path ≡ before.now ++ added_text added.entry) }
+        ensures found { IfSome result (λ k. IsAfter before.now added.entry k.now.path) }
     {
         let kept = self.kept.as_slice();
         let mut at = kept.get(number)?.last;
@@ -173,7 +173,7 @@ impl UnitPaths {
 
     // The unit that was asked for last of those that go on from this number, where it is at the path before with what is added.
     fn last(&self, number: usize, before: &str, added: Added<'_>) -> Option<&KeptUnit>
-        ensures found { IfSome result (λ k. k.now.path ≡ before.now ++ added_text added.entry) }
+        ensures found { IfSome result (λ k. IsAfter before.now added.entry k.now.path) }
     {
         let kept = self.kept.as_slice();
         let last = kept.get(number)?.last;
@@ -249,8 +249,8 @@ impl UnitPaths {
         more: Added<'_>,
         under_reference: bool,
     ) -> Result<UnitTexts, OutOfMemory>
-        ensures path { IfOk result (λ t. t.path ≡ before.now.path ++ added_text added.entry) }
-        ensures schema { IfOk result (λ t. t.schema ≡ location.now ++ added_text more.entry) }
+        ensures path { IfOk result (λ t. IsAfter before.now.path added.entry t.path) }
+        ensures schema { IfOk result (λ t. IsAfter location.now more.entry t.schema) }
         ensures under { IfOk result (λ t. t.under_reference ≡ under_reference) }
     {
         match self.find(before.number, before.path.as_str(), added) {

@@ -1,23 +1,20 @@
 //! What a run has in progress, what it assumes and remembers of unfinished matches, and what it marks.
-ghost use Rattle.std.specs.Prelude.{◌≡◌, ◌<◌, ◌≤◌, ◌++◌, ◌∷◌, [], IfOk, IfErr, IfSome, OnErr, OnOk, is_some, length, map};
-ghost use Rattle.std.specs.Prelude.{◌==◌, option_map, true};
+ghost use Rattle.std.specs.Prelude.{◌≡◌, ◌≤◌, [], IfOk, IfErr, IfSome, OnErr, OnOk, is_some, true};
 ghost use Rattle.std.specs.Borrow.{sem};
-ghost use Rattle.std.specs.List.{list_any};
-ghost use Rattle.schema_definitions.specs.Guarded.{same_edge};
 ghost use Rattle.schema_definitions.specs.Matching as matching;
-ghost use Rattle.schema_definitions.specs.Matching.{assumed};
 ghost use Rattle.schema_matches.specs.MatchViews.{reason_of};
 ghost use Rattle.schema_definitions.specs.Pointer.{joined};
-ghost use Rattle.schema_definitions.specs.Runs.{Site, with_mark, without_last};
-ghost use Rattle.schema_definitions.specs.Unfinished.{meet, or_no, starting};
-ghost use Rattle.schema_contexts.specs.EvaluationPaths.{is_under_reference, path_of};
-ghost use Rattle.schema_parts.specs.KeywordViews.{marked_of};
-ghost use Rattle.schema_contexts.specs.Matches.{after_match, comes_out};
-ghost use Rattle.schema_parts.specs.EdgeViews.{edge_of};
+ghost use Rattle.schema_definitions.specs.Runs.{Site, without_last};
+ghost use Rattle.schema_definitions.specs.Unfinished.{starting};
+ghost use Rattle.schema_contexts.specs.EvaluationPaths.{GivesPath, is_under_reference, path_of};
+ghost use Rattle.schema_contexts.specs.MarkViews.{is_marked, marks_with};
+ghost use Rattle.schema_contexts.specs.RunMatches.{a_pair, asked_in, assumed_in, matches_in, met_in};
 ghost use Rattle.serde_json.specs.View.{view};
-ghost use Rattle.schema_places.specs.Numbers.{NumbersAll, place_at};
-ghost use Rattle.schema_contexts.specs.Progress.{Adds, Distinct, Enters, EndsWith, FewRows, IsWide, begun, busy_at, guard_words, places_in};
-ghost use Rattle.schema_contexts.specs.Verdicts.{MayKeep, Remembers, is_alone, is_container, one_more, read_verdict, verdict_of};
+ghost use Rattle.schema_places.specs.Numbers.{NumbersAll};
+ghost use Rattle.schema_contexts.specs.Progress.{Adds, Distinct, EndsWith, Enters, FewRows, GoesLast, IsPlaceIn, IsWide};
+ghost use Rattle.schema_contexts.specs.Progress.{begun, guard_words, is_busy, place_in, places_in};
+ghost use Rattle.schema_contexts.specs.Verdicts.{MayKeepAt, OnlyVerdicts, RemembersAt};
+ghost use Rattle.schema_contexts.specs.Verdicts.{is_alone, is_container, one_more, read_verdict, verdict_of};
 ghost use Rattle.schema_contexts.specs.Works.{Asks, IsSpent};
 ghost use Rattle.schema_reports.specs.InstanceViews.{subject_of};
 
@@ -205,8 +202,8 @@ impl<'i> ValidationContext<'i> {
 
     /// Returns `true` if the pair is in progress. It allocates nothing.
     pub fn is_in_progress(&self, node: SchemaNode, place: usize) -> bool
-        requires known { place < length (places_in self.now) }
-        ensures found { result ≡ list_any (λ i. i == node.0) (busy_at (place_at (places_in self.now) place) self.now.in_progress) }
+        requires known { IsPlaceIn self.now place }
+        ensures found { result ≡ is_busy node.0 (place_in self.now place) self.now }
         ensures distinct { Distinct self.now.in_progress }
     {
         self.guard.has_bit(node.0, place)
@@ -214,9 +211,8 @@ impl<'i> ValidationContext<'i> {
 
     /// Returns `true` if the pair is already in progress; otherwise records it and returns `false`. On `Err` nothing has changed.
     pub fn enter(&mut self, node: SchemaNode, place: usize) -> Result<bool, OutOfMemory>
-        requires known { place < length (places_in self.old) }
-        ensures enters { IfOk result (λ b.
-            Enters node.0 (place_at (places_in self.old) place) self.old.in_progress b self.new.in_progress) }
+        requires known { IsPlaceIn self.old place }
+        ensures enters { IfOk result (λ b. Enters node.0 (place_in self.old place) self.old.in_progress b self.new.in_progress) }
         ensures unchanged { IfErr result (λ _. self.new ≡ self.old) }
         ensures distinct { Distinct self.new.in_progress }
         ensures entered { OnOk result (Adds node.0 self.old.entered self.new.entered) }
@@ -246,9 +242,9 @@ impl<'i> ValidationContext<'i> {
 
     /// Removes the pair, which must be the last one entered. It allocates nothing.
     pub fn exit(&mut self, node: SchemaNode, place: usize)
-        requires known { place < length (places_in self.old) }
-        requires last { EndsWith node.0 (place_at (places_in self.old) place) self.old.in_progress }
-        ensures left { self.old.in_progress ≡ self.new.in_progress ++ (node.0, place_at (places_in self.old) place) ∷ [] }
+        requires known { IsPlaceIn self.old place }
+        requires last { EndsWith node.0 (place_in self.old place) self.old.in_progress }
+        ensures left { GoesLast node.0 (place_in self.old place) self.new.in_progress self.old.in_progress }
         ensures remembered { self.new.remembered ≡ self.old.remembered }
         ensures marking { self.new.marking ≡ self.old.marking }
         ensures verdicts { self.new.verdicts ≡ self.old.verdicts }
@@ -273,10 +269,8 @@ impl<'i> ValidationContext<'i> {
         children: &[Option<Edge>],
         marked: Marked,
     ) -> Result<bool, OutOfMemory>
-        ensures held { IfOk result (λ b. b
-            ≡ list_any (same_edge (map (option_map edge_of) children.now) (marked_of marked)) self.old.marking) }
-        ensures marks { OnOk result (self.new.marking
-            ≡ with_mark (same_edge (map (option_map edge_of) children.now)) (marked_of marked) self.old.marking) }
+        ensures held { IfOk result (λ b. b ≡ is_marked children.now marked self.old.marking) }
+        ensures marks { OnOk result (self.new.marking ≡ marks_with children.now marked self.old.marking) }
         ensures unchanged { IfErr result (λ _. self.new ≡ self.old) }
         ensures in_progress { self.new.in_progress ≡ self.old.in_progress }
         ensures remembered { self.new.remembered ≡ self.old.remembered }
@@ -350,12 +344,9 @@ impl<'i> ValidationContext<'i> {
         subject: &str,
         site: MatchSite<'i>,
     ) -> Result<bool, OutOfMemory>
-        ensures answer { IfOk result (λ b. b ≡ comes_out self.old.remembered.assumptions
-            (record { pattern = pattern.now; subject = subject.now })
-            ((M.matching matcher.now).is_match pattern.now subject.now)) }
-        ensures met { OnOk result (self.new.remembered ≡ after_match self.old.remembered
-            (record { pair = record { pattern = pattern.now; subject = subject.now }; site = site.entry })
-            ((M.matching matcher.now).is_match pattern.now subject.now)) }
+        ensures answer { IfOk result (λ b. b ≡ matches_in self.old (M.matching matcher.now) (a_pair pattern.now subject.now)) }
+        ensures met { OnOk result (self.new.remembered
+            ≡ asked_in self.old (M.matching matcher.now) (a_pair pattern.now subject.now) site.entry) }
         ensures in_progress { self.new.in_progress ≡ self.old.in_progress }
         ensures marking { self.new.marking ≡ self.old.marking }
         ensures verdicts { self.new.verdicts ≡ self.old.verdicts }
@@ -376,13 +367,9 @@ impl<'i> ValidationContext<'i> {
     /// How a match that the matcher left unfinished comes out, where nothing is left to remember of it; none where it has to be
     /// resolved with its site. `has_place` says whether that site has an instance path.
     pub fn known_outcome(&self, pattern: &str, subject: &str, has_place: bool) -> Option<bool>
-        ensures answer { IfSome result (λ b. b ≡ or_no (assumed self.now.remembered.assumptions
-            (record { pattern = pattern.now; subject = subject.now }))) }
+        ensures answer { IfSome result (λ b. b ≡ assumed_in self.now (a_pair pattern.now subject.now)) }
         ensures nothing_new { IfSome result (λ _. (site : Site) (reason : matching.Reason) → is_some site.located ≡ has_place
-            → meet self.now.remembered (record {
-              met = record { pair = record { pattern = pattern.now; subject = subject.now }; site = site };
-              reason = reason;
-            }) ≡ self.now.remembered) }
+            → met_in self.now (a_pair pattern.now subject.now) site reason ≡ self.now.remembered) }
     {
         self.matches.known_outcome(pattern, subject, has_place)
     }
@@ -396,13 +383,9 @@ impl<'i> ValidationContext<'i> {
         reason: Reason,
         site: MatchSite<'i>,
     ) -> Result<bool, OutOfMemory>
-        ensures answer { IfOk result (λ b. b ≡ or_no (assumed self.old.remembered.assumptions
-            (record { pattern = pattern.now; subject = subject.now }))) }
-        ensures met { OnOk result (self.new.remembered ≡ meet self.old.remembered
-            (record {
-              met = record { pair = record { pattern = pattern.now; subject = subject.now }; site = site.entry };
-              reason = reason_of reason;
-            })) }
+        ensures answer { IfOk result (λ b. b ≡ assumed_in self.old (a_pair pattern.now subject.now)) }
+        ensures met { OnOk result (self.new.remembered
+            ≡ met_in self.old (a_pair pattern.now subject.now) site.entry (reason_of reason)) }
         ensures in_progress { self.new.in_progress ≡ self.old.in_progress }
         ensures marking { self.new.marking ≡ self.old.marking }
         ensures verdicts { self.new.verdicts ≡ self.old.verdicts }
@@ -419,8 +402,8 @@ impl<'i> ValidationContext<'i> {
 
     // Whether no other node is in progress at the place.
     fn is_alone(&self, node: SchemaNode, place: usize) -> bool
-        requires known { place < length (places_in self.now) }
-        ensures alone { result ≡ is_alone node.0 (place_at (places_in self.now) place) self.now.in_progress }
+        requires known { IsPlaceIn self.now place }
+        ensures alone { result ≡ is_alone node.0 (place_in self.now place) self.now.in_progress }
     {
         let count = count_at(self.counts.as_slice(), place);
         if count == 0 {
@@ -434,8 +417,8 @@ impl<'i> ValidationContext<'i> {
 
     /// Returns the verdict that is remembered of the node at the place, whatever is in progress there. It allocates nothing.
     pub fn remembered_verdict(&self, node: SchemaNode, place: usize) -> Option<bool>
-        requires known { place < length (places_in self.now) }
-        ensures read { result ≡ verdict_of node.0 (place_at (places_in self.now) place) self.now.verdicts }
+        requires known { IsPlaceIn self.now place }
+        ensures read { result ≡ verdict_of node.0 (place_in self.now place) self.now.verdicts }
     {
         self.known.verdict_in(node.0, place)
     }
@@ -443,8 +426,8 @@ impl<'i> ValidationContext<'i> {
     /// Returns the verdict that is remembered of the node at the place, unless another node is in progress at that place. It
     /// allocates nothing.
     pub fn get_cached_result(&self, node: SchemaNode, place: usize) -> Option<bool>
-        requires known { place < length (places_in self.now) }
-        ensures read { result ≡ read_verdict node.0 (place_at (places_in self.now) place) self.now }
+        requires known { IsPlaceIn self.now place }
+        ensures read { result ≡ read_verdict node.0 (place_in self.now place) self.now }
     {
         let found = self.remembered_verdict(node, place)?;
         if self.is_alone(node, place) {
@@ -487,20 +470,15 @@ impl<'i> ValidationContext<'i> {
         verdict: bool,
         mark: u64,
     ) -> Result<(), OutOfMemory>
-        requires known { place < length (places_in self.old) }
-        ensures kept { OnOk result (MayKeep node.0 (place_at (places_in self.old) place) (subject_of instance.entry) mark self.old
-            → Remembers node.0 (place_at (places_in self.old) place) verdict self.old.verdicts self.new.verdicts) }
-        ensures others { OnOk result (¬ MayKeep node.0 (place_at (places_in self.old) place) (subject_of instance.entry) mark self.old
-            → self.new ≡ self.old) }
-        ensures numbers { OnOk result (MayKeep node.0 (place_at (places_in self.old) place) (subject_of instance.entry) mark self.old
+        requires known { IsPlaceIn self.old place }
+        ensures kept { OnOk result (MayKeepAt node.0 place instance.entry mark self.old
+            → RemembersAt node.0 place verdict self.old self.new) }
+        ensures others { OnOk result (¬ MayKeepAt node.0 place instance.entry mark self.old → self.new ≡ self.old) }
+        ensures numbers { OnOk result (MayKeepAt node.0 place instance.entry mark self.old
             → Adds node.0 self.old.kept self.new.kept) }
         ensures few { OnOk result (FewRows self.new) }
         ensures wide { OnOk result (IsWide self.new) }
-        ensures frame { self.new ≡ record self.old {
-          verdicts = self.new.verdicts;
-          kept = self.new.kept;
-          words = self.new.words;
-        } }
+        ensures frame { OnlyVerdicts self.old self.new }
         ensures unchanged { OnErr result (self.new ≡ self.old) }
     {
         if self.visits.saturating_sub(mark) < MEMO_MIN_VISITS {
@@ -527,17 +505,12 @@ impl<'i> ValidationContext<'i> {
         place: usize,
         verdict: bool,
     ) -> Result<(), OutOfMemory>
-        requires known { place < length (places_in self.old) }
-        ensures kept { OnOk result (Remembers node.0 (place_at (places_in self.old) place) verdict
-            self.old.verdicts self.new.verdicts) }
+        requires known { IsPlaceIn self.old place }
+        ensures kept { OnOk result (RemembersAt node.0 place verdict self.old self.new) }
         ensures numbers { OnOk result (Adds node.0 self.old.kept self.new.kept) }
         ensures few { OnOk result (FewRows self.new) }
         ensures wide { OnOk result (IsWide self.new) }
-        ensures frame { self.new ≡ record self.old {
-          verdicts = self.new.verdicts;
-          kept = self.new.kept;
-          words = self.new.words;
-        } }
+        ensures frame { OnlyVerdicts self.old self.new }
         ensures unchanged { OnErr result (self.new ≡ self.old) }
     {
         let words = row_words(self.places.numbered(self.alloc)?.len());
@@ -571,7 +544,7 @@ impl<'i> ValidationContext<'i> {
         name: &str,
         rest: &str,
     ) -> Result<Location, OutOfMemory>
-        ensures path { IfOk result (λ l. l ≡ joined (path_of path.now) name.now ++ rest.now) }
+        ensures path { GivesPath path.now name.now rest.now result }
         ensures stays { self.new ≡ self.old }
     {
         self.kept_paths.evaluation_path(alloc, path, name, rest)
