@@ -8,6 +8,8 @@ use Rattle.schema_reports.specs.InstanceViews.{subject_of}
 use Rattle.schema_parts.specs.KeywordViews.{mode_of}
 use Rattle.schema_contexts.specs.EvaluationPaths.{path_of}
 use Rattle.node_table.specs.NodeTable.{NodeEntry, absolute_in}
+use Rattle.node_table.specs.NodeViews.{node_of}
+use Rattle.node_table.specs.declared.node.Node.{Node}
 use Rattle.run_steps.specs.EvaluationPlaces.{steps_to}
 use Rattle.run_steps.specs.declared.question.Question.{Question}
 
@@ -32,3 +34,7 @@ where_asked n q = entry_where n q.path q.place
 -- in a root value the subject stands at the place
 abbrev pub IsAskedOf : Data → Asking → Type 0
 IsAskedOf root q = subject_at root q.place ≡ Some q.subject
+
+-- where a node of the code is at work on a question
+abbrev pub at_work : {K : Type 0} → Node K → Question → Where
+at_work n q = where_asked (node_of n) (asking q)

@@ -8,3 +8,8 @@ pub mod NodeRuns
 pub mod Turning
 pub mod EntryUnits
 pub mod VerdictRuns
+pub mod PlaceWords
+pub mod FaultWords
+pub mod ReplyWords
+pub mod UnitWords
+pub mod MatchWords

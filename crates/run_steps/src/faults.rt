@@ -1,19 +1,15 @@
 //! What a keyword has found, as errors at its place.
-ghost use Rattle.std.specs.Prelude.{◌≡◌, ◌++◌, IfOk, Bool, All, Some, [], map, option_map, slice_get, string_bytes, unwrap_or};
-ghost use Rattle.serde_json.specs.Data.{Data};
+ghost use Rattle.std.specs.Prelude.{◌≡◌, IfOk, Some, [], map, option_map, slice_get, string_bytes};
 ghost use Rattle.schema_definitions.specs.Instance.{subject_from};
 ghost use Rattle.schema_reports.specs.InstanceViews.{step_of, subject_of};
-ghost use Rattle.schema_definitions.specs.Laws.{IsPresent};
-ghost use Rattle.schema_definitions.specs.Meaning.{fault_error};
-ghost use Rattle.schema_definitions.specs.Pointer.{joined};
-ghost use Rattle.schema_reports.specs.ReportViews.{error_of, BorrowsItsPlace};
 ghost use Rattle.run_steps.specs.AnswerModes.{mode_in};
-ghost use Rattle.schema_parts.specs.FaultViews.{answer_reply, errors_in, faults_in, FaultsLieInside, LiesInside};
-ghost use Rattle.schema_parts.specs.KeywordViews.{answer_of, fault_of, fresh, mode_of, own_of, reply_of};
-ghost use Rattle.schema_definitions.specs.Keywords.{for_all, for_first, for_units, own};
-ghost use Rattle.schema_contexts.specs.EvaluationPaths.{path_of};
-ghost use Rattle.run_steps.specs.EvaluationPlaces.{steps_to};
-ghost use Rattle.run_steps.specs.Askings.{IsAskedOf, asking, where_asked};
+ghost use Rattle.schema_parts.specs.FaultViews.{faults_in};
+ghost use Rattle.schema_parts.specs.KeywordViews.{mode_of};
+ghost use Rattle.schema_parts.specs.declared.keyword.Fault.TheVariants as variant;
+ghost use Rattle.schema_definitions.specs.Keywords.{for_all, for_first, for_units};
+ghost use Rattle.run_steps.specs.PlaceWords.{HasSteps, name_from, path_here, place_under};
+ghost use Rattle.run_steps.specs.FaultWords.{BorrowsAnswer, BorrowsFault, BorrowsFaults, GivesFresh, IsVerdictOf};
+ghost use Rattle.run_steps.specs.FaultWords.{SaysAnswer, SaysFault, SaysFaults, error_path};
 ghost use Rattle.node_table.specs.NodeTable.{keyword_absolute};
 ghost use Rattle.node_table.specs.NodeViews.{node_of};
 
@@ -32,7 +28,7 @@ use std::alloc::Global;
 
 /// An answer that has found nothing yet. Only an evaluation's takes memory.
 pub fn begun<'i>(alloc: Global, mode: Mode) -> Result<Answer<'i>, OutOfMemory>
-    ensures fresh { IfOk result (λ a. (texts : Bool) → answer_of texts a ≡ fresh (mode_of mode)) }
+    ensures fresh { GivesFresh (mode_of mode) result }
     ensures no_faults { IfOk result (λ a. faults_in a ≡ []) }
     ensures form { IfOk result (λ a. mode_in a ≡ mode_of mode) }
 {
@@ -47,7 +43,7 @@ pub fn begun<'i>(alloc: Global, mode: Mode) -> Result<Answer<'i>, OutOfMemory>
 // That of an evaluation. Its room on the stack is its own, so that a verdict pays nothing for it.
 #[inline(never)]
 fn begun_evaluation<'i>(alloc: Global) -> Result<Answer<'i>, OutOfMemory>
-    ensures fresh { IfOk result (λ a. (texts : Bool) → answer_of texts a ≡ fresh for_units) }
+    ensures fresh { GivesFresh for_units result }
     ensures no_faults { IfOk result (λ a. faults_in a ≡ []) }
     ensures form { IfOk result (λ a. mode_in a ≡ for_units) }
 {
@@ -59,7 +55,7 @@ fn begun_evaluation<'i>(alloc: Global) -> Result<Answer<'i>, OutOfMemory>
 
 // What stands some steps below, or the instance itself where the steps lead nowhere.
 fn instance_below<'i>(instance: Instance<'i>, steps: &[InstanceStep<'i>]) -> Instance<'i>
-    ensures below { IsPresent (subject_of instance.entry) (map step_of steps.now)
+    ensures below { HasSteps instance.entry steps.now
         → subject_from (map step_of steps.now) (subject_of instance.entry) ≡ Some (subject_of result) }
 {
     let mut found = instance;
@@ -74,7 +70,7 @@ fn instance_below<'i>(instance: Instance<'i>, steps: &[InstanceStep<'i>]) -> Ins
 
 // The name that a path from the keyword on begins with: the keyword's own, or that of the one that it absorbs.
 fn spot_name<'n>(absorbed: &'n Option<String>, name: &'n String) -> &'n str
-    ensures name { result.now ≡ unwrap_or (option_map string_bytes absorbed.now) (string_bytes name.now) }
+    ensures name { result.now ≡ name_from absorbed.now name.now }
 {
     match absorbed {
         Some(absorbed) => absorbed.as_str(),
@@ -100,16 +96,11 @@ fn error_places<'i, K>(
     found: &OwnError<'i>,
     context: &mut ValidationContext<'i>,
 ) -> Result<ErrorPlaces<'i>, OutOfMemory>
-    ensures place { IfOk result (λ p. p.place ≡ steps_to question.now.place.now ++ map step_of found.now.below.items) }
-    ensures schema_path { IfOk result (λ p. p.schema_path
-        ≡ joined (node_of node.now).location (unwrap_or (option_map string_bytes found.now.absorbed) (string_bytes name.now))
-        ++ string_bytes found.now.path) }
-    ensures evaluation_path { IfOk result (λ p. p.evaluation_path
-        ≡ joined (path_of question.now.path.now) (unwrap_or (option_map string_bytes found.now.absorbed) (string_bytes name.now))
-        ++ string_bytes found.now.path) }
+    ensures place { IfOk result (λ p. p.place ≡ place_under question.now.place.now found.now.below.items) }
+    ensures schema_path { IfOk result (λ p. p.schema_path ≡ error_path found.now name.now node.now.location) }
+    ensures evaluation_path { IfOk result (λ p. p.evaluation_path ≡ error_path found.now name.now (path_here question.now)) }
     ensures absolute { IfOk result (λ p. option_map string_bytes p.absolute_keyword_location
-        ≡ keyword_absolute (node_of node.now)
-        (unwrap_or (option_map string_bytes found.now.absorbed) (string_bytes name.now))) }
+        ≡ keyword_absolute (node_of node.now) (name_from found.now.absorbed name.now)) }
     ensures stays { context.new ≡ context.old }
 {
     let first = spot_name(&found.absorbed, name);
@@ -135,11 +126,8 @@ fn own_error<'i, K>(
     found: OwnError<'i>,
     context: &mut ValidationContext<'i>,
 ) -> Result<ValidationError<'i>, OutOfMemory>
-    ensures error { IfOk result (λ e. (texts : Bool) → error_of texts e
-        ≡ fault_error (where_asked (node_of node.now) (asking question.now))
-        (string_bytes name.now) (own (own_of texts found.entry))) }
-    ensures borrows { IfOk result (λ e. (root : Data) → IsAskedOf root (asking question.now)
-        → IsPresent (subject_of question.now.instance) (map step_of found.entry.below.items) → BorrowsItsPlace root e) }
+    ensures error { SaysFault node.now name.now question.now (variant.Own found.entry) result }
+    ensures borrows { BorrowsFault question.now (variant.Own found.entry) result }
     ensures stays { context.new ≡ context.old }
 {
     let places = error_places(alloc, node, name, question, &found, context)?;
@@ -164,11 +152,8 @@ fn error_by<'i, K>(
     fault: Fault<'i>,
     context: &mut ValidationContext<'i>,
 ) -> Result<ValidationError<'i>, OutOfMemory>
-    ensures error { IfOk result (λ e. (texts : Bool) → error_of texts e
-        ≡ fault_error (where_asked (node_of node.now) (asking question.now))
-        (string_bytes name.now) (fault_of texts fault.entry)) }
-    ensures borrows { IfOk result (λ e. (root : Data) → IsAskedOf root (asking question.now)
-        → LiesInside root (subject_of question.now.instance) fault.entry → BorrowsItsPlace root e) }
+    ensures error { SaysFault node.now name.now question.now fault.entry result }
+    ensures borrows { BorrowsFault question.now fault.entry result }
     ensures stays { context.new ≡ context.old }
 {
     match fault {
@@ -186,11 +171,8 @@ fn errors_by<'i, K>(
     faults: Vec<Fault<'i>>,
     context: &mut ValidationContext<'i>,
 ) -> Result<Vec<ValidationError<'i>>, OutOfMemory>
-    ensures errors { IfOk result (λ es. (texts : Bool) → map (error_of texts) es.items
-        ≡ map (fault_error (where_asked (node_of node.now) (asking question.now))
-        (string_bytes name.now)) (map (fault_of texts) faults.entry.items)) }
-    ensures borrows { IfOk result (λ es. (root : Data) → IsAskedOf root (asking question.now)
-        → All (LiesInside root (subject_of question.now.instance)) faults.entry.items → All (BorrowsItsPlace root) es.items) }
+    ensures errors { SaysFaults node.now name.now question.now faults.entry result }
+    ensures borrows { BorrowsFaults question.now faults.entry result }
     ensures stays { context.new ≡ context.old }
 {
     let mut errors = Vec::with_capacity(alloc, faults.len())?;
@@ -202,7 +184,7 @@ fn errors_by<'i, K>(
 
 /// Whether an answer is a yes: its verdict.
 pub fn is_accepting(answer: Answer<'_>) -> bool
-    ensures verdict { (texts : Bool) → result ≡ (answer_of texts answer.entry).verdict }
+    ensures verdict { IsVerdictOf answer.entry result }
 {
     match answer {
         Answer::Verdict(yes) => yes,
@@ -262,12 +244,8 @@ fn first_finished<'i, K>(
     answer: Answer<'i>,
     context: &mut ValidationContext<'i>,
 ) -> Result<Reply<'i>, OutOfMemory>
-    ensures reply { IfOk result (λ r. (texts : Bool) → reply_of texts r
-        ≡ answer_reply for_first (where_asked (node_of node.now) (asking question.now))
-        (string_bytes name.now) (answer_of texts answer.entry)) }
-    ensures borrows { IfOk result (λ r. (root : Data) → IsAskedOf root (asking question.now)
-        → FaultsLieInside for_first root (subject_of question.now.instance) answer.entry
-        → All (BorrowsItsPlace root) (errors_in r)) }
+    ensures reply { IfOk result (λ r. SaysAnswer node.now name.now question.now for_first answer.entry r) }
+    ensures borrows { IfOk result (λ r. BorrowsAnswer question.now for_first answer.entry r) }
     ensures stays { context.new ≡ context.old }
 {
     match first_fault(answer) {
@@ -289,12 +267,8 @@ fn all_finished<'i, K>(
     answer: Answer<'i>,
     context: &mut ValidationContext<'i>,
 ) -> Result<Reply<'i>, OutOfMemory>
-    ensures reply { IfOk result (λ r. (texts : Bool) → reply_of texts r
-        ≡ answer_reply for_all (where_asked (node_of node.now) (asking question.now))
-        (string_bytes name.now) (answer_of texts answer.entry)) }
-    ensures borrows { IfOk result (λ r. (root : Data) → IsAskedOf root (asking question.now)
-        → FaultsLieInside for_all root (subject_of question.now.instance) answer.entry
-        → All (BorrowsItsPlace root) (errors_in r)) }
+    ensures reply { IfOk result (λ r. SaysAnswer node.now name.now question.now for_all answer.entry r) }
+    ensures borrows { IfOk result (λ r. BorrowsAnswer question.now for_all answer.entry r) }
     ensures stays { context.new ≡ context.old }
 {
     let faults = all_faults(alloc, answer)?;
@@ -311,12 +285,8 @@ pub fn finished<'i, K>(
     answer: Answer<'i>,
     context: &mut ValidationContext<'i>,
 ) -> Result<Reply<'i>, OutOfMemory>
-    ensures reply { IfOk result (λ r. (texts : Bool) → reply_of texts r
-        ≡ answer_reply (mode_of question.now.mode) (where_asked (node_of node.now) (asking question.now))
-        (string_bytes name.now) (answer_of texts answer.entry)) }
-    ensures borrows { IfOk result (λ r. (root : Data) → IsAskedOf root (asking question.now)
-        → FaultsLieInside (mode_of question.now.mode) root (subject_of question.now.instance) answer.entry
-        → All (BorrowsItsPlace root) (errors_in r)) }
+    ensures reply { IfOk result (λ r. SaysAnswer node.now name.now question.now (mode_of question.now.mode) answer.entry r) }
+    ensures borrows { IfOk result (λ r. BorrowsAnswer question.now (mode_of question.now.mode) answer.entry r) }
     ensures stays { context.new ≡ context.old }
 {
     match question.mode {

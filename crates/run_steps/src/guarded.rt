@@ -1,13 +1,12 @@
 //! The pair of a guarded question, or of one that asks a shared node: the node that it asks, and the place, with the place's number.
-ghost use Rattle.std.specs.Prelude.{◌≡◌, ◌==◌, ◌++◌, ◌∷◌, [], IfErr, IfOk, OnErr, OnOk, Some, false, is_some, true};
-ghost use Rattle.std.specs.List.{list_any};
+ghost use Rattle.std.specs.Prelude.{◌≡◌, IfErr, IfOk, OnErr, OnOk, Some, false, is_some, true};
 ghost use Rattle.serde_json.specs.View.{view};
 ghost use Rattle.schema_definitions.specs.Instance.{subject_at};
-ghost use Rattle.schema_reports.specs.InstanceViews.{subject_of};
-ghost use Rattle.schema_contexts.specs.Progress.{Context, EndsWith, busy_at, places_in};
-ghost use Rattle.schema_contexts.specs.Verdicts.{MayKeep, Remembers, read_verdict, verdict_of};
+ghost use Rattle.schema_contexts.specs.Progress.{Context, places_in};
+ghost use Rattle.schema_contexts.specs.Verdicts.{OnlyVerdicts};
 ghost use Rattle.run_steps.specs.EvaluationPlaces.{CarriesItsNumber, steps_to};
-ghost use Rattle.run_steps.specs.GuardedPairs.{IsNumbered, place_of};
+ghost use Rattle.run_steps.specs.GuardedPairs.{ComesLast, HasNumberIn, IsLastIn, MayKeepIn, RemembersPair, is_busy_in, place_of};
+ghost use Rattle.run_steps.specs.GuardedPairs.{read_in, remembered_in};
 
 use crate::evaluation_place::EvaluationPlace;
 use schema_contexts::validation::ValidationContext;
@@ -35,7 +34,7 @@ impl<'q, 'i> GuardedPair<'q, 'i> {
         requires stands { is_some (subject_at (view context.old.root) (steps_to place.now)) ≡ true }
         ensures node { IfOk result (λ p. p.node ≡ node) }
         ensures place { IfOk result (λ p. place_of p ≡ steps_to place.now) }
-        ensures numbered { IfOk result (λ p. IsNumbered (places_in context.old) p) }
+        ensures numbered { IfOk result (λ p. HasNumberIn p context.old) }
         ensures unchanged { context.new ≡ context.old }
     {
         let places = context.places()?;
@@ -52,26 +51,24 @@ impl<'q, 'i> GuardedPair<'q, 'i> {
     /// The place, which carries its number.
     pub fn numbered_place(&self) -> EvaluationPlace<'q, 'i>
         ensures same { steps_to result ≡ place_of self.now }
-        ensures carries { (context : Context) → IsNumbered (places_in context) self.now
-            → CarriesItsNumber (places_in context) result }
+        ensures carries { (context : Context) → HasNumberIn self.now context → CarriesItsNumber (places_in context) result }
     {
         self.place.numbered(self.number)
     }
 
     /// Returns `true` if the pair is in progress. It allocates nothing.
     pub fn is_in_progress(&self, context: &ValidationContext<'i>) -> bool
-        requires numbered { IsNumbered (places_in context.now) self.now }
-        ensures found { result ≡ list_any (λ i. i == self.now.node.0) (busy_at (place_of self.now) context.now.in_progress) }
+        requires numbered { HasNumberIn self.now context.now }
+        ensures found { result ≡ is_busy_in self.now context.now }
     {
         context.is_in_progress(self.node, self.number)
     }
 
     /// Records a pair that is not in progress. Fails only if memory cannot be allocated, and then nothing has changed.
     pub fn enter(&self, context: &mut ValidationContext<'i>) -> Result<(), OutOfMemory>
-        requires numbered { IsNumbered (places_in context.old) self.now }
-        requires is_new { list_any (λ i. i == self.now.node.0) (busy_at (place_of self.now) context.old.in_progress) ≡ false }
-        ensures entered { OnOk result (context.new.in_progress
-            ≡ context.old.in_progress ++ (self.now.node.0, place_of self.now) ∷ []) }
+        requires numbered { HasNumberIn self.now context.old }
+        requires is_new { is_busy_in self.now context.old ≡ false }
+        ensures entered { OnOk result (ComesLast self.now context.old context.new) }
         ensures unchanged { IfErr result (λ _. context.new ≡ context.old) }
         ensures root { context.new.root ≡ context.old.root }
         ensures remembered { context.new.remembered ≡ context.old.remembered }
@@ -86,9 +83,9 @@ impl<'q, 'i> GuardedPair<'q, 'i> {
 
     /// Removes the pair, which must be the last one entered. It allocates nothing.
     pub fn exit(&self, context: &mut ValidationContext<'i>)
-        requires numbered { IsNumbered (places_in context.old) self.now }
-        requires last { EndsWith self.now.node.0 (place_of self.now) context.old.in_progress }
-        ensures left { context.old.in_progress ≡ context.new.in_progress ++ (self.now.node.0, place_of self.now) ∷ [] }
+        requires numbered { HasNumberIn self.now context.old }
+        requires last { IsLastIn self.now context.old }
+        ensures left { ComesLast self.now context.new context.old }
         ensures root { context.new.root ≡ context.old.root }
         ensures remembered { context.new.remembered ≡ context.old.remembered }
         ensures marking { context.new.marking ≡ context.old.marking }
@@ -102,11 +99,9 @@ impl<'q, 'i> GuardedPair<'q, 'i> {
     /// Returns the verdict of the pair that is known before its node is asked: yes where the pair is in progress, and elsewhere the one
     /// that is remembered, unless another node is in progress at its place. It allocates nothing.
     pub fn known_verdict(&self, context: &ValidationContext<'i>) -> Option<bool>
-        requires numbered { IsNumbered (places_in context.now) self.now }
-        ensures busy { list_any (λ i. i == self.now.node.0) (busy_at (place_of self.now) context.now.in_progress) ≡ true
-            → result ≡ Some true }
-        ensures read { list_any (λ i. i == self.now.node.0) (busy_at (place_of self.now) context.now.in_progress) ≡ false
-            → result ≡ read_verdict self.now.node.0 (place_of self.now) context.now }
+        requires numbered { HasNumberIn self.now context.now }
+        ensures busy { is_busy_in self.now context.now ≡ true → result ≡ Some true }
+        ensures read { is_busy_in self.now context.now ≡ false → result ≡ read_in self.now context.now }
     {
         if self.is_in_progress(context) {
             return Some(true);
@@ -116,16 +111,16 @@ impl<'q, 'i> GuardedPair<'q, 'i> {
 
     // The verdict that is remembered of the pair, unless another node is in progress at its place.
     fn remembered_verdict(&self, context: &ValidationContext<'i>) -> Option<bool>
-        requires numbered { IsNumbered (places_in context.now) self.now }
-        ensures read { result ≡ read_verdict self.now.node.0 (place_of self.now) context.now }
+        requires numbered { HasNumberIn self.now context.now }
+        ensures read { result ≡ read_in self.now context.now }
     {
         context.get_cached_result(self.node, self.number)
     }
 
     /// Returns the verdict that is remembered of the pair, whatever is in progress at its place. It allocates nothing.
     pub fn lasting_verdict(&self, context: &ValidationContext<'i>) -> Option<bool>
-        requires numbered { IsNumbered (places_in context.now) self.now }
-        ensures read { result ≡ verdict_of self.now.node.0 (place_of self.now) context.now.verdicts }
+        requires numbered { HasNumberIn self.now context.now }
+        ensures read { result ≡ remembered_in self.now context.now }
     {
         context.remembered_verdict(self.node, self.number)
     }
@@ -136,13 +131,9 @@ impl<'q, 'i> GuardedPair<'q, 'i> {
         context: &mut ValidationContext<'i>,
         verdict: bool,
     ) -> Result<(), OutOfMemory>
-        requires numbered { IsNumbered (places_in context.old) self.now }
-        ensures kept { OnOk result (Remembers self.now.node.0 (place_of self.now) verdict context.old.verdicts context.new.verdicts) }
-        ensures frame { context.new ≡ record context.old {
-          verdicts = context.new.verdicts;
-          kept = context.new.kept;
-          words = context.new.words;
-        } }
+        requires numbered { HasNumberIn self.now context.old }
+        ensures kept { OnOk result (RemembersPair self.now context.old context.new verdict) }
+        ensures frame { OnlyVerdicts context.old context.new }
         ensures unchanged { OnErr result (context.new ≡ context.old) }
     {
         context.remember_verdict(self.node, self.number, verdict)
@@ -158,16 +149,12 @@ impl<'q, 'i> GuardedPair<'q, 'i> {
         verdict: bool,
         mark: u64,
     ) -> Result<(), OutOfMemory>
-        requires numbered { IsNumbered (places_in context.old) self.now }
-        ensures kept { OnOk result (MayKeep self.now.node.0 (place_of self.now) (subject_of instance.entry) mark context.old
-            → Remembers self.now.node.0 (place_of self.now) verdict context.old.verdicts context.new.verdicts) }
-        ensures others { OnOk result (¬ MayKeep self.now.node.0 (place_of self.now) (subject_of instance.entry) mark context.old
+        requires numbered { HasNumberIn self.now context.old }
+        ensures kept { OnOk result (MayKeepIn self.now context.old instance.entry mark
+            → RemembersPair self.now context.old context.new verdict) }
+        ensures others { OnOk result (¬ MayKeepIn self.now context.old instance.entry mark
             → context.new ≡ context.old) }
-        ensures frame { context.new ≡ record context.old {
-          verdicts = context.new.verdicts;
-          kept = context.new.kept;
-          words = context.new.words;
-        } }
+        ensures frame { OnlyVerdicts context.old context.new }
         ensures unchanged { OnErr result (context.new ≡ context.old) }
     {
         context.cache_result(self.node, self.number, instance, verdict, mark)

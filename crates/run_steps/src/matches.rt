@@ -1,16 +1,11 @@
 //! A match that a keyword asks for.
-ghost use Rattle.std.specs.Prelude.{◌≡◌, IfOk, OnOk, string_bytes};
+ghost use Rattle.std.specs.Prelude.{◌≡◌, IfOk, OnOk};
 ghost use Rattle.schema_definitions.specs.Instance.{Text};
-ghost use Rattle.schema_reports.specs.InstanceViews.{subject_of};
-ghost use Rattle.schema_definitions.specs.Keywords as spec;
-ghost use Rattle.schema_definitions.specs.Laws.{IsPresent};
-ghost use Rattle.schema_definitions.specs.Matching.{Pair, finished};
-ghost use Rattle.schema_definitions.specs.Runs.{site_at};
-ghost use Rattle.schema_parts.specs.KeywordViews.{point_of, turn_of};
+ghost use Rattle.schema_definitions.specs.Matching.{finished};
+ghost use Rattle.schema_parts.specs.KeywordViews.{point_of};
 ghost use Rattle.schema_parts.specs.MatcherViews.{FinishesEach};
-ghost use Rattle.schema_contexts.specs.Matches.{after_match, comes_out};
-ghost use Rattle.run_steps.specs.Askings.{asking, where_asked};
-ghost use Rattle.node_table.specs.NodeViews.{node_of};
+ghost use Rattle.schema_contexts.specs.RunMatches.{a_pair, matches_in};
+ghost use Rattle.run_steps.specs.MatchWords.{AsksInside, AsksMatch, OfMatch};
 
 use crate::question::{Engine, Question};
 use crate::sites::match_site;
@@ -63,17 +58,10 @@ fn asked_match<'i, K, M: Matcher>(
     point: MatchPoint<'_>,
     context: &mut ValidationContext<'i>,
 ) -> Result<bool, OutOfMemory>
-    requires present { IsPresent (subject_of question.now.instance) (point_of pattern.now point).spot.below }
-    ensures answer { IfOk result (λ b. b ≡ comes_out context.old.remembered.assumptions
-        (record { pattern = pattern.now; subject = subject.now })
-        ((M.matching engine.now.matcher.now).is_match pattern.now subject.now)) }
-    ensures met { OnOk result (context.new.remembered ≡ after_match context.old.remembered
-        (record {
-          pair = record { pattern = pattern.now; subject = subject.now };
-          site = site_at (where_asked (node_of node.now) (asking question.now))
-              (string_bytes name.now) (point_of pattern.now point.entry);
-        })
-        ((M.matching engine.now.matcher.now).is_match pattern.now subject.now)) }
+    requires present { AsksInside question.now.instance (point_of pattern.now point) }
+    ensures answer { IfOk result (λ b. b ≡ matches_in context.old (M.matching engine.now.matcher.now) (a_pair pattern.now subject.now)) }
+    ensures met { OnOk result (AsksMatch node.now name.now question.now (M.matching engine.now.matcher.now) context.old context.new
+        (a_pair pattern.now subject.now) (point_of pattern.now point.entry)) }
     ensures in_progress { context.new.in_progress ≡ context.old.in_progress }
     ensures marking { context.new.marking ≡ context.old.marking }
     ensures verdicts { context.new.verdicts ≡ context.old.verdicts }
@@ -105,17 +93,10 @@ pub fn step_match<'i, K, M: Matcher>(
     step: Step<'_>,
     context: &mut ValidationContext<'i>,
 ) -> Result<bool, OutOfMemory>
-    requires present { (a : Pair) (point : spec.MatchPoint) → turn_of step ≡ spec.match_text a point
-        → IsPresent (subject_of question.now.instance) point.spot.below }
-    ensures answer { IfOk result (λ b. (a : Pair) (point : spec.MatchPoint) → turn_of step.entry ≡ spec.match_text a point
-        → b ≡ comes_out context.old.remembered.assumptions a ((M.matching engine.now.matcher.now).is_match a.pattern a.subject)) }
-    ensures met { OnOk result ((a : Pair) (point : spec.MatchPoint) → turn_of step.entry ≡ spec.match_text a point
-        → context.new.remembered ≡ after_match context.old.remembered
-        (record {
-          pair = a;
-          site = site_at (where_asked (node_of node.now) (asking question.now)) (string_bytes name.now) point;
-        })
-        ((M.matching engine.now.matcher.now).is_match a.pattern a.subject)) }
+    requires present { OfMatch step (λ _ point. AsksInside question.now.instance point) }
+    ensures answer { IfOk result (λ b. OfMatch step.entry (λ a _. b ≡ matches_in context.old (M.matching engine.now.matcher.now) a)) }
+    ensures met { OnOk result (OfMatch step.entry (AsksMatch node.now name.now question.now (M.matching engine.now.matcher.now)
+        context.old context.new)) }
     ensures in_progress { context.new.in_progress ≡ context.old.in_progress }
     ensures marking { context.new.marking ≡ context.old.marking }
     ensures verdicts { context.new.verdicts ≡ context.old.verdicts }

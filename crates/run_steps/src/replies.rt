@@ -1,21 +1,17 @@
 //! Replies of runs, by the mode.
-ghost use Rattle.std.specs.Prelude.{◌≡◌, IfOk, Bool, true, false, All, [], Some};
-ghost use Rattle.serde_json.specs.Data.{Data};
+ghost use Rattle.std.specs.Prelude.{◌≡◌, IfOk, Bool, [], map, option_map, string_bytes};
 ghost use Rattle.schema_definitions.specs.Reports.{accepted};
-ghost use Rattle.schema_definitions.specs.Meaning.{both};
-ghost use Rattle.schema_reports.specs.InstanceTexts.{subject_has_float};
-ghost use Rattle.schema_reports.specs.InstanceViews.{subject_of};
-ghost use Rattle.schema_reports.specs.ReportViews.{error_of, BorrowsItsPlace};
-ghost use Rattle.schema_definitions.specs.Meaning.{stamped, false_outcome, false_error};
-ghost use Rattle.std.specs.Prelude.{string_bytes, option_map, map};
+ghost use Rattle.schema_definitions.specs.Meaning.{false_outcome, false_error, stamped};
+ghost use Rattle.schema_reports.specs.ReportViews.{error_of};
 ghost use Rattle.schema_parts.specs.KeywordViews.{mode_of, reply_of};
 ghost use Rattle.schema_parts.specs.declared.keyword.Reply.TheVariants as variant;
 ghost use Rattle.node_table.specs.NodeTable.{keyword_absolute};
 ghost use Rattle.node_table.specs.NodeViews.{node_of};
 ghost use Rattle.schema_parts.specs.FaultViews.{errors_in};
 ghost use Rattle.run_steps.specs.EvaluationPlaces.{steps_to};
-ghost use Rattle.run_steps.specs.Askings.{IsAskedOf, asking, where_asked};
-ghost use Rattle.run_steps.specs.ReplyModes.{reply_by, refuses, accepts, Joins, Stamps};
+ghost use Rattle.run_steps.specs.ReplyModes.{reply_by, refuses, accepts};
+ghost use Rattle.run_steps.specs.FaultWords.{BorrowsAsked};
+ghost use Rattle.run_steps.specs.ReplyWords.{BorrowsBoth, SaysBoth, SaysFalse, StampsError, StampsReply, StayBorrowed};
 
 use crate::question::Question;
 use node_table::node::Node;
@@ -66,10 +62,8 @@ pub fn is_yes(reply: Reply<'_>) -> bool
 
 // The first error of a reply, or else of the other one.
 fn joined_first<'i>(found: Option<Box<ValidationError<'i>>>, more: Reply<'i>) -> Reply<'i>
-    ensures both { (texts : Bool)
-        → Joins (reply_of texts (variant.First found.entry)) (reply_of texts more.entry) (reply_of texts result) }
-    ensures borrows { (root : Data) → All (BorrowsItsPlace root) (errors_in (variant.First found.entry))
-        → All (BorrowsItsPlace root) (errors_in more.entry) → All (BorrowsItsPlace root) (errors_in result) }
+    ensures both { SaysBoth (variant.First found.entry) more.entry result }
+    ensures borrows { BorrowsBoth (variant.First found.entry) more.entry result }
 {
     match found {
         Some(error) => Reply::First(Some(error)),
@@ -82,10 +76,8 @@ fn joined_all<'i>(
     mut errors: Vec<ValidationError<'i>>,
     more: Reply<'i>,
 ) -> Result<Reply<'i>, OutOfMemory>
-    ensures both { IfOk result (λ r. (texts : Bool)
-        → Joins (reply_of texts (variant.All errors.entry)) (reply_of texts more.entry) (reply_of texts r)) }
-    ensures borrows { IfOk result (λ r. (root : Data) → All (BorrowsItsPlace root) errors.entry.items
-        → All (BorrowsItsPlace root) (errors_in more.entry) → All (BorrowsItsPlace root) (errors_in r)) }
+    ensures both { IfOk result (λ r. SaysBoth (variant.All errors.entry) more.entry r) }
+    ensures borrows { IfOk result (λ r. BorrowsBoth (variant.All errors.entry) more.entry r) }
 {
     match more {
         Reply::All(mut others) => {
@@ -101,10 +93,8 @@ fn joined_all<'i>(
 
 /// Both replies, the first one first.
 pub fn joined<'i>(found: Reply<'i>, more: Reply<'i>) -> Result<Reply<'i>, OutOfMemory>
-    ensures both { IfOk result (λ r. (texts : Bool)
-        → Joins (reply_of texts found.entry) (reply_of texts more.entry) (reply_of texts r)) }
-    ensures borrows { IfOk result (λ r. (root : Data) → All (BorrowsItsPlace root) (errors_in found.entry)
-        → All (BorrowsItsPlace root) (errors_in more.entry) → All (BorrowsItsPlace root) (errors_in r)) }
+    ensures both { IfOk result (λ r. SaysBoth found.entry more.entry r) }
+    ensures borrows { IfOk result (λ r. BorrowsBoth found.entry more.entry r) }
 {
     match found {
         Reply::Nothing => Ok(more),
@@ -140,8 +130,7 @@ fn stamp<'i, K>(
     name: &String,
     error: &mut ValidationError<'i>,
 ) -> Result<(), OutOfMemory>
-    ensures stamped { IfOk result (λ _. (texts : Bool) → error_of texts error.new
-        ≡ stamped (keyword_absolute (node_of node.now) (string_bytes name.now)) (error_of texts error.old)) }
+    ensures stamped { IfOk result (λ _. StampsError node.now name.now error.old error.new) }
     ensures place { IfOk result (λ _. error.new.place ≡ error.old.place) }
     ensures instance { IfOk result (λ _. error.new.instance ≡ error.old.instance) }
 {
@@ -159,8 +148,7 @@ pub fn stamped_error<'i, K>(
     name: &String,
     mut error: ValidationError<'i>,
 ) -> Result<ValidationError<'i>, OutOfMemory>
-    ensures stamped { IfOk result (λ e. (texts : Bool) → error_of texts e
-        ≡ stamped (keyword_absolute (node_of node.now) (string_bytes name.now)) (error_of texts error.entry)) }
+    ensures stamped { IfOk result (λ e. StampsError node.now name.now error.entry e) }
     ensures place { IfOk result (λ e. e.place ≡ error.entry.place) }
     ensures instance { IfOk result (λ e. e.instance ≡ error.entry.instance) }
 {
@@ -177,8 +165,7 @@ fn stamped_errors<'i, K>(
 ) -> Result<Vec<ValidationError<'i>>, OutOfMemory>
     ensures stamped { IfOk result (λ es. (texts : Bool) → map (error_of texts) es.items
         ≡ map (stamped (keyword_absolute (node_of node.now) (string_bytes name.now))) (map (error_of texts) errors.entry.items)) }
-    ensures borrows { IfOk result (λ es. (root : Data) → All (BorrowsItsPlace root) errors.entry.items
-        → All (BorrowsItsPlace root) es.items) }
+    ensures borrows { IfOk result (λ es. StayBorrowed errors.entry.items es.items) }
 {
     for error in errors.iter_mut() {
         stamp(alloc, node, name, error)?;
@@ -195,10 +182,8 @@ fn stamped_by_base<'i, K>(
     name: &String,
     reply: Reply<'i>,
 ) -> Result<Reply<'i>, OutOfMemory>
-    ensures stamped { IfOk result (λ r. (texts : Bool)
-        → Stamps (keyword_absolute (node_of node.now) (string_bytes name.now)) (reply_of texts reply.entry) (reply_of texts r)) }
-    ensures borrows { IfOk result (λ r. (root : Data) → All (BorrowsItsPlace root) (errors_in reply.entry)
-        → All (BorrowsItsPlace root) (errors_in r)) }
+    ensures stamped { IfOk result (λ r. StampsReply node.now name.now reply.entry r) }
+    ensures borrows { IfOk result (λ r. StayBorrowed (errors_in reply.entry) (errors_in r)) }
 {
     match reply {
         Reply::Nothing => Ok(Reply::Nothing),
@@ -225,10 +210,8 @@ pub fn stamped_reply<'i, K>(
     name: &String,
     reply: Reply<'i>,
 ) -> Result<Reply<'i>, OutOfMemory>
-    ensures stamped { IfOk result (λ r. (texts : Bool)
-        → Stamps (keyword_absolute (node_of node.now) (string_bytes name.now)) (reply_of texts reply.entry) (reply_of texts r)) }
-    ensures borrows { IfOk result (λ r. (root : Data) → All (BorrowsItsPlace root) (errors_in reply.entry)
-        → All (BorrowsItsPlace root) (errors_in r)) }
+    ensures stamped { IfOk result (λ r. StampsReply node.now name.now reply.entry r) }
+    ensures borrows { IfOk result (λ r. StayBorrowed (errors_in reply.entry) (errors_in r)) }
 {
     if node.base.is_none() {
         return Ok(reply);
@@ -243,12 +226,9 @@ pub fn refused<'i, K>(
     node: &Node<K>,
     question: &Question<'_, 'i>,
 ) -> Result<Reply<'i>, OutOfMemory>
-    ensures refuses { IfOk result (λ r. (texts : Bool)
-        → (texts ≡ true → subject_has_float (subject_of question.now.instance) ≡ false) → reply_of texts r
-        ≡ reply_by (mode_of question.now.mode) (false_outcome texts
-        (where_asked (node_of node.now) (asking question.now)) (subject_of question.now.instance))) }
-    ensures borrows { IfOk result (λ r. (root : Data)
-        → IsAskedOf root (asking question.now) → All (BorrowsItsPlace root) (errors_in r)) }
+    ensures refuses { IfOk result (λ r. SaysFalse node.now question.now reply_of
+        (λ texts w s. reply_by (mode_of question.now.mode) (false_outcome texts w s)) r) }
+    ensures borrows { IfOk result (λ r. BorrowsAsked question.now r) }
 {
     match question.mode {
         Mode::Verdict => Ok(Reply::Truth(false)),
@@ -271,9 +251,7 @@ pub fn false_error<'i, K>(
     node: &Node<K>,
     question: &Question<'_, 'i>,
 ) -> Result<ValidationError<'i>, OutOfMemory>
-    ensures error { IfOk result (λ e. (texts : Bool)
-        → (texts ≡ true → subject_has_float (subject_of question.now.instance) ≡ false) → error_of texts e
-        ≡ false_error texts (where_asked (node_of node.now) (asking question.now)) (subject_of question.now.instance)) }
+    ensures error { IfOk result (λ e. SaysFalse node.now question.now error_of false_error e) }
     ensures place { IfOk result (λ e. e.place ≡ steps_to question.now.place.now) }
     ensures instance { IfOk result (λ e. e.instance ≡ question.now.instance) }
 {

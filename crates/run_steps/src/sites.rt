@@ -1,14 +1,10 @@
 //! Where a match is asked for.
-ghost use Rattle.std.specs.Prelude.{◌≡◌, ◌++◌, IfOk, None, map, option_map, string_bytes};
-ghost use Rattle.schema_reports.specs.InstanceViews.{step_of, subject_of};
-ghost use Rattle.schema_definitions.specs.Laws.{IsPresent};
+ghost use Rattle.std.specs.Prelude.{◌≡◌, ◌++◌, IfOk, map, string_bytes};
+ghost use Rattle.schema_reports.specs.InstanceViews.{step_of};
 ghost use Rattle.schema_definitions.specs.Pointer.{joined};
-ghost use Rattle.schema_definitions.specs.Runs.{site_at};
-ghost use Rattle.schema_parts.specs.KeywordViews.{below_of, point_of, spot_below, spot_of};
-ghost use Rattle.schema_contexts.specs.EvaluationPaths.{path_of};
-ghost use Rattle.run_steps.specs.EvaluationPlaces.{steps_to};
-ghost use Rattle.run_steps.specs.Askings.{asking, where_asked};
-ghost use Rattle.node_table.specs.NodeViews.{node_of};
+ghost use Rattle.schema_parts.specs.KeywordViews.{below_of, point_of, spot_below, spot_of, spot_point};
+ghost use Rattle.run_steps.specs.PlaceWords.{HasSteps, path_here, place_under};
+ghost use Rattle.run_steps.specs.MatchWords.{AsksInside, plain_point, site_here};
 
 use crate::question::Question;
 use crate::spots::{own_steps, place_below, step_below};
@@ -28,9 +24,9 @@ fn spot_place<'i>(
     path: &str,
     below: &[InstanceStep<'_>],
 ) -> Result<(Location, Place<'i>), OutOfMemory>
-    requires present { IsPresent (subject_of question.now.instance) (map step_of below.now) }
-    ensures path { IfOk result (λ r. r.0 ≡ joined (path_of question.now.path.now) name.now ++ path.now) }
-    ensures place { IfOk result (λ r. r.1 ≡ steps_to question.now.place.now ++ map step_of below.now) }
+    requires present { HasSteps question.now.instance below.now }
+    ensures path { IfOk result (λ r. r.0 ≡ joined (path_here question.now) name.now ++ path.now) }
+    ensures place { IfOk result (λ r. r.1 ≡ place_under question.now.place.now below.now) }
 {
     let place = place_inside(alloc, question, below)?;
     Ok((question.path.of_keyword(alloc, name, path)?, place))
@@ -42,8 +38,8 @@ fn place_inside<'i>(
     question: &Question<'_, 'i>,
     below: &[InstanceStep<'_>],
 ) -> Result<Place<'i>, OutOfMemory>
-    requires present { IsPresent (subject_of question.now.instance) (map step_of below.now) }
-    ensures place { IfOk result (λ p. p ≡ steps_to question.now.place.now ++ map step_of below.now) }
+    requires present { HasSteps question.now.instance below.now }
+    ensures place { IfOk result (λ p. p ≡ place_under question.now.place.now below.now) }
 {
     let own = own_steps(alloc, question.instance, below)?;
     place_below(question.place, own.as_slice())
@@ -59,13 +55,8 @@ fn bare_site<'i, K>(
     path: &str,
     below: &[InstanceStep<'_>],
 ) -> Result<MatchSite<'i>, OutOfMemory>
-    requires present { IsPresent (subject_of question.now.instance) (map step_of below.now) }
-    ensures site { IfOk result (λ s. s
-        ≡ site_at (where_asked (node_of node.now) (asking question.now)) name.now (record {
-          spot = record { absorbed = None; path = path.now; below = map step_of below.now };
-          located = located;
-          pattern = None;
-        })) }
+    requires present { HasSteps question.now.instance below.now }
+    ensures site { IfOk result (λ s. s ≡ site_here node.now name.now question.now (plain_point located path.now below.now)) }
 {
     let schema_path = path_from(alloc, &node.location, name, path)?;
     if !located {
@@ -100,13 +91,9 @@ fn spot_site<'i, 's, K>(
     spot: &Spot<'s>,
     below: Below<'s>,
 ) -> Result<MatchSite<'i>, OutOfMemory>
-    requires present { IsPresent (subject_of question.now.instance) (spot_below (spot_of spot.now) (below_of below)).below }
-    ensures site { IfOk result (λ s. s
-        ≡ site_at (where_asked (node_of node.now) (asking question.now)) (string_bytes name.now) (record {
-          spot = spot_below (spot_of spot.now) (below_of below.entry);
-          located = located;
-          pattern = option_map string_bytes spot.now.pattern;
-        })) }
+    requires present { AsksInside question.now.instance (spot_point located spot.now below) }
+    ensures site { IfOk result (λ s. s ≡ site_here node.now (string_bytes name.now) question.now
+        (spot_point located spot.now below.entry)) }
 {
     let name = match &spot.absorbed {
         Some(absorbed) => absorbed.as_str(),
@@ -130,10 +117,8 @@ pub fn match_site<'i, K>(
     pattern: &str,
     point: MatchPoint<'_>,
 ) -> Result<MatchSite<'i>, OutOfMemory>
-    requires present { IsPresent (subject_of question.now.instance) (point_of pattern.now point).spot.below }
-    ensures site { IfOk result (λ s. s
-        ≡ site_at (where_asked (node_of node.now) (asking question.now))
-        (string_bytes name.now) (point_of pattern.now point.entry)) }
+    requires present { AsksInside question.now.instance (point_of pattern.now point) }
+    ensures site { IfOk result (λ s. s ≡ site_here node.now (string_bytes name.now) question.now (point_of pattern.now point.entry)) }
 {
     match point {
         MatchPoint::AtKeyword(located) => {

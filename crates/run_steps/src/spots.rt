@@ -1,11 +1,10 @@
 //! Where an error of a keyword, or a match that it asks for, stands: steps below the keyword's place, and a path from it on.
-ghost use Rattle.std.specs.Prelude.{◌≡◌, ◌++◌, IfOk, IfSome, MatchOption, Some, is_some, map, option_map, true};
-ghost use Rattle.schema_definitions.specs.Instance.{after_step};
+ghost use Rattle.std.specs.Prelude.{◌≡◌, IfOk, IfSome, MatchOption, Some, is_some, map, option_map, true};
 ghost use Rattle.schema_reports.specs.InstanceViews.{step_of, subject_of};
 ghost use Rattle.schema_definitions.specs.Keywords.{down, here};
 ghost use Rattle.schema_definitions.specs.Laws.{IsPresent, steps_below};
 ghost use Rattle.schema_parts.specs.KeywordViews.{below_of};
-ghost use Rattle.run_steps.specs.EvaluationPlaces.{steps_to};
+ghost use Rattle.run_steps.specs.PlaceWords.{HasSteps, place_under, subject_after};
 
 use crate::evaluation_place::EvaluationPlace;
 use schema_parts::keyword::Below;
@@ -30,7 +29,7 @@ pub fn after<'i>(
     instance: Instance<'i>,
     step: InstanceStep<'_>,
 ) -> Option<(Instance<'i>, InstanceStep<'i>)>
-    ensures after { option_map (λ r. subject_of r.0) result ≡ after_step (step_of step.entry) (subject_of instance.entry) }
+    ensures after { option_map (λ r. subject_of r.0) result ≡ subject_after step.entry instance.entry }
     ensures step { IfSome result (λ r. step_of r.1 ≡ step_of step.entry) }
 {
     match step {
@@ -49,7 +48,7 @@ pub fn one_below<'i>(
     requires present { IsPresent (subject_of instance) (steps_below (below_of below)) }
     ensures below { MatchOption result (below_of below.entry ≡ here)
         (λ r. (below_of below.entry ≡ down (step_of r.1))
-        × (after_step (step_of r.1) (subject_of instance.entry) ≡ Some (subject_of r.0))) }
+        × (subject_after r.1 instance.entry ≡ Some (subject_of r.0))) }
 {
     let step = step_below(below)?;
     match after(instance, step) {
@@ -60,8 +59,8 @@ pub fn one_below<'i>(
 
 // What a step inside the instance leads to, and the step by the instance's own name.
 fn own_step<'i>(instance: Instance<'i>, step: InstanceStep<'_>) -> (Instance<'i>, InstanceStep<'i>)
-    requires present { is_some (after_step (step_of step) (subject_of instance)) ≡ true }
-    ensures after { after_step (step_of step.entry) (subject_of instance.entry) ≡ Some (subject_of result.0) }
+    requires present { is_some (subject_after step instance) ≡ true }
+    ensures after { subject_after step.entry instance.entry ≡ Some (subject_of result.0) }
     ensures step { step_of result.1 ≡ step_of step.entry }
 {
     match after(instance, step) {
@@ -76,7 +75,7 @@ pub fn own_steps<'i>(
     instance: Instance<'i>,
     steps: &[InstanceStep<'_>],
 ) -> Result<Vec<InstanceStep<'i>>, OutOfMemory>
-    requires present { IsPresent (subject_of instance) (map step_of steps.now) }
+    requires present { HasSteps instance steps.now }
     ensures same { IfOk result (λ own. map step_of own.items ≡ map step_of steps.now) }
 {
     let mut own = Vec::new(alloc);
@@ -94,7 +93,7 @@ pub fn place_below<'i>(
     place: &EvaluationPlace<'_, 'i>,
     steps: &[InstanceStep<'i>],
 ) -> Result<Place<'i>, OutOfMemory>
-    ensures below { IfOk result (λ p. p ≡ steps_to place.now ++ map step_of steps.now) }
+    ensures below { IfOk result (λ p. p ≡ place_under place.now steps.now) }
 {
     let mut lower = place.with_room(steps.len())?;
     for step in steps {

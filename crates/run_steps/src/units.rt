@@ -1,23 +1,18 @@
 //! The units of a node at a place: its own, that of each entry, and those of the keywords that an entry absorbs.
-ghost use Rattle.std.specs.Prelude.{◌≡◌, [], ◌∷◌, Bool, IfOk, map, option_map, string_bytes, true, false};
-ghost use Rattle.serde_json.specs.View.{view};
-ghost use Rattle.schema_reports.specs.InstanceTexts.{subject_has_float};
-ghost use Rattle.schema_reports.specs.InstanceViews.{subject_of};
+ghost use Rattle.std.specs.Prelude.{◌≡◌, Bool, IfOk, map, string_bytes};
 ghost use Rattle.schema_definitions.specs.Meaning.{Where};
 ghost use Rattle.schema_definitions.specs.Pointer.{joined, pointer_to};
-ghost use Rattle.schema_definitions.specs.Reports.{report_of, unit, units_of};
+ghost use Rattle.schema_definitions.specs.Reports.{unit, units_of};
 ghost use Rattle.run_steps.specs.EntryUnits.{absorbed_of, entry_units_of};
 ghost use Rattle.schema_reports.specs.EvaluationResults.{gives_of, named_of};
-ghost use Rattle.schema_definitions.specs.Units.{false_unit, given_units, keyword_unit, no_unit, reference_units, schema_unit, true_unit};
-ghost use Rattle.schema_reports.specs.UnitViews.{described_of, unit_of};
-ghost use Rattle.std.specs.List.{list_all};
-ghost use Rattle.schema_contexts.specs.EvaluationPaths.{path_of};
+ghost use Rattle.schema_definitions.specs.Units.{false_unit, given_units, keyword_unit, no_unit, reference_units, true_unit};
+ghost use Rattle.schema_reports.specs.UnitViews.{unit_of};
 ghost use Rattle.schema_parts.specs.KeywordViews.{answer_of};
-ghost use Rattle.node_table.specs.NodeTable.{absolute_in};
-ghost use Rattle.node_table.specs.NodeViews.{node_of};
-ghost use Rattle.run_steps.specs.EvaluationPlaces.{steps_to};
 ghost use Rattle.run_steps.specs.NodeUnits.{named_gives};
-ghost use Rattle.run_steps.specs.Askings.{Asking, asking, where_asked};
+ghost use Rattle.run_steps.specs.Askings.{Asking, at_work};
+ghost use Rattle.run_steps.specs.PlaceWords.{path_here, pointer_here};
+ghost use Rattle.run_steps.specs.ReplyWords.{SaysFalse};
+ghost use Rattle.run_steps.specs.UnitWords.{HasAbsolute, IsUnit, report_at, unit_around};
 
 use crate::evaluation_order::{AbsorbedUnit, EntryUnits};
 use crate::question::Question;
@@ -54,15 +49,8 @@ impl UnitPlaces {
         errors: Vec<ErrorDescription>,
         children: ChildList,
     ) -> EvaluationNode
-        ensures unit { (texts : Bool) → unit_of texts result ≡ unit (record {
-          valid = valid;
-          instance_location = self.instance_location;
-          evaluation_path = self.evaluation_path;
-          schema_path = self.schema_location;
-          absolute = option_map string_bytes self.absolute_keyword_location;
-          annotations = option_map view annotations;
-          errors = map (described_of texts) errors.items;
-        }) (units_of (map (unit_of texts) children)) }
+        ensures unit { IsUnit (λ texts. unit (report_at texts self valid annotations errors.items)
+            (units_of (map (unit_of texts) children))) result }
     {
         EvaluationNode {
             report: UnitReport {
@@ -90,8 +78,7 @@ fn places_by<K>(
     ensures instance { IfOk result (λ p. p.instance_location ≡ pointer) }
     ensures path { IfOk result (λ p. p.evaluation_path ≡ kept.path) }
     ensures schema { IfOk result (λ p. p.schema_location ≡ kept.schema) }
-    ensures absolute { IfOk result (λ p. option_map string_bytes p.absolute_keyword_location
-        ≡ absolute_in (node_of node.now) kept.schema) }
+    ensures absolute { HasAbsolute node.now kept.schema result }
 {
     let absolute_keyword_location = absolute_location(alloc, node, kept.schema.as_str())?;
     Ok(UnitPlaces {
@@ -109,11 +96,10 @@ fn node_places<K>(
     question: &Question<'_, '_>,
     context: &mut ValidationContext<'_>,
 ) -> Result<UnitPlaces, OutOfMemory>
-    ensures instance { IfOk result (λ p. p.instance_location ≡ pointer_to (steps_to question.now.place.now)) }
-    ensures path { IfOk result (λ p. p.evaluation_path ≡ path_of question.now.path.now) }
-    ensures schema { IfOk result (λ p. p.schema_location ≡ (node_of node.now).location) }
-    ensures absolute { IfOk result (λ p. option_map string_bytes p.absolute_keyword_location
-        ≡ absolute_in (node_of node.now) (node_of node.now).location) }
+    ensures instance { IfOk result (λ p. p.instance_location ≡ pointer_here question.now) }
+    ensures path { IfOk result (λ p. p.evaluation_path ≡ path_here question.now) }
+    ensures schema { IfOk result (λ p. p.schema_location ≡ node.now.location) }
+    ensures absolute { HasAbsolute node.now node.now.location result }
     ensures stays { context.new ≡ context.old }
 {
     let kept = context.node_texts(alloc, question.path, &node.location)?;
@@ -128,8 +114,7 @@ pub fn accepting_unit<K>(
     question: &Question<'_, '_>,
     context: &mut ValidationContext<'_>,
 ) -> Result<EvaluationNode, OutOfMemory>
-    ensures unit { IfOk result (λ u. (texts : Bool) → unit_of texts u
-        ≡ true_unit (where_asked (node_of node.now) (asking question.now))) }
+    ensures unit { IfOk result (λ u. IsUnit (λ _. true_unit (at_work node.now question.now)) u) }
     ensures stays { context.new ≡ context.old }
 {
     let places = node_places(alloc, node, question, context)?;
@@ -138,7 +123,7 @@ pub fn accepting_unit<K>(
 
 /// The unit that stands for a child that a keyword got none of: valid, at empty locations. Fails only if memory cannot be allocated.
 pub fn unasked_unit(alloc: Global) -> Result<EvaluationNode, OutOfMemory>
-    ensures unit { IfOk result (λ u. (texts : Bool) → unit_of texts u ≡ no_unit) }
+    ensures unit { IfOk result (λ u. IsUnit (λ _. no_unit) u) }
 {
     let root = SharedLocation::root(alloc)?;
     Ok(EvaluationNode {
@@ -162,9 +147,7 @@ pub fn refusing_unit<K>(
     question: &Question<'_, '_>,
     context: &mut ValidationContext<'_>,
 ) -> Result<EvaluationNode, OutOfMemory>
-    ensures unit { IfOk result (λ u. (texts : Bool)
-        → (texts ≡ true → subject_has_float (subject_of question.now.instance) ≡ false) → unit_of texts u
-        ≡ false_unit texts (where_asked (node_of node.now) (asking question.now)) (subject_of question.now.instance)) }
+    ensures unit { IfOk result (λ u. SaysFalse node.now question.now unit_of false_unit u) }
     ensures stays { context.new ≡ context.old }
 {
     let error = false_error(alloc, node, question)?;
@@ -187,10 +170,8 @@ pub fn entries_unit<K>(
     pointer: SharedLocation,
     children: ChildList,
 ) -> Result<EvaluationNode, OutOfMemory>
-    ensures unit { IfOk result (λ u. (texts : Bool) (q : Asking) → kept.path ≡ q.path → kept.schema ≡ (node_of node.now).location
-        → pointer ≡ pointer_to q.place → unit_of texts u ≡ schema_unit (where_asked (node_of node.now) q)
-        (list_all (λ child. (report_of child).valid) (map (unit_of texts) children))
-        (option_map view (node_of node.now).annotations) [] (map (unit_of texts) children)) }
+    ensures unit { IfOk result (λ u. (texts : Bool) (q : Asking) → kept.path ≡ q.path → kept.schema ≡ node.now.location
+        → pointer ≡ pointer_to q.place → unit_of texts u ≡ unit_around node.now q (map (unit_of texts) children)) }
 {
     let places = places_by(alloc, node, kept, pointer)?;
     let valid = children.all_valid();
@@ -208,12 +189,11 @@ fn keyword_places<K>(
     pointer: &SharedLocation,
     context: &mut ValidationContext<'_>,
 ) -> Result<UnitPlaces, OutOfMemory>
-    requires pointed { pointer.now ≡ pointer_to (steps_to question.now.place.now) }
-    ensures instance { IfOk result (λ p. p.instance_location ≡ pointer_to (steps_to question.now.place.now)) }
-    ensures path { IfOk result (λ p. p.evaluation_path ≡ joined (path_of question.now.path.now) name.now) }
-    ensures schema { IfOk result (λ p. p.schema_location ≡ joined (node_of node.now).location name.now) }
-    ensures absolute { IfOk result (λ p. option_map string_bytes p.absolute_keyword_location
-        ≡ absolute_in (node_of node.now) (joined (node_of node.now).location name.now)) }
+    requires pointed { pointer.now ≡ pointer_here question.now }
+    ensures instance { IfOk result (λ p. p.instance_location ≡ pointer_here question.now) }
+    ensures path { IfOk result (λ p. p.evaluation_path ≡ joined (path_here question.now) name.now) }
+    ensures schema { IfOk result (λ p. p.schema_location ≡ joined node.now.location name.now) }
+    ensures absolute { HasAbsolute node.now (joined node.now.location name.now) result }
     ensures stays { context.new ≡ context.old }
 {
     let kept = context.keyword_texts(alloc, question.path, name, &node.location)?;
@@ -230,9 +210,9 @@ fn unit_of_keyword<K>(
     given: EvaluationResult,
     context: &mut ValidationContext<'_>,
 ) -> Result<EvaluationNode, OutOfMemory>
-    requires pointed { pointer.now ≡ pointer_to (steps_to question.now.place.now) }
-    ensures unit { IfOk result (λ u. (texts : Bool) → unit_of texts u
-        ≡ keyword_unit (where_asked (node_of node.now) (asking question.now)) (named_gives name.now (gives_of texts given))) }
+    requires pointed { pointer.now ≡ pointer_here question.now }
+    ensures unit { IfOk result (λ u. IsUnit (λ texts. keyword_unit (at_work node.now question.now)
+        (named_gives name.now (gives_of texts given))) u) }
     ensures stays { context.new ≡ context.old }
 {
     let places = keyword_places(alloc, node, name, question, pointer, context)?;
@@ -255,10 +235,9 @@ fn absorbed_units<K>(
     absorbed: Vec<AbsorbedResult>,
     context: &mut ValidationContext<'_>,
 ) -> Result<Vec<AbsorbedUnit>, OutOfMemory>
-    requires pointed { pointer.now ≡ pointer_to (steps_to question.now.place.now) }
+    requires pointed { pointer.now ≡ pointer_here question.now }
     ensures units { IfOk result (λ us. (texts : Bool) → map (absorbed_of texts) us.items
-        ≡ map (λ a. (a.name, keyword_unit (where_asked (node_of node.now) (asking question.now)) a))
-        (map (named_of texts) absorbed.items)) }
+        ≡ map (λ a. (a.name, keyword_unit (at_work node.now question.now) a)) (map (named_of texts) absorbed.items)) }
     ensures stays { context.new ≡ context.old }
 {
     let mut units = Vec::with_capacity(alloc, absorbed.len())?;
@@ -288,10 +267,9 @@ pub fn units_of_keyword<K>(
     answer: Answer<'_>,
     context: &mut ValidationContext<'_>,
 ) -> Result<EntryUnits, OutOfMemory>
-    requires pointed { pointer.now ≡ pointer_to (steps_to question.now.place.now) }
+    requires pointed { pointer.now ≡ pointer_here question.now }
     ensures units { IfOk result (λ units. (texts : Bool) → entry_units_of texts units
-        ≡ given_units (where_asked (node_of node.now) (asking question.now)) (string_bytes name.now)
-        (answer_of texts answer.entry).gives) }
+        ≡ given_units (at_work node.now question.now) (string_bytes name.now) (answer_of texts answer.entry).gives) }
     ensures stays { context.new ≡ context.old }
 {
     let Found { own, absorbed } = Box::into_inner(answer.into_evaluation(alloc)?);
@@ -308,7 +286,7 @@ pub fn units_of_reference(
     unit: EvaluationNode,
     context: &mut ValidationContext<'_>,
 ) -> Result<EntryUnits, OutOfMemory>
-    ensures units { IfOk result (λ units. (texts : Bool) (x : Where) → x.path ≡ path_of question.now.path.now
+    ensures units { IfOk result (λ units. (texts : Bool) (x : Where) → x.path ≡ path_here question.now
         → entry_units_of texts units ≡ reference_units x (string_bytes name.now) (unit_of texts unit)) }
     ensures stays { context.new ≡ context.old }
 {

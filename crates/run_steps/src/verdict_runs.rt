@@ -1,7 +1,8 @@
 //! A keyword's run for its verdict: what a turn is told, what the answer says, and how it is dropped. A run takes stack for each level of
 //! an instance, so what is rare stands in functions of its own.
 ghost use Rattle.std.specs.Prelude.{◌≡◌, Bool};
-ghost use Rattle.schema_parts.specs.KeywordViews.{answer_of, reply_of};
+ghost use Rattle.schema_parts.specs.KeywordViews.{reply_of};
+ghost use Rattle.run_steps.specs.FaultWords.{IsVerdictOf};
 ghost use Rattle.run_steps.specs.VerdictRuns.{told_reply};
 
 use crate::faults::is_accepting;
@@ -10,7 +11,7 @@ use schema_parts::keyword::{Answer, Reply};
 /// Returns the verdict of an answer.
 #[inline(always)]
 pub fn verdict_of(answer: Answer<'_>) -> bool
-    ensures verdict { (texts : Bool) → result ≡ (answer_of texts answer.entry).verdict }
+    ensures verdict { IsVerdictOf answer.entry result }
 {
     match answer {
         Answer::Verdict(valid) => valid,
@@ -21,7 +22,7 @@ pub fn verdict_of(answer: Answer<'_>) -> bool
 // That of an answer of another mode. Its room on the stack is its own.
 #[inline(never)]
 fn other_verdict(answer: Answer<'_>) -> bool
-    ensures verdict { (texts : Bool) → result ≡ (answer_of texts answer.entry).verdict }
+    ensures verdict { IsVerdictOf answer.entry result }
 {
     is_accepting(answer)
 }
