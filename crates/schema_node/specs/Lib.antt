@@ -25,3 +25,6 @@ pub use Rattle.run_steps.specs.NodeUnits
 pub use Rattle.run_steps.specs.NodeRuns
 pub use Rattle.run_steps.specs.Turning
 pub mod FirstQuestions
+pub mod Premises
+pub mod RunAnswers
+pub mod WholeRuns

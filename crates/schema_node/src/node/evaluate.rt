@@ -1,22 +1,7 @@
 //! Evaluations of nodes over instances.
-ghost use Rattle.std.specs.Prelude.{◌≡◌, ◌≤◌, IfOk, map, option_map, string_bytes};
-ghost use Rattle.schema_reports.specs.InstanceViews.{subject_of};
-ghost use Rattle.schema_definitions.specs.Laws.{IsPresent, steps_below};
-ghost use Rattle.schema_definitions.specs.Pointer.{pointer_to};
-ghost use Rattle.schema_parts.specs.KeywordViews.{below_of};
-ghost use Rattle.node_table.specs.NodeTable.{numbered, shaped_form, shaped_part};
-ghost use Rattle.schema_parts.specs.EdgeViews.{edge_of};
-ghost use Rattle.node_table.specs.NodeViews.{entry_of, form_of};
-ghost use Rattle.run_steps.specs.NodeRuns.{HasForm, HasParts, HasChildren, form_at_work};
-ghost use Rattle.schema_contexts.specs.Progress.{places_in};
-ghost use Rattle.run_steps.specs.Askings.{asking};
-ghost use Rattle.run_steps.specs.EvaluationPlaces.{CarriesItsNumber, steps_to};
-ghost use Rattle.schema_runs.specs.Answered.{ChildGiven, EdgeGiven, FormGiven, NodeGiven, PartsGiven, PlanGiven, setting_by};
-ghost use Rattle.schema_runs.specs.RunStates.{setting};
-ghost use Rattle.schema_runs.specs.RunStates.{Keeps, StaysRight};
-ghost use Rattle.schema_runs.specs.RunStates.{MeetsChild, MeetsEdge, MeetsForm, MeetsNode, MeetsParts};
-ghost use Rattle.schema_runs.specs.UnitStates.{ChildGives, EdgeGives, FormGives, MayEvaluate, NodeGives, PartsGive};
-ghost use Rattle.schema_runs.specs.Visits.{LeadsNowhere};
+ghost use Rattle.schema_node.specs.Premises.{ChildMayEvaluate, EntriesMayEvaluate, EntryMayEvaluate, KeywordMayEvaluate, NodeMayEvaluate};
+ghost use Rattle.schema_node.specs.RunAnswers.{UnitOfChild, UnitOfEdge, UnitOfNode, UnitOfPlan, UnitsOfEntries, UnitsOfEntry};
+ghost use Rattle.schema_node.specs.RunAnswers.{UnitsOfKeyword};
 
 use crate::node::turns::keyword_answer;
 use node_table::node::{Entry, EntryForm, NodeForm};
@@ -45,11 +30,8 @@ pub(crate) fn evaluate_node<'i, K: Validate, M: Matcher>(
     question: &Question<'_, 'i>,
     context: &mut ValidationContext<'i>,
 ) -> Result<EvaluationNode, OutOfMemory>
-    requires may { MayEvaluate (setting_by K.Validate M.Matcher.own engine.now) (asking question.now)
-        context.old node.0 }
-    requires carries { CarriesItsNumber (places_in context.old) question.now.place.now }
-    ensures { NodeGiven (setting_by K.Validate M.Matcher.own engine.now) question.now
-        node.0 context.old context.new result }
+    requires { NodeMayEvaluate K.Validate M.Matcher.own engine.now question.now context.old node.0 }
+    ensures { UnitOfNode K.Validate M.Matcher.own engine.now question.now node.0 context.old context.new result }
 {
     context.step()?;
     evaluate_plan(engine, node, question, context)
@@ -64,11 +46,8 @@ fn evaluate_plan<'i, K: Validate, M: Matcher>(
     question: &Question<'_, 'i>,
     context: &mut ValidationContext<'i>,
 ) -> Result<EvaluationNode, OutOfMemory>
-    requires may { MayEvaluate (setting_by K.Validate M.Matcher.own engine.now) (asking question.now)
-        context.old node.0 }
-    requires carries { CarriesItsNumber (places_in context.old) question.now.place.now }
-    ensures { PlanGiven (setting_by K.Validate M.Matcher.own engine.now) question.now
-        node.0 context.old context.new result }
+    requires { NodeMayEvaluate K.Validate M.Matcher.own engine.now question.now context.old node.0 }
+    ensures { UnitOfPlan K.Validate M.Matcher.own engine.now question.now node.0 context.old context.new result }
 {
     let found = engine.nodes.node(node);
     match &found.form {
@@ -111,13 +90,8 @@ fn evaluate_entries<'i, K: Validate, M: Matcher>(
     pointer: &SharedLocation,
     context: &mut ValidationContext<'i>,
 ) -> Result<ChildList, OutOfMemory>
-    requires may { MayEvaluate (setting_by K.Validate M.Matcher.own engine.now) (asking question.now)
-        context.old node.0 }
-    requires carries { CarriesItsNumber (places_in context.old) question.now.place.now }
-    requires pointed { pointer.now ≡ pointer_to (steps_to question.now.place.now) }
-    requires parts { HasParts (numbered K.shape engine.now.nodes.now) node.0 (map (shaped_part K.shape) (map entry_of entries.now)) }
-    ensures { PartsGiven (setting_by K.Validate M.Matcher.own engine.now) question.now
-        node.0 (map (shaped_part K.shape) (map entry_of entries.now)) context.old context.new result }
+    requires { EntriesMayEvaluate K.Validate M.Matcher.own engine.now question.now context.old node.0 entries.now pointer.now }
+    ensures { UnitsOfEntries K.Validate M.Matcher.own engine.now question.now node.0 entries.now context.old context.new result }
 {
     let mut units = UnitsInOrder::new(engine.alloc, entries.len())?;
     for entry in entries {
@@ -137,13 +111,8 @@ fn evaluate_entry<'i, K: Validate, M: Matcher>(
     pointer: &SharedLocation,
     context: &mut ValidationContext<'i>,
 ) -> Result<EntryUnits, OutOfMemory>
-    requires may { MayEvaluate (setting_by K.Validate M.Matcher.own engine.now) (asking question.now)
-        context.old node.0 }
-    requires carries { CarriesItsNumber (places_in context.old) question.now.place.now }
-    requires pointed { pointer.now ≡ pointer_to (steps_to question.now.place.now) }
-    requires form { HasForm (numbered K.shape engine.now.nodes.now) node.0 (shaped_form K.shape (form_of entry.now.form)) }
-    ensures { FormGiven (setting_by K.Validate M.Matcher.own engine.now) question.now
-        node.0 (string_bytes entry.now.name) (shaped_form K.shape (form_of entry.now.form)) context.old context.new result }
+    requires { EntryMayEvaluate K.Validate M.Matcher.own engine.now question.now context.old node.0 entry.now pointer.now }
+    ensures { UnitsOfEntry K.Validate M.Matcher.own engine.now question.now node.0 entry.now context.old context.new result }
 {
     match &entry.form {
         EntryForm::Keyword(keyword, children) => {
@@ -178,13 +147,8 @@ fn evaluate_keyword<'i, K: Validate, M: Matcher>(
     pointer: &SharedLocation,
     context: &mut ValidationContext<'i>,
 ) -> Result<EntryUnits, OutOfMemory>
-    requires may { MayEvaluate (setting_by K.Validate M.Matcher.own engine.now) (asking question.now)
-        context.old node.0 }
-    requires carries { CarriesItsNumber (places_in context.old) question.now.place.now }
-    requires pointed { pointer.now ≡ pointer_to (steps_to question.now.place.now) }
-    requires form { HasForm (numbered K.shape engine.now.nodes.now) node.0 (form_at_work K.shape keyword.now) }
-    ensures { FormGiven (setting_by K.Validate M.Matcher.own engine.now) question.now
-        node.0 (string_bytes keyword.now.name.now) (form_at_work K.shape keyword.now) context.old context.new result }
+    requires { KeywordMayEvaluate K.Validate M.Matcher.own engine.now question.now context.old node.0 keyword.now pointer.now }
+    ensures { UnitsOfKeyword K.Validate M.Matcher.own engine.now question.now node.0 keyword.now context.old context.new result }
 {
     let answer = keyword_answer(engine, node, keyword, question, context)?;
     units_of_keyword(
@@ -209,14 +173,9 @@ pub(crate) fn evaluate_child<'i, K: Validate, M: Matcher>(
     question: &Question<'_, 'i>,
     context: &mut ValidationContext<'i>,
 ) -> Result<EvaluationNode, OutOfMemory>
-    requires may { MayEvaluate (setting_by K.Validate M.Matcher.own engine.now) (asking question.now)
-        context.old node.0 }
-    requires carries { CarriesItsNumber (places_in context.old) question.now.place.now }
-    requires children { HasChildren (numbered K.shape engine.now.nodes.now) node.0 (map (option_map edge_of) children.now) }
-    requires present { IsPresent (subject_of question.now.instance) (steps_below (below_of below)) }
-    ensures { ChildGiven (setting_by K.Validate M.Matcher.own engine.now) question.now
-        node.0 (map (option_map edge_of) children.now) (record { child = child; below = below_of below.entry })
-        context.old context.new result }
+    requires { ChildMayEvaluate K.Validate M.Matcher.own engine.now question.now context.old node.0 children.now below }
+    ensures { UnitOfChild K.Validate M.Matcher.own engine.now question.now node.0 children.now child below.entry context.old context.new
+        result }
 {
     match child_edge(children, child) {
         None => unasked_unit(engine.alloc),
@@ -244,11 +203,8 @@ fn evaluate_edge<'i, K: Validate, M: Matcher>(
     question: &Question<'_, 'i>,
     context: &mut ValidationContext<'i>,
 ) -> Result<EvaluationNode, OutOfMemory>
-    requires may { MayEvaluate (setting_by K.Validate M.Matcher.own engine.now) (asking question.now)
-        context.old edge.now.node.0 }
-    requires carries { CarriesItsNumber (places_in context.old) question.now.place.now }
-    ensures { EdgeGiven (setting_by K.Validate M.Matcher.own engine.now) question.now
-        (edge_of edge.now) context.old context.new result }
+    requires { NodeMayEvaluate K.Validate M.Matcher.own engine.now question.now context.old edge.now.node.0 }
+    ensures { UnitOfEdge K.Validate M.Matcher.own engine.now question.now edge.now context.old context.new result }
 {
     let whole = question.path.across(&edge.path);
     if !edge.guarded {

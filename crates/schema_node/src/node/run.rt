@@ -1,27 +1,9 @@
 //! Runs of nodes over instances, for the first error or for all of them.
-ghost use Rattle.std.specs.Prelude.{◌≡◌, ◌≤◌, IfOk, true};
-ghost use Rattle.std.specs.Prelude.{map, option_map, string_bytes};
-ghost use Rattle.schema_reports.specs.InstanceViews.{subject_of};
-ghost use Rattle.schema_definitions.specs.Keywords.{for_verdict};
-ghost use Rattle.schema_definitions.specs.Laws.{IsPresent, steps_below};
-ghost use Rattle.schema_parts.specs.KeywordViews.{below_of, mode_of};
-ghost use Rattle.node_table.specs.NodeTable.{numbered, shaped_form, shaped_part};
-ghost use Rattle.schema_parts.specs.MatcherViews.{FinishesEach};
-ghost use Rattle.schema_parts.specs.EdgeViews.{edge_of};
-ghost use Rattle.node_table.specs.NodeViews.{entry_of, form_of};
-ghost use Rattle.run_steps.specs.NodeRuns.{HasForm, HasParts, HasChildren, form_at_work};
-ghost use Rattle.schema_contexts.specs.Progress.{places_in};
-ghost use Rattle.schema_contexts.specs.Works.{Asks};
-ghost use Rattle.run_steps.specs.Askings.{asking};
-ghost use Rattle.run_steps.specs.EvaluationPlaces.{CarriesItsNumber};
-ghost use Rattle.schema_runs.specs.Answered.{ChildReplied, EdgeReplied, EntryReplied, FormReplied, NodeReplied};
-ghost use Rattle.schema_runs.specs.Answered.{PartsReplied, PlanReplied, setting_by};
-ghost use Rattle.schema_runs.specs.RunStates.{setting};
-ghost use Rattle.schema_runs.specs.RunStates.{Keeps, MayRun};
-ghost use Rattle.schema_runs.specs.RunStates.{ChildSays, EdgeSays, FormSays, NodeSays, PartsSay};
-ghost use Rattle.schema_runs.specs.RunStates.{MeetsChild, MeetsEdge, MeetsEntry, MeetsForm, MeetsNode, MeetsParts};
-ghost use Rattle.schema_runs.specs.RunStates.{NodeRemembers, StaysRight};
-ghost use Rattle.schema_runs.specs.Visits.{LeadsNowhere, NodeCounts};
+ghost use Rattle.std.specs.Prelude.{◌≡◌, true};
+ghost use Rattle.schema_node.specs.Premises.{ChildMayRun, EntriesMayRun, EntryMayRun, FinishesAll, KeywordMayRun, NodeMayBeRefused};
+ghost use Rattle.schema_node.specs.Premises.{NodeMayReply, NodeMayRun};
+ghost use Rattle.schema_node.specs.RunAnswers.{AnswerOfNode, ReplyOfChild, ReplyOfEdge, ReplyOfEntries, ReplyOfEntry, ReplyOfForm};
+ghost use Rattle.schema_node.specs.RunAnswers.{ReplyOfKeyword, ReplyOfNode, ReplyOfPlan};
 
 use crate::node::turns::keyword_answer;
 use crate::node::verdict::{verdict_edge, verdict_form, verdict_node};
@@ -47,24 +29,8 @@ pub(crate) fn node_reply<'i, K: Validate, M: Matcher>(
     question: &Question<'_, 'i>,
     context: &mut ValidationContext<'i>,
 ) -> Result<Reply<'i>, OutOfMemory>
-    requires may { MayRun (setting_by K.Validate M.Matcher.own engine.now) (asking question.now)
-        context.old node.0 }
-    requires carries { CarriesItsNumber (places_in context.old) question.now.place.now }
-    ensures keeps { IfOk result (λ _. Keeps context.old context.new) }
-    ensures counts { IfOk result (λ _. context.old.visits ≤ context.new.visits) }
-    ensures visits { IfOk result (λ _. NodeCounts (numbered K.shape engine.now.nodes.now)
-        (asking question.now) context.old context.new node.0) }
-    ensures says { IfOk result (λ r. NodeSays
-        (setting_by K.Validate M.Matcher.own engine.now) (asking question.now)
-        context.old node.0 r) }
-    ensures meets { IfOk result (λ _. MeetsNode
-        (setting_by K.Validate M.Matcher.own engine.now) (asking question.now)
-        context.old context.new node.0) }
-    ensures stays { IfOk result (λ _. StaysRight
-        (setting_by K.Validate M.Matcher.own engine.now) (asking question.now) context.old context.new) }
-    ensures remembers { IfOk result (λ r. NodeRemembers (asking question.now) context.old context.new
-        (numbered K.shape engine.now.nodes.now) node.0 r) }
-    ensures works { IfOk result (λ _. Asks context.old.work context.new.work) }
+    requires { NodeMayReply K.Validate M.Matcher.own engine.now question.now context.old node.0 }
+    ensures { AnswerOfNode K.Validate M.Matcher.own engine.now question.now node.0 context.old context.new result }
 {
     match question.mode {
         Mode::Verdict => {
@@ -83,12 +49,8 @@ fn run_node<'i, K: Validate, M: Matcher>(
     question: &Question<'_, 'i>,
     context: &mut ValidationContext<'i>,
 ) -> Result<Reply<'i>, OutOfMemory>
-    requires may { MayRun (setting_by K.Validate M.Matcher.own engine.now) (asking question.now)
-        context.old node.0 }
-    requires carries { CarriesItsNumber (places_in context.old) question.now.place.now }
-    requires more { ¬ (mode_of question.now.mode ≡ for_verdict) }
-    ensures { NodeReplied (setting_by K.Validate M.Matcher.own engine.now) question.now
-        node.0 context.old context.new result }
+    requires { NodeMayRun K.Validate M.Matcher.own engine.now question.now context.old node.0 }
+    ensures { ReplyOfNode K.Validate M.Matcher.own engine.now question.now node.0 context.old context.new result }
 {
     context.step()?;
     run_plan(engine, node, question, context)
@@ -103,12 +65,8 @@ fn run_plan<'i, K: Validate, M: Matcher>(
     question: &Question<'_, 'i>,
     context: &mut ValidationContext<'i>,
 ) -> Result<Reply<'i>, OutOfMemory>
-    requires may { MayRun (setting_by K.Validate M.Matcher.own engine.now) (asking question.now)
-        context.old node.0 }
-    requires carries { CarriesItsNumber (places_in context.old) question.now.place.now }
-    requires more { ¬ (mode_of question.now.mode ≡ for_verdict) }
-    ensures { PlanReplied (setting_by K.Validate M.Matcher.own engine.now) question.now
-        node.0 context.old context.new result }
+    requires { NodeMayRun K.Validate M.Matcher.own engine.now question.now context.old node.0 }
+    ensures { ReplyOfPlan K.Validate M.Matcher.own engine.now question.now node.0 context.old context.new result }
 {
     let found = engine.nodes.node(node);
     match &found.form {
@@ -136,13 +94,8 @@ fn run_entries<'i, K: Validate, M: Matcher>(
     question: &Question<'_, 'i>,
     context: &mut ValidationContext<'i>,
 ) -> Result<Reply<'i>, OutOfMemory>
-    requires may { MayRun (setting_by K.Validate M.Matcher.own engine.now) (asking question.now)
-        context.old node.0 }
-    requires carries { CarriesItsNumber (places_in context.old) question.now.place.now }
-    requires more { ¬ (mode_of question.now.mode ≡ for_verdict) }
-    requires parts { HasParts (numbered K.shape engine.now.nodes.now) node.0 (map (shaped_part K.shape) (map entry_of entries.now)) }
-    ensures { PartsReplied (setting_by K.Validate M.Matcher.own engine.now) question.now
-        node.0 (map (shaped_part K.shape) (map entry_of entries.now)) context.old context.new result }
+    requires { EntriesMayRun K.Validate M.Matcher.own engine.now question.now context.old node.0 entries.now }
+    ensures { ReplyOfEntries K.Validate M.Matcher.own engine.now question.now node.0 entries.now context.old context.new result }
 {
     let mut found = accepted(engine.alloc, question.mode);
     for entry in entries {
@@ -164,13 +117,8 @@ fn run_entry<'i, K: Validate, M: Matcher>(
     question: &Question<'_, 'i>,
     context: &mut ValidationContext<'i>,
 ) -> Result<Reply<'i>, OutOfMemory>
-    requires may { MayRun (setting_by K.Validate M.Matcher.own engine.now) (asking question.now)
-        context.old node.0 }
-    requires carries { CarriesItsNumber (places_in context.old) question.now.place.now }
-    requires more { ¬ (mode_of question.now.mode ≡ for_verdict) }
-    requires form { HasForm (numbered K.shape engine.now.nodes.now) node.0 (shaped_form K.shape (form_of entry.now.form)) }
-    ensures { EntryReplied (setting_by K.Validate M.Matcher.own engine.now) question.now
-        node.0 (shaped_part K.shape (entry_of entry.now)) context.old context.new result }
+    requires { EntryMayRun K.Validate M.Matcher.own engine.now question.now context.old node.0 entry.now }
+    ensures { ReplyOfEntry K.Validate M.Matcher.own engine.now question.now node.0 entry.now context.old context.new result }
 {
     if entry.is_leaf {
         let asked = Question {
@@ -197,13 +145,8 @@ fn run_form<'i, K: Validate, M: Matcher>(
     question: &Question<'_, 'i>,
     context: &mut ValidationContext<'i>,
 ) -> Result<Reply<'i>, OutOfMemory>
-    requires may { MayRun (setting_by K.Validate M.Matcher.own engine.now) (asking question.now)
-        context.old node.0 }
-    requires carries { CarriesItsNumber (places_in context.old) question.now.place.now }
-    requires more { ¬ (mode_of question.now.mode ≡ for_verdict) }
-    requires form { HasForm (numbered K.shape engine.now.nodes.now) node.0 (shaped_form K.shape (form_of entry.now.form)) }
-    ensures { FormReplied (setting_by K.Validate M.Matcher.own engine.now) question.now
-        node.0 (string_bytes entry.now.name) (shaped_form K.shape (form_of entry.now.form)) context.old context.new result }
+    requires { EntryMayRun K.Validate M.Matcher.own engine.now question.now context.old node.0 entry.now }
+    ensures { ReplyOfForm K.Validate M.Matcher.own engine.now question.now node.0 entry.now context.old context.new result }
 {
     match &entry.form {
         EntryForm::Keyword(keyword, children) => {
@@ -237,13 +180,8 @@ fn run_keyword<'i, K: Validate, M: Matcher>(
     question: &Question<'_, 'i>,
     context: &mut ValidationContext<'i>,
 ) -> Result<Reply<'i>, OutOfMemory>
-    requires may { MayRun (setting_by K.Validate M.Matcher.own engine.now) (asking question.now)
-        context.old node.0 }
-    requires carries { CarriesItsNumber (places_in context.old) question.now.place.now }
-    requires more { ¬ (mode_of question.now.mode ≡ for_verdict) }
-    requires form { HasForm (numbered K.shape engine.now.nodes.now) node.0 (form_at_work K.shape keyword.now) }
-    ensures { FormReplied (setting_by K.Validate M.Matcher.own engine.now) question.now
-        node.0 (string_bytes keyword.now.name.now) (form_at_work K.shape keyword.now) context.old context.new result }
+    requires { KeywordMayRun K.Validate M.Matcher.own engine.now question.now context.old node.0 keyword.now }
+    ensures { ReplyOfKeyword K.Validate M.Matcher.own engine.now question.now node.0 keyword.now context.old context.new result }
 {
     let answer = keyword_answer(engine, node, keyword, question, context)?;
     finished(
@@ -270,15 +208,9 @@ pub(crate) fn run_child<'i, K: Validate, M: Matcher>(
     question: &Question<'_, 'i>,
     context: &mut ValidationContext<'i>,
 ) -> Result<Reply<'i>, OutOfMemory>
-    requires may { MayRun (setting_by K.Validate M.Matcher.own engine.now) (asking question.now)
-        context.old node.0 }
-    requires carries { CarriesItsNumber (places_in context.old) question.now.place.now }
-    requires more { ¬ (mode_of question.now.mode ≡ for_verdict) }
-    requires children { HasChildren (numbered K.shape engine.now.nodes.now) node.0 (map (option_map edge_of) children.now) }
-    requires present { IsPresent (subject_of question.now.instance) (steps_below (below_of below)) }
-    ensures { ChildReplied (setting_by K.Validate M.Matcher.own engine.now) question.now
-        node.0 (map (option_map edge_of) children.now) (record { child = child; below = below_of below.entry })
-        context.old context.new result }
+    requires { ChildMayRun K.Validate M.Matcher.own engine.now question.now context.old node.0 children.now below }
+    ensures { ReplyOfChild K.Validate M.Matcher.own engine.now question.now node.0 children.now child below.entry context.old context.new
+        result }
 {
     match child_edge(children, child) {
         None => Ok(accepted(engine.alloc, question.mode)),
@@ -322,7 +254,7 @@ fn is_asked_first<K, M: Matcher>(
     below: Below<'_>,
     place: &EvaluationPlace<'_, '_>,
 ) -> bool
-    ensures finishes { result ≡ true → FinishesEach (M.matching engine.now.matcher.now) }
+    ensures finishes { result ≡ true → FinishesAll M.matching engine.now }
 {
     if !hopes || !engine.matcher.finishes() {
         return false;
@@ -345,13 +277,8 @@ fn run_refused<'i, K: Validate, M: Matcher>(
     question: &Question<'_, 'i>,
     context: &mut ValidationContext<'i>,
 ) -> Result<Reply<'i>, OutOfMemory>
-    requires may { MayRun (setting_by K.Validate M.Matcher.own engine.now) (asking question.now)
-        context.old edge.now.node.0 }
-    requires carries { CarriesItsNumber (places_in context.old) question.now.place.now }
-    requires more { ¬ (mode_of question.now.mode ≡ for_verdict) }
-    requires finishes { FinishesEach (M.matching engine.now.matcher.now) }
-    ensures { EdgeReplied (setting_by K.Validate M.Matcher.own engine.now) question.now
-        (edge_of edge.now) context.old context.new result }
+    requires { NodeMayBeRefused K.Validate M.Matcher.own engine.now question.now context.old edge.now.node.0 }
+    ensures { ReplyOfEdge K.Validate M.Matcher.own engine.now question.now edge.now context.old context.new result }
 {
     let asked = Question {
         instance: question.instance,
@@ -374,12 +301,8 @@ fn run_edge<'i, K: Validate, M: Matcher>(
     question: &Question<'_, 'i>,
     context: &mut ValidationContext<'i>,
 ) -> Result<Reply<'i>, OutOfMemory>
-    requires may { MayRun (setting_by K.Validate M.Matcher.own engine.now) (asking question.now)
-        context.old edge.now.node.0 }
-    requires carries { CarriesItsNumber (places_in context.old) question.now.place.now }
-    requires more { ¬ (mode_of question.now.mode ≡ for_verdict) }
-    ensures { EdgeReplied (setting_by K.Validate M.Matcher.own engine.now) question.now
-        (edge_of edge.now) context.old context.new result }
+    requires { NodeMayRun K.Validate M.Matcher.own engine.now question.now context.old edge.now.node.0 }
+    ensures { ReplyOfEdge K.Validate M.Matcher.own engine.now question.now edge.now context.old context.new result }
 {
     let whole = question.path.across(&edge.path);
     if !edge.guarded {

@@ -1,19 +1,15 @@
 //! The runs of a table of nodes: the calls that a validator makes.
-ghost use Rattle.std.specs.Prelude.{◌≡◌, ◌<◌, ◌≤◌, IfOk, List, length};
-ghost use Rattle.schema_reports.specs.InstanceViews.{subject_of};
+ghost use Rattle.std.specs.Prelude.{◌≡◌, ◌<◌, List, length};
 ghost use Rattle.schema_definitions.specs.Keywords.{for_units};
 ghost use Rattle.schema_parts.specs.KeywordViews.{mode_of};
-ghost use Rattle.node_table.specs.NodeTable.{NodeEntry, numbered};
-ghost use Rattle.serde_json.specs.View.{view};
+ghost use Rattle.node_table.specs.NodeTable.{NodeEntry};
 ghost use Rattle.schema_contexts.specs.Progress.{NoDeeper};
-ghost use Rattle.schema_contexts.specs.Works.{Asks};
-ghost use Rattle.run_steps.specs.Askings.{IsAskedOf};
-ghost use Rattle.schema_node.specs.FirstQuestions.{asking_first};
+ghost use Rattle.schema_node.specs.FirstQuestions.{asking_first, asking_unit};
+ghost use Rattle.schema_node.specs.RunAnswers.{AsksNode, CountsOn, KeepsAssumed, KeepsMarks, KeepsPairs};
+ghost use Rattle.schema_node.specs.WholeRuns.{BorrowsThere, CountsNode, GivesByRun, MeetsByRun, RemembersNode, RepliesByRun};
+ghost use Rattle.schema_node.specs.WholeRuns.{RightAfterRun, SpeaksInMode, StaysRightInRun, SubjectStandsIn};
 ghost use Rattle.schema_runs.specs.RunStates.{setting_over};
-ghost use Rattle.schema_runs.specs.RunStates.{RunBorrows, RunMeets, RunRemembers, RunReplies, RunSpeaks};
-ghost use Rattle.schema_runs.specs.RunStates.{GoesOn, NodeRemembers, StaysRight, forgotten};
-ghost use Rattle.schema_runs.specs.UnitStates.{RunGives, evaluating};
-ghost use Rattle.schema_runs.specs.Visits.{NodeCounts};
+ghost use Rattle.schema_runs.specs.RunStates.{GoesOn, forgotten};
 
 use crate::node::evaluate::evaluate_node;
 use crate::node::run::node_reply;
@@ -60,27 +56,24 @@ pub trait RunNodes<K: Validate> {
     ) -> Result<Reply<'i>, OutOfMemory>
         requires known { node.0 < length (table self.now) }
         requires above { NoDeeper question.now.place.now context.old.in_progress }
-        requires stands { IsAskedOf (view context.old.root) (asking_first question.now) }
+        requires stands { SubjectStandsIn context.old (asking_first question.now) }
         requires wanted { ¬ (mode_of question.now.mode ≡ for_units) }
-        ensures kept { IfOk result (λ _. context.new.in_progress ≡ context.old.in_progress) }
-        ensures assumes { IfOk result (λ _. context.new.remembered.assumptions ≡ context.old.remembered.assumptions) }
-        ensures marking { IfOk result (λ _. context.new.marking ≡ context.old.marking) }
-        ensures works { IfOk result (λ _. Asks context.old.work context.new.work) }
-        ensures replies { IfOk result (λ r. RunReplies
-            (setting_over K.words K.is_whole K.shape (table self.now) (M.matching matcher.now)) (asking_first question.now)
-            context.old node.0 r) }
-        ensures meets { IfOk result (λ _. RunMeets
-            (setting_over K.words K.is_whole K.shape (table self.now) (M.matching matcher.now)) (asking_first question.now)
-            context.old context.new node.0) }
-        ensures speaks { IfOk result (λ r. RunSpeaks (asking_first question.now) r) }
-        ensures borrows { IfOk result (λ r. RunBorrows (asking_first question.now) r) }
-        ensures right { IfOk result (λ _. RunRemembers
-            (setting_over K.words K.is_whole K.shape (table self.now) (M.matching matcher.now)) (asking_first question.now)
-            context.new) }
-        ensures remembers { IfOk result (λ r. NodeRemembers (asking_first question.now) (forgotten context.old) context.new
-            (numbered K.shape (table self.now)) node.0 r) }
-        ensures visits { IfOk result (λ _. NodeCounts (numbered K.shape (table self.now)) (asking_first question.now)
-            (forgotten context.old) context.new node.0) };
+        ensures kept { KeepsPairs context.old context.new result }
+        ensures assumes { KeepsAssumed context.old context.new result }
+        ensures marking { KeepsMarks context.old context.new result }
+        ensures works { AsksNode context.old context.new result }
+        ensures replies { RepliesByRun K.words K.is_whole K.shape M.matching (table self.now) matcher.now (asking_first question.now)
+            context.old node.0 result }
+        ensures meets { MeetsByRun K.words K.is_whole K.shape M.matching (table self.now) matcher.now (asking_first question.now)
+            context.old node.0 context.new result }
+        ensures speaks { SpeaksInMode (asking_first question.now) result }
+        ensures borrows { BorrowsThere (asking_first question.now) result }
+        ensures right { RightAfterRun K.words K.is_whole K.shape M.matching (table self.now) matcher.now (asking_first question.now)
+            context.new result }
+        ensures remembers { RemembersNode K.shape (table self.now) (asking_first question.now) (forgotten context.old) context.new node.0
+            result }
+        ensures visits { CountsNode K.shape (table self.now) (asking_first question.now) (forgotten context.old) context.new node.0
+            result };
 
     /// Runs a node as a part of a run that has begun: as `run` does, but verdicts that the run remembers are read, and stay
     /// remembered. For the verdict a node whose one entry is a guarded reference, its target's pair not in progress, gives the
@@ -98,30 +91,25 @@ pub trait RunNodes<K: Validate> {
     ) -> Result<Reply<'i>, OutOfMemory>
         requires known { node.0 < length (table self.now) }
         requires above { NoDeeper question.now.place.now context.old.in_progress }
-        requires stands { IsAskedOf (view context.old.root) (asking_first question.now) }
+        requires stands { SubjectStandsIn context.old (asking_first question.now) }
         requires wanted { ¬ (mode_of question.now.mode ≡ for_units) }
         requires goes_on { GoesOn (setting_over K.words K.is_whole K.shape (table self.now) (M.matching matcher.now))
             (asking_first question.now) context.old }
-        ensures kept { IfOk result (λ _. context.new.in_progress ≡ context.old.in_progress) }
-        ensures assumes { IfOk result (λ _. context.new.remembered.assumptions ≡ context.old.remembered.assumptions) }
-        ensures marking { IfOk result (λ _. context.new.marking ≡ context.old.marking) }
-        ensures works { IfOk result (λ _. Asks context.old.work context.new.work) }
-        ensures counts { IfOk result (λ _. context.old.visits ≤ context.new.visits) }
-        ensures replies { IfOk result (λ r. RunReplies
-            (setting_over K.words K.is_whole K.shape (table self.now) (M.matching matcher.now)) (asking_first question.now)
-            context.old node.0 r) }
-        ensures meets { IfOk result (λ _. RunMeets
-            (setting_over K.words K.is_whole K.shape (table self.now) (M.matching matcher.now)) (asking_first question.now)
-            context.old context.new node.0) }
-        ensures speaks { IfOk result (λ r. RunSpeaks (asking_first question.now) r) }
-        ensures borrows { IfOk result (λ r. RunBorrows (asking_first question.now) r) }
-        ensures stays { IfOk result (λ _. StaysRight
-            (setting_over K.words K.is_whole K.shape (table self.now) (M.matching matcher.now)) (asking_first question.now)
-            context.old context.new) }
-        ensures remembers { IfOk result (λ r. NodeRemembers (asking_first question.now) context.old context.new
-            (numbered K.shape (table self.now)) node.0 r) }
-        ensures visits { IfOk result (λ _. NodeCounts (numbered K.shape (table self.now)) (asking_first question.now)
-            context.old context.new node.0) };
+        ensures kept { KeepsPairs context.old context.new result }
+        ensures assumes { KeepsAssumed context.old context.new result }
+        ensures marking { KeepsMarks context.old context.new result }
+        ensures works { AsksNode context.old context.new result }
+        ensures counts { CountsOn context.old context.new result }
+        ensures replies { RepliesByRun K.words K.is_whole K.shape M.matching (table self.now) matcher.now (asking_first question.now)
+            context.old node.0 result }
+        ensures meets { MeetsByRun K.words K.is_whole K.shape M.matching (table self.now) matcher.now (asking_first question.now)
+            context.old node.0 context.new result }
+        ensures speaks { SpeaksInMode (asking_first question.now) result }
+        ensures borrows { BorrowsThere (asking_first question.now) result }
+        ensures stays { StaysRightInRun K.words K.is_whole K.shape M.matching (table self.now) matcher.now (asking_first question.now)
+            context.old context.new result }
+        ensures remembers { RemembersNode K.shape (table self.now) (asking_first question.now) context.old context.new node.0 result }
+        ensures visits { CountsNode K.shape (table self.now) (asking_first question.now) context.old context.new node.0 result };
 
     /// Evaluates a node over the instance at a place, with the path that led to it: returns the node's unit, with one child for each
     /// of its entries in their order. A match that the matcher leaves unfinished comes out as the context assumes it to, or else
@@ -140,20 +128,17 @@ pub trait RunNodes<K: Validate> {
     ) -> Result<EvaluationNode, OutOfMemory>
         requires known { node.0 < length (table self.now) }
         requires above { NoDeeper place.now context.old.in_progress }
-        requires stands { IsAskedOf (view context.old.root) (evaluating (subject_of instance) place.now path.now) }
-        ensures kept { IfOk result (λ _. context.new.in_progress ≡ context.old.in_progress) }
-        ensures assumes { IfOk result (λ _. context.new.remembered.assumptions ≡ context.old.remembered.assumptions) }
-        ensures marking { IfOk result (λ _. context.new.marking ≡ context.old.marking) }
-        ensures works { IfOk result (λ _. Asks context.old.work context.new.work) }
-        ensures gives { IfOk result (λ u. RunGives
-            (setting_over K.words K.is_whole K.shape (table self.now) (M.matching matcher.now))
-            (evaluating (subject_of instance.entry) place.now path.now) context.old node.0 u) }
-        ensures meets { IfOk result (λ _. RunMeets
-            (setting_over K.words K.is_whole K.shape (table self.now) (M.matching matcher.now))
-            (evaluating (subject_of instance.entry) place.now path.now) context.old context.new node.0) }
-        ensures right { IfOk result (λ _. RunRemembers
-            (setting_over K.words K.is_whole K.shape (table self.now) (M.matching matcher.now))
-            (evaluating (subject_of instance.entry) place.now path.now) context.new) };
+        requires stands { SubjectStandsIn context.old (asking_unit instance place.now path.now) }
+        ensures kept { KeepsPairs context.old context.new result }
+        ensures assumes { KeepsAssumed context.old context.new result }
+        ensures marking { KeepsMarks context.old context.new result }
+        ensures works { AsksNode context.old context.new result }
+        ensures gives { GivesByRun K.words K.is_whole K.shape M.matching (table self.now) matcher.now
+            (asking_unit instance.entry place.now path.now) context.old node.0 result }
+        ensures meets { MeetsByRun K.words K.is_whole K.shape M.matching (table self.now) matcher.now
+            (asking_unit instance.entry place.now path.now) context.old node.0 context.new result }
+        ensures right { RightAfterRun K.words K.is_whole K.shape M.matching (table self.now) matcher.now
+            (asking_unit instance.entry place.now path.now) context.new result };
 }
 
 impl<K: Validate> RunNodes<K> for Nodes<K> {

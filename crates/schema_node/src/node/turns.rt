@@ -1,21 +1,6 @@
 //! The turns of a keyword's run, in any mode. Units that it asks for are asked of the evaluations, and all else of the runs.
-ghost use Rattle.std.specs.Prelude.{◌≡◌, ◌≤◌, [], IfOk, map, option_map, string_bytes};
-ghost use Rattle.schema_reports.specs.InstanceViews.{subject_of};
-ghost use Rattle.schema_definitions.specs.Laws.{IsPresent, steps_below};
-ghost use Rattle.schema_parts.specs.FaultViews.{faults_in};
-ghost use Rattle.schema_parts.specs.KeywordViews.{below_of};
-ghost use Rattle.node_table.specs.NodeTable.{numbered};
-ghost use Rattle.schema_parts.specs.EdgeViews.{edge_of};
-ghost use Rattle.run_steps.specs.NodeRuns.{HasForm, HasChildren, form_at_work};
-ghost use Rattle.schema_contexts.specs.Progress.{places_in};
-ghost use Rattle.schema_contexts.specs.Works.{Spends};
-ghost use Rattle.run_steps.specs.Askings.{asking};
-ghost use Rattle.run_steps.specs.EvaluationPlaces.{CarriesItsNumber};
-ghost use Rattle.schema_runs.specs.RunStates.{setting};
-ghost use Rattle.schema_runs.specs.RunStates.{HasBegun, Keeps, PassesItsOwn, RunBorrows, StaysRight};
-ghost use Rattle.schema_runs.specs.RunStates.{MeetsChild, MeetsForm};
-ghost use Rattle.schema_runs.specs.UnitStates.{ChildTells, FindsRightly, MayAsk, MayEvaluate};
-ghost use Rattle.schema_runs.specs.Visits.{LeadsNowhere};
+ghost use Rattle.schema_node.specs.Premises.{ChildMayAsk, ChildMayEvaluate, KeywordMayAsk, TurnsMayAsk};
+ghost use Rattle.schema_node.specs.RunAnswers.{AnswerOfChild, AnswerOfKeyword, TurnsOfKeyword};
 
 use crate::node::evaluate::evaluate_child;
 use crate::node::run::run_child;
@@ -39,24 +24,8 @@ pub(crate) fn keyword_answer<'i, K: Validate, M: Matcher>(
     question: &Question<'_, 'i>,
     context: &mut ValidationContext<'i>,
 ) -> Result<Answer<'i>, OutOfMemory>
-    requires may { MayAsk (setting K.words K.is_whole K.shape M.matching engine.now) (asking question.now)
-        context.old node.0 }
-    requires carries { CarriesItsNumber (places_in context.old) question.now.place.now }
-    requires form { HasForm (numbered K.shape engine.now.nodes.now) node.0 (form_at_work K.shape keyword.now) }
-    ensures keeps { IfOk result (λ _. Keeps context.old context.new) }
-    ensures counts { IfOk result (λ _. context.old.visits ≤ context.new.visits) }
-    ensures works { IfOk result (λ _. Spends context.old.work context.new.work) }
-    ensures quiet { IfOk result (λ _. LeadsNowhere (map (option_map edge_of) keyword.now.children.now)
-        → context.new.visits ≡ context.old.visits) }
-    ensures right { IfOk result (λ a. FindsRightly
-        (setting K.words K.is_whole K.shape M.matching engine.now) (asking question.now)
-        context.old node.0 (map (option_map edge_of) keyword.now.children.now) (K.shape keyword.now.keyword.now) a) }
-    ensures passes { IfOk result (λ a. PassesItsOwn (asking question.now) a) }
-    ensures meets { IfOk result (λ _. MeetsForm
-        (setting K.words K.is_whole K.shape M.matching engine.now) (asking question.now)
-        context.old context.new node.0 (string_bytes keyword.now.name.now) (form_at_work K.shape keyword.now)) }
-    ensures stays { IfOk result (λ _. StaysRight
-        (setting K.words K.is_whole K.shape M.matching engine.now) (asking question.now) context.old context.new) }
+    requires { KeywordMayAsk K.Validate M.Matcher.own engine.now question.now context.old node.0 keyword.now }
+    ensures { AnswerOfKeyword K.Validate M.Matcher.own engine.now question.now node.0 keyword.now context.old context.new result }
 {
     let mut run = keyword
         .keyword
@@ -87,30 +56,9 @@ fn run_turns<'i, K: Validate, M: Matcher>(
     answer: &mut Answer<'i>,
     context: &mut ValidationContext<'i>,
 ) -> Result<(), OutOfMemory>
-    requires may { MayAsk (setting K.words K.is_whole K.shape M.matching engine.now) (asking question.now)
-        context.old node.0 }
-    requires carries { CarriesItsNumber (places_in context.old) question.now.place.now }
-    requires form { HasForm (numbered K.shape engine.now.nodes.now) node.0 (form_at_work K.shape keyword.now) }
-    requires begun { HasBegun (setting K.words K.is_whole K.shape M.matching engine.now) (asking question.now)
-        (K.shape keyword.now.keyword.now) run.old answer.old }
-    requires no_faults { faults_in answer.old ≡ [] }
-    requires no_marks { context.old.marking ≡ [] }
-    ensures root { IfOk result (λ _. context.new.root ≡ context.old.root) }
-    ensures kept { IfOk result (λ _. context.new.in_progress ≡ context.old.in_progress) }
-    ensures assumes { IfOk result (λ _. context.new.remembered.assumptions ≡ context.old.remembered.assumptions) }
-    ensures counts { IfOk result (λ _. context.old.visits ≤ context.new.visits) }
-    ensures works { IfOk result (λ _. Spends context.old.work context.new.work) }
-    ensures quiet { IfOk result (λ _. LeadsNowhere (map (option_map edge_of) keyword.now.children.now)
-        → context.new.visits ≡ context.old.visits) }
-    ensures right { IfOk result (λ _. FindsRightly
-        (setting K.words K.is_whole K.shape M.matching engine.now) (asking question.now)
-        context.old node.0 (map (option_map edge_of) keyword.now.children.now) (K.shape keyword.now.keyword.now) answer.new) }
-    ensures passes { IfOk result (λ _. PassesItsOwn (asking question.now) answer.new) }
-    ensures meets { IfOk result (λ _. MeetsForm
-        (setting K.words K.is_whole K.shape M.matching engine.now) (asking question.now)
-        context.old context.new node.0 (string_bytes keyword.now.name.now) (form_at_work K.shape keyword.now)) }
-    ensures stays { IfOk result (λ _. StaysRight
-        (setting K.words K.is_whole K.shape M.matching engine.now) (asking question.now) context.old context.new) }
+    requires { TurnsMayAsk K.Validate M.Matcher.own engine.now question.now context.old node.0 keyword.now run.old answer.old }
+    ensures { TurnsOfKeyword K.Validate M.Matcher.own engine.now question.now node.0 keyword.now context.old context.new result
+        answer.new }
 {
     let children = keyword.children;
     let mut reply = Reply::Nothing;
@@ -180,22 +128,9 @@ fn ask_child<'i, K: Validate, M: Matcher>(
     question: &Question<'_, 'i>,
     context: &mut ValidationContext<'i>,
 ) -> Result<Reply<'i>, OutOfMemory>
-    requires may { MayAsk (setting K.words K.is_whole K.shape M.matching engine.now) (asking question.now)
-        context.old node.0 }
-    requires carries { CarriesItsNumber (places_in context.old) question.now.place.now }
-    requires children { HasChildren (numbered K.shape engine.now.nodes.now) node.0 (map (option_map edge_of) children.now) }
-    requires present { IsPresent (subject_of question.now.instance) (steps_below (below_of below)) }
-    ensures keeps { IfOk result (λ _. Keeps context.old context.new) }
-    ensures counts { IfOk result (λ _. context.old.visits ≤ context.new.visits) }
-    ensures works { IfOk result (λ _. Spends context.old.work context.new.work) }
-    ensures quiet { IfOk result (λ _. LeadsNowhere (map (option_map edge_of) children.now) → context.new.visits ≡ context.old.visits) }
-    ensures gives { IfOk result (λ u. ChildTells (setting K.words K.is_whole K.shape M.matching engine.now) (asking question.now)
-        context.old node.0 (map (option_map edge_of) children.now) (record { child = child; below = below_of below.entry }) u) }
-    ensures meets { IfOk result (λ _. MeetsChild (setting K.words K.is_whole K.shape M.matching engine.now) (asking question.now)
-        context.old context.new node.0 (map (option_map edge_of) children.now) (record { child = child; below = below_of below.entry })) }
-    ensures stays { IfOk result (λ _. StaysRight (setting K.words K.is_whole K.shape M.matching engine.now) (asking question.now)
-        context.old context.new) }
-    ensures borrows { IfOk result (λ r. RunBorrows (asking question.now) r) }
+    requires { ChildMayAsk K.Validate M.Matcher.own engine.now question.now context.old node.0 children.now below }
+    ensures { AnswerOfChild K.Validate M.Matcher.own engine.now question.now node.0 children.now child below.entry context.old context.new
+        result }
 {
     match question.mode {
         Mode::Verdict => {
@@ -224,22 +159,9 @@ fn ask_unit<'i, K: Validate, M: Matcher>(
     question: &Question<'_, 'i>,
     context: &mut ValidationContext<'i>,
 ) -> Result<Reply<'i>, OutOfMemory>
-    requires may { MayEvaluate (setting K.words K.is_whole K.shape M.matching engine.now) (asking question.now)
-        context.old node.0 }
-    requires carries { CarriesItsNumber (places_in context.old) question.now.place.now }
-    requires children { HasChildren (numbered K.shape engine.now.nodes.now) node.0 (map (option_map edge_of) children.now) }
-    requires present { IsPresent (subject_of question.now.instance) (steps_below (below_of below)) }
-    ensures keeps { IfOk result (λ _. Keeps context.old context.new) }
-    ensures counts { IfOk result (λ _. context.old.visits ≤ context.new.visits) }
-    ensures works { IfOk result (λ _. Spends context.old.work context.new.work) }
-    ensures quiet { IfOk result (λ _. LeadsNowhere (map (option_map edge_of) children.now) → context.new.visits ≡ context.old.visits) }
-    ensures gives { IfOk result (λ u. ChildTells (setting K.words K.is_whole K.shape M.matching engine.now) (asking question.now)
-        context.old node.0 (map (option_map edge_of) children.now) (record { child = child; below = below_of below.entry }) u) }
-    ensures meets { IfOk result (λ _. MeetsChild (setting K.words K.is_whole K.shape M.matching engine.now) (asking question.now)
-        context.old context.new node.0 (map (option_map edge_of) children.now) (record { child = child; below = below_of below.entry })) }
-    ensures stays { IfOk result (λ _. StaysRight (setting K.words K.is_whole K.shape M.matching engine.now) (asking question.now)
-        context.old context.new) }
-    ensures borrows { IfOk result (λ r. RunBorrows (asking question.now) r) }
+    requires { ChildMayEvaluate K.Validate M.Matcher.own engine.now question.now context.old node.0 children.now below }
+    ensures { AnswerOfChild K.Validate M.Matcher.own engine.now question.now node.0 children.now child below.entry context.old context.new
+        result }
 {
     let unit = evaluate_child(engine, node, children, child, below, question, context)?;
     Ok(Reply::Unit(Box::new(engine.alloc, unit)?))

@@ -1,8 +1,10 @@
 //! Runs of nodes for the verdict alone. A level of an instance takes little room on the stack: no reply is moved, only a yes or a no.
 ghost use Rattle.schema_parts.specs.KeywordViews.{below_of};
 ghost use Rattle.schema_parts.specs.EdgeViews.{edge_of};
-ghost use Rattle.schema_runs.specs.Answered.{Answers, IsAsked, a_guarded, a_node, a_plan, a_shared, an_edge, setting_by};
-ghost use Rattle.schema_runs.specs.Answered.{the_child, the_entries, the_entry};
+ghost use Rattle.schema_runs.specs.Answered.{a_guarded, a_node, a_plan, a_shared};
+ghost use Rattle.schema_runs.specs.Answered.{the_child, the_entries};
+ghost use Rattle.schema_node.specs.Premises.{EdgeIsAsked, EntryIsAsked, VerdictIsAsked};
+ghost use Rattle.schema_node.specs.RunAnswers.{EdgeIsTold, EntryIsTold, VerdictIsTold};
 
 use crate::node::verdict_asking::asked_verdict;
 use crate::node::verdict_turns::keyword_verdict;
@@ -25,9 +27,8 @@ pub(crate) fn verdict_node<'i, K: Validate, M: Matcher>(
     question: &Question<'_, 'i>,
     context: &mut ValidationContext<'i>,
 ) -> Result<bool, OutOfMemory>
-    requires { IsAsked (setting_by K.Validate M.Matcher.own engine.now) question.now (a_node node.0) context.old }
-    ensures { Answers (setting_by K.Validate M.Matcher.own engine.now) question.now
-        (a_node node.0) context.old context.new result }
+    requires { VerdictIsAsked K.Validate M.Matcher.own engine.now question.now (a_node node.0) context.old }
+    ensures { VerdictIsTold K.Validate M.Matcher.own engine.now question.now (a_node node.0) context.old context.new result }
 {
     context.step()?;
     verdict_plan(engine, node, question, context)
@@ -42,9 +43,8 @@ fn verdict_plan<'i, K: Validate, M: Matcher>(
     question: &Question<'_, 'i>,
     context: &mut ValidationContext<'i>,
 ) -> Result<bool, OutOfMemory>
-    requires { IsAsked (setting_by K.Validate M.Matcher.own engine.now) question.now (a_plan node.0) context.old }
-    ensures { Answers (setting_by K.Validate M.Matcher.own engine.now) question.now
-        (a_plan node.0) context.old context.new result }
+    requires { VerdictIsAsked K.Validate M.Matcher.own engine.now question.now (a_plan node.0) context.old }
+    ensures { VerdictIsTold K.Validate M.Matcher.own engine.now question.now (a_plan node.0) context.old context.new result }
 {
     match &engine.nodes.node(node).form {
         None => Ok(true),
@@ -71,9 +71,9 @@ fn verdict_entries<'i, K: Validate, M: Matcher>(
     question: &Question<'_, 'i>,
     context: &mut ValidationContext<'i>,
 ) -> Result<bool, OutOfMemory>
-    requires { IsAsked (setting_by K.Validate M.Matcher.own engine.now) question.now (the_entries K.shape node.0 entries.now) context.old }
-    ensures { Answers (setting_by K.Validate M.Matcher.own engine.now) question.now
-        (the_entries K.shape node.0 entries.now) context.old context.new result }
+    requires { VerdictIsAsked K.Validate M.Matcher.own engine.now question.now (the_entries K.shape node.0 entries.now) context.old }
+    ensures { VerdictIsTold K.Validate M.Matcher.own engine.now question.now (the_entries K.shape node.0 entries.now) context.old
+        context.new result }
 {
     for entry in entries {
         let valid = verdict_form(engine, node, entry, question, context)?;
@@ -93,9 +93,8 @@ pub(crate) fn verdict_form<'i, K: Validate, M: Matcher>(
     question: &Question<'_, 'i>,
     context: &mut ValidationContext<'i>,
 ) -> Result<bool, OutOfMemory>
-    requires { IsAsked (setting_by K.Validate M.Matcher.own engine.now) question.now (the_entry K.shape node.0 entry.now) context.old }
-    ensures { Answers (setting_by K.Validate M.Matcher.own engine.now) question.now
-        (the_entry K.shape node.0 entry.now) context.old context.new result }
+    requires { EntryIsAsked K.Validate M.Matcher.own engine.now question.now node.0 entry.now context.old }
+    ensures { EntryIsTold K.Validate M.Matcher.own engine.now question.now node.0 entry.now context.old context.new result }
 {
     match &entry.form {
         EntryForm::Keyword(keyword, children) => {
@@ -128,9 +127,8 @@ fn verdict_keyword<'i, K: Validate, M: Matcher>(
     question: &Question<'_, 'i>,
     context: &mut ValidationContext<'i>,
 ) -> Result<bool, OutOfMemory>
-    requires { IsAsked (setting_by K.Validate M.Matcher.own engine.now) question.now (the_entry K.shape node.0 entry.now) context.old }
-    ensures { Answers (setting_by K.Validate M.Matcher.own engine.now) question.now
-        (the_entry K.shape node.0 entry.now) context.old context.new result }
+    requires { EntryIsAsked K.Validate M.Matcher.own engine.now question.now node.0 entry.now context.old }
+    ensures { EntryIsTold K.Validate M.Matcher.own engine.now question.now node.0 entry.now context.old context.new result }
 {
     match &entry.form {
         EntryForm::Keyword(keyword, children) => {
@@ -154,9 +152,8 @@ fn verdict_reference<'i, K: Validate, M: Matcher>(
     question: &Question<'_, 'i>,
     context: &mut ValidationContext<'i>,
 ) -> Result<bool, OutOfMemory>
-    requires { IsAsked (setting_by K.Validate M.Matcher.own engine.now) question.now (an_edge (edge_of edge.now)) context.old }
-    ensures { Answers (setting_by K.Validate M.Matcher.own engine.now) question.now
-        (an_edge (edge_of edge.now)) context.old context.new result }
+    requires { EdgeIsAsked K.Validate M.Matcher.own engine.now question.now edge.now context.old }
+    ensures { EdgeIsTold K.Validate M.Matcher.own engine.now question.now edge.now context.old context.new result }
 {
     let path = question.path.under_reference();
     let asked = Question {
@@ -180,10 +177,10 @@ pub(crate) fn verdict_child<'i, K: Validate, M: Matcher>(
     question: &Question<'_, 'i>,
     context: &mut ValidationContext<'i>,
 ) -> Result<bool, OutOfMemory>
-    requires { IsAsked (setting_by K.Validate M.Matcher.own engine.now) question.now
-        (the_child node.0 children.now child (below_of below)) context.old }
-    ensures { Answers (setting_by K.Validate M.Matcher.own engine.now) question.now
-        (the_child node.0 children.now child (below_of below.entry)) context.old context.new result }
+    requires { VerdictIsAsked K.Validate M.Matcher.own engine.now question.now (the_child node.0 children.now child (below_of below))
+        context.old }
+    ensures { VerdictIsTold K.Validate M.Matcher.own engine.now question.now (the_child node.0 children.now child (below_of below.entry))
+        context.old context.new result }
 {
     match child_edge(children, child) {
         None => Ok(true),
@@ -212,9 +209,8 @@ pub(crate) fn verdict_edge<'i, K: Validate, M: Matcher>(
     question: &Question<'_, 'i>,
     context: &mut ValidationContext<'i>,
 ) -> Result<bool, OutOfMemory>
-    requires { IsAsked (setting_by K.Validate M.Matcher.own engine.now) question.now (an_edge (edge_of edge.now)) context.old }
-    ensures { Answers (setting_by K.Validate M.Matcher.own engine.now) question.now
-        (an_edge (edge_of edge.now)) context.old context.new result }
+    requires { EdgeIsAsked K.Validate M.Matcher.own engine.now question.now edge.now context.old }
+    ensures { EdgeIsTold K.Validate M.Matcher.own engine.now question.now edge.now context.old context.new result }
 {
     if edge.guarded {
         return guarded_verdict(engine, edge, question, context);
@@ -242,9 +238,8 @@ fn shared_verdict<'i, K: Validate, M: Matcher>(
     question: &Question<'_, 'i>,
     context: &mut ValidationContext<'i>,
 ) -> Result<bool, OutOfMemory>
-    requires { IsAsked (setting_by K.Validate M.Matcher.own engine.now) question.now (a_shared node.0) context.old }
-    ensures { Answers (setting_by K.Validate M.Matcher.own engine.now) question.now
-        (a_shared node.0) context.old context.new result }
+    requires { VerdictIsAsked K.Validate M.Matcher.own engine.now question.now (a_shared node.0) context.old }
+    ensures { VerdictIsTold K.Validate M.Matcher.own engine.now question.now (a_shared node.0) context.old context.new result }
 {
     let pair = GuardedPair::new(context, node, question.place)?;
     if let Some(valid) = pair.lasting_verdict(context) {
@@ -272,9 +267,9 @@ fn guarded_verdict<'i, K: Validate, M: Matcher>(
     question: &Question<'_, 'i>,
     context: &mut ValidationContext<'i>,
 ) -> Result<bool, OutOfMemory>
-    requires { IsAsked (setting_by K.Validate M.Matcher.own engine.now) question.now (a_guarded (edge_of edge.now)) context.old }
-    ensures { Answers (setting_by K.Validate M.Matcher.own engine.now) question.now
-        (a_guarded (edge_of edge.now)) context.old context.new result }
+    requires { VerdictIsAsked K.Validate M.Matcher.own engine.now question.now (a_guarded (edge_of edge.now)) context.old }
+    ensures { VerdictIsTold K.Validate M.Matcher.own engine.now question.now (a_guarded (edge_of edge.now)) context.old context.new
+        result }
 {
     let pair = GuardedPair::new(context, edge.node, question.place)?;
     if let Some(valid) = pair.known_verdict(context) {

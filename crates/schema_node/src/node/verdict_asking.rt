@@ -3,9 +3,10 @@ ghost use Rattle.std.specs.Prelude.{◌≡◌, Bool, true};
 ghost use Rattle.schema_reports.specs.InstanceViews.{subject_of};
 ghost use Rattle.schema_parts.specs.AskedAtOnce.{HoldsAsTold, tells_at_once};
 ghost use Rattle.schema_parts.specs.KeywordViews.{Tells};
-ghost use Rattle.schema_parts.specs.MatcherViews.{FinishesEach};
-ghost use Rattle.asked_questions.specs.Questions.{SaysByQuestions, StandsThere, question_in};
-ghost use Rattle.schema_runs.specs.Answered.{Answers, IsAsked, setting_by, the_keyword, the_question};
+ghost use Rattle.asked_questions.specs.Questions.{StandsThere, question_in};
+ghost use Rattle.schema_runs.specs.Answered.{the_question};
+ghost use Rattle.schema_node.specs.Premises.{FinishesAll, KeywordIsAsked, QuestionsAreAsked, VerdictIsAsked};
+ghost use Rattle.schema_node.specs.RunAnswers.{KeywordIsTold, VerdictIsTold};
 
 use crate::node::verdict::verdict_edge;
 use crate::node::verdict_turns::keyword_verdict;
@@ -33,7 +34,7 @@ fn finished_asking<'s, 'i, K: Validate, M: Matcher>(
 ) -> Asking<'s, 'i>
     ensures asks { (texts : Bool) → Tells texts (K.is_whole (K.shape keyword.now)) (subject_of instance.entry)
         → HoldsAsTold (K.words texts) (K.shape keyword.now) (subject_of instance.entry) result }
-    ensures finishes { tells_at_once result ≡ true → FinishesEach (M.matching engine.now.matcher.now) }
+    ensures finishes { tells_at_once result ≡ true → FinishesAll M.matching engine.now }
 {
     if engine.matcher.finishes() {
         keyword.asking(instance)
@@ -52,9 +53,8 @@ pub(crate) fn asked_verdict<'i, K: Validate, M: Matcher>(
     question: &Question<'_, 'i>,
     context: &mut ValidationContext<'i>,
 ) -> Result<bool, OutOfMemory>
-    requires { IsAsked (setting_by K.Validate M.Matcher.own engine.now) question.now (the_keyword K.shape node.0 keyword.now) context.old }
-    ensures { Answers (setting_by K.Validate M.Matcher.own engine.now) question.now
-        (the_keyword K.shape node.0 keyword.now) context.old context.new result }
+    requires { KeywordIsAsked K.Validate M.Matcher.own engine.now question.now node.0 keyword.now context.old }
+    ensures { KeywordIsTold K.Validate M.Matcher.own engine.now question.now node.0 keyword.now context.old context.new result }
 {
     match finished_asking(engine, keyword.keyword, question.instance) {
         Asking::ByTurns => keyword_verdict(engine, node, keyword, question, context),
@@ -102,14 +102,8 @@ fn verdict_counted<'i, K: Validate, M: Matcher>(
     question: &Question<'_, 'i>,
     context: &mut ValidationContext<'i>,
 ) -> Result<bool, OutOfMemory>
-    requires asked { IsAsked (setting_by K.Validate M.Matcher.own engine.now) question.now
-        (the_keyword K.shape node.0 keyword.now) context.old }
-    requires finishes { FinishesEach (M.matching engine.now.matcher.now) }
-    requires there { questions.subject ≡ subject_of question.now.instance }
-    requires says { SaysByQuestions K.words K.is_whole (subject_of question.now.instance) (K.shape keyword.now.keyword.now)
-        all questions.left }
-    ensures { Answers (setting_by K.Validate M.Matcher.own engine.now) question.now
-        (the_keyword K.shape node.0 keyword.now) context.old context.new result }
+    requires { QuestionsAreAsked K.Validate M.Matcher.own engine.now question.now context.old node.0 keyword.now all questions }
+    ensures { KeywordIsTold K.Validate M.Matcher.own engine.now question.now node.0 keyword.now context.old context.new result }
 {
     let children = keyword.children;
     while let Some(asked) = questions.next() {
@@ -132,14 +126,8 @@ fn verdict_members<'i, K: Validate, M: Matcher>(
     question: &Question<'_, 'i>,
     context: &mut ValidationContext<'i>,
 ) -> Result<bool, OutOfMemory>
-    requires asked { IsAsked (setting_by K.Validate M.Matcher.own engine.now) question.now
-        (the_keyword K.shape node.0 keyword.now) context.old }
-    requires finishes { FinishesEach (M.matching engine.now.matcher.now) }
-    requires there { questions.subject ≡ subject_of question.now.instance }
-    requires says { SaysByQuestions K.words K.is_whole (subject_of question.now.instance) (K.shape keyword.now.keyword.now)
-        true questions.left }
-    ensures { Answers (setting_by K.Validate M.Matcher.own engine.now) question.now
-        (the_keyword K.shape node.0 keyword.now) context.old context.new result }
+    requires { QuestionsAreAsked K.Validate M.Matcher.own engine.now question.now context.old node.0 keyword.now true questions }
+    ensures { KeywordIsTold K.Validate M.Matcher.own engine.now question.now node.0 keyword.now context.old context.new result }
 {
     let children = keyword.children;
     while let Some(asked) = questions.next() {
@@ -162,14 +150,8 @@ fn verdict_names<'i, K: Validate, M: Matcher>(
     question: &Question<'_, 'i>,
     context: &mut ValidationContext<'i>,
 ) -> Result<bool, OutOfMemory>
-    requires asked { IsAsked (setting_by K.Validate M.Matcher.own engine.now) question.now
-        (the_keyword K.shape node.0 keyword.now) context.old }
-    requires finishes { FinishesEach (M.matching engine.now.matcher.now) }
-    requires there { questions.subject ≡ subject_of question.now.instance }
-    requires says { SaysByQuestions K.words K.is_whole (subject_of question.now.instance) (K.shape keyword.now.keyword.now)
-        true questions.left }
-    ensures { Answers (setting_by K.Validate M.Matcher.own engine.now) question.now
-        (the_keyword K.shape node.0 keyword.now) context.old context.new result }
+    requires { QuestionsAreAsked K.Validate M.Matcher.own engine.now question.now context.old node.0 keyword.now true questions }
+    ensures { KeywordIsTold K.Validate M.Matcher.own engine.now question.now node.0 keyword.now context.old context.new result }
 {
     let children = keyword.children;
     while let Some(asked) = questions.next() {
@@ -192,11 +174,11 @@ fn verdict_there<'i, K: Validate, M: Matcher>(
     question: &Question<'_, 'i>,
     context: &mut ValidationContext<'i>,
 ) -> Result<bool, OutOfMemory>
-    requires asked { IsAsked (setting_by K.Validate M.Matcher.own engine.now) question.now
+    requires asked { VerdictIsAsked K.Validate M.Matcher.own engine.now question.now
         (the_question node.0 children.now (question_in asked)) context.old }
     requires there { StandsThere (subject_of question.now.instance) asked }
-    ensures { Answers (setting_by K.Validate M.Matcher.own engine.now) question.now
-        (the_question node.0 children.now (question_in asked.entry)) context.old context.new result }
+    ensures { VerdictIsTold K.Validate M.Matcher.own engine.now question.now (the_question node.0 children.now (question_in asked.entry))
+        context.old context.new result }
 {
     match child_edge(children, asked.child) {
         None => Ok(true),

@@ -4,9 +4,8 @@ ghost use Rattle.std.specs.Prelude.{◌≡◌, [], Bool, IfOk};
 ghost use Rattle.schema_reports.specs.InstanceViews.{subject_of};
 ghost use Rattle.schema_definitions.specs.Keywords.{for_verdict};
 ghost use Rattle.schema_parts.specs.KeywordViews.{fresh};
-ghost use Rattle.run_steps.specs.Askings.{asking};
-ghost use Rattle.schema_runs.specs.Answered.{Answers, IsAsked, Turns, setting_by, the_keyword};
-ghost use Rattle.schema_runs.specs.RunStates.{HasBegun};
+ghost use Rattle.schema_node.specs.Premises.{KeywordHasBegun, KeywordIsAsked};
+ghost use Rattle.schema_node.specs.RunAnswers.{KeywordIsTold, VerdictTurnsOfKeyword};
 
 use crate::node::verdict::verdict_child;
 use run_steps::faults::begun;
@@ -31,9 +30,8 @@ pub(crate) fn keyword_verdict<'i, K: Validate, M: Matcher>(
     question: &Question<'_, 'i>,
     context: &mut ValidationContext<'i>,
 ) -> Result<bool, OutOfMemory>
-    requires { IsAsked (setting_by K.Validate M.Matcher.own engine.now) question.now (the_keyword K.shape node.0 keyword.now) context.old }
-    ensures { Answers (setting_by K.Validate M.Matcher.own engine.now) question.now
-        (the_keyword K.shape node.0 keyword.now) context.old context.new result }
+    requires { KeywordIsAsked K.Validate M.Matcher.own engine.now question.now node.0 keyword.now context.old }
+    ensures { KeywordIsTold K.Validate M.Matcher.own engine.now question.now node.0 keyword.now context.old context.new result }
 {
     let mut run = begun_run(engine.alloc, keyword.keyword, question.instance)?;
     let mut answer = begun(engine.alloc, Mode::Verdict)?;
@@ -81,13 +79,11 @@ fn take_turns<'i, K: Validate, M: Matcher>(
     answer: &mut Answer<'i>,
     context: &mut ValidationContext<'i>,
 ) -> Result<(), OutOfMemory>
-    requires asked { IsAsked (setting_by K.Validate M.Matcher.own engine.now) question.now
-        (the_keyword K.shape node.0 keyword.now) context.old }
-    requires begun { HasBegun (setting_by K.Validate M.Matcher.own engine.now) (asking question.now)
-        (K.shape keyword.now.keyword.now) run.old answer.old }
+    requires asked { KeywordIsAsked K.Validate M.Matcher.own engine.now question.now node.0 keyword.now context.old }
+    requires begun { KeywordHasBegun K.Validate M.Matcher.own engine.now question.now keyword.now run.old answer.old }
     requires no_marks { context.old.marking ≡ [] }
-    ensures { Turns K.shape (setting_by K.Validate M.Matcher.own engine.now) question.now
-        node.0 keyword.now context.old context.new result answer.new }
+    ensures { VerdictTurnsOfKeyword K.Validate M.Matcher.own engine.now question.now node.0 keyword.now context.old context.new result
+        answer.new }
 {
     let children = keyword.children;
     let mut told: Option<bool> = None;

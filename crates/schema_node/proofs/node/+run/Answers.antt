@@ -70,7 +70,7 @@ run::run_child-run_edge-requires g t c =
     let e = edge_of c.in-Some.edge.now in
     let k = c.requires.children c.args.child e (sym c.in-Some.ensures.edge) in
     let l = falls_here g.K.Validate.words g.K.Validate.is_whole ns (length c.args.engine.now.nodes.now) (settling (g.M.Matcher.matching c.args.engine.now.matcher.now) c.args.context.now.remembered.assumptions) c.requires.may.ranked c.args.node.0 (subject_of c.args.question.now.instance) (busy_at (steps_to c.args.question.now.place.now) c.args.context.now.in_progress) e c.requires.may.known k in
-    λ κs h. (lower_edge _ _ _ t 1 refl l c.decreases, (h.0, (h.1.0, (h.1.1.0, (h.1.1.1, (record { known = (c.requires.may.ranked c.args.node.0 c.requires.may.known e k).0; ranked = c.requires.may.ranked; above = c.requires.may.above; wanted = c.requires.may.wanted; stands = c.requires.may.stands; goes_on = c.requires.may.goes_on }, (c.requires.carries, c.requires.more)))))))
+    λ κs h. (lower_edge _ _ _ t 1 refl l c.decreases, (h.0, (h.1.0, (h.1.1.0, (h.1.1.1, record { may = record { known = (c.requires.may.ranked c.args.node.0 c.requires.may.known e k).0; ranked = c.requires.may.ranked; above = c.requires.may.above; wanted = c.requires.may.wanted; stands = c.requires.may.stands; goes_on = c.requires.may.goes_on }; carries = c.requires.carries; more = c.requires.more })))))
 
 pub run::run_child-run_refused-requires : goal.run::run_child-run_refused-requires
 run::run_child-run_refused-requires g t c =
@@ -83,7 +83,7 @@ run::run_child-run_refused-requires g t c =
     let lower = steps_to c.below-lower.result in
     let is = sym c.in-Some.ensures.edge in
     let below = c.in-Some-one_below.ensures.below in
-    λ κs h. (lower_across _ _ _ t 0 refl (needs_below set q c.args.node.0 _ k e step inner lower c.args.context.now c.requires.may c.requires.children is below.1 c.below-lower.ensures.below) c.decreases, (h.0, (h.1.0, (h.1.1.0, (h.1.1.1, (may_below set q c.args.node.0 _ k e step inner lower c.args.context.now c.requires.may c.requires.children is below.1 c.below-lower.ensures.below, (c.below-lower.ensures.carries (places_in c.args.context.now) c.requires.carries, (c.requires.more, c.is_asked_first.ensures.finishes c.if-is_asked_first.true))))))))
+    λ κs h. (lower_across _ _ _ t 0 refl (needs_below set q c.args.node.0 _ k e step inner lower c.args.context.now c.requires.may c.requires.children is below.1 c.below-lower.ensures.below) c.decreases, (h.0, (h.1.0, (h.1.1.0, (h.1.1.1, record { may = may_below set q c.args.node.0 _ k e step inner lower c.args.context.now c.requires.may c.requires.children is below.1 c.below-lower.ensures.below; carries = c.below-lower.ensures.carries (places_in c.args.context.now) c.requires.carries; more = c.requires.more; finishes = c.is_asked_first.ensures.finishes c.if-is_asked_first.true })))))
 
 pub run::run_child-run_edge-requires-in-Some-one_below : goal.run::run_child-run_edge-requires-in-Some-one_below
 run::run_child-run_edge-requires-in-Some-one_below g t c =
@@ -96,7 +96,7 @@ run::run_child-run_edge-requires-in-Some-one_below g t c =
     let lower = steps_to c.below-lower.result in
     let is = sym c.in-Some.ensures.edge in
     let below = c.in-Some-one_below.ensures.below in
-    λ κs h. (lower_edge _ _ _ t 1 refl (needs_below set q c.args.node.0 _ k e step inner lower c.args.context.now c.requires.may c.requires.children is below.1 c.below-lower.ensures.below) c.decreases, (h.0, (h.1.0, (h.1.1.0, (h.1.1.1, (may_below set q c.args.node.0 _ k e step inner lower c.args.context.now c.requires.may c.requires.children is below.1 c.below-lower.ensures.below, (c.below-lower.ensures.carries (places_in c.args.context.now) c.requires.carries, c.requires.more)))))))
+    λ κs h. (lower_edge _ _ _ t 1 refl (needs_below set q c.args.node.0 _ k e step inner lower c.args.context.now c.requires.may c.requires.children is below.1 c.below-lower.ensures.below) c.decreases, (h.0, (h.1.0, (h.1.1.0, (h.1.1.1, record { may = may_below set q c.args.node.0 _ k e step inner lower c.args.context.now c.requires.may c.requires.children is below.1 c.below-lower.ensures.below; carries = c.below-lower.ensures.carries (places_in c.args.context.now) c.requires.carries; more = c.requires.more })))))
 
 pub run::run_child-returns-in-None-one_below : goal.run::run_child-returns-in-None-one_below
 run::run_child-returns-in-None-one_below g t c = record {
@@ -156,7 +156,7 @@ run::run_refused-run_edge-requires g t c =
     let valid = c.in_ok-valid.ensures in
     let l = ap (λ es. edge_needs (numbered g.K.Validate.shape c.args.engine.now.nodes.now) (length c.args.engine.now.nodes.now) (edge_of c.args.edge.now) (subject_of c.args.question.now.instance) (busy_at (steps_to c.args.question.now.place.now) es)) valid.keeps.in_progress in
     let may = may_on set (asking c.args.question.now) c.args.context.now c.verdict_edge.new.context (edge_of c.args.edge.now).node valid.keeps valid.stays c.requires.may in
-    λ κs h. (lower_edge _ _ _ t 0 l (no_deeper _) c.decreases, (h.0, (h.1.0, (h.1.1.0, (h.1.1.1, (may, (carries_on c.args.context.now.root _ c.args.question.now.place.now valid.keeps.root c.requires.carries, c.requires.more)))))))
+    λ κs h. (lower_edge _ _ _ t 0 l (no_deeper _) c.decreases, (h.0, (h.1.0, (h.1.1.0, (h.1.1.1, record { may = may; carries = carries_on c.args.context.now.root _ c.args.question.now.place.now valid.keeps.root c.requires.carries; more = c.requires.more })))))
 
 pub run::run_refused-returns-then-valid : goal.run::run_refused-returns-then-valid
 run::run_refused-returns-then-valid g t c =
@@ -193,7 +193,7 @@ run::run_form-run_edge-requires g t c =
     let e = edge_of c.in-Reference.edge in
     let k = reference_edge ns c.args.node.0 e (rw c.in-Reference.is at c.requires.form) in
     let l = falls_here g.K.Validate.words g.K.Validate.is_whole ns (length c.args.engine.now.nodes.now) (settling (g.M.Matcher.matching c.args.engine.now.matcher.now) c.args.context.now.remembered.assumptions) c.requires.may.ranked c.args.node.0 (subject_of c.args.question.now.instance) (busy_at (steps_to c.args.question.now.place.now) c.args.context.now.in_progress) e c.requires.may.known k in
-    λ κs h. (lower_edge _ _ _ t 6 refl l c.decreases, (h.0, (h.1.0, (h.1.1.0, (h.1.1.1, (record { known = (c.requires.may.ranked c.args.node.0 c.requires.may.known e k).0; ranked = c.requires.may.ranked; above = c.requires.may.above; wanted = c.requires.may.wanted; stands = c.requires.may.stands; goes_on = c.requires.may.goes_on }, (c.requires.carries, c.requires.more)))))))
+    λ κs h. (lower_edge _ _ _ t 6 refl l c.decreases, (h.0, (h.1.0, (h.1.1.0, (h.1.1.1, record { may = record { known = (c.requires.may.ranked c.args.node.0 c.requires.may.known e k).0; ranked = c.requires.may.ranked; above = c.requires.may.above; wanted = c.requires.may.wanted; stands = c.requires.may.stands; goes_on = c.requires.may.goes_on }; carries = c.requires.carries; more = c.requires.more })))))
 
 pub run::run_form-returns-in-Keyword : goal.run::run_form-returns-in-Keyword
 run::run_form-returns-in-Keyword g t c = record {
@@ -237,7 +237,7 @@ run::run_node-run_plan-requires g t c =
     let set = setting g.K.Validate.words g.K.Validate.is_whole g.K.Validate.shape g.M.Matcher.matching c.args.engine.now in
     let ns = numbered g.K.Validate.shape c.args.engine.now.nodes.now in
     let l = ap (λ (z : Context). left ns (length c.args.engine.now.nodes.now) c.args.node.0 (subject_of c.args.question.now.instance) (busy_at (steps_to c.args.question.now.place.now) z.in_progress)) c.step.ensures.frame in
-    λ κs h. (lower_same _ _ t 10 0 l c.decreases, (h.0, (h.1.0, (h.1.1.0, (h.1.1.1, (may_run set c.args.question.now c.args.node.0 c.args.context.now c.step.new.self c.step.ensures.frame c.requires.may, (carried set c.args.question.now c.args.node.0 c.args.context.now c.step.new.self c.step.ensures.frame c.requires.carries, c.requires.more)))))))
+    λ κs h. (lower_same _ _ t 10 0 l c.decreases, (h.0, (h.1.0, (h.1.1.0, (h.1.1.1, record { may = may_run set c.args.question.now c.args.node.0 c.args.context.now c.step.new.self c.step.ensures.frame c.requires.may; carries = carried set c.args.question.now c.args.node.0 c.args.context.now c.step.new.self c.step.ensures.frame c.requires.carries; more = c.requires.more })))))
 
 pub run::run_node-returns : goal.run::run_node-returns
 run::run_node-returns g t c =
@@ -247,7 +247,7 @@ run::run_node-returns g t c =
 pub run::run_plan-run_entries-requires : goal.run::run_plan-run_entries-requires
 run::run_plan-run_entries-requires g t c =
     let plan = plan_is g.K.Validate.shape c.args.engine.now.nodes.now c.args.node.0 (node_of c.node-found.result.now) _ c.node-found.ensures.found (ap (option_map plan_of) c.in-Some.is ∙ ap (λ f. Some (plan_of f)) c.in-Keywords.is) in
-    λ κs h. (lower_same _ _ t 9 0 refl c.decreases, (h.0, (h.1.0, (h.1.1.0, (h.1.1.1, (c.requires.may, (c.requires.carries, (c.requires.more, rw c.as_slice.ensures.value (_, plan, λ y k. k)))))))))
+    λ κs h. (lower_same _ _ t 9 0 refl c.decreases, (h.0, (h.1.0, (h.1.1.0, (h.1.1.1, record { may = c.requires.may; carries = c.requires.carries; more = c.requires.more; parts = rw c.as_slice.ensures.value (_, plan, λ y k. k) })))))
 
 pub run::run_plan-returns-in-Never : goal.run::run_plan-returns-in-Never
 run::run_plan-returns-in-Never g t c = record {
@@ -317,7 +317,7 @@ run::run_entries-run_entry-requires g t c =
     let kept = c.loop-entry.invariant.kept in
     let l = ap (λ es. left ns (length c.args.engine.now.nodes.now) c.args.node.0 (subject_of c.args.question.now.instance) (busy_at p es)) kept in
     let here = part_at entry_of (shaped_part g.K.Validate.shape) c.args.entries.now c.loop-entry.entry-index c.entry-item.result c.loop-entry-test.true c.entry-item.is in
-    λ κs h. (lower_same _ _ t 8 0 l c.decreases, (h.0, (h.1.0, (h.1.1.0, (h.1.1.1, (record { known = c.requires.may.known; ranked = c.requires.may.ranked; above = subst (NoDeeper p) (sym kept) c.requires.may.above; wanted = c.requires.may.wanted; stands = stands_on c.args.context.now.root _ (asking c.args.question.now) c.loop-entry.invariant.root c.requires.may.stands; goes_on = (c.requires.may.goes_on.0, c.requires.may.goes_on.1, c.loop-entry.invariant.stays c.requires.may.goes_on.0 c.requires.may.goes_on.1 c.requires.may.goes_on.2) }, (carries_on c.args.context.now.root _ c.args.question.now.place.now c.loop-entry.invariant.root c.requires.carries, (c.requires.more, (c.requires.parts.0, c.requires.parts.1, shaped_part g.K.Validate.shape (entry_of c.entry-item.result), c.requires.parts.2 _ here, refl)))))))))
+    λ κs h. (lower_same _ _ t 8 0 l c.decreases, (h.0, (h.1.0, (h.1.1.0, (h.1.1.1, record { may = record { known = c.requires.may.known; ranked = c.requires.may.ranked; above = subst (NoDeeper p) (sym kept) c.requires.may.above; wanted = c.requires.may.wanted; stands = stands_on c.args.context.now.root _ (asking c.args.question.now) c.loop-entry.invariant.root c.requires.may.stands; goes_on = (c.requires.may.goes_on.0, c.requires.may.goes_on.1, c.loop-entry.invariant.stays c.requires.may.goes_on.0 c.requires.may.goes_on.1 c.requires.may.goes_on.2) }; carries = carries_on c.args.context.now.root _ c.args.question.now.place.now c.loop-entry.invariant.root c.requires.carries; more = c.requires.more; form = (c.requires.parts.0, c.requires.parts.1, shaped_part g.K.Validate.shape (entry_of c.entry-item.result), c.requires.parts.2 _ here, refl) })))))
 
 pub run::run_entries-loop-entry-preserved : goal.run::run_entries-loop-entry-preserved
 run::run_entries-loop-entry-preserved g t c = record {
@@ -395,7 +395,7 @@ run::run_entry-run_form-requires g t c =
     let keeps = c.in_ok-valid.ensures.keeps in
     let kept = keeps.in_progress in
     let l = ap (λ es. left ns (length c.args.engine.now.nodes.now) c.args.node.0 (subject_of c.args.question.now.instance) (busy_at p es)) kept in
-    λ κs h. (lower_same _ _ t 7 0 l c.decreases, (h.0, (h.1.0, (h.1.1.0, (h.1.1.1, (record { known = c.requires.may.known; ranked = c.requires.may.ranked; above = subst (NoDeeper p) (sym kept) c.requires.may.above; wanted = c.requires.may.wanted; stands = stands_on c.args.context.now.root _ (asking c.args.question.now) keeps.root c.requires.may.stands; goes_on = (c.requires.may.goes_on.0, c.requires.may.goes_on.1, c.in_ok-valid.ensures.stays c.requires.may.goes_on.0 c.requires.may.goes_on.1 c.requires.may.goes_on.2) }, (carries_on c.args.context.now.root _ c.args.question.now.place.now keeps.root c.requires.carries, (c.requires.more, c.requires.form))))))))
+    λ κs h. (lower_same _ _ t 7 0 l c.decreases, (h.0, (h.1.0, (h.1.1.0, (h.1.1.1, record { may = record { known = c.requires.may.known; ranked = c.requires.may.ranked; above = subst (NoDeeper p) (sym kept) c.requires.may.above; wanted = c.requires.may.wanted; stands = stands_on c.args.context.now.root _ (asking c.args.question.now) keeps.root c.requires.may.stands; goes_on = (c.requires.may.goes_on.0, c.requires.may.goes_on.1, c.in_ok-valid.ensures.stays c.requires.may.goes_on.0 c.requires.may.goes_on.1 c.requires.may.goes_on.2) }; carries = carries_on c.args.context.now.root _ c.args.question.now.place.now keeps.root c.requires.carries; more = c.requires.more; form = c.requires.form })))))
 
 pub run::run_entry-returns-then-valid : goal.run::run_entry-returns-then-valid
 run::run_entry-returns-then-valid g t c = record {
@@ -440,7 +440,7 @@ run::run_entry-returns-then-entry g t c = record {
 
 pub run::run_keyword-keyword_answer-requires : goal.run::run_keyword-keyword_answer-requires
 run::run_keyword-keyword_answer-requires g t c =
-    λ κs h. (lower_same _ _ t 5 0 refl c.decreases, (h.0, (h.1.0, (h.1.1.0, (h.1.1.1, (record { known = c.requires.may.known; ranked = c.requires.may.ranked; above = c.requires.may.above; stands = c.requires.may.stands; goes_on = c.requires.may.goes_on }, (c.requires.carries, c.requires.form)))))))
+    λ κs h. (lower_same _ _ t 5 0 refl c.decreases, (h.0, (h.1.0, (h.1.1.0, (h.1.1.1, record { may = record { known = c.requires.may.known; ranked = c.requires.may.ranked; above = c.requires.may.above; stands = c.requires.may.stands; goes_on = c.requires.may.goes_on }; carries = c.requires.carries; form = c.requires.form })))))
 
 pub turns::keyword_answer-run_turns-requires : goal.turns::keyword_answer-run_turns-requires
 turns::keyword_answer-run_turns-requires g t c =
@@ -450,29 +450,26 @@ turns::keyword_answer-run_turns-requires g t c =
     let s = subject_of c.args.question.now.instance in
     let kept = c.set_aside-aside.ensures.in_progress in
     let l = ap (λ es. left ns (length c.args.engine.now.nodes.now) c.args.node.0 s (busy_at p es)) kept in
-    λ κs h. (lower_same _ _ t 4 0 l c.decreases, (h.0, (h.1.0, (h.1.1.0, (h.1.1.1, (record { known = c.requires.may.known; ranked = c.requires.may.ranked; above = subst (NoDeeper p) (sym kept) c.requires.may.above; stands = stands_on c.args.context.now.root _ (asking c.args.question.now) c.set_aside-aside.ensures.root c.requires.may.stands; goes_on = (c.requires.may.goes_on.0, c.requires.may.goes_on.1, right_same (setting g.K.Validate.words g.K.Validate.is_whole g.K.Validate.shape g.M.Matcher.matching c.args.engine.now) c.requires.may.goes_on.0 c.args.context.now c.set_aside-aside.new.self c.set_aside-aside.ensures.remembered c.set_aside-aside.ensures.verdicts c.requires.may.goes_on.2) }, (carries_on c.args.context.now.root _ c.args.question.now.place.now c.set_aside-aside.ensures.root c.requires.carries, (c.requires.form, (begun, (c.in_ok-answer.ensures.no_faults, c.set_aside-aside.ensures.none))))))))))
+    λ κs h. (lower_same _ _ t 4 0 l c.decreases, (h.0, (h.1.0, (h.1.1.0, (h.1.1.1, record { may = record { known = c.requires.may.known; ranked = c.requires.may.ranked; above = subst (NoDeeper p) (sym kept) c.requires.may.above; stands = stands_on c.args.context.now.root _ (asking c.args.question.now) c.set_aside-aside.ensures.root c.requires.may.stands; goes_on = (c.requires.may.goes_on.0, c.requires.may.goes_on.1, right_same (setting g.K.Validate.words g.K.Validate.is_whole g.K.Validate.shape g.M.Matcher.matching c.args.engine.now) c.requires.may.goes_on.0 c.args.context.now c.set_aside-aside.new.self c.set_aside-aside.ensures.remembered c.set_aside-aside.ensures.verdicts c.requires.may.goes_on.2) }; carries = carries_on c.args.context.now.root _ c.args.question.now.place.now c.set_aside-aside.ensures.root c.requires.carries; form = c.requires.form; begun = begun; no_faults = c.in_ok-answer.ensures.no_faults; no_marks = c.set_aside-aside.ensures.none })))))
 
-pub turns::keyword_answer-returns-clause-right : goal.turns::keyword_answer-returns-clause-right
-turns::keyword_answer-returns-clause-right g t c =
-    let set = setting g.K.Validate.words g.K.Validate.is_whole g.K.Validate.shape g.M.Matcher.matching c.args.engine.now in
-    let m = g.K.Validate.shape c.args.keyword.now.keyword.now in
-    let es = map (option_map edge_of) c.args.keyword.now.children.now in
-    finds_moved set (asking c.args.question.now) c.args.context.now c.set_aside-aside.new.self c.set_aside-aside.ensures.in_progress (ap (λ (r : Remembered). r.assumptions) c.set_aside-aside.ensures.remembered) c.args.node.0 es m c.run_turns.new.answer c.in_ok-run_turns.ensures.right
-
-pub turns::keyword_answer-returns-clause-meets : goal.turns::keyword_answer-returns-clause-meets
-turns::keyword_answer-returns-clause-meets g t c = rw (c.set_aside-aside.ensures.in_progress, c.set_aside-aside.ensures.remembered, ← c.put_back.ensures.remembered) at c.in_ok-run_turns.ensures.meets
-
-pub turns::keyword_answer-returns-clause-stays : goal.turns::keyword_answer-returns-clause-stays
-turns::keyword_answer-returns-clause-stays g t c = λ layout laid right.
-    let set = setting g.K.Validate.words g.K.Validate.is_whole g.K.Validate.shape g.M.Matcher.matching c.args.engine.now in
-    let right1 = right_same set layout c.args.context.now c.set_aside-aside.new.self c.set_aside-aside.ensures.remembered c.set_aside-aside.ensures.verdicts right in
-    right_same set layout c.run_turns.new.context c.put_back.new.self c.put_back.ensures.remembered c.put_back.ensures.verdicts (c.in_ok-run_turns.ensures.stays layout laid right1)
-
-pub turns::keyword_answer-returns-clause-works : goal.turns::keyword_answer-returns-clause-works
-turns::keyword_answer-returns-clause-works g t c = rw (c.set_aside-aside.ensures.work, ← c.put_back.ensures.work) at c.in_ok-run_turns.ensures.works
-
-pub turns::keyword_answer-returns-clause-counts : goal.turns::keyword_answer-returns-clause-counts
-turns::keyword_answer-returns-clause-counts g t c = rw (c.set_aside-aside.ensures.visits, ← c.put_back.ensures.visits) at c.in_ok-run_turns.ensures.counts
+pub turns::keyword_answer-returns : goal.turns::keyword_answer-returns
+turns::keyword_answer-returns g t c = record {
+  keeps = first_of (search rules, grind (arith, common_steps));
+  counts = rw (c.set_aside-aside.ensures.visits, ← c.put_back.ensures.visits) at c.in_ok-run_turns.ensures.counts;
+  works = rw (c.set_aside-aside.ensures.work, ← c.put_back.ensures.work) at c.in_ok-run_turns.ensures.works;
+  quiet = λ none. c.put_back.ensures.visits ∙ c.in_ok-run_turns.ensures.quiet none ∙ c.set_aside-aside.ensures.visits;
+  right =
+      let set = setting g.K.Validate.words g.K.Validate.is_whole g.K.Validate.shape g.M.Matcher.matching c.args.engine.now in
+      let m = g.K.Validate.shape c.args.keyword.now.keyword.now in
+      let es = map (option_map edge_of) c.args.keyword.now.children.now in
+      finds_moved set (asking c.args.question.now) c.args.context.now c.set_aside-aside.new.self c.set_aside-aside.ensures.in_progress (ap (λ (r : Remembered). r.assumptions) c.set_aside-aside.ensures.remembered) c.args.node.0 es m c.run_turns.new.answer c.in_ok-run_turns.ensures.right;
+  passes = first_of (search rules, grind (arith, common_steps));
+  meets = rw (c.set_aside-aside.ensures.in_progress, c.set_aside-aside.ensures.remembered, ← c.put_back.ensures.remembered) at c.in_ok-run_turns.ensures.meets;
+  stays = λ layout laid right.
+      let set = setting g.K.Validate.words g.K.Validate.is_whole g.K.Validate.shape g.M.Matcher.matching c.args.engine.now in
+      let right1 = right_same set layout c.args.context.now c.set_aside-aside.new.self c.set_aside-aside.ensures.remembered c.set_aside-aside.ensures.verdicts right in
+      right_same set layout c.run_turns.new.context c.put_back.new.self c.put_back.ensures.remembered c.put_back.ensures.verdicts (c.in_ok-run_turns.ensures.stays layout laid right1);
+}
 
 pub run::run_keyword-returns : goal.run::run_keyword-returns
 run::run_keyword-returns g t c = record {
@@ -580,25 +577,46 @@ turns::run_turns-ask_child-requires g t c =
     let l = ap (λ es. left ns (length c.args.engine.now.nodes.now) c.args.node.0 s (busy_at p es)) kept in
     let q : Question = record { child = c.in-Ask.child; below = below_of c.in-Ask.below } in
     let there = asks_there (g.K.Validate.words false) m (g.K.Validate.absorbed m) (g.K.Validate.remaining m) (g.K.Validate.can_be false m) (g.K.Validate.ends false m) (g.K.Validate.fits false m) (g.met.K.Validate.turn_laws false m) s (c.turns.run, answer_of false c.turns.answer) told q (mode_of c.in-Ask.wanted) c.turns.invariant.can ((g.met.K.Validate.function_laws false m).present s) step in
-    λ κs h. (lower_same _ _ t 3 0 l c.decreases, (h.0, (h.1.0, (h.1.1.0, (h.1.1.1, (record { known = c.requires.may.known; ranked = c.requires.may.ranked; above = subst (NoDeeper p) (sym kept) c.requires.may.above; stands = stands_on c.args.context.now.root _ (asking c.args.question.now) c.turns.invariant.root c.requires.may.stands; goes_on = (c.requires.may.goes_on.0, c.requires.may.goes_on.1, c.turns.invariant.stays c.requires.may.goes_on.0 c.requires.may.goes_on.1 c.requires.may.goes_on.2) }, (carries_on c.args.context.now.root _ c.args.question.now.place.now c.turns.invariant.root c.requires.carries, (keyword_children ns c.args.node.0 m es c.requires.form, there))))))))
+    λ κs h. (lower_same _ _ t 3 0 l c.decreases, (h.0, (h.1.0, (h.1.1.0, (h.1.1.1, record { may = record { known = c.requires.may.known; ranked = c.requires.may.ranked; above = subst (NoDeeper p) (sym kept) c.requires.may.above; stands = stands_on c.args.context.now.root _ (asking c.args.question.now) c.turns.invariant.root c.requires.may.stands; goes_on = (c.requires.may.goes_on.0, c.requires.may.goes_on.1, c.turns.invariant.stays c.requires.may.goes_on.0 c.requires.may.goes_on.1 c.requires.may.goes_on.2) }; carries = carries_on c.args.context.now.root _ c.args.question.now.place.now c.turns.invariant.root c.requires.carries; children = keyword_children ns c.args.node.0 m es c.requires.form; present = there })))))
 
-pub turns::run_turns-returns-in-Done-clause-right : goal.turns::run_turns-returns-in-Done-clause-right
-turns::run_turns-returns-in-Done-clause-right g t c = λ x reads l.
-    let ns = numbered g.K.Validate.shape c.args.engine.now.nodes.now in
-    let p = steps_to c.args.question.now.place.now in
-    let s = subject_of c.args.question.now.instance in
-    let m = g.K.Validate.shape c.args.keyword.now.keyword.now in
-    let es = map (option_map edge_of) c.args.keyword.now.children.now in
-    let busy = busy_at p c.args.context.now.in_progress in
-    let tells = tells_keyword g.K.Validate.is_whole ns (length c.args.engine.now.nodes.now) (settling (g.M.Matcher.matching c.args.engine.now.matcher.now) c.args.context.now.remembered.assumptions) p s x c.args.node.0 m es c.requires.may.known reads c.requires.form in
-    let answers = child_says g.K.Validate.words ns x (path_of c.args.question.now.path.now) p busy es in
-    let units = child_unit g.K.Validate.words ns x (path_of c.args.question.now.path.now) p busy es in
-    ended_on (g.K.Validate.words x.texts) m (g.K.Validate.absorbed m) (g.K.Validate.remaining m) (g.K.Validate.can_be x.texts m) (g.K.Validate.ends x.texts m) (g.K.Validate.fits x.texts m) (g.met.K.Validate.turn_laws x.texts m) s x (mode_of c.args.question.now.mode) answers units (same_edge es) c.turns.context.marking (c.turns.run, answer_of x.texts c.turns.answer) (c.turn.new.run, answer_of x.texts c.turn.new.answer) (reply_of x.texts c.turns.reply) (answer_of x.texts c.turn.new.answer) (c.turns.invariant.leads x reads l) (c.in_ok-step.ensures.turns x.texts tells) (g.met.K.Validate.answers x.texts c.turn.new.run (answer_of x.texts c.turn.new.answer)) (rw c.in-Done.is at (c.in_ok-step.ensures.steps x.texts tells))
-
-pub turns::run_turns-returns-in-Done-clause-passes : goal.turns::run_turns-returns-in-Done-clause-passes
-turns::run_turns-returns-in-Done-clause-passes g t c = λ root at_place.
-    let i = c.turns.invariant.borrows root at_place in
-    c.in_ok-step.ensures.borrows root i.0 i.1
+pub turns::run_turns-returns-in-Done : goal.turns::run_turns-returns-in-Done
+turns::run_turns-returns-in-Done g t c = record {
+  root = first_of (search rules, grind (arith, common_steps));
+  kept = first_of (search rules, grind (arith, common_steps));
+  assumes = first_of (search rules, grind (arith, common_steps));
+  counts = first_of (search rules, grind (arith, common_steps));
+  works = first_of (search rules, grind (arith, common_steps));
+  quiet = first_of (search rules, grind (arith, common_steps));
+  right = λ x reads l.
+      let ns = numbered g.K.Validate.shape c.args.engine.now.nodes.now in
+      let p = steps_to c.args.question.now.place.now in
+      let s = subject_of c.args.question.now.instance in
+      let m = g.K.Validate.shape c.args.keyword.now.keyword.now in
+      let es = map (option_map edge_of) c.args.keyword.now.children.now in
+      let busy = busy_at p c.args.context.now.in_progress in
+      let tells = tells_keyword g.K.Validate.is_whole ns (length c.args.engine.now.nodes.now) (settling (g.M.Matcher.matching c.args.engine.now.matcher.now) c.args.context.now.remembered.assumptions) p s x c.args.node.0 m es c.requires.may.known reads c.requires.form in
+      let answers = child_says g.K.Validate.words ns x (path_of c.args.question.now.path.now) p busy es in
+      let units = child_unit g.K.Validate.words ns x (path_of c.args.question.now.path.now) p busy es in
+      ended_on (g.K.Validate.words x.texts) m (g.K.Validate.absorbed m) (g.K.Validate.remaining m) (g.K.Validate.can_be x.texts m) (g.K.Validate.ends x.texts m) (g.K.Validate.fits x.texts m) (g.met.K.Validate.turn_laws x.texts m) s x (mode_of c.args.question.now.mode) answers units (same_edge es) c.turns.context.marking (c.turns.run, answer_of x.texts c.turns.answer) (c.turn.new.run, answer_of x.texts c.turn.new.answer) (reply_of x.texts c.turns.reply) (answer_of x.texts c.turn.new.answer) (c.turns.invariant.leads x reads l) (c.in_ok-step.ensures.turns x.texts tells) (g.met.K.Validate.answers x.texts c.turn.new.run (answer_of x.texts c.turn.new.answer)) (rw c.in-Done.is at (c.in_ok-step.ensures.steps x.texts tells));
+  passes = λ root at_place.
+      let i = c.turns.invariant.borrows root at_place in
+      c.in_ok-step.ensures.borrows root i.0 i.1;
+  meets = λ texts root depth reads l.
+      let ns = numbered g.K.Validate.shape c.args.engine.now.nodes.now in
+      let w = settling (g.M.Matcher.matching c.args.engine.now.matcher.now) c.args.context.now.remembered.assumptions in
+      let p = steps_to c.args.question.now.place.now in
+      let s = subject_of c.args.question.now.instance in
+      let m = g.K.Validate.shape c.args.keyword.now.keyword.now in
+      let es = map (option_map edge_of) c.args.keyword.now.children.now in
+      let busy = busy_at p c.args.context.now.in_progress in
+      let name = string_bytes c.args.keyword.now.name.now in
+      let told = reply_of false c.turns.reply in
+      let turn = c.in_ok-step.ensures.turns false (tells_nothing (g.K.Validate.is_whole m) s) in
+      let tells = tells_keyword g.K.Validate.is_whole ns (length c.args.engine.now.nodes.now) w p s (reading w texts root depth) c.args.node.0 m es c.requires.may.known reads c.requires.form in
+      let all = meets_all (g.K.Validate.words texts) w.matcher w.assumptions (node_at (g.K.Validate.words texts) w.matcher ns (subject_in root) c.args.node.0 (path_of c.args.question.now.path.now) p) s (child_run g.K.Validate.words ns w texts root depth (path_of c.args.question.now.path.now) p busy es) (same_edge es) name m (g.K.Validate.remaining m s) _ _ c.turns.context.remembered c.turns.context.marking (c.turns.run, answer_of texts c.turns.answer) (reply_of texts c.turns.reply) (rw c.in-Done.is at (c.in_ok-step.ensures.steps texts tells)) (c.turns.invariant.met texts root depth reads l) in
+      meets_same w.matcher _ _ _ _ (ap (λ v. keyword_met (g.K.Validate.words texts) w.matcher w.assumptions (node_at (g.K.Validate.words texts) w.matcher ns (subject_in root) c.args.node.0 (path_of c.args.question.now.path.now) p) v (child_run g.K.Validate.words ns w texts root depth (path_of c.args.question.now.path.now) p busy es) (same_edge es) name m (mode_of c.args.question.now.mode)) (sym (stands_in root p s reads.stands))) all;
+  stays = first_of (search rules, grind (arith, common_steps));
+}
 
 pub turns::run_turns-turns-smaller-in-Ask : goal.turns::run_turns-turns-smaller-in-Ask
 turns::run_turns-turns-smaller-in-Ask g t c =
@@ -789,22 +807,6 @@ turns::run_turns-turns-preserved-in-Ecma g t c =
           meets_nothing (g.K.Validate.words texts) w.matcher w.assumptions (node_at (g.K.Validate.words texts) w.matcher ns (subject_in root) c.args.node.0 (path_of c.args.question.now.path.now) p) s (child_run g.K.Validate.words ns w texts root depth (path_of c.args.question.now.path.now) p busy es) (same_edge es) name m (g.K.Validate.remaining m s) _ _ _ _ _ _ _ _ _ _ text refl turn' step' falls (ap truth c.in_ok-valid-in-Ecma.ensures.valid) refl (c.turns.invariant.met texts root depth reads l);
     }
 
-pub turns::run_turns-returns-in-Done-clause-meets : goal.turns::run_turns-returns-in-Done-clause-meets
-turns::run_turns-returns-in-Done-clause-meets g t c = λ texts root depth reads l.
-    let ns = numbered g.K.Validate.shape c.args.engine.now.nodes.now in
-    let w = settling (g.M.Matcher.matching c.args.engine.now.matcher.now) c.args.context.now.remembered.assumptions in
-    let p = steps_to c.args.question.now.place.now in
-    let s = subject_of c.args.question.now.instance in
-    let m = g.K.Validate.shape c.args.keyword.now.keyword.now in
-    let es = map (option_map edge_of) c.args.keyword.now.children.now in
-    let busy = busy_at p c.args.context.now.in_progress in
-    let name = string_bytes c.args.keyword.now.name.now in
-    let told = reply_of false c.turns.reply in
-    let turn = c.in_ok-step.ensures.turns false (tells_nothing (g.K.Validate.is_whole m) s) in
-    let tells = tells_keyword g.K.Validate.is_whole ns (length c.args.engine.now.nodes.now) w p s (reading w texts root depth) c.args.node.0 m es c.requires.may.known reads c.requires.form in
-    let all = meets_all (g.K.Validate.words texts) w.matcher w.assumptions (node_at (g.K.Validate.words texts) w.matcher ns (subject_in root) c.args.node.0 (path_of c.args.question.now.path.now) p) s (child_run g.K.Validate.words ns w texts root depth (path_of c.args.question.now.path.now) p busy es) (same_edge es) name m (g.K.Validate.remaining m s) _ _ c.turns.context.remembered c.turns.context.marking (c.turns.run, answer_of texts c.turns.answer) (reply_of texts c.turns.reply) (rw c.in-Done.is at (c.in_ok-step.ensures.steps texts tells)) (c.turns.invariant.met texts root depth reads l) in
-    meets_same w.matcher _ _ _ _ (ap (λ v. keyword_met (g.K.Validate.words texts) w.matcher w.assumptions (node_at (g.K.Validate.words texts) w.matcher ns (subject_in root) c.args.node.0 (path_of c.args.question.now.path.now) p) v (child_run g.K.Validate.words ns w texts root depth (path_of c.args.question.now.path.now) p busy es) (same_edge es) name m (mode_of c.args.question.now.mode)) (sym (stands_in root p s reads.stands))) all
-
 pub turns::run_turns-turns-smaller-in-Mark : goal.turns::run_turns-turns-smaller-in-Mark
 turns::run_turns-turns-smaller-in-Mark g t c =
     let s = subject_of c.args.question.now.instance in
@@ -897,25 +899,43 @@ turns::run_turns-turns-preserved g t c =
           meets_mark_taken (g.K.Validate.words texts) w.matcher w.assumptions (node_at (g.K.Validate.words texts) w.matcher ns (subject_in root) c.args.node.0 (path_of c.args.question.now.path.now) p) s (child_run g.K.Validate.words ns w texts root depth (path_of c.args.question.now.path.now) p busy es) (same_edge es) name m (g.K.Validate.remaining m s) _ _ _ _ _ _ _ _ _ _ c.exit_marking.ensures.left turn' step' falls refl c.exit_marking.ensures.remembered (c.turns.invariant.met texts root depth reads l);
     }
 
-pub turns::ask_child-returns-in-First-clause-borrows : goal.turns::ask_child-returns-in-First-clause-borrows
-turns::ask_child-returns-in-First-clause-borrows g t c =
-    let ns = numbered g.K.Validate.shape c.args.engine.now.nodes.now in
-    let w = settling (g.M.Matcher.matching c.args.engine.now.matcher.now) c.args.context.now.remembered.assumptions in
-    let p = steps_to c.args.question.now.place.now in
-    let s = subject_of c.args.question.now.instance in
-    let busy = busy_at p c.args.context.now.in_progress in
-    let d = left ns (length c.args.engine.now.nodes.now) c.args.node.0 s busy in
-    if_ok_mono c.run_child.result _ _ (λ r says root at_place. (says (silent w root d) (silent_reads g.K.Validate.is_whole ns (length c.args.engine.now.nodes.now) w p s root d at_place) (no_deeper d)).borrows) c.run_child.ensures.says
+pub turns::ask_child-returns-in-First : goal.turns::ask_child-returns-in-First
+turns::ask_child-returns-in-First g t c = record {
+  keeps = first_of (search rules, grind (arith, common_steps));
+  counts = first_of (search rules, grind (arith, common_steps));
+  works = first_of (search rules, grind (arith, common_steps));
+  quiet = first_of (search rules, grind (arith, common_steps));
+  gives = first_of (search rules, grind (arith, common_steps));
+  meets = first_of (search rules, grind (arith, common_steps));
+  stays = first_of (search rules, grind (arith, common_steps));
+  borrows =
+      let ns = numbered g.K.Validate.shape c.args.engine.now.nodes.now in
+      let w = settling (g.M.Matcher.matching c.args.engine.now.matcher.now) c.args.context.now.remembered.assumptions in
+      let p = steps_to c.args.question.now.place.now in
+      let s = subject_of c.args.question.now.instance in
+      let busy = busy_at p c.args.context.now.in_progress in
+      let d = left ns (length c.args.engine.now.nodes.now) c.args.node.0 s busy in
+      if_ok_mono c.run_child.result _ _ (λ r says root at_place. (says (silent w root d) (silent_reads g.K.Validate.is_whole ns (length c.args.engine.now.nodes.now) w p s root d at_place) (no_deeper d)).borrows) c.run_child.ensures.says;
+}
 
-pub turns::ask_child-returns-in-All-clause-borrows : goal.turns::ask_child-returns-in-All-clause-borrows
-turns::ask_child-returns-in-All-clause-borrows g t c =
-    let ns = numbered g.K.Validate.shape c.args.engine.now.nodes.now in
-    let w = settling (g.M.Matcher.matching c.args.engine.now.matcher.now) c.args.context.now.remembered.assumptions in
-    let p = steps_to c.args.question.now.place.now in
-    let s = subject_of c.args.question.now.instance in
-    let busy = busy_at p c.args.context.now.in_progress in
-    let d = left ns (length c.args.engine.now.nodes.now) c.args.node.0 s busy in
-    if_ok_mono c.run_child-in-All.result _ _ (λ r says root at_place. (says (silent w root d) (silent_reads g.K.Validate.is_whole ns (length c.args.engine.now.nodes.now) w p s root d at_place) (no_deeper d)).borrows) c.run_child-in-All.ensures.says
+pub turns::ask_child-returns-in-All : goal.turns::ask_child-returns-in-All
+turns::ask_child-returns-in-All g t c = record {
+  keeps = first_of (search rules, grind (arith, common_steps));
+  counts = first_of (search rules, grind (arith, common_steps));
+  works = first_of (search rules, grind (arith, common_steps));
+  quiet = first_of (search rules, grind (arith, common_steps));
+  gives = first_of (search rules, grind (arith, common_steps));
+  meets = first_of (search rules, grind (arith, common_steps));
+  stays = first_of (search rules, grind (arith, common_steps));
+  borrows =
+      let ns = numbered g.K.Validate.shape c.args.engine.now.nodes.now in
+      let w = settling (g.M.Matcher.matching c.args.engine.now.matcher.now) c.args.context.now.remembered.assumptions in
+      let p = steps_to c.args.question.now.place.now in
+      let s = subject_of c.args.question.now.instance in
+      let busy = busy_at p c.args.context.now.in_progress in
+      let d = left ns (length c.args.engine.now.nodes.now) c.args.node.0 s busy in
+      if_ok_mono c.run_child-in-All.result _ _ (λ r says root at_place. (says (silent w root d) (silent_reads g.K.Validate.is_whole ns (length c.args.engine.now.nodes.now) w p s root d at_place) (no_deeper d)).borrows) c.run_child-in-All.ensures.says;
+}
 
 pub evaluate::evaluate_child-evaluate_edge-requires : goal.evaluate::evaluate_child-evaluate_edge-requires
 evaluate::evaluate_child-evaluate_edge-requires g t c =
@@ -927,7 +947,7 @@ evaluate::evaluate_child-evaluate_edge-requires g t c =
     let e = edge_of c.in-Some.edge.now in
     let k = c.requires.children c.args.child e (sym c.in-Some.ensures.edge) in
     let l = falls_here g.K.Validate.words g.K.Validate.is_whole ns (length c.args.engine.now.nodes.now) w c.requires.may.ranked c.args.node.0 s busy e c.requires.may.known k in
-    λ κs h. (lower_edge _ _ _ t 0 refl l c.decreases, (h.0, (h.1.0, (h.1.1.0, (h.1.1.1, (record { known = (c.requires.may.ranked c.args.node.0 c.requires.may.known e k).0; ranked = c.requires.may.ranked; above = c.requires.may.above; wanted = c.requires.may.wanted; stands = c.requires.may.stands; goes_on = c.requires.may.goes_on }, c.requires.carries))))))
+    λ κs h. (lower_edge _ _ _ t 0 refl l c.decreases, (h.0, (h.1.0, (h.1.1.0, (h.1.1.1, record { may = record { known = (c.requires.may.ranked c.args.node.0 c.requires.may.known e k).0; ranked = c.requires.may.ranked; above = c.requires.may.above; wanted = c.requires.may.wanted; stands = c.requires.may.stands; goes_on = c.requires.may.goes_on }; carries = c.requires.carries })))))
 
 pub evaluate::evaluate_child-evaluate_edge-requires-in-Some-one_below : goal.evaluate::evaluate_child-evaluate_edge-requires-in-Some-one_below
 evaluate::evaluate_child-evaluate_edge-requires-in-Some-one_below g t c =
@@ -947,7 +967,7 @@ evaluate::evaluate_child-evaluate_edge-requires-in-Some-one_below g t c =
     let n = ap (edge_needs ns (length c.args.engine.now.nodes.now) e inner) none in
     let (layout, laid, right) = c.requires.may.goes_on in
     let below = laid_below layout p s inner step (steps_to c.below-lower.result) laid c.below-lower.ensures.below c.in-Some-one_below.ensures.below.1 in
-    λ κs h. (lower_edge _ _ _ t 0 n l c.decreases, (h.0, (h.1.0, (h.1.1.0, (h.1.1.1, (record { known = (c.requires.may.ranked c.args.node.0 c.requires.may.known e k).0; ranked = c.requires.may.ranked; above = deeper; wanted = c.requires.may.wanted; stands = stands_below (view c.args.context.now.root) p (subject_of c.args.question.now.instance) (subject_of c.in-Some-one_below.inner) step (steps_to c.below-lower.result) c.requires.may.stands c.below-lower.ensures.below c.in-Some-one_below.ensures.below.1; goes_on = (layout, below, right) }, c.below-lower.ensures.carries (places_in c.args.context.now) c.requires.carries))))))
+    λ κs h. (lower_edge _ _ _ t 0 n l c.decreases, (h.0, (h.1.0, (h.1.1.0, (h.1.1.1, record { may = record { known = (c.requires.may.ranked c.args.node.0 c.requires.may.known e k).0; ranked = c.requires.may.ranked; above = deeper; wanted = c.requires.may.wanted; stands = stands_below (view c.args.context.now.root) p (subject_of c.args.question.now.instance) (subject_of c.in-Some-one_below.inner) step (steps_to c.below-lower.result) c.requires.may.stands c.below-lower.ensures.below c.in-Some-one_below.ensures.below.1; goes_on = (layout, below, right) }; carries = c.below-lower.ensures.carries (places_in c.args.context.now) c.requires.carries })))))
 
 pub evaluate::evaluate_child-returns-in-None-one_below : goal.evaluate::evaluate_child-returns-in-None-one_below
 evaluate::evaluate_child-returns-in-None-one_below g t c = record {
@@ -1047,7 +1067,7 @@ evaluate::evaluate_entries-evaluate_entry-requires g t c =
     let kept = c.loop-entry.invariant.kept in
     let l = ap (λ es. left ns (length c.args.engine.now.nodes.now) c.args.node.0 (subject_of c.args.question.now.instance) (busy_at p es)) kept in
     let here = part_at entry_of (shaped_part g.K.Validate.shape) c.args.entries.now c.loop-entry.entry-index c.entry-item.result c.loop-entry-test.true c.entry-item.is in
-    λ κs h. (lower_same _ _ t 8 0 l c.decreases, (h.0, (h.1.0, (h.1.1.0, (h.1.1.1, (record { known = c.requires.may.known; ranked = c.requires.may.ranked; above = subst (NoDeeper p) (sym kept) c.requires.may.above; wanted = c.requires.may.wanted; stands = stands_on c.args.context.now.root _ (asking c.args.question.now) c.loop-entry.invariant.root c.requires.may.stands; goes_on = (c.requires.may.goes_on.0, c.requires.may.goes_on.1, c.loop-entry.invariant.stays c.requires.may.goes_on.0 c.requires.may.goes_on.1 c.requires.may.goes_on.2) }, (carries_on c.args.context.now.root _ c.args.question.now.place.now c.loop-entry.invariant.root c.requires.carries, (c.requires.pointed, (c.requires.parts.0, c.requires.parts.1, shaped_part g.K.Validate.shape (entry_of c.entry-item.result), c.requires.parts.2 _ here, refl)))))))))
+    λ κs h. (lower_same _ _ t 8 0 l c.decreases, (h.0, (h.1.0, (h.1.1.0, (h.1.1.1, record { may = record { known = c.requires.may.known; ranked = c.requires.may.ranked; above = subst (NoDeeper p) (sym kept) c.requires.may.above; wanted = c.requires.may.wanted; stands = stands_on c.args.context.now.root _ (asking c.args.question.now) c.loop-entry.invariant.root c.requires.may.stands; goes_on = (c.requires.may.goes_on.0, c.requires.may.goes_on.1, c.loop-entry.invariant.stays c.requires.may.goes_on.0 c.requires.may.goes_on.1 c.requires.may.goes_on.2) }; carries = carries_on c.args.context.now.root _ c.args.question.now.place.now c.loop-entry.invariant.root c.requires.carries; pointed = c.requires.pointed; form = (c.requires.parts.0, c.requires.parts.1, shaped_part g.K.Validate.shape (entry_of c.entry-item.result), c.requires.parts.2 _ here, refl) })))))
 
 pub evaluate::evaluate_entries-loop-entry-preserved : goal.evaluate::evaluate_entries-loop-entry-preserved
 evaluate::evaluate_entries-loop-entry-preserved g t c =
@@ -1118,7 +1138,7 @@ evaluate::evaluate_entry-evaluate_edge-requires g t c =
     let e = edge_of c.in-Reference.edge in
     let k = reference_edge ns c.args.node.0 e (rw c.in-Reference.is at c.requires.form) in
     let l = falls_here g.K.Validate.words g.K.Validate.is_whole ns (length c.args.engine.now.nodes.now) w c.requires.may.ranked c.args.node.0 s busy e c.requires.may.known k in
-    λ κs h. (lower_edge _ _ _ t 7 refl l c.decreases, (h.0, (h.1.0, (h.1.1.0, (h.1.1.1, (record { known = (c.requires.may.ranked c.args.node.0 c.requires.may.known e k).0; ranked = c.requires.may.ranked; above = c.requires.may.above; wanted = c.requires.may.wanted; stands = c.requires.may.stands; goes_on = c.requires.may.goes_on }, c.requires.carries))))))
+    λ κs h. (lower_edge _ _ _ t 7 refl l c.decreases, (h.0, (h.1.0, (h.1.1.0, (h.1.1.1, record { may = record { known = (c.requires.may.ranked c.args.node.0 c.requires.may.known e k).0; ranked = c.requires.may.ranked; above = c.requires.may.above; wanted = c.requires.may.wanted; stands = c.requires.may.stands; goes_on = c.requires.may.goes_on }; carries = c.requires.carries })))))
 
 pub evaluate::evaluate_entry-returns-in-Keyword : goal.evaluate::evaluate_entry-returns-in-Keyword
 evaluate::evaluate_entry-returns-in-Keyword g t c = record {
@@ -1168,7 +1188,7 @@ evaluate::evaluate_entry-returns-in_ok-unit-in-Reference g t c = record {
 
 pub evaluate::evaluate_keyword-keyword_answer-requires : goal.evaluate::evaluate_keyword-keyword_answer-requires
 evaluate::evaluate_keyword-keyword_answer-requires g t c =
-    λ κs h. (lower_same _ _ t 5 0 refl c.decreases, (h.0, (h.1.0, (h.1.1.0, (h.1.1.1, (record { known = c.requires.may.known; ranked = c.requires.may.ranked; above = c.requires.may.above; stands = c.requires.may.stands; goes_on = c.requires.may.goes_on }, (c.requires.carries, c.requires.form)))))))
+    λ κs h. (lower_same _ _ t 5 0 refl c.decreases, (h.0, (h.1.0, (h.1.1.0, (h.1.1.1, record { may = record { known = c.requires.may.known; ranked = c.requires.may.ranked; above = c.requires.may.above; stands = c.requires.may.stands; goes_on = c.requires.may.goes_on }; carries = c.requires.carries; form = c.requires.form })))))
 
 pub evaluate::evaluate_keyword-returns : goal.evaluate::evaluate_keyword-returns
 evaluate::evaluate_keyword-returns g t c = record {
@@ -1199,7 +1219,7 @@ evaluate::evaluate_node-evaluate_plan-requires g t c =
     let set = setting g.K.Validate.words g.K.Validate.is_whole g.K.Validate.shape g.M.Matcher.matching c.args.engine.now in
     let ns = numbered g.K.Validate.shape c.args.engine.now.nodes.now in
     let l = ap (λ (z : Context). left ns (length c.args.engine.now.nodes.now) c.args.node.0 (subject_of c.args.question.now.instance) (busy_at (steps_to c.args.question.now.place.now) z.in_progress)) c.step.ensures.frame in
-    λ κs h. (lower_same _ _ t 10 0 l c.decreases, (h.0, (h.1.0, (h.1.1.0, (h.1.1.1, (may_evaluate set c.args.question.now c.args.node.0 c.args.context.now c.step.new.self c.step.ensures.frame c.requires.may, carried set c.args.question.now c.args.node.0 c.args.context.now c.step.new.self c.step.ensures.frame c.requires.carries))))))
+    λ κs h. (lower_same _ _ t 10 0 l c.decreases, (h.0, (h.1.0, (h.1.1.0, (h.1.1.1, record { may = may_evaluate set c.args.question.now c.args.node.0 c.args.context.now c.step.new.self c.step.ensures.frame c.requires.may; carries = carried set c.args.question.now c.args.node.0 c.args.context.now c.step.new.self c.step.ensures.frame c.requires.carries })))))
 
 pub evaluate::evaluate_node-returns : goal.evaluate::evaluate_node-returns
 evaluate::evaluate_node-returns g t c =
@@ -1218,7 +1238,7 @@ evaluate::evaluate_plan-evaluate_entries-requires g t c =
     let l = ap (λ (z : Context). left ns (length c.args.engine.now.nodes.now) c.args.node.0 q.subject (busy_at q.place z.in_progress)) c.node_texts.ensures.stays in
     let may = subst (λ z. MayEvaluate set z c.node_texts.new.self c.args.node.0) (sym is) (subst (λ z. MayEvaluate set q z c.args.node.0) (sym c.node_texts.ensures.stays) c.requires.may) in
     let carries = subst (λ z. CarriesItsNumber (places_in z) c.args.question.now.place.now) (sym c.node_texts.ensures.stays) c.requires.carries in
-    λ κs h. (lower_same _ _ t 9 0 l c.decreases, (h.0, (h.1.0, (h.1.1.0, (h.1.1.1, (may, (carries, (c.in_ok-pointer-in-Keywords.ensures.same ∙ c.in_ok-place-in-Keywords.ensures.pointer, rw c.as_slice.ensures.value (_, plan, λ y k. k)))))))))
+    λ κs h. (lower_same _ _ t 9 0 l c.decreases, (h.0, (h.1.0, (h.1.1.0, (h.1.1.1, record { may = may; carries = carries; pointed = c.in_ok-pointer-in-Keywords.ensures.same ∙ c.in_ok-place-in-Keywords.ensures.pointer; parts = rw c.as_slice.ensures.value (_, plan, λ y k. k) })))))
 
 pub evaluate::evaluate_plan-returns-in-None : goal.evaluate::evaluate_plan-returns-in-None
 evaluate::evaluate_plan-returns-in-None g t c = record {
@@ -1329,9 +1349,6 @@ evaluate::evaluate_plan-returns-in_ok-children-in-Keywords g t c =
       stays = if_ok_always c.entries_unit.result _ (back (λ z y. StaysRight set z y after) given.stays);
     }
 
-pub turns::keyword_answer-returns-clause-quiet : goal.turns::keyword_answer-returns-clause-quiet
-turns::keyword_answer-returns-clause-quiet g t c = λ none. c.put_back.ensures.visits ∙ c.in_ok-run_turns.ensures.quiet none ∙ c.set_aside-aside.ensures.visits
-
 pub run::run_edge-returns-then-not-edge : goal.run::run_edge-returns-then-not-edge
 run::run_edge-returns-then-not-edge g t c = record {
   keeps = first_of (search rules, grind (arith, common_steps));
@@ -1393,7 +1410,7 @@ run::run_edge-run_node-requires-2 g t c =
     let right' = right_same set layout c.args.context.now c.enter.new.context (c.enter.ensures.remembered ∙ ap (λ (z : Context). z.remembered) c.in_ok-pair.ensures.unchanged) (c.enter.ensures.verdicts ∙ ap (λ (z : Context). z.verdicts) c.in_ok-pair.ensures.unchanged) right in
     let root = c.enter.ensures.root ∙ ap (λ (z : Context). z.root) c.in_ok-pair.ensures.unchanged in
     let carries = carries_on c.args.context.now.root c.enter.new.context.root c.numbered_place-place.result root (c.numbered_place-place.ensures.carries c.args.context.now c.in_ok-pair.ensures.numbered) in
-    λ κs h. (lower_entered _ _ _ t l needs c.decreases, (h.0, (h.1.0, (h.1.1.0, (h.1.1.1, (record { known = c.requires.may.known; ranked = c.requires.may.ranked; above = deeper; wanted = c.requires.may.wanted; stands = stands_at c.args.context.now.root _ (asking c.args.question.now) _ root there c.requires.may.stands; goes_on = (layout, laid', right') }, (carries, c.requires.more)))))))
+    λ κs h. (lower_entered _ _ _ t l needs c.decreases, (h.0, (h.1.0, (h.1.1.0, (h.1.1.1, record { may = record { known = c.requires.may.known; ranked = c.requires.may.ranked; above = deeper; wanted = c.requires.may.wanted; stands = stands_at c.args.context.now.root _ (asking c.args.question.now) _ root there c.requires.may.stands; goes_on = (layout, laid', right') }; carries = carries; more = c.requires.more })))))
 
 pub run::run_edge-returns : goal.run::run_edge-returns
 run::run_edge-returns g t c = record {
@@ -1515,7 +1532,7 @@ evaluate::evaluate_edge-evaluate_node-requires-2 g t c =
     let right' = right_same set layout c.args.context.now c.enter.new.context (c.enter.ensures.remembered ∙ ap (λ (z : Context). z.remembered) c.in_ok-pair.ensures.unchanged) (c.enter.ensures.verdicts ∙ ap (λ (z : Context). z.verdicts) c.in_ok-pair.ensures.unchanged) right in
     let root = c.enter.ensures.root ∙ ap (λ (z : Context). z.root) c.in_ok-pair.ensures.unchanged in
     let carries = carries_on c.args.context.now.root c.enter.new.context.root c.numbered_place-place.result root (c.numbered_place-place.ensures.carries c.args.context.now c.in_ok-pair.ensures.numbered) in
-    λ κs h. (lower_entered _ _ _ t l needs c.decreases, (h.0, (h.1.0, (h.1.1.0, (h.1.1.1, (record { known = c.requires.may.known; ranked = c.requires.may.ranked; above = deeper; wanted = c.requires.may.wanted; stands = stands_at c.args.context.now.root _ (asking c.args.question.now) _ root there c.requires.may.stands; goes_on = (layout, laid', right') }, carries))))))
+    λ κs h. (lower_entered _ _ _ t l needs c.decreases, (h.0, (h.1.0, (h.1.1.0, (h.1.1.1, record { may = record { known = c.requires.may.known; ranked = c.requires.may.ranked; above = deeper; wanted = c.requires.may.wanted; stands = stands_at c.args.context.now.root _ (asking c.args.question.now) _ root there c.requires.may.stands; goes_on = (layout, laid', right') }; carries = carries })))))
 
 pub evaluate::evaluate_edge-returns : goal.evaluate::evaluate_edge-returns
 evaluate::evaluate_edge-returns g t c = record {

@@ -349,7 +349,7 @@ verdict_asking::asked_verdict-verdict_counted-requires-in-Items g t c =
     let asks = c.in-Items.ensures.asks in
     let own = (asks false (tells_nothing (g.K.Validate.is_whole m) s)).own in
     let says = says_by_questions set.words set.is_whole s m (ask.Items c.in-Items.next c.in-Items.items) asks refl true refl c.items-questions.result.left (c.items-questions.ensures.left) in
-    λ κs h. (lower_same _ _ t 4 1 refl c.decreases, (h.0, (h.1.0, (h.1.1.0, (h.1.1.1, (c.requires, (c.in-Items.ensures.finishes refl, (c.items-questions.ensures.subject ∙ sym own, says))))))))
+    λ κs h. (lower_same _ _ t 4 1 refl c.decreases, (h.0, (h.1.0, (h.1.1.0, (h.1.1.1, record { asked = c.requires; finishes = c.in-Items.ensures.finishes refl; there = c.items-questions.ensures.subject ∙ sym own; says = says })))))
 
 pub verdict_asking::asked_verdict-verdict_counted-requires-in-Listed : goal.verdict_asking::asked_verdict-verdict_counted-requires-in-Listed
 verdict_asking::asked_verdict-verdict_counted-requires-in-Listed g t c =
@@ -359,7 +359,7 @@ verdict_asking::asked_verdict-verdict_counted-requires-in-Listed g t c =
     let asks = c.in-Listed.ensures.asks in
     let own = (asks false (tells_nothing (g.K.Validate.is_whole m) s)).own in
     let says = says_by_questions set.words set.is_whole s m (ask.Listed c.in-Listed.count c.in-Listed.items) asks refl true refl c.listed-questions.result.left (c.listed-questions.ensures.left) in
-    λ κs h. (lower_same _ _ t 4 1 refl c.decreases, (h.0, (h.1.0, (h.1.1.0, (h.1.1.1, (c.requires, (c.in-Listed.ensures.finishes refl, (c.listed-questions.ensures.subject ∙ sym own, says))))))))
+    λ κs h. (lower_same _ _ t 4 1 refl c.decreases, (h.0, (h.1.0, (h.1.1.0, (h.1.1.1, record { asked = c.requires; finishes = c.in-Listed.ensures.finishes refl; there = c.listed-questions.ensures.subject ∙ sym own; says = says })))))
 
 pub verdict_asking::asked_verdict-verdict_members-requires : goal.verdict_asking::asked_verdict-verdict_members-requires
 verdict_asking::asked_verdict-verdict_members-requires g t c =
@@ -369,7 +369,7 @@ verdict_asking::asked_verdict-verdict_members-requires g t c =
     let asks = c.in-Members.ensures.asks in
     let own = (asks false (tells_nothing (g.K.Validate.is_whole m) s)).own in
     let says = says_by_questions set.words set.is_whole s m (ask.Members c.in-Members.names c.in-Members.members) asks refl true refl c.of-questions.result.left (c.of-questions.ensures.left ∙ ap (λ z. at_names z 0 c.in-Members.names.now) (sym own)) in
-    λ κs h. (lower_same _ _ t 4 1 refl c.decreases, (h.0, (h.1.0, (h.1.1.0, (h.1.1.1, (c.requires, (c.in-Members.ensures.finishes refl, (c.of-questions.ensures.subject ∙ sym own, says))))))))
+    λ κs h. (lower_same _ _ t 4 1 refl c.decreases, (h.0, (h.1.0, (h.1.1.0, (h.1.1.1, record { asked = c.requires; finishes = c.in-Members.ensures.finishes refl; there = c.of-questions.ensures.subject ∙ sym own; says = says })))))
 
 pub verdict_asking::asked_verdict-verdict_names-requires : goal.verdict_asking::asked_verdict-verdict_names-requires
 verdict_asking::asked_verdict-verdict_names-requires g t c =
@@ -379,7 +379,7 @@ verdict_asking::asked_verdict-verdict_names-requires g t c =
     let asks = c.in-Names.ensures.asks in
     let own = (asks false (tells_nothing (g.K.Validate.is_whole m) s)).own in
     let says = says_by_questions set.words set.is_whole s m (ask.Names c.in-Names.members) asks refl true refl c.of-questions-in-Names.result.left (c.of-questions-in-Names.ensures.left) in
-    λ κs h. (lower_same _ _ t 4 1 refl c.decreases, (h.0, (h.1.0, (h.1.1.0, (h.1.1.1, (c.requires, (c.in-Names.ensures.finishes refl, (c.of-questions-in-Names.ensures.subject ∙ sym own, says))))))))
+    λ κs h. (lower_same _ _ t 4 1 refl c.decreases, (h.0, (h.1.0, (h.1.1.0, (h.1.1.1, record { asked = c.requires; finishes = c.in-Names.ensures.finishes refl; there = c.of-questions-in-Names.ensures.subject ∙ sym own; says = says })))))
 
 pub verdict_asking::verdict_counted-loop-asked-init : goal.verdict_asking::verdict_counted-loop-asked-init
 verdict_asking::verdict_counted-loop-asked-init g t c =

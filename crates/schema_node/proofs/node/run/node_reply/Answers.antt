@@ -1,4 +1,5 @@
-use Rattle.std.proofs.Common.{◌≡◌, refl}
+use Rattle.std.proofs.Common.{◌≡◌, arith, refl, rules}
+use Rattle.std.proofs.lemmas.Grind.{common_steps}
 use Rattle.schema_definitions.specs.Keywords.{for_verdict}
 use Rattle.schema_parts.specs.KeywordViews.{mode_of}
 use Rattle.schema_parts.specs.declared.keyword.Mode as code
@@ -15,8 +16,14 @@ wants_more code.TheVariants.Evaluate h e = cc e
 pub run_node-requires : goal.run_node-requires
 run_node-requires g c = record { may = c.requires.may; carries = c.requires.carries; more = wants_more c.args.question.now.mode c.in_default.not-Verdict }
 
-pub returns-in_default-clause-visits : goal.returns-in_default-clause-visits
-returns-in_default-clause-visits g c = if_ok_always c.run_node.result _ (λ mode. absurd (wants_more c.args.question.now.mode c.in_default.not-Verdict mode))
-
-pub returns-in_default-clause-remembers : goal.returns-in_default-clause-remembers
-returns-in_default-clause-remembers g c = if_ok_mono c.run_node.result _ _ (λ r says xs is x only e form mode. absurd (wants_more c.args.question.now.mode c.in_default.not-Verdict mode)) c.run_node.ensures.says
+pub returns-in_default : goal.returns-in_default
+returns-in_default g c = record {
+  keeps = first_of (search rules, grind (arith, common_steps));
+  counts = first_of (search rules, grind (arith, common_steps));
+  visits = if_ok_always c.run_node.result _ (λ mode. absurd (wants_more c.args.question.now.mode c.in_default.not-Verdict mode));
+  says = first_of (search rules, grind (arith, common_steps));
+  meets = first_of (search rules, grind (arith, common_steps));
+  stays = first_of (search rules, grind (arith, common_steps));
+  remembers = if_ok_mono c.run_node.result _ _ (λ r says xs is x only e form mode. absurd (wants_more c.args.question.now.mode c.in_default.not-Verdict mode)) c.run_node.ensures.says;
+  works = first_of (search rules, grind (arith, common_steps));
+}

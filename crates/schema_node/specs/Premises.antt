@@ -1,0 +1,220 @@
+-- What the functions of a run are called with, over the values of the program: each premise in a word.
+use Rattle.std.specs.Prelude.{Bool, List, Option, map, option_map, ℕ, [], ◌≡◌}
+use Rattle.schema_definitions.specs.Instance.{Text}
+use Rattle.schema_definitions.specs.Keywords.{for_verdict}
+use Rattle.schema_definitions.specs.Laws.{IsPresent, steps_below}
+use Rattle.schema_definitions.specs.Matching.{Matcher}
+use Rattle.schema_definitions.specs.Pointer.{pointer_to}
+use Rattle.schema_reports.specs.InstanceViews.{subject_of}
+use Rattle.schema_parts.specs.EdgeViews.{edge_of}
+use Rattle.schema_parts.specs.FaultViews.{faults_in}
+use Rattle.schema_parts.specs.KeywordViews.{below_of, mode_of}
+use Rattle.schema_parts.specs.MatcherViews.{FinishesEach}
+use Rattle.schema_parts.specs.declared.keyword.Answer as code_answer
+use Rattle.schema_parts.specs.declared.keyword.Below.{Below}
+use Rattle.schema_parts.specs.declared.keyword.Validate as keyword
+use Rattle.schema_parts.specs.declared.matcher.Matcher as matcher
+use Rattle.schema_parts.specs.declared.numbers.Edge.{Edge}
+use Rattle.schema_contexts.specs.Progress.{Context, places_in}
+use Rattle.node_table.specs.NodeTable.{numbered, shaped_form, shaped_part}
+use Rattle.node_table.specs.NodeViews.{entry_of, form_of}
+use Rattle.node_table.specs.declared.node.Entry.{Entry}
+use Rattle.run_steps.specs.Askings.{asking}
+use Rattle.run_steps.specs.EvaluationPlaces.{CarriesItsNumber, steps_to}
+use Rattle.run_steps.specs.NodeRuns.{HasChildren, HasForm, HasParts, form_at_work}
+use Rattle.run_steps.specs.declared.question.Engine.{Engine}
+use Rattle.run_steps.specs.declared.question.NamedKeyword.{NamedKeyword}
+use Rattle.run_steps.specs.declared.question.Question.{Question}
+use Rattle.asked_questions.specs.Questions.{QuestionsLeft, SaysByQuestions}
+use Rattle.schema_runs.specs.Answered.{IsAsked, Wanted, an_edge, setting_by, the_entry, the_keyword}
+use Rattle.schema_runs.specs.RunStates.{HasBegun, MayRun}
+use Rattle.schema_runs.specs.UnitStates.{MayAsk, MayEvaluate}
+
+-- where the question's place, or one above it, carries a number, it is the number of that place
+abbrev pub CarriesNumber : Question → Context → Type 0
+CarriesNumber q c = CarriesItsNumber (places_in c) q.place.now
+
+-- more than the verdict is wanted
+abbrev pub WantsMore : Question → Type 0
+WantsMore q = ¬ (mode_of q.mode ≡ for_verdict)
+
+-- what stands below is there
+abbrev pub HasBelow : Question → Below → Type 0
+HasBelow q below = IsPresent (subject_of q.instance) (steps_below (below_of below))
+
+-- the question is asked at the place of this pointer
+abbrev pub PointsThere : Question → Text → Type 0
+PointsThere q pointer = pointer ≡ pointer_to (steps_to q.place.now)
+
+-- no match stays unfinished
+abbrev pub FinishesAll : {C M : Type 0} → (M → Matcher) → Engine C M → Type 0
+FinishesAll matching e = FinishesEach (matching e.matcher.now)
+
+-- of the node with this number
+module _ {C K M : Type 0} (shape : C → K) (e : Engine C M) (i : ℕ) where
+  -- these entries are parts
+  abbrev pub HasEntries : List (Entry C) → Type 0
+  HasEntries xs = HasParts (numbered shape e.nodes.now) i (map (shaped_part shape) (map entry_of xs))
+
+  -- one of the parts has the form of this entry
+  abbrev pub HasEntry : Entry C → Type 0
+  HasEntry x = HasForm (numbered shape e.nodes.now) i (shaped_form shape (form_of x.form))
+
+  -- or is this keyword with its children
+  abbrev pub HasKeyword : NamedKeyword C → Type 0
+  HasKeyword w = HasForm (numbered shape e.nodes.now) i (form_at_work shape w)
+
+  -- these edges are its own alone
+  abbrev pub HasEdges : List (Option Edge) → Type 0
+  HasEdges es = HasChildren (numbered shape e.nodes.now) i (map (option_map edge_of) es)
+
+-- ---- a premise is that the setting, the question and the context may be asked with, and what is asked for is there
+
+-- of a node; with the form of one of its entries; and with a child, and what stands below for it
+pub record NodePremise (May : Type 0) (q : Question) (c : Context) : Type 0 where
+  pub may : May
+  pub carries : CarriesNumber q c
+
+pub record FormPremise (May : Type 0) (q : Question) (c : Context) (Form : Type 0) : Type 0 where
+  pub may : May
+  pub carries : CarriesNumber q c
+  pub form : Form
+
+pub record ChildPremise (May : Type 0) (q : Question) (c : Context) (Children : Type 0) (below : Below) : Type 0 where
+  pub may : May
+  pub carries : CarriesNumber q c
+  pub children : Children
+  pub present : HasBelow q below
+
+-- the same where more than the verdict is wanted; of entries, too; and where no match stays unfinished
+pub record NodeErrorsPremise (May : Type 0) (q : Question) (c : Context) : Type 0 where
+  pub may : May
+  pub carries : CarriesNumber q c
+  pub more : WantsMore q
+
+pub record PartsErrorsPremise (May : Type 0) (q : Question) (c : Context) (Parts : Type 0) : Type 0 where
+  pub may : May
+  pub carries : CarriesNumber q c
+  pub more : WantsMore q
+  pub parts : Parts
+
+pub record FormErrorsPremise (May : Type 0) (q : Question) (c : Context) (Form : Type 0) : Type 0 where
+  pub may : May
+  pub carries : CarriesNumber q c
+  pub more : WantsMore q
+  pub form : Form
+
+pub record ChildErrorsPremise (May : Type 0) (q : Question) (c : Context) (Children : Type 0) (below : Below) : Type 0 where
+  pub may : May
+  pub carries : CarriesNumber q c
+  pub more : WantsMore q
+  pub children : Children
+  pub present : HasBelow q below
+
+pub record FinishedErrorsPremise (May : Type 0) (q : Question) (c : Context) (Finishes : Type 0) : Type 0 where
+  pub may : May
+  pub carries : CarriesNumber q c
+  pub more : WantsMore q
+  pub finishes : Finishes
+
+-- the same where units are wanted, at the place of a pointer
+pub record PartsUnitsPremise (May : Type 0) (q : Question) (c : Context) (pointer : Text) (Parts : Type 0) : Type 0 where
+  pub may : May
+  pub carries : CarriesNumber q c
+  pub pointed : PointsThere q pointer
+  pub parts : Parts
+
+pub record FormUnitsPremise (May : Type 0) (q : Question) (c : Context) (pointer : Text) (Form : Type 0) : Type 0 where
+  pub may : May
+  pub carries : CarriesNumber q c
+  pub pointed : PointsThere q pointer
+  pub form : Form
+
+-- the same of a keyword whose run has begun, with no errors of its own and no marks
+pub record TurnsPremise (May : Type 0) (q : Question) (c : Context) (Form Begun : Type 0) (a : code_answer.Answer) : Type 0 where
+  pub may : May
+  pub carries : CarriesNumber q c
+  pub form : Form
+  pub begun : Begun
+  pub no_faults : faults_in a ≡ []
+  pub no_marks : c.marking ≡ []
+
+module _ {C R K M : Type 0} (k : keyword.Ghosts C R K) (m : matcher.Ghosts M) (e : Engine C M) (q : Question) where
+  -- a verdict may be asked for; that of an entry, of a keyword, and of what an edge leads to
+  abbrev pub VerdictIsAsked : Wanted K → Context → Type 0
+  VerdictIsAsked a c = IsAsked (setting_by k m e) q a c
+
+  abbrev pub EntryIsAsked : ℕ → Entry C → Context → Type 0
+  EntryIsAsked i x c = IsAsked (setting_by k m e) q (the_entry k.shape i x) c
+
+  abbrev pub KeywordIsAsked : ℕ → NamedKeyword C → Context → Type 0
+  KeywordIsAsked i w c = IsAsked (setting_by k m e) q (the_keyword k.shape i w) c
+
+  abbrev pub EdgeIsAsked : Edge → Context → Type 0
+  EdgeIsAsked edge c = IsAsked (setting_by k m e) q (an_edge (edge_of edge)) c
+
+  -- a keyword's run has begun, and its answer is fresh
+  abbrev pub KeywordHasBegun : NamedKeyword C → R → code_answer.Answer → Type 0
+  KeywordHasBegun w run a = HasBegun (setting_by k m e) (asking q) (k.shape w.keyword.now) run a
+
+  module _ (c : Context) (i : ℕ) where
+    -- a reply may be asked for of a node
+    abbrev pub NodeMayReply : Type 0
+    NodeMayReply = NodePremise (MayRun (setting_by k m e) (asking q) c i) q c
+
+    -- errors may be: of a node, of its entries, of one of them, of a keyword, of its child, and of a node that is asked for its
+    -- verdict first
+    abbrev pub NodeMayRun : Type 0
+    NodeMayRun = NodeErrorsPremise (MayRun (setting_by k m e) (asking q) c i) q c
+
+    abbrev pub EntriesMayRun : List (Entry C) → Type 0
+    EntriesMayRun xs = PartsErrorsPremise (MayRun (setting_by k m e) (asking q) c i) q c (HasEntries k.shape e i xs)
+
+    abbrev pub EntryMayRun : Entry C → Type 0
+    EntryMayRun x = FormErrorsPremise (MayRun (setting_by k m e) (asking q) c i) q c (HasEntry k.shape e i x)
+
+    abbrev pub KeywordMayRun : NamedKeyword C → Type 0
+    KeywordMayRun w = FormErrorsPremise (MayRun (setting_by k m e) (asking q) c i) q c (HasKeyword k.shape e i w)
+
+    abbrev pub ChildMayRun : List (Option Edge) → Below → Type 0
+    ChildMayRun es below = ChildErrorsPremise (MayRun (setting_by k m e) (asking q) c i) q c (HasEdges k.shape e i es) below
+
+    abbrev pub NodeMayBeRefused : Type 0
+    NodeMayBeRefused = FinishedErrorsPremise (MayRun (setting_by k m e) (asking q) c i) q c (FinishesAll m.matching e)
+
+    -- units may be: of a node, of its entries, of one of them, of a keyword, and of its child
+    abbrev pub NodeMayEvaluate : Type 0
+    NodeMayEvaluate = NodePremise (MayEvaluate (setting_by k m e) (asking q) c i) q c
+
+    abbrev pub EntriesMayEvaluate : List (Entry C) → Text → Type 0
+    EntriesMayEvaluate xs pointer = PartsUnitsPremise (MayEvaluate (setting_by k m e) (asking q) c i) q c pointer (HasEntries k.shape e i xs)
+
+    abbrev pub EntryMayEvaluate : Entry C → Text → Type 0
+    EntryMayEvaluate x pointer = FormUnitsPremise (MayEvaluate (setting_by k m e) (asking q) c i) q c pointer (HasEntry k.shape e i x)
+
+    abbrev pub KeywordMayEvaluate : NamedKeyword C → Text → Type 0
+    KeywordMayEvaluate w pointer = FormUnitsPremise (MayEvaluate (setting_by k m e) (asking q) c i) q c pointer (HasKeyword k.shape e i w)
+
+    abbrev pub ChildMayEvaluate : List (Option Edge) → Below → Type 0
+    ChildMayEvaluate es below = ChildPremise (MayEvaluate (setting_by k m e) (asking q) c i) q c (HasEdges k.shape e i es) below
+
+    -- whatever a keyword asks for may be: of the keyword, in its turns, and of its child
+    abbrev pub KeywordMayAsk : NamedKeyword C → Type 0
+    KeywordMayAsk w = FormPremise (MayAsk (setting_by k m e) (asking q) c i) q c (HasKeyword k.shape e i w)
+
+    abbrev pub TurnsMayAsk : NamedKeyword C → R → code_answer.Answer → Type 0
+    TurnsMayAsk w run a = TurnsPremise (MayAsk (setting_by k m e) (asking q) c i) q c (HasKeyword k.shape e i w) (KeywordHasBegun w run a) a
+
+    abbrev pub ChildMayAsk : List (Option Edge) → Below → Type 0
+    ChildMayAsk es below = ChildPremise (MayAsk (setting_by k m e) (asking q) c i) q c (HasEdges k.shape e i es) below
+
+-- a keyword's verdict may be asked for by questions that say it, all of them or one, where no match stays unfinished
+pub record QuestionsPremise (Asked Finishes : Type 0) (q : Question) (left : QuestionsLeft) (Says : Type 0) : Type 0 where
+  pub asked : Asked
+  pub finishes : Finishes
+  pub there : left.subject ≡ subject_of q.instance
+  pub says : Says
+
+abbrev pub QuestionsAreAsked : {C R K M : Type 0} → keyword.Ghosts C R K → matcher.Ghosts M → Engine C M → Question → Context → ℕ → NamedKeyword C → Bool → QuestionsLeft → Type 0
+QuestionsAreAsked k m e q c i w all left = QuestionsPremise (KeywordIsAsked k m e q i w c) (FinishesAll m.matching e) q left
+    (SaysByQuestions k.words k.is_whole (subject_of q.instance) (k.shape w.keyword.now) all left.left)

@@ -1,0 +1,186 @@
+-- What the functions of a run answer, over the values of the program: each answer in a word.
+use Rattle.std.specs.Prelude.{Bool, IfOk, List, Option, Result, map, option_map, string_bytes, ℕ, ◌≡◌, ◌≤◌}
+use Rattle.schema_reports.specs.declared.evaluation.EvaluationNode.{EvaluationNode}
+use Rattle.schema_parts.specs.EdgeViews.{edge_of}
+use Rattle.schema_parts.specs.KeywordViews.{below_of}
+use Rattle.schema_parts.specs.declared.keyword.Answer as code_answer
+use Rattle.schema_parts.specs.declared.keyword.Below.{Below}
+use Rattle.schema_parts.specs.declared.keyword.Reply as code
+use Rattle.schema_parts.specs.declared.keyword.Validate as keyword
+use Rattle.schema_parts.specs.declared.matcher.Matcher as matcher
+use Rattle.schema_parts.specs.declared.numbers.Edge.{Edge}
+use Rattle.schema_contexts.specs.Progress.{Context}
+use Rattle.schema_contexts.specs.Works.{Asks, Spends}
+use Rattle.node_table.specs.NodeTable.{numbered, shaped_form, shaped_part}
+use Rattle.node_table.specs.NodeViews.{entry_of, form_of}
+use Rattle.node_table.specs.declared.node.Entry.{Entry}
+use Rattle.run_steps.specs.Askings.{Asking, asking}
+use Rattle.run_steps.specs.NodeRuns.{form_at_work}
+use Rattle.run_steps.specs.declared.evaluation_order.EntryUnits.{EntryUnits}
+use Rattle.run_steps.specs.declared.question.Engine.{Engine}
+use Rattle.run_steps.specs.declared.question.NamedKeyword.{NamedKeyword}
+use Rattle.run_steps.specs.declared.question.Question.{Question}
+use Rattle.schema_runs.specs.Answered.{Answered, Answers, ChildGiven, ChildReplied, EdgeGiven, EdgeReplied, EntryReplied, FormGiven, FormReplied, NodeGiven, NodeReplied, PartsGiven, PartsReplied, PlanGiven, PlanReplied, Turns, Wanted, an_edge, setting_by, the_entry, the_keyword}
+use Rattle.schema_runs.specs.RunStates.{Keeps, MeetsChild, MeetsForm, MeetsNode, NodeRemembers, NodeSays, PassesItsOwn, RunBorrows, Setting, StaysRight}
+use Rattle.schema_runs.specs.UnitStates.{ChildTells, FindsRightly}
+use Rattle.schema_runs.specs.Visits.{LeadsNowhere, NodeCounts}
+
+-- ---- what is left of the context, where there is a result
+
+module _ {T E : Type 0} (c c' : Context) (result : Result T E) where
+  -- the instance, the pairs in progress, what is assumed and the marks are as before
+  abbrev pub KeepsAll : Type 0
+  KeepsAll = IfOk result (λ _. Keeps c c')
+
+  -- the pairs in progress are, or what is assumed, or the marks
+  abbrev pub KeepsPairs : Type 0
+  KeepsPairs = IfOk result (λ _. c'.in_progress ≡ c.in_progress)
+
+  abbrev pub KeepsAssumed : Type 0
+  KeepsAssumed = IfOk result (λ _. c'.remembered.assumptions ≡ c.remembered.assumptions)
+
+  abbrev pub KeepsMarks : Type 0
+  KeepsMarks = IfOk result (λ _. c'.marking ≡ c.marking)
+
+  -- visits never become fewer; and a keyword whose children lead nowhere makes none
+  abbrev pub CountsOn : Type 0
+  CountsOn = IfOk result (λ _. c.visits ≤ c'.visits)
+
+  abbrev pub StaysQuiet : List (Option Edge) → Type 0
+  StaysQuiet es = IfOk result (λ _. LeadsNowhere (map (option_map edge_of) es) → c'.visits ≡ c.visits)
+
+  -- no more nodes may be asked after it than before, or one fewer
+  abbrev pub SpendsWork : Type 0
+  SpendsWork = IfOk result (λ _. Spends c.work c'.work)
+
+  abbrev pub AsksNode : Type 0
+  AsksNode = IfOk result (λ _. Asks c.work c'.work)
+
+module _ {C R K M E : Type 0} (k : keyword.Ghosts C R K) (m : matcher.Ghosts M) (e : Engine C M) (q : Question) where
+  -- ---- the verdict of what is asked, of an entry, of a keyword, and of what an edge leads to
+
+  abbrev pub VerdictIsTold : Wanted K → Context → Context → Result Bool E → Type 0
+  VerdictIsTold a c c' result = Answers (setting_by k m e) q a c c' result
+
+  abbrev pub EntryIsTold : ℕ → Entry C → Context → Context → Result Bool E → Type 0
+  EntryIsTold i x c c' result = Answers (setting_by k m e) q (the_entry k.shape i x) c c' result
+
+  abbrev pub KeywordIsTold : ℕ → NamedKeyword C → Context → Context → Result Bool E → Type 0
+  KeywordIsTold i w c c' result = Answers (setting_by k m e) q (the_keyword k.shape i w) c c' result
+
+  abbrev pub EdgeIsTold : Edge → Context → Context → Result Bool E → Type 0
+  EdgeIsTold edge c c' result = Answers (setting_by k m e) q (an_edge (edge_of edge)) c c' result
+
+  -- ---- the reply of a node in any mode but that for units, with what it counts and remembers for the verdict
+
+  abbrev pub AnswerOfNode : ℕ → Context → Context → Result code.Reply E → Type 0
+  AnswerOfNode i c c' result = Answered (setting_by k m e) (asking q) c c' result
+      (NodeCounts (numbered k.shape e.nodes.now) (asking q) c c' i) (λ r. NodeSays (setting_by k m e) (asking q) c i r)
+      (MeetsNode (setting_by k m e) (asking q) c c' i) (λ r. NodeRemembers (asking q) c c' (numbered k.shape e.nodes.now) i r)
+      (Asks c.work c'.work)
+
+  -- ---- the reply of a node, of its plan, its entries, an entry, its form, a keyword, its child, and of what an edge leads to
+
+  abbrev pub ReplyOfNode : ℕ → Context → Context → Result code.Reply E → Type 0
+  ReplyOfNode i c c' result = NodeReplied (setting_by k m e) q i c c' result
+
+  abbrev pub ReplyOfPlan : ℕ → Context → Context → Result code.Reply E → Type 0
+  ReplyOfPlan i c c' result = PlanReplied (setting_by k m e) q i c c' result
+
+  abbrev pub ReplyOfEntries : ℕ → List (Entry C) → Context → Context → Result code.Reply E → Type 0
+  ReplyOfEntries i xs c c' result = PartsReplied (setting_by k m e) q i (map (shaped_part k.shape) (map entry_of xs)) c c' result
+
+  abbrev pub ReplyOfEntry : ℕ → Entry C → Context → Context → Result code.Reply E → Type 0
+  ReplyOfEntry i x c c' result = EntryReplied (setting_by k m e) q i (shaped_part k.shape (entry_of x)) c c' result
+
+  abbrev pub ReplyOfForm : ℕ → Entry C → Context → Context → Result code.Reply E → Type 0
+  ReplyOfForm i x c c' result = FormReplied (setting_by k m e) q i (string_bytes x.name) (shaped_form k.shape (form_of x.form)) c c' result
+
+  abbrev pub ReplyOfKeyword : ℕ → NamedKeyword C → Context → Context → Result code.Reply E → Type 0
+  ReplyOfKeyword i w c c' result = FormReplied (setting_by k m e) q i (string_bytes w.name.now) (form_at_work k.shape w) c c' result
+
+  abbrev pub ReplyOfChild : ℕ → List (Option Edge) → ℕ → Below → Context → Context → Result code.Reply E → Type 0
+  ReplyOfChild i es n below c c' result = ChildReplied (setting_by k m e) q i (map (option_map edge_of) es) (record { child = n; below = below_of below }) c c' result
+
+  abbrev pub ReplyOfEdge : Edge → Context → Context → Result code.Reply E → Type 0
+  ReplyOfEdge edge c c' result = EdgeReplied (setting_by k m e) q (edge_of edge) c c' result
+
+  -- ---- their units
+
+  abbrev pub UnitOfNode : ℕ → Context → Context → Result EvaluationNode E → Type 0
+  UnitOfNode i c c' result = NodeGiven (setting_by k m e) q i c c' result
+
+  abbrev pub UnitOfPlan : ℕ → Context → Context → Result EvaluationNode E → Type 0
+  UnitOfPlan i c c' result = PlanGiven (setting_by k m e) q i c c' result
+
+  abbrev pub UnitsOfEntries : ℕ → List (Entry C) → Context → Context → Result (List EvaluationNode) E → Type 0
+  UnitsOfEntries i xs c c' result = PartsGiven (setting_by k m e) q i (map (shaped_part k.shape) (map entry_of xs)) c c' result
+
+  abbrev pub UnitsOfEntry : ℕ → Entry C → Context → Context → Result EntryUnits E → Type 0
+  UnitsOfEntry i x c c' result = FormGiven (setting_by k m e) q i (string_bytes x.name) (shaped_form k.shape (form_of x.form)) c c' result
+
+  abbrev pub UnitsOfKeyword : ℕ → NamedKeyword C → Context → Context → Result EntryUnits E → Type 0
+  UnitsOfKeyword i w c c' result = FormGiven (setting_by k m e) q i (string_bytes w.name.now) (form_at_work k.shape w) c c' result
+
+  abbrev pub UnitOfChild : ℕ → List (Option Edge) → ℕ → Below → Context → Context → Result EvaluationNode E → Type 0
+  UnitOfChild i es n below c c' result = ChildGiven (setting_by k m e) q i (map (option_map edge_of) es) (record { child = n; below = below_of below }) c c' result
+
+  abbrev pub UnitOfEdge : Edge → Context → Context → Result EvaluationNode E → Type 0
+  UnitOfEdge edge c c' result = EdgeGiven (setting_by k m e) q (edge_of edge) c c' result
+
+-- ---- a keyword's turns, and its children in them
+
+-- what a keyword has found; its answer after its turns, which leave marks; and the reply of a child in them
+pub record KeywordFound {K R T E : Type 0} (g : Setting K R) (q : Asking) (c c' : Context) (result : Result T E) (es : List (Option Edge)) (Right Passes : T → Type 0) (Meets : Type 0) : Type 0 where
+  pub keeps : KeepsAll c c' result
+  pub counts : CountsOn c c' result
+  pub works : SpendsWork c c' result
+  pub quiet : StaysQuiet c c' result es
+  pub right : IfOk result Right
+  pub passes : IfOk result Passes
+  pub meets : IfOk result (λ _. Meets)
+  pub stays : IfOk result (λ _. StaysRight g q c c')
+
+pub record KeywordTurned {K R T E : Type 0} (g : Setting K R) (q : Asking) (c c' : Context) (result : Result T E) (es : List (Option Edge)) (Right Passes Meets : Type 0) : Type 0 where
+  pub root : IfOk result (λ _. c'.root ≡ c.root)
+  pub kept : KeepsPairs c c' result
+  pub assumes : KeepsAssumed c c' result
+  pub counts : CountsOn c c' result
+  pub works : SpendsWork c c' result
+  pub quiet : StaysQuiet c c' result es
+  pub right : IfOk result (λ _. Right)
+  pub passes : IfOk result (λ _. Passes)
+  pub meets : IfOk result (λ _. Meets)
+  pub stays : IfOk result (λ _. StaysRight g q c c')
+
+pub record ChildTold {K R E : Type 0} (g : Setting K R) (q : Asking) (c c' : Context) (result : Result code.Reply E) (es : List (Option Edge)) (Tells : code.Reply → Type 0) (Meets : Type 0) : Type 0 where
+  pub keeps : KeepsAll c c' result
+  pub counts : CountsOn c c' result
+  pub works : SpendsWork c c' result
+  pub quiet : StaysQuiet c c' result es
+  pub gives : IfOk result Tells
+  pub meets : IfOk result (λ _. Meets)
+  pub stays : IfOk result (λ _. StaysRight g q c c')
+  pub borrows : IfOk result (λ r. RunBorrows q r)
+
+module _ {C R K M E : Type 0} (k : keyword.Ghosts C R K) (m : matcher.Ghosts M) (e : Engine C M) (q : Question) (i : ℕ) where
+  -- a keyword's run has this answer at the end, in its run for the verdict and in any other
+  abbrev pub VerdictTurnsOfKeyword : {T : Type 0} → NamedKeyword C → Context → Context → Result T E → code_answer.Answer → Type 0
+  VerdictTurnsOfKeyword w c c' result a = Turns k.shape (setting_by k m e) q i w c c' result a
+
+  abbrev pub TurnsOfKeyword : {T : Type 0} → NamedKeyword C → Context → Context → Result T E → code_answer.Answer → Type 0
+  TurnsOfKeyword w c c' result a = KeywordTurned (setting_by k m e) (asking q) c c' result w.children.now
+      (FindsRightly (setting_by k m e) (asking q) c i (map (option_map edge_of) w.children.now) (k.shape w.keyword.now) a)
+      (PassesItsOwn (asking q) a) (MeetsForm (setting_by k m e) (asking q) c c' i (string_bytes w.name.now) (form_at_work k.shape w))
+
+  -- what it has found is told
+  abbrev pub AnswerOfKeyword : NamedKeyword C → Context → Context → Result code_answer.Answer E → Type 0
+  AnswerOfKeyword w c c' result = KeywordFound (setting_by k m e) (asking q) c c' result w.children.now
+      (λ a. FindsRightly (setting_by k m e) (asking q) c i (map (option_map edge_of) w.children.now) (k.shape w.keyword.now) a)
+      (λ a. PassesItsOwn (asking q) a) (MeetsForm (setting_by k m e) (asking q) c c' i (string_bytes w.name.now) (form_at_work k.shape w))
+
+  -- a child is told in the mode that it is asked in
+  abbrev pub AnswerOfChild : List (Option Edge) → ℕ → Below → Context → Context → Result code.Reply E → Type 0
+  AnswerOfChild es n below c c' result = ChildTold (setting_by k m e) (asking q) c c' result es
+      (λ r. ChildTells (setting_by k m e) (asking q) c i (map (option_map edge_of) es) (record { child = n; below = below_of below }) r)
+      (MeetsChild (setting_by k m e) (asking q) c c' i (map (option_map edge_of) es) (record { child = n; below = below_of below }))

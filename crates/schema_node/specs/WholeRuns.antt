@@ -1,0 +1,53 @@
+-- What a whole run of a node says, meets and leaves, over the table of nodes and the matcher: each answer in a word.
+use Rattle.std.specs.Prelude.{Bool, IfOk, List, Result, ℕ}
+use Rattle.serde_json.specs.View.{view}
+use Rattle.schema_definitions.specs.Keywords.{Keywords}
+use Rattle.schema_definitions.specs.Matching.{Matcher}
+use Rattle.schema_reports.specs.declared.evaluation.EvaluationNode.{EvaluationNode}
+use Rattle.schema_parts.specs.declared.keyword.Reply as code
+use Rattle.schema_contexts.specs.Progress.{Context}
+use Rattle.node_table.specs.NodeTable.{NodeEntry, numbered}
+use Rattle.run_steps.specs.Askings.{Asking, IsAskedOf}
+use Rattle.schema_runs.specs.RunStates.{NodeRemembers, RunBorrows, RunMeets, RunRemembers, RunReplies, RunSpeaks, StaysRight, setting_over}
+use Rattle.schema_runs.specs.UnitStates.{RunGives}
+use Rattle.schema_runs.specs.Visits.{NodeCounts}
+
+-- the subject stands at the place in the context's instance
+abbrev pub SubjectStandsIn : Context → Asking → Type 0
+SubjectStandsIn c q = IsAskedOf (view c.root) q
+
+-- the reply is of the mode, and its errors borrow what stands at their places
+abbrev pub SpeaksInMode : {E : Type 0} → Asking → Result code.Reply E → Type 0
+SpeaksInMode q result = IfOk result (λ r. RunSpeaks q r)
+
+abbrev pub BorrowsThere : {E : Type 0} → Asking → Result code.Reply E → Type 0
+BorrowsThere q result = IfOk result (λ r. RunBorrows q r)
+
+module _ {C K : Type 0} (shape : C → K) (ns : List (NodeEntry C)) (q : Asking) (c c' : Context) where
+  -- as many visits are counted as the node takes, where it leads on across references alone
+  abbrev pub CountsNode : {T E : Type 0} → ℕ → Result T E → Type 0
+  CountsNode i result = IfOk result (λ _. NodeCounts (numbered shape ns) q c c' i)
+
+  -- where the node's one entry is a guarded reference, its verdict is read, or kept
+  abbrev pub RemembersNode : {E : Type 0} → ℕ → Result code.Reply E → Type 0
+  RemembersNode i result = IfOk result (λ r. NodeRemembers q c c' (numbered shape ns) i r)
+
+module _ {K R C M : Type 0} (words : Bool → Keywords K R) (is_whole : K → Bool) (shape : C → K) (matching : M → Matcher) (ns : List (NodeEntry C)) (matcher : M) (q : Asking) (c : Context) where
+  -- the reply is that of the node's run, and the unit
+  abbrev pub RepliesByRun : {E : Type 0} → ℕ → Result code.Reply E → Type 0
+  RepliesByRun i result = IfOk result (λ r. RunReplies (setting_over words is_whole shape ns (matching matcher)) q c i r)
+
+  abbrev pub GivesByRun : {E : Type 0} → ℕ → Result EvaluationNode E → Type 0
+  GivesByRun i result = IfOk result (λ u. RunGives (setting_over words is_whole shape ns (matching matcher)) q c i u)
+
+  -- the matches that the node's run meets are remembered after it
+  abbrev pub MeetsByRun : {T E : Type 0} → ℕ → Context → Result T E → Type 0
+  MeetsByRun i c' result = IfOk result (λ _. RunMeets (setting_over words is_whole shape ns (matching matcher)) q c c' i)
+
+  -- verdicts that were remembered stay right
+  abbrev pub StaysRightInRun : {T E : Type 0} → Context → Result T E → Type 0
+  StaysRightInRun c' result = IfOk result (λ _. StaysRight (setting_over words is_whole shape ns (matching matcher)) q c c')
+
+  -- those that this context remembers are right after a run
+  abbrev pub RightAfterRun : {T E : Type 0} → Result T E → Type 0
+  RightAfterRun result = IfOk result (λ _. RunRemembers (setting_over words is_whole shape ns (matching matcher)) q c)
