@@ -16,7 +16,7 @@ use Rattle.schema_parts.specs.declared.numbers.Edge.{Edge}
 use Rattle.node_table.specs.declared.node.Entry.{Entry}
 use Rattle.node_table.specs.NodeTable.{NodeEntry, plan_in}
 use Rattle.node_table.specs.NodeViews.{entry_of, form_of}
-use Rattle.schema_pairs.specs.Following.{AreWays, Counts, is_settled_in, table_edges, ways_along, ways_in, weight_in}
+use Rattle.schema_pairs.specs.Following.{AreWays, Counts, child_edges, is_settled_in, table_edges, ways_along, ways_in, weight_in}
 
 -- ---- one edge
 
@@ -39,10 +39,6 @@ counts_then {a} {b} {c} {x} {y} {z} first next is = record {
 }
 
 -- ---- the next child, the next entry and the next node
-
--- the edges of some children
-abbrev pub child_edges : List (Option Edge) → List NodeEdge
-child_edges cs = filter_map (λ o. o) (map (option_map edge_of) cs)
 
 pub child_more : (cs : List (Option Edge)) (k : ℕ) (d : Option Edge) → k < length cs → child_edges (take (k + 1) cs) ≡ child_edges (take k cs) ++ child_edges (get_or cs k d ∷ [])
 child_more cs k d l = ap child_edges (take_more cs k d l) ∙ ap (filter_map (λ (o : Option NodeEdge). o)) (map-append (option_map edge_of) (take k cs) (get_or cs k d ∷ [])) ∙ filter_map-append (λ (o : Option NodeEdge). o) (map (option_map edge_of) (take k cs)) (map (option_map edge_of) (get_or cs k d ∷ []))

@@ -11,8 +11,8 @@ use Rattle.schema_parts.specs.declared.numbers.Edge.{Edge}
 use Rattle.node_table.specs.declared.node.Entry.{Entry}
 use Rattle.node_table.specs.NodeTable.{NodeEntry, plan_in}
 use Rattle.node_table.specs.NodeViews.{entry_of, form_of}
-use Rattle.schema_pairs.specs.Following.{Covers, edge_weight, edges_from, edges_weight, weight_in}
-use Rattle.schema_pairs.proofs.Ways.{child_edges, child_more, entry_more}
+use Rattle.schema_pairs.specs.Following.{Covers, child_edges, edge_weight, edges_from, edges_weight, weight_in}
+use Rattle.schema_pairs.proofs.Ways.{child_more, entry_more}
 
 -- ---- the next child and the next entry
 

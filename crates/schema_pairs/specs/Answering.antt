@@ -24,6 +24,13 @@ pub record Begins (i : ℕ) (p : Place) (old new : Solver) : Type 0 where
   pub marking : new.marking ≡ old.marking
   pub begun : new.begun ≡ one_more old.begun
 
+-- all stays but what is assumed and what is known
+pub record KeepsRest (old new : Solver) : Type 0 where
+  pub root : new.root ≡ old.root
+  pub in_progress : new.in_progress ≡ old.in_progress
+  pub marking : new.marking ≡ old.marking
+  pub begun : new.begun ≡ old.begun
+
 -- no pair that was assumed since a mark, which is after the first so many, was assumed before it too
 abbrev pub IsApart : ℕ → Solver → Type 0
 IsApart mark c = (i : ℕ) (p : Place) → has_pair (drop mark c.assumed) i p ≡ true → has_pair (take mark c.assumed) i p ≡ false
@@ -32,10 +39,14 @@ IsApart mark c = (i : ℕ) (p : Place) → has_pair (drop mark c.assumed) i p �
 abbrev pub Refuses : ℕ → Place → ℕ → Solver → Solver → Type 0
 Refuses i p mark old new = (new.assumed ≡ take mark old.assumed) × Remembers i p false old.verdicts new.verdicts
 
+-- no pair is in progress at the place
+abbrev pub IsAlone : Place → Solver → Type 0
+IsAlone p c = (k : ℕ) → has_pair c.in_progress k p ≡ false
+
 -- a yes while no other pair is in progress at the place: it is known for good, and so is all that was assumed since the mark, which is
 -- assumed no longer
 abbrev pub SettlesAlone : ℕ → Place → ℕ → Solver → Solver → Type 0
-SettlesAlone i p mark old new = ((k : ℕ) → has_pair old.in_progress k p ≡ false)
+SettlesAlone i p mark old new = IsAlone p old
     × (new.assumed ≡ take mark old.assumed) × SettlesAll ((i, p) ∷ drop mark old.assumed) old.verdicts new.verdicts
 
 -- another pair is in progress at the place

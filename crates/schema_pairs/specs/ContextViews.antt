@@ -1,6 +1,6 @@
 -- A solver's fields as what it holds: pairs by the numbers of their places, verdicts as the bits of rows; and what is true of the fields.
 use Rattle.std.specs.List.{list_any}
-use Rattle.std.specs.Prelude.{◌==◌, ◌&&◌, All, Bool, List, length, map, true, ℕ, ◌/◌, ◌<◌, ◌≡◌}
+use Rattle.std.specs.Prelude.{◌==◌, ◌&&◌, All, Bool, List, length, map, not, true, ℕ, ◌*◌, ◌/◌, ◌<◌, ◌≡◌}
 use Rattle.schema_definitions.specs.Instance.{Place}
 use Rattle.schema_places.specs.Numbers.{OwnNumbers, place_at}
 use Rattle.schema_contexts.specs.Progress.{Pairs, row_words}
@@ -34,6 +34,14 @@ pub record HaveBits (es : List NumberedPair) (rows : List (List ℕ)) : Type 0 w
   pub words : ℕ
   pub wide : AreWide words rows
   pub there : All (λ e. (e.place / 64 < words) × (has_words (row_in rows e.node.0) ≡ true)) es
+
+-- they lose the bits of these pairs, and no other
+abbrev pub ClearsBits : List NumberedPair → List (List ℕ) → List (List ℕ) → Type 0
+ClearsBits es old new = (n k : ℕ) → has_bit (row_in new n) k ≡ (has_bit (row_in old n) k && not (has_number_pair es n k))
+
+-- they have room for the verdicts at so many places
+abbrev pub HoldVerdicts : ℕ → List (List ℕ) → Type 0
+HoldVerdicts count rows = AreWide (2 * row_words count) rows
 
 -- the verdict of a pair is remembered, over any places of which there are so many
 abbrev pub KeepsVerdict : ℕ → ℕ → ℕ → Bool → List (List ℕ) → List (List ℕ) → Type 0

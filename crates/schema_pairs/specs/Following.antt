@@ -1,9 +1,34 @@
 -- How many edges that nothing guards lead to each number of a table, and how many nodes it takes to ask it where each edge is followed,
 -- by which a solver picks the numbers that it follows.
-use Rattle.std.specs.Prelude.{Bool, EachIndex, List, Some, count_by, false, flat_map, if◌then◌else◌, length, min, nat_le, not, option_map}
+use Rattle.std.specs.Prelude.{Bool, EachIndex, List, Option, Some, count_by, false, filter_map, flat_map, if◌then◌else◌, length, map, min, nat_le, not, option_map}
 use Rattle.std.specs.Prelude.{slice_get, slice_index, slice_index_or, sum_by, unwrap_or, ℕ, ◌&&◌, ◌++◌, ◌<◌, ◌==◌, ◌||◌, ◌≡◌}
-use Rattle.schema_definitions.specs.Guarded.{NodeEdge, node_edges}
+use Rattle.schema_definitions.specs.Guarded.{NodeEdge, form_edges, node_edges, node_these}
+use Rattle.schema_parts.specs.EdgeViews.{edge_of}
+use Rattle.schema_parts.specs.declared.numbers.Edge.{Edge}
 use Rattle.node_table.specs.NodeTable.{NodeEntry, is_settled_entry, plan_in}
+use Rattle.node_table.specs.NodeViews.{entry_of, form_of, node_of}
+use Rattle.node_table.specs.declared.node.Entry.{Entry}
+use Rattle.node_table.specs.declared.node.Node.{Node}
+
+-- ---- the edges of what the table is made of
+
+-- of some children
+abbrev pub child_edges : List (Option Edge) → List NodeEdge
+child_edges cs = filter_map (λ o. o) (map (option_map edge_of) cs)
+
+-- of an entry
+abbrev pub entry_edges : {K : Type 0} → Entry K → List NodeEdge
+entry_edges e = form_edges (form_of e.form)
+
+-- of some entries
+abbrev pub entries_edges : {K : Type 0} → List (Entry K) → List NodeEdge
+entries_edges es = node_edges (node_these (map entry_of es))
+
+-- of a node
+abbrev pub edges_of : {K : Type 0} → Node K → List NodeEdge
+edges_of n = node_edges (plan_in (Some (node_of n)))
+
+-- ---- ways
 
 -- how many of some edges lead to a number with nothing to guard them
 abbrev pub ways_along : List NodeEdge → ℕ → ℕ
@@ -43,6 +68,10 @@ edge_weight ws e = if e.guarded then 255 else weight_in ws e.node
 -- the weights of some edges, taken together
 abbrev pub edges_weight : List ℕ → List NodeEdge → ℕ
 edges_weight ws es = sum_by (edge_weight ws) es
+
+-- the same, but 255 at the most
+abbrev pub weight_together : List ℕ → List NodeEdge → ℕ
+weight_together ws es = min 255 (edges_weight ws es)
 
 -- the edges of a number; one that is not of the table, or has no form, has none
 abbrev pub edges_from : {K : Type 0} → List (NodeEntry K) → ℕ → List NodeEdge

@@ -1,21 +1,20 @@
 //! What a solver has found while it runs: the pairs in progress, those that are assumed, and the verdicts that are known.
-ghost use Rattle.std.specs.Prelude.{◌≡◌, ◌<◌, ◌≤◌, ◌*◌, ◌++◌, ◌∷◌, ◌&&◌, []};
-ghost use Rattle.std.specs.Prelude.{All, IfErr, IfOk, IfSome, None, OnErr, OnOk, false, not, true, ℕ};
-ghost use Rattle.std.specs.Prelude.{drop, length, map, option_map, take};
+ghost use Rattle.std.specs.Prelude.{◌≡◌, ◌<◌, ◌≤◌, []};
+ghost use Rattle.std.specs.Prelude.{All, IfErr, IfOk, IfSome, None, OnErr, OnOk, false, true, ℕ};
+ghost use Rattle.std.specs.Prelude.{length, take};
 ghost use Rattle.std.specs.Borrow.{sem};
 ghost use Rattle.std.specs.List.{list_any};
-ghost use Rattle.schema_definitions.specs.Guarded.{same_edge};
 ghost use Rattle.schema_definitions.specs.Runs.{with_mark, without_last};
-ghost use Rattle.schema_places.specs.Numbers.{NumbersAll, OwnNumbers, place_at};
-ghost use Rattle.schema_parts.specs.EdgeViews.{edge_of};
+ghost use Rattle.schema_places.specs.Numbers.{NumbersAll, OwnNumbers};
 ghost use Rattle.schema_parts.specs.KeywordViews.{marked_of};
-ghost use Rattle.schema_contexts.specs.Progress.{EndsWith, row_words};
-ghost use Rattle.schema_contexts.specs.Rows.{AreWide, has_bit, row_in};
-ghost use Rattle.schema_contexts.specs.Verdicts.{Remembers, verdict_of};
+ghost use Rattle.schema_contexts.specs.Rows.{AreWide};
 ghost use Rattle.serde_json.specs.View.{view};
-ghost use Rattle.schema_pairs.specs.Contexts.{SettlesAll, has_pair, solver_places};
-ghost use Rattle.schema_pairs.specs.ContextViews.{HaveBits, KeepsVerdict, SettlesPairs, has_number_pair};
-ghost use Rattle.schema_pairs.specs.Answering.{Accepts, AssumesBeside, Begins, IsApart, IsBeside, IsFound, Refuses, SettlesBeside, fresh};
+ghost use Rattle.schema_pairs.specs.Contexts.{solver_places};
+ghost use Rattle.schema_pairs.specs.ContextViews.{ClearsBits, HaveBits, HoldVerdicts, KeepsVerdict, SettlesPairs};
+ghost use Rattle.schema_pairs.specs.Answering.{IsApart, KeepsRest, fresh};
+ghost use Rattle.schema_pairs.specs.AtNumbers.{FoundAt, HasOwnNumbers, IsAloneAt, IsBesideAt, IsFreeAt, IsIdleAt, IsKnown, IsLastAt};
+ghost use Rattle.schema_pairs.specs.AtNumbers.{AcceptsAt, AssumesAt, AssumesBesideAt, BeginsAt, IsUnknownAt, LeavesAt, RefusesAt};
+ghost use Rattle.schema_pairs.specs.AtNumbers.{RemembersAt, SettlesAt, SettlesBesideAt, same_mark};
 
 use crate::said::Said;
 use schema_contexts::bit_rows::{Rows, row_words};
@@ -101,9 +100,9 @@ fn keep_verdict(
     verdict: bool,
 ) -> Result<(), OutOfMemory>
     requires within { place < places }
-    requires wide { AreWide (2 * row_words places) known.old }
+    requires wide { HoldVerdicts places known.old }
     ensures kept { OnOk result (KeepsVerdict places node place verdict known.old known.new) }
-    ensures wide { AreWide (2 * row_words places) known.new }
+    ensures wide { HoldVerdicts places known.new }
     ensures unchanged { OnErr result (known.new ≡ known.old) }
 {
     let words = row_words(places);
@@ -121,9 +120,9 @@ fn settle_all(
     pairs: &[NumberedPair],
 ) -> Result<(), OutOfMemory>
     requires within { All (λ e. e.place < places) pairs.now }
-    requires wide { AreWide (2 * row_words places) known.old }
+    requires wide { HoldVerdicts places known.old }
     ensures settled { OnOk result (SettlesPairs places pairs.now known.old known.new) }
-    ensures wide { AreWide (2 * row_words places) known.new }
+    ensures wide { HoldVerdicts places known.new }
 {
     for pair in pairs {
         keep_verdict(alloc, known, places, pair.node.0, pair.place, true)?;
@@ -134,7 +133,7 @@ fn settle_all(
 // Clears the bits of these pairs.
 fn clear_bits(rows: &mut Rows, pairs: &[NumberedPair])
     requires there { HaveBits pairs.now rows.old }
-    ensures cleared { (n k : ℕ) → has_bit (row_in rows.new n) k ≡ (has_bit (row_in rows.old n) k && not (has_number_pair pairs.now n k)) }
+    ensures cleared { ClearsBits pairs.now rows.old rows.new }
     ensures wide { (w : ℕ) → AreWide w rows.old → AreWide w rows.new }
 {
     for pair in pairs {
@@ -182,11 +181,11 @@ impl<'i> SolverContext<'i> {
     /// Returns what the pair is answered by what is found: its verdict where that is known, a yes that leans where it is in progress or
     /// assumed, and nothing else. It allocates nothing.
     pub fn state(&self, node: SchemaNode, place: usize) -> Option<Said>
-        requires known { place < length (solver_places self.now) }
-        ensures known { IfSome result (IsFound node.0 (place_at (solver_places self.now) place) self.now) }
-        ensures unknown { result ≡ None → verdict_of node.0 (place_at (solver_places self.now) place) self.now.verdicts ≡ None }
-        ensures idle { result ≡ None → has_pair self.now.in_progress node.0 (place_at (solver_places self.now) place) ≡ false }
-        ensures free { result ≡ None → has_pair self.now.assumed node.0 (place_at (solver_places self.now) place) ≡ false }
+        requires known { IsKnown place self.now }
+        ensures known { IfSome result (FoundAt node place self.now) }
+        ensures unknown { result ≡ None → IsUnknownAt node place self.now }
+        ensures idle { result ≡ None → IsIdleAt node place self.now }
+        ensures free { result ≡ None → IsFreeAt node place self.now }
     {
         if let Some(verdict) = self.known.verdict_in(node.0, place) {
             return Some(Said::settled(verdict));
@@ -203,10 +202,10 @@ impl<'i> SolverContext<'i> {
     /// Records a pair that is not in progress, counts that it was begun, and returns the mark that goes to `keep_answer`: how many
     /// pairs are assumed. On `Err` nothing has changed.
     pub fn enter(&mut self, node: SchemaNode, place: usize) -> Result<usize, OutOfMemory>
-        requires known { place < length (solver_places self.old) }
-        requires is_new { has_pair self.old.in_progress node.0 (place_at (solver_places self.old) place) ≡ false }
+        requires known { IsKnown place self.old }
+        requires is_new { IsIdleAt node place self.old }
         ensures mark { IfOk result (λ n. n ≡ length self.old.assumed) }
-        ensures begins { OnOk result (Begins node.0 (place_at (solver_places self.old) place) self.old self.new) }
+        ensures begins { OnOk result (BeginsAt node place self.old self.new) }
         ensures unchanged { OnErr result (self.new ≡ self.old) }
     {
         let places = self.places.numbered(self.alloc)?.len();
@@ -223,9 +222,9 @@ impl<'i> SolverContext<'i> {
 
     /// Removes the pair, which must be the last one entered. It allocates nothing.
     pub fn exit(&mut self, node: SchemaNode, place: usize)
-        requires known { place < length (solver_places self.old) }
-        requires last { EndsWith node.0 (place_at (solver_places self.old) place) self.old.in_progress }
-        ensures left { self.old.in_progress ≡ self.new.in_progress ++ (node.0, place_at (solver_places self.old) place) ∷ [] }
+        requires known { IsKnown place self.old }
+        requires last { IsLastAt node place self.old }
+        ensures left { LeavesAt node place self.old self.new }
         ensures root { self.new.root ≡ self.old.root }
         ensures assumed { self.new.assumed ≡ self.old.assumed }
         ensures verdicts { self.new.verdicts ≡ self.old.verdicts }
@@ -240,24 +239,20 @@ impl<'i> SolverContext<'i> {
 
     // Whether no pair is in progress at the place.
     fn is_idle(&self, place: usize) -> bool
-        requires known { place < length (solver_places self.now) }
-        ensures none { result ≡ true → (k : ℕ) → has_pair self.now.in_progress k (place_at (solver_places self.now) place) ≡ false }
-        ensures some { result ≡ false → (k : ℕ) × (has_pair self.now.in_progress k (place_at (solver_places self.now) place) ≡ true) }
+        requires known { IsKnown place self.now }
+        ensures none { result ≡ true → IsAloneAt place self.now }
+        ensures some { result ≡ false → IsBesideAt place self.now }
     {
         count_at(self.counts.as_slice(), place) == 0
     }
 
     // Remembers a verdict of the pair for good. On `Err` nothing has changed.
     fn remember(&mut self, node: SchemaNode, place: usize, verdict: bool) -> Result<(), OutOfMemory>
-        requires known { place < length (solver_places self.old) }
-        ensures remembered { OnOk result (Remembers node.0 (place_at (solver_places self.old) place) verdict
-            self.old.verdicts self.new.verdicts) }
+        requires known { IsKnown place self.old }
+        ensures remembered { OnOk result (RemembersAt node place self.old self.new verdict) }
         ensures unchanged { OnErr result (self.new ≡ self.old) }
-        ensures root { self.new.root ≡ self.old.root }
-        ensures in_progress { self.new.in_progress ≡ self.old.in_progress }
+        ensures rest { KeepsRest self.old self.new }
         ensures assumed { self.new.assumed ≡ self.old.assumed }
-        ensures marking { self.new.marking ≡ self.old.marking }
-        ensures begun { self.new.begun ≡ self.old.begun }
     {
         let places = self.places.numbered(self.alloc)?.len();
         keep_verdict(self.alloc, &mut self.known, places, node.0, place, verdict)
@@ -265,14 +260,11 @@ impl<'i> SolverContext<'i> {
 
     // Drops what was assumed since the mark, none of which was assumed before it too.
     fn drop_since(&mut self, mark: usize)
-        requires own { OwnNumbers (solver_places self.old) }
+        requires own { HasOwnNumbers self.old }
         requires apart { IsApart mark self.old }
         ensures dropped { self.new.assumed ≡ take mark self.old.assumed }
-        ensures root { self.new.root ≡ self.old.root }
-        ensures in_progress { self.new.in_progress ≡ self.old.in_progress }
+        ensures rest { KeepsRest self.old self.new }
         ensures verdicts { self.new.verdicts ≡ self.old.verdicts }
-        ensures marking { self.new.marking ≡ self.old.marking }
-        ensures begun { self.new.begun ≡ self.old.begun }
     {
         if mark < self.assumed.len() {
             clear_bits(&mut self.yeses, &self.assumed[mark..]);
@@ -282,15 +274,11 @@ impl<'i> SolverContext<'i> {
 
     // Assumes a yes of the pair, which goes last among those that are assumed. On `Err` nothing has changed.
     fn assume(&mut self, node: SchemaNode, place: usize) -> Result<(), OutOfMemory>
-        requires known { place < length (solver_places self.old) }
-        ensures pushed { OnOk result (self.new.assumed
-            ≡ self.old.assumed ++ (node.0, place_at (solver_places self.old) place) ∷ []) }
+        requires known { IsKnown place self.old }
+        ensures pushed { OnOk result (AssumesAt node place self.old self.new) }
         ensures unchanged { OnErr result (self.new ≡ self.old) }
-        ensures root { self.new.root ≡ self.old.root }
-        ensures in_progress { self.new.in_progress ≡ self.old.in_progress }
+        ensures rest { KeepsRest self.old self.new }
         ensures verdicts { self.new.verdicts ≡ self.old.verdicts }
-        ensures marking { self.new.marking ≡ self.old.marking }
-        ensures begun { self.new.begun ≡ self.old.begun }
     {
         let places = self.places.numbered(self.alloc)?.len();
         self.assumed.reserve(1)?;
@@ -302,14 +290,10 @@ impl<'i> SolverContext<'i> {
 
     // Remembers a yes for good, of the pair and of all that was assumed since the mark. On `Err` some may be remembered.
     fn settle(&mut self, node: SchemaNode, place: usize, mark: usize) -> Result<(), OutOfMemory>
-        requires known { place < length (solver_places self.old) }
-        ensures settled { OnOk result (SettlesAll ((node.0, place_at (solver_places self.old) place) ∷ drop mark self.old.assumed)
-            self.old.verdicts self.new.verdicts) }
-        ensures root { self.new.root ≡ self.old.root }
-        ensures in_progress { self.new.in_progress ≡ self.old.in_progress }
+        requires known { IsKnown place self.old }
+        ensures settled { OnOk result (SettlesAt node place self.old self.new mark) }
+        ensures rest { KeepsRest self.old self.new }
         ensures assumed { self.new.assumed ≡ self.old.assumed }
-        ensures marking { self.new.marking ≡ self.old.marking }
-        ensures begun { self.new.begun ≡ self.old.begun }
     {
         let places = self.places.numbered(self.alloc)?.len();
         keep_verdict(self.alloc, &mut self.known, places, node.0, place, true)?;
@@ -331,14 +315,12 @@ impl<'i> SolverContext<'i> {
         mark: usize,
         said: Said,
     ) -> Result<Said, OutOfMemory>
-        requires known { place < length (solver_places self.old) }
-        requires own { OwnNumbers (solver_places self.old) }
+        requires known { IsKnown place self.old }
+        requires own { HasOwnNumbers self.old }
         requires apart { IsApart mark self.old }
         ensures valid { IfOk result (λ now. now.valid ≡ said.valid) }
-        ensures refused { IfOk result (λ now. said.valid ≡ false
-            → Refuses node.0 (place_at (solver_places self.old) place) mark self.old self.new) }
-        ensures accepted { IfOk result (λ now. said.valid ≡ true
-            → Accepts node.0 (place_at (solver_places self.old) place) mark said now self.old self.new) }
+        ensures refused { IfOk result (λ now. said.valid ≡ false → RefusesAt node place self.old self.new mark) }
+        ensures accepted { IfOk result (λ now. said.valid ≡ true → AcceptsAt node place self.old self.new mark said now) }
         ensures unchanged { OnErr result (said.valid ≡ false → self.new ≡ self.old) }
         ensures assumed { OnErr result (self.new.assumed ≡ self.old.assumed) }
         ensures root { self.new.root ≡ self.old.root }
@@ -365,19 +347,14 @@ impl<'i> SolverContext<'i> {
         place: usize,
         said: Said,
     ) -> Result<Said, OutOfMemory>
-        requires known { place < length (solver_places self.old) }
+        requires known { IsKnown place self.old }
         requires yes { said.valid ≡ true }
-        requires beside { IsBeside (place_at (solver_places self.old) place) self.old }
+        requires beside { IsBesideAt place self.old }
         ensures same { IfOk result (λ now. now ≡ said) }
-        ensures assumed { OnOk result (said.leans ≡ true
-            → AssumesBeside node.0 (place_at (solver_places self.old) place) self.old self.new) }
-        ensures settled { OnOk result (said.leans ≡ false
-            → SettlesBeside node.0 (place_at (solver_places self.old) place) self.old self.new) }
+        ensures assumed { OnOk result (said.leans ≡ true → AssumesBesideAt node place self.old self.new) }
+        ensures settled { OnOk result (said.leans ≡ false → SettlesBesideAt node place self.old self.new) }
         ensures unchanged { OnErr result (self.new ≡ self.old) }
-        ensures root { self.new.root ≡ self.old.root }
-        ensures in_progress { self.new.in_progress ≡ self.old.in_progress }
-        ensures marking { self.new.marking ≡ self.old.marking }
-        ensures begun { self.new.begun ≡ self.old.begun }
+        ensures rest { KeepsRest self.old self.new }
     {
         if said.leans() {
             self.assume(node, place)?;
@@ -395,10 +372,8 @@ impl<'i> SolverContext<'i> {
         children: &[Option<Edge>],
         marked: Marked,
     ) -> Result<bool, OutOfMemory>
-        ensures held { IfOk result (λ b. b
-            ≡ list_any (same_edge (map (option_map edge_of) children.now) (marked_of marked)) self.old.marking) }
-        ensures marks { OnOk result (self.new.marking
-            ≡ with_mark (same_edge (map (option_map edge_of) children.now)) (marked_of marked) self.old.marking) }
+        ensures held { IfOk result (λ b. b ≡ list_any (same_mark children.now (marked_of marked)) self.old.marking) }
+        ensures marks { OnOk result (self.new.marking ≡ with_mark (same_mark children.now) (marked_of marked) self.old.marking) }
         ensures unchanged { IfErr result (λ _. self.new ≡ self.old) }
         ensures root { self.new.root ≡ self.old.root }
         ensures in_progress { self.new.in_progress ≡ self.old.in_progress }

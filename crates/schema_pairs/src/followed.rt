@@ -1,11 +1,8 @@
 //! Which numbers a solver follows each time it is asked about them, and of which it remembers what they said at a place.
-ghost use Rattle.std.specs.Prelude.{◌≡◌, ◌∷◌, ◌<◌, ◌||◌, ◌&&◌, [], IfOk, Some, false};
-ghost use Rattle.std.specs.Prelude.{filter_map, length, map, nat_le, option_map, slice_index_or};
-ghost use Rattle.schema_definitions.specs.Guarded.{form_edges, node_edges, node_these};
+ghost use Rattle.std.specs.Prelude.{◌≡◌, ◌∷◌, ◌<◌, ◌||◌, ◌&&◌, [], IfOk, false, length, nat_le, slice_index_or};
 ghost use Rattle.schema_parts.specs.EdgeViews.{edge_of};
-ghost use Rattle.node_table.specs.NodeTable.{plan_in};
-ghost use Rattle.node_table.specs.NodeViews.{entry_of, form_of, node_of};
 ghost use Rattle.schema_pairs.specs.Following.{AreWays, Counts, Covers, IsFollowing, is_settled_in, table_edges};
+ghost use Rattle.schema_pairs.specs.Following.{child_edges, edges_of, entries_edges, entry_edges};
 
 use crate::weights::{weight_of, weights_of};
 use node_table::node::{Entry, EntryForm, Node, NodeForm, Nodes};
@@ -48,7 +45,7 @@ fn count_edge(edge: &Edge, ways: &mut Vec<u8>)
 
 // Counts the edges of a keyword.
 fn count_children(children: &[Option<Edge>], ways: &mut Vec<u8>)
-    ensures counted { Counts (filter_map (λ o. o) (map (option_map edge_of) children.now)) ways.old.items ways.new.items }
+    ensures counted { Counts (child_edges children.now) ways.old.items ways.new.items }
 {
     for child in children {
         if let Some(edge) = child {
@@ -59,7 +56,7 @@ fn count_children(children: &[Option<Edge>], ways: &mut Vec<u8>)
 
 // Counts the edges of an entry.
 fn count_entry<K: Drop>(entry: &Entry<K>, ways: &mut Vec<u8>)
-    ensures counted { Counts (form_edges (form_of entry.now.form)) ways.old.items ways.new.items }
+    ensures counted { Counts (entry_edges entry.now) ways.old.items ways.new.items }
 {
     match &entry.form {
         EntryForm::Reference(edge) => count_edge(edge, ways),
@@ -69,7 +66,7 @@ fn count_entry<K: Drop>(entry: &Entry<K>, ways: &mut Vec<u8>)
 
 // Counts the edges of some entries.
 fn count_entries<K: Drop>(entries: &[Entry<K>], ways: &mut Vec<u8>)
-    ensures counted { Counts (node_edges (node_these (map entry_of entries.now))) ways.old.items ways.new.items }
+    ensures counted { Counts (entries_edges entries.now) ways.old.items ways.new.items }
 {
     for entry in entries {
         count_entry(entry, ways);
@@ -78,7 +75,7 @@ fn count_entries<K: Drop>(entries: &[Entry<K>], ways: &mut Vec<u8>)
 
 // Counts the edges of a node.
 fn count_node<K: Drop>(node: &Node<K>, ways: &mut Vec<u8>)
-    ensures counted { Counts (node_edges (plan_in (Some (node_of node.now)))) ways.old.items ways.new.items }
+    ensures counted { Counts (edges_of node.now) ways.old.items ways.new.items }
 {
     match &node.form {
         None => {}
@@ -127,7 +124,7 @@ impl Followed {
     /// ones that take at most `MOST_NODES` nodes to ask. Fails only if memory cannot be allocated.
     pub fn of<K: Drop>(alloc: Global, nodes: &Nodes<K>) -> Result<Followed, OutOfMemory>
         ensures each { IfOk result (λ f. length f ≡ length nodes.now) }
-        ensures followed { IfOk result (λ f. IsFollowing nodes.now f) }
+        ensures followed { IfOk result (IsFollowing nodes.now) }
     {
         let ways = count_ways(alloc, nodes)?;
         let weights = weights_by(alloc, nodes, ways.as_slice())?;

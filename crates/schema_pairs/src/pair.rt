@@ -1,15 +1,11 @@
 //! The pair of a question that is answered by what is found: the node that it asks, and the place, with the place's number.
-ghost use Rattle.std.specs.Prelude.{◌≡◌, ◌++◌, ◌∷◌, []};
-ghost use Rattle.std.specs.Prelude.{false, true, IfOk, IfSome, None, OnErr, OnOk, is_some, length};
-ghost use Rattle.serde_json.specs.View.{view};
-ghost use Rattle.schema_definitions.specs.Instance.{subject_at};
-ghost use Rattle.schema_places.specs.Numbers.{OwnNumbers};
-ghost use Rattle.schema_contexts.specs.Progress.{EndsWith};
-ghost use Rattle.schema_contexts.specs.Verdicts.{verdict_of};
-ghost use Rattle.run_steps.specs.EvaluationPlaces.{CarriesItsNumber, steps_to};
-ghost use Rattle.schema_pairs.specs.Contexts.{Solver, has_pair, solver_places};
-ghost use Rattle.schema_pairs.specs.Answering.{Accepts, Begins, IsApart, IsFound, Refuses};
-ghost use Rattle.schema_pairs.specs.SolverPairs.{IsNumbered, place_of};
+ghost use Rattle.std.specs.Prelude.{◌≡◌, false, true, IfOk, IfSome, None, OnErr, OnOk, length};
+ghost use Rattle.run_steps.specs.EvaluationPlaces.{steps_to};
+ghost use Rattle.schema_pairs.specs.Contexts.{Solver};
+ghost use Rattle.schema_pairs.specs.Answering.{IsApart};
+ghost use Rattle.schema_pairs.specs.AtNumbers.{HasOwnNumbers};
+ghost use Rattle.schema_pairs.specs.SolverPairs.{CarriesNumber, HasItsNumber, IsFree, IsIdle, IsInside, IsLast, IsUnknown, place_of};
+ghost use Rattle.schema_pairs.specs.SolverPairs.{PairAccepts, PairBegins, PairIsFound, PairLeaves, PairRefuses};
 
 use crate::context::SolverContext;
 use crate::said::Said;
@@ -33,12 +29,12 @@ impl<'q, 'i> SolverPair<'q, 'i> {
         node: SchemaNode,
         place: &'q EvaluationPlace<'q, 'i>,
     ) -> Result<SolverPair<'q, 'i>, OutOfMemory>
-        requires carries { CarriesItsNumber (solver_places context.old) place.now }
-        requires stands { is_some (subject_at (view context.old.root) (steps_to place.now)) ≡ true }
+        requires carries { CarriesNumber context.old place.now }
+        requires stands { IsInside context.old place.now }
         ensures node { IfOk result (λ p. p.node ≡ node) }
         ensures place { IfOk result (λ p. place_of p ≡ steps_to place.now) }
-        ensures numbered { IfOk result (λ p. IsNumbered (solver_places context.old) p) }
-        ensures own { IfOk result (λ _. OwnNumbers (solver_places context.old)) }
+        ensures numbered { IfOk result (λ p. HasItsNumber p context.old) }
+        ensures own { IfOk result (λ _. HasOwnNumbers context.old) }
         ensures unchanged { context.new ≡ context.old }
     {
         let places = context.places()?;
@@ -55,8 +51,7 @@ impl<'q, 'i> SolverPair<'q, 'i> {
     /// The place, which carries its number.
     pub fn numbered_place(&self) -> EvaluationPlace<'q, 'i>
         ensures same { steps_to result ≡ place_of self.now }
-        ensures carries { (context : Solver) → IsNumbered (solver_places context) self.now
-            → CarriesItsNumber (solver_places context) result }
+        ensures carries { (context : Solver) → HasItsNumber self.now context → CarriesNumber context result }
     {
         self.place.numbered(self.number)
     }
@@ -64,11 +59,11 @@ impl<'q, 'i> SolverPair<'q, 'i> {
     /// Returns what the pair is answered by what is found: its verdict where that is known, a yes that leans where it is in progress or
     /// assumed, and nothing else. It allocates nothing.
     pub fn state(&self, context: &SolverContext<'i>) -> Option<Said>
-        requires numbered { IsNumbered (solver_places context.now) self.now }
-        ensures known { IfSome result (IsFound self.now.node.0 (place_of self.now) context.now) }
-        ensures unknown { result ≡ None → verdict_of self.now.node.0 (place_of self.now) context.now.verdicts ≡ None }
-        ensures idle { result ≡ None → has_pair context.now.in_progress self.now.node.0 (place_of self.now) ≡ false }
-        ensures free { result ≡ None → has_pair context.now.assumed self.now.node.0 (place_of self.now) ≡ false }
+        requires numbered { HasItsNumber self.now context.now }
+        ensures known { IfSome result (PairIsFound self.now context.now) }
+        ensures unknown { result ≡ None → IsUnknown self.now context.now }
+        ensures idle { result ≡ None → IsIdle self.now context.now }
+        ensures free { result ≡ None → IsFree self.now context.now }
     {
         context.state(self.node, self.number)
     }
@@ -76,10 +71,10 @@ impl<'q, 'i> SolverPair<'q, 'i> {
     /// Records a pair that is not in progress, counts that it was begun, and returns the mark that goes to `keep_answer`: how many
     /// pairs are assumed. On `Err` nothing has changed.
     pub fn enter(&self, context: &mut SolverContext<'i>) -> Result<usize, OutOfMemory>
-        requires numbered { IsNumbered (solver_places context.old) self.now }
-        requires is_new { has_pair context.old.in_progress self.now.node.0 (place_of self.now) ≡ false }
+        requires numbered { HasItsNumber self.now context.old }
+        requires is_new { IsIdle self.now context.old }
         ensures mark { IfOk result (λ n. n ≡ length context.old.assumed) }
-        ensures begins { OnOk result (Begins self.now.node.0 (place_of self.now) context.old context.new) }
+        ensures begins { OnOk result (PairBegins self.now context.old context.new) }
         ensures unchanged { OnErr result (context.new ≡ context.old) }
     {
         context.enter(self.node, self.number)
@@ -87,9 +82,9 @@ impl<'q, 'i> SolverPair<'q, 'i> {
 
     /// Removes the pair, which must be the last one entered. It allocates nothing.
     pub fn exit(&self, context: &mut SolverContext<'i>)
-        requires numbered { IsNumbered (solver_places context.old) self.now }
-        requires last { EndsWith self.now.node.0 (place_of self.now) context.old.in_progress }
-        ensures left { context.old.in_progress ≡ context.new.in_progress ++ (self.now.node.0, place_of self.now) ∷ [] }
+        requires numbered { HasItsNumber self.now context.old }
+        requires last { IsLast self.now context.old }
+        ensures left { PairLeaves self.now context.old context.new }
         ensures root { context.new.root ≡ context.old.root }
         ensures assumed { context.new.assumed ≡ context.old.assumed }
         ensures verdicts { context.new.verdicts ≡ context.old.verdicts }
@@ -110,14 +105,12 @@ impl<'q, 'i> SolverPair<'q, 'i> {
         mark: usize,
         said: Said,
     ) -> Result<Said, OutOfMemory>
-        requires numbered { IsNumbered (solver_places context.old) self.now }
-        requires own { OwnNumbers (solver_places context.old) }
+        requires numbered { HasItsNumber self.now context.old }
+        requires own { HasOwnNumbers context.old }
         requires apart { IsApart mark context.old }
         ensures valid { IfOk result (λ now. now.valid ≡ said.valid) }
-        ensures refused { IfOk result (λ now. said.valid ≡ false
-            → Refuses self.now.node.0 (place_of self.now) mark context.old context.new) }
-        ensures accepted { IfOk result (λ now. said.valid ≡ true
-            → Accepts self.now.node.0 (place_of self.now) mark said now context.old context.new) }
+        ensures refused { IfOk result (λ now. said.valid ≡ false → PairRefuses self.now context.old context.new mark) }
+        ensures accepted { IfOk result (λ now. said.valid ≡ true → PairAccepts self.now context.old context.new mark said now) }
         ensures unchanged { OnErr result (said.valid ≡ false → context.new ≡ context.old) }
         ensures assumed { OnErr result (context.new.assumed ≡ context.old.assumed) }
         ensures root { context.new.root ≡ context.old.root }

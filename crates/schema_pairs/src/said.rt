@@ -1,5 +1,6 @@
 //! What a solver says of a question.
-ghost use Rattle.std.specs.Prelude.{◌≡◌, ◌&&◌, false};
+ghost use Rattle.std.specs.Prelude.{◌≡◌};
+ghost use Rattle.schema_pairs.specs.Saying.{said_as, settled_as};
 
 use std::marker::Model;
 
@@ -30,7 +31,7 @@ impl Said {
     /// Says this verdict, which leans on nothing.
     #[inline(always)]
     pub fn settled(valid: bool) -> Said
-        ensures said { result ≡ record { valid = valid; leans = false } }
+        ensures said { result ≡ settled_as valid }
     {
         Said {
             answer: if valid { Answer::Yes } else { Answer::No },
@@ -40,7 +41,7 @@ impl Said {
     /// Says this verdict, and of a yes whether it leans.
     #[inline(always)]
     pub fn of(valid: bool, leans: bool) -> Said
-        ensures said { result ≡ record { valid = valid; leans = valid && leans } }
+        ensures said { result ≡ said_as valid leans }
     {
         if valid && leans {
             return Said {

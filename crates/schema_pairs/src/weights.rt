@@ -1,10 +1,8 @@
 //! How many nodes it takes at the most to ask a number where each edge is followed.
-ghost use Rattle.std.specs.Prelude.{◌≡◌, IfOk, Some, filter_map, length, map, min, option_map};
-ghost use Rattle.schema_definitions.specs.Guarded.{form_edges, node_edges, node_these};
+ghost use Rattle.std.specs.Prelude.{◌≡◌, IfOk, length};
 ghost use Rattle.schema_parts.specs.EdgeViews.{edge_of};
-ghost use Rattle.node_table.specs.NodeTable.{plan_in};
-ghost use Rattle.node_table.specs.NodeViews.{entry_of, form_of, node_of};
-ghost use Rattle.schema_pairs.specs.Following.{Covers, edge_weight, edges_weight, weight_in};
+ghost use Rattle.schema_pairs.specs.Following.{Covers, child_edges, edge_weight, edges_of, entries_edges, entry_edges};
+ghost use Rattle.schema_pairs.specs.Following.{weight_in, weight_together};
 
 use node_table::node::{Entry, EntryForm, Node, NodeForm, Nodes};
 use schema_parts::numbers::{Edge, SchemaNode};
@@ -36,7 +34,7 @@ fn weigh_edge(edge: &Edge, weights: &[u8]) -> u8
 
 // The weights of the edges of a keyword, taken together.
 fn weigh_children(children: &[Option<Edge>], weights: &[u8]) -> u8
-    ensures weight { result ≡ min 255 (edges_weight weights.now (filter_map (λ o. o) (map (option_map edge_of) children.now))) }
+    ensures weight { result ≡ weight_together weights.now (child_edges children.now) }
 {
     let mut weight = 0u8;
     for child in children {
@@ -49,7 +47,7 @@ fn weigh_children(children: &[Option<Edge>], weights: &[u8]) -> u8
 
 // The weights of the edges of an entry, taken together.
 fn weigh_entry<K: Drop>(entry: &Entry<K>, weights: &[u8]) -> u8
-    ensures weight { result ≡ min 255 (edges_weight weights.now (form_edges (form_of entry.now.form))) }
+    ensures weight { result ≡ weight_together weights.now (entry_edges entry.now) }
 {
     match &entry.form {
         EntryForm::Reference(edge) => weigh_edge(edge, weights),
@@ -59,7 +57,7 @@ fn weigh_entry<K: Drop>(entry: &Entry<K>, weights: &[u8]) -> u8
 
 // The weights of the edges of some entries, taken together.
 fn weigh_entries<K: Drop>(entries: &[Entry<K>], weights: &[u8]) -> u8
-    ensures weight { result ≡ min 255 (edges_weight weights.now (node_edges (node_these (map entry_of entries.now)))) }
+    ensures weight { result ≡ weight_together weights.now (entries_edges entries.now) }
 {
     let mut weight = 0u8;
     for entry in entries {
@@ -70,7 +68,7 @@ fn weigh_entries<K: Drop>(entries: &[Entry<K>], weights: &[u8]) -> u8
 
 // The weights of the edges of a node, taken together.
 fn weigh_node<K: Drop>(node: &Node<K>, weights: &[u8]) -> u8
-    ensures weight { result ≡ min 255 (edges_weight weights.now (node_edges (plan_in (Some (node_of node.now))))) }
+    ensures weight { result ≡ weight_together weights.now (edges_of node.now) }
 {
     match &node.form {
         None => 0,

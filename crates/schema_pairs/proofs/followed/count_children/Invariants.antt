@@ -1,6 +1,5 @@
 use Rattle.std.proofs.Common.{take}
-use Rattle.schema_pairs.specs.Following.{Counts}
-use Rattle.schema_pairs.proofs.Ways.{child_edges}
+use Rattle.schema_pairs.specs.Following.{Counts, child_edges}
 use Rattle.schema_pairs.proofs.followed.count_children.Given as goal
 
 abbrev pub invariant-loop-child : goal.invariant-loop-child

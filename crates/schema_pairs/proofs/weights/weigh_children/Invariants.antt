@@ -1,7 +1,6 @@
 use Rattle.std.proofs.Common.{◌≡◌, take}
 use Rattle.std.specs.Prelude.{min}
-use Rattle.schema_pairs.specs.Following.{edges_weight}
-use Rattle.schema_pairs.proofs.Ways.{child_edges}
+use Rattle.schema_pairs.specs.Following.{child_edges, edges_weight}
 use Rattle.schema_pairs.proofs.weights.weigh_children.Given as goal
 
 abbrev pub invariant-loop-child : goal.invariant-loop-child
