@@ -1,5 +1,6 @@
 -- What is told of a question, and what is known of it where a loop goes on after it, and where it ends.
-use Rattle.std.proofs.Common.{◌≡◌, ◌∙◌, ◌&&◌, not, Bool, true, false, refl, subst, sym, true≢false}
+use Rattle.std.proofs.Common.{◌≡◌, ◌∙◌, ◌&&◌, not, Bool, true, false, refl, subst, true≢false}
+use Rattle.std.proofs.lemmas.Bool.{not-false, not-true}
 use Rattle.std.specs.Prelude.{Err, Ok, Result}
 use Rattle.serde_json.specs.View.{view}
 use Rattle.schema_definitions.specs.Instance.{Place}
@@ -21,21 +22,13 @@ pub record GoesOn (told : Result WhatIsSaid Stopped) (all : Bool) : Type 0 where
   pub valid : said.valid ≡ all
   pub leans : leans_in told ≡ said.leans
 
-yes_of : (b : Bool) → not b ≡ false → b ≡ true
-yes_of true is = refl
-yes_of false is = sym is
-
-no_of : (b : Bool) → not b ≡ true → b ≡ false
-no_of true is = sym is
-no_of false is = refl
-
 pub goes_on_after : (told : Result WhatIsSaid Stopped) (all : Bool) → ends_with told all ≡ false → GoesOn told all
-goes_on_after (Ok s) true is = record { said = s; is = refl; valid = yes_of s.valid is; leans = refl }
+goes_on_after (Ok s) true is = record { said = s; is = refl; valid = not-false s.valid is; leans = refl }
 goes_on_after (Ok s) false is = record { said = s; is = refl; valid = is; leans = refl }
 goes_on_after (Err e) all is = absurd (true≢false is)
 
 other_than : (s : WhatIsSaid) (all : Bool) → ends_with (Ok s) all ≡ true → s.valid ≡ not all
-other_than s true is = no_of s.valid is
+other_than s true is = not-true s.valid is
 other_than s false is = is
 
 -- a yes alone leans

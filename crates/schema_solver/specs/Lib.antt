@@ -3,5 +3,6 @@ pub mod Asked
 pub mod TurningOn
 pub mod Needs
 pub mod Solved
+pub mod Calls
 pub mod ToldAtOnce
 pub mod Telling

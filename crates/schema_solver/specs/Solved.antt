@@ -4,11 +4,15 @@ use Rattle.std.specs.Prelude.{Bool, IfErr, IfOk, List, Option, Result, map, opti
 use Rattle.serde_json.specs.View.{view}
 use Rattle.schema_definitions.specs.Instance.{Place, Subject}
 use Rattle.schema_definitions.specs.Guarded.{Children, NodeEdge, NodeForm, NodePart, node_keyword}
-use Rattle.schema_definitions.specs.Keywords.{Below, Question, here}
+use Rattle.schema_definitions.specs.Keywords.{Question, here}
 use Rattle.schema_definitions.specs.Laws.{IsPresent, steps_below}
 use Rattle.schema_reports.specs.InstanceViews.{subject_of}
 use Rattle.schema_parts.specs.EdgeViews.{edge_of}
+use Rattle.schema_parts.specs.KeywordViews.{below_of}
+use Rattle.schema_parts.specs.declared.keyword.Below.{Below}
 use Rattle.schema_parts.specs.declared.numbers.Edge.{Edge}
+use Rattle.asked_questions.specs.Questions.{question_in}
+use Rattle.asked_questions.specs.declared.AskedQuestion.{AskedQuestion}
 use Rattle.node_table.specs.NodeTable.{shaped_form, shaped_part}
 use Rattle.node_table.specs.NodeViews.{entry_of, form_of}
 use Rattle.node_table.specs.declared.node.Entry.{Entry}
@@ -110,8 +114,11 @@ the_keyword shape i k = a_form i (form_at_work shape k)
 abbrev pub the_asker : {C K : Type 0} → (C → K) → ℕ → C → List (Option Edge) → Wanted K
 the_asker shape i k es = a_form i (node_keyword (shape k) (map (option_map edge_of) es))
 
-abbrev pub the_question : {K : Type 0} → ℕ → List (Option Edge) → Question → Wanted K
-the_question i es q = a_child i (map (option_map edge_of) es) q
+abbrev pub the_question : {K : Type 0} → ℕ → List (Option Edge) → AskedQuestion → Wanted K
+the_question i es asked = a_child i (map (option_map edge_of) es) (question_in asked)
 
 abbrev pub the_child : {K : Type 0} → ℕ → List (Option Edge) → ℕ → Below → Wanted K
-the_child i es n below = the_question i es (record { child = n; below = below })
+the_child i es n below = a_child i (map (option_map edge_of) es) (record { child = n; below = below_of below })
+
+abbrev pub the_edge : {K : Type 0} → Edge → Wanted K
+the_edge e = an_edge (edge_of e)

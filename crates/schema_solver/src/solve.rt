@@ -1,11 +1,11 @@
 //! The verdict of a node by a solver.
 ghost use Rattle.std.specs.Prelude.{◌<◌, ◌≡◌, ◌≤◌, ◌⊎◌, [], IfErr, IfOk, IfSome, is_some, length, true};
 ghost use Rattle.serde_json.specs.View.{view};
-ghost use Rattle.node_table.specs.NodeTable.{numbered};
 ghost use Rattle.schema_parts.specs.MatcherViews.{FinishesEach};
-ghost use Rattle.schema_solver.specs.Asked.{solver_of};
+ghost use Rattle.schema_solver.specs.Asked.{solver_by};
+ghost use Rattle.schema_solver.specs.Calls.{EachSaysMonotone, IfAtLimit, IfFound};
 ghost use Rattle.schema_pairs.specs.Answering.{fresh};
-ghost use Rattle.schema_solver.specs.Solving.{BeginsFew, EachSays, HoldsAsNodes, IsSoundIn, LimitWithinBound, RestsOnFound, SaysAsNodes};
+ghost use Rattle.schema_solver.specs.Solving.{BeginsFew, HoldsAsNodes, IsSoundIn, LimitWithinBound, RestsOnFound, SaysAsNodes};
 
 mod asking;
 mod edges;
@@ -40,25 +40,19 @@ pub fn solve_root<'i, K: Validate, M: Matcher>(
     requires known { node.0 < length engine.now.nodes.now }
     requires finishes { FinishesEach (M.matching engine.now.matcher.now) }
     requires fresh { context.old ≡ fresh instance.now }
-    ensures exactly { EachSays K.says_monotone (numbered K.shape engine.now.nodes.now) (length engine.now.nodes.now)
-        → IfOk result (λ found. is_some found ≡ true) }
-    ensures says { IfOk result (λ found. IfSome found (λ valid. SaysAsNodes
-        (solver_of K.words K.is_whole K.shape M.matching engine.now) (view instance.now) node.0 valid)) }
-    ensures root { IfOk result (λ found. IfSome found (λ _. context.new.root ≡ instance.now)) }
-    ensures idle { IfOk result (λ found. IfSome found (λ _. context.new.in_progress ≡ [])) }
-    ensures holds { IfOk result (λ found. IfSome found (λ _. HoldsAsNodes
-        (solver_of K.words K.is_whole K.shape M.matching engine.now) context.new)) }
-    ensures sound { IfOk result (λ found. IfSome found (λ _. IsSoundIn
-        (solver_of K.words K.is_whole K.shape M.matching engine.now) context.new)) }
-    ensures rests { IfOk result (λ found. IfSome found (λ valid. RestsOnFound
-        (solver_of K.words K.is_whole K.shape M.matching engine.now) context.new node.0 valid)) }
-    ensures few { IfOk result (λ found. IfSome found (λ _. BeginsFew
-        (solver_of K.words K.is_whole K.shape M.matching engine.now) instance.now context.new.begun)) }
+    ensures exactly { EachSaysMonotone K.Validate engine.now → IfOk result (λ found. is_some found ≡ true) }
+    ensures says { IfFound result (SaysAsNodes (solver_by K.Validate M.Matcher.own engine.now) (view instance.now) node.0) }
+    ensures root { IfFound result (λ _. context.new.root ≡ instance.now) }
+    ensures idle { IfFound result (λ _. context.new.in_progress ≡ []) }
+    ensures holds { IfFound result (λ _. HoldsAsNodes (solver_by K.Validate M.Matcher.own engine.now) context.new) }
+    ensures sound { IfFound result (λ _. IsSoundIn (solver_by K.Validate M.Matcher.own engine.now) context.new) }
+    ensures rests { IfFound result (RestsOnFound (solver_by K.Validate M.Matcher.own engine.now) context.new node.0) }
+    ensures few { IfFound result (λ _. BeginsFew (solver_by K.Validate M.Matcher.own engine.now) instance.now context.new.begun) }
     ensures within { IfOk result (λ _. IfSome engine.now.most (λ most. context.new.begun ≤ most)) }
     ensures stops { IfErr result (λ e. (e ≡ Stopped.OutOfMemory) ⊎ (e ≡ Stopped.Limit)) }
-    ensures limited { IfErr result (λ e. e ≡ Stopped.Limit → is_some engine.now.most ≡ true) }
-    ensures late { IfErr result (λ e. e ≡ Stopped.Limit → IfSome engine.now.most (λ most. LimitWithinBound
-        (solver_of K.words K.is_whole K.shape M.matching engine.now) instance.now most)) }
+    ensures limited { IfAtLimit result (is_some engine.now.most ≡ true) }
+    ensures late { IfAtLimit result (IfSome engine.now.most
+        (LimitWithinBound (solver_by K.Validate M.Matcher.own engine.now) instance.now)) }
 {
     // (the call says that the table is ordered)
     let count = engine.nodes.len();

@@ -1,5 +1,6 @@
 //! What a solver tells of a question: what is said of it, or why it stopped.
-ghost use Rattle.std.specs.Prelude.{◌≡◌, ◌&&◌, Err, Ok, false};
+ghost use Rattle.std.specs.Prelude.{◌≡◌, Err, Ok};
+ghost use Rattle.schema_pairs.specs.Saying.{said_as, settled_as};
 ghost use Rattle.schema_solver.specs.Telling.{ends_with, leans_in};
 
 use crate::question::Stopped;
@@ -38,7 +39,7 @@ impl Told {
     /// Tells this verdict, which leans on nothing.
     #[inline(always)]
     pub(crate) fn settled(valid: bool) -> Told
-        ensures told { result ≡ Ok (record { valid = valid; leans = false }) }
+        ensures told { result ≡ Ok (settled_as valid) }
     {
         Told {
             answer: if valid { Answer::Yes } else { Answer::No },
@@ -48,7 +49,7 @@ impl Told {
     /// Tells this verdict, and of a yes whether it leans.
     #[inline(always)]
     pub(crate) fn of(valid: bool, leans: bool) -> Told
-        ensures told { result ≡ Ok (record { valid = valid; leans = valid && leans }) }
+        ensures told { result ≡ Ok (said_as valid leans) }
     {
         if valid && leans {
             return Told {
@@ -61,7 +62,7 @@ impl Told {
     /// Tells what is said. Only a yes leans.
     #[inline(always)]
     pub(crate) fn said(said: Said) -> Told
-        ensures told { result ≡ Ok (record { valid = said.valid; leans = said.valid && said.leans }) }
+        ensures told { result ≡ Ok (said_as said.valid said.leans) }
     {
         Told::of(said.valid(), said.leans())
     }

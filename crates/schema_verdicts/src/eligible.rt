@@ -7,6 +7,7 @@ ghost use Rattle.node_table.specs.NodeTable.{numbered};
 ghost use Rattle.schema_solver.specs.Asked.{solver_over};
 ghost use Rattle.schema_solver.specs.Solving.{BeginsFew, EachSays, LimitWithinBound, SaysAsNodes};
 ghost use Rattle.schema_contexts.specs.Works.{Spends};
+ghost use Rattle.schema_parts.specs.Showing.{Shows, Yields};
 ghost use Rattle.schema_verdicts.specs.Finding.{IsFoundAt};
 
 use node_table::node::Nodes;
@@ -69,7 +70,7 @@ impl Solver {
 
     /// Returns the one of these nodes. Fails only if memory cannot be allocated.
     pub fn of<K: Validate>(alloc: Global, nodes: &Nodes<K>) -> Result<Solver, OutOfMemory>
-        ensures made { IfOk result (λ f. is_some f ≡ true) }
+        ensures made { Shows is_some result true }
         ensures follows { IfOk result (λ f. IfSome f (IsFollowing nodes.now)) }
     {
         let numbers = Followed::of(alloc, nodes)?;
@@ -80,7 +81,7 @@ impl Solver {
 
     /// Returns the same once more. Fails only if memory cannot be allocated.
     pub fn clone(&self) -> Result<Solver, OutOfMemory>
-        ensures same { IfOk result (λ f. f ≡ self.now) }
+        ensures same { Yields result self.now }
     {
         match &self.followed {
             Some(numbers) => Ok(Solver {

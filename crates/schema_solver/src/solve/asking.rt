@@ -6,9 +6,9 @@ ghost use Rattle.serde_json.specs.View.{members_view};
 ghost use Rattle.schema_definitions.specs.Instance.{a_value};
 ghost use Rattle.schema_reports.specs.InstanceViews.{subject_of};
 ghost use Rattle.asked_questions.specs.Members.{at_their_names};
-ghost use Rattle.asked_questions.specs.Questions.{SaysByQuestions, StandsThere, at_names, question_in};
-ghost use Rattle.schema_solver.specs.Asked.{solver_by};
-ghost use Rattle.schema_solver.specs.Solved.{MayAsk, Solves, the_question, the_asker};
+ghost use Rattle.asked_questions.specs.Questions.{StandsThere, at_names};
+ghost use Rattle.schema_solver.specs.Solved.{the_question, the_asker};
+ghost use Rattle.schema_solver.specs.Calls.{Answers, CanAsk, HasMembers, SaysBy};
 
 use crate::question::{Asked, SolverEngine, Stopped};
 use crate::solve::edges::solve_edge;
@@ -42,10 +42,10 @@ pub(crate) fn solve_asked<'i, K: Validate, M: Matcher>(
     question: &Asked<'_, 'i>,
     context: &mut SolverContext<'i>,
 ) -> Told
-    requires { MayAsk (solver_by K.Validate M.Matcher.own engine.now) question.now
-        (the_asker K.shape node.0 keyword.now children.now.items) context.old }
-    ensures { Solves (solver_by K.Validate M.Matcher.own engine.now) K.says_monotone question.now
-        (the_asker K.shape node.0 keyword.now children.now.items) context.old context.new result }
+    requires { CanAsk K.Validate M.Matcher.own engine.now question.now (the_asker K.shape node.0 keyword.now children.now.items)
+        context.old }
+    ensures { Answers K.Validate M.Matcher.own engine.now question.now (the_asker K.shape node.0 keyword.now children.now.items)
+        context.old context.new result }
 {
     let asking = keyword.asking(question.instance);
     let kept = children.as_slice();
@@ -113,12 +113,12 @@ fn solve_counted<'i, K: Validate, M: Matcher>(
     question: &Asked<'_, 'i>,
     context: &mut SolverContext<'i>,
 ) -> Told
-    requires may_ask { MayAsk (solver_by K.Validate M.Matcher.own engine.now) question.now
-        (the_asker K.shape node.0 keyword.now children.now) context.old }
+    requires may_ask { CanAsk K.Validate M.Matcher.own engine.now question.now (the_asker K.shape node.0 keyword.now children.now)
+        context.old }
     requires there { questions.subject ≡ subject_of question.now.instance }
-    requires says { SaysByQuestions K.words K.is_whole (subject_of question.now.instance) (K.shape keyword.now) all questions.left }
-    ensures { Solves (solver_by K.Validate M.Matcher.own engine.now) K.says_monotone question.now
-        (the_asker K.shape node.0 keyword.now children.now) context.old context.new result }
+    requires says { SaysBy K.Validate keyword.now question.now all questions.left }
+    ensures { Answers K.Validate M.Matcher.own engine.now question.now (the_asker K.shape node.0 keyword.now children.now)
+        context.old context.new result }
 {
     let mut leans = false;
     while let Some(asked) = questions.next() {
@@ -145,13 +145,13 @@ fn solve_members<'i, K: Validate, M: Matcher>(
     question: &Asked<'_, 'i>,
     context: &mut SolverContext<'i>,
 ) -> Told
-    requires may_ask { MayAsk (solver_by K.Validate M.Matcher.own engine.now) question.now
-        (the_asker K.shape node.0 keyword.now children.now.items) context.old }
-    requires there { a_value (object (members_view members.now.entries)) ≡ subject_of question.now.instance }
-    requires says { SaysByQuestions K.words K.is_whole (subject_of question.now.instance) (K.shape keyword.now) true
+    requires may_ask { CanAsk K.Validate M.Matcher.own engine.now question.now (the_asker K.shape node.0 keyword.now children.now.items)
+        context.old }
+    requires there { HasMembers question.now members.now.entries }
+    requires says { SaysBy K.Validate keyword.now question.now true
         (at_names (a_value (object (members_view members.now.entries))) 0 names.now) }
-    ensures { Solves (solver_by K.Validate M.Matcher.own engine.now) K.says_monotone question.now
-        (the_asker K.shape node.0 keyword.now children.now.items) context.old context.new result }
+    ensures { Answers K.Validate M.Matcher.own engine.now question.now (the_asker K.shape node.0 keyword.now children.now.items)
+        context.old context.new result }
 {
     let kept = children.as_slice();
     let mut questions = MembersQuestions::of(names, members);
@@ -178,13 +178,12 @@ fn solve_names<'i, K: Validate, M: Matcher>(
     question: &Asked<'_, 'i>,
     context: &mut SolverContext<'i>,
 ) -> Told
-    requires may_ask { MayAsk (solver_by K.Validate M.Matcher.own engine.now) question.now
-        (the_asker K.shape node.0 keyword.now children.now) context.old }
-    requires there { a_value (object (members_view members.now.entries)) ≡ subject_of question.now.instance }
-    requires says { SaysByQuestions K.words K.is_whole (subject_of question.now.instance) (K.shape keyword.now) true
-        (at_their_names members.now.entries) }
-    ensures { Solves (solver_by K.Validate M.Matcher.own engine.now) K.says_monotone question.now
-        (the_asker K.shape node.0 keyword.now children.now) context.old context.new result }
+    requires may_ask { CanAsk K.Validate M.Matcher.own engine.now question.now (the_asker K.shape node.0 keyword.now children.now)
+        context.old }
+    requires there { HasMembers question.now members.now.entries }
+    requires says { SaysBy K.Validate keyword.now question.now true (at_their_names members.now.entries) }
+    ensures { Answers K.Validate M.Matcher.own engine.now question.now (the_asker K.shape node.0 keyword.now children.now)
+        context.old context.new result }
 {
     let mut questions = NamesQuestions::of(members);
     let mut leans = false;
@@ -209,11 +208,10 @@ fn solve_there<'i, K: Validate, M: Matcher>(
     question: &Asked<'_, 'i>,
     context: &mut SolverContext<'i>,
 ) -> Told
-    requires may_ask { MayAsk (solver_by K.Validate M.Matcher.own engine.now) question.now
-        (the_question node.0 children.now (question_in asked)) context.old }
+    requires may_ask { CanAsk K.Validate M.Matcher.own engine.now question.now (the_question node.0 children.now asked) context.old }
     requires there { StandsThere (subject_of question.now.instance) asked }
-    ensures { Solves (solver_by K.Validate M.Matcher.own engine.now) K.says_monotone question.now
-        (the_question node.0 children.now (question_in asked.entry)) context.old context.new result }
+    ensures { Answers K.Validate M.Matcher.own engine.now question.now (the_question node.0 children.now asked.entry)
+        context.old context.new result }
 {
     match child_edge(children, asked.child) {
         None => Told::settled(true),

@@ -1,14 +1,10 @@
 //! The verdict of what an edge leads to, and of a pair that is answered by what is found, by a solver.
-ghost use Rattle.std.specs.Prelude.{◌≡◌, ◌<◌, ◌≤◌, ℕ, IfErr, None, OnOk, Some, false};
-ghost use Rattle.schema_parts.specs.EdgeViews.{edge_of};
-ghost use Rattle.schema_parts.specs.KeywordViews.{below_of};
-ghost use Rattle.schema_places.specs.Numbers.{OwnNumbers};
-ghost use Rattle.schema_contexts.specs.Verdicts.{verdict_of};
+ghost use Rattle.std.specs.Prelude.{◌≡◌, ◌<◌, ◌≤◌, ℕ, IfErr, OnOk, Some};
 ghost use Rattle.run_steps.specs.EvaluationPlaces.{steps_to};
-ghost use Rattle.schema_pairs.specs.Contexts.{has_pair, solver_places};
-ghost use Rattle.schema_pairs.specs.SolverPairs.{IsNumbered, place_of};
-ghost use Rattle.schema_solver.specs.Asked.{solver_by};
-ghost use Rattle.schema_solver.specs.Solved.{MayAsk, Solves, a_pair, an_edge, the_child};
+ghost use Rattle.schema_pairs.specs.AtNumbers.{HasOwnNumbers};
+ghost use Rattle.schema_pairs.specs.SolverPairs.{HasItsNumber, IsFree, IsIdle, IsUnknown, place_of};
+ghost use Rattle.schema_solver.specs.Solved.{a_pair, the_child, the_edge};
+ghost use Rattle.schema_solver.specs.Calls.{Answers, CanAsk};
 
 use crate::question::{Asked, SolverEngine, Stopped};
 use crate::solve::entries::{solve_node, solve_node_apart};
@@ -32,10 +28,9 @@ pub(crate) fn solve_child<'i, K: Validate, M: Matcher>(
     question: &Asked<'_, 'i>,
     context: &mut SolverContext<'i>,
 ) -> Told
-    requires { MayAsk (solver_by K.Validate M.Matcher.own engine.now) question.now
-        (the_child node.0 children.now child (below_of below)) context.old }
-    ensures { Solves (solver_by K.Validate M.Matcher.own engine.now) K.says_monotone question.now
-        (the_child node.0 children.now child (below_of below.entry)) context.old context.new result }
+    requires { CanAsk K.Validate M.Matcher.own engine.now question.now (the_child node.0 children.now child below) context.old }
+    ensures { Answers K.Validate M.Matcher.own engine.now question.now (the_child node.0 children.now child below.entry)
+        context.old context.new result }
 {
     match child_edge(children, child) {
         None => Told::settled(true),
@@ -63,9 +58,8 @@ pub(crate) fn solve_edge<'i, K: Validate, M: Matcher>(
     question: &Asked<'_, 'i>,
     context: &mut SolverContext<'i>,
 ) -> Told
-    requires { MayAsk (solver_by K.Validate M.Matcher.own engine.now) question.now (an_edge (edge_of edge.now)) context.old }
-    ensures { Solves (solver_by K.Validate M.Matcher.own engine.now) K.says_monotone question.now
-        (an_edge (edge_of edge.now)) context.old context.new result }
+    requires { CanAsk K.Validate M.Matcher.own engine.now question.now (the_edge edge.now) context.old }
+    ensures { Answers K.Validate M.Matcher.own engine.now question.now (the_edge edge.now) context.old context.new result }
 {
     if edge.guarded || !engine.followed.is_followed(edge.node) {
         return solve_pair(engine, edge.node, question, context);
@@ -101,9 +95,8 @@ fn solve_pair<'i, K: Validate, M: Matcher>(
     question: &Asked<'_, 'i>,
     context: &mut SolverContext<'i>,
 ) -> Told
-    requires { MayAsk (solver_by K.Validate M.Matcher.own engine.now) question.now (a_pair node.0) context.old }
-    ensures { Solves (solver_by K.Validate M.Matcher.own engine.now) K.says_monotone question.now
-        (a_pair node.0) context.old context.new result }
+    requires { CanAsk K.Validate M.Matcher.own engine.now question.now (a_pair node.0) context.old }
+    ensures { Answers K.Validate M.Matcher.own engine.now question.now (a_pair node.0) context.old context.new result }
 {
     let pair = match SolverPair::new(context, node, question.place) {
         Ok(pair) => pair,
@@ -127,16 +120,15 @@ fn begin_pair<'i, K: Validate, M: Matcher>(
     question: &Asked<'_, 'i>,
     context: &mut SolverContext<'i>,
 ) -> Told
-    requires may_ask { MayAsk (solver_by K.Validate M.Matcher.own engine.now) question.now (a_pair node.0) context.old }
+    requires may_ask { CanAsk K.Validate M.Matcher.own engine.now question.now (a_pair node.0) context.old }
     requires node { pair.now.node.0 ≡ node.0 }
     requires place { place_of pair.now ≡ steps_to question.now.place.now }
-    requires numbered { IsNumbered (solver_places context.old) pair.now }
-    requires own { OwnNumbers (solver_places context.old) }
-    requires unknown { verdict_of pair.now.node.0 (place_of pair.now) context.old.verdicts ≡ None }
-    requires idle { has_pair context.old.in_progress pair.now.node.0 (place_of pair.now) ≡ false }
-    requires free { has_pair context.old.assumed pair.now.node.0 (place_of pair.now) ≡ false }
-    ensures { Solves (solver_by K.Validate M.Matcher.own engine.now) K.says_monotone question.now
-        (a_pair node.0) context.old context.new result }
+    requires numbered { HasItsNumber pair.now context.old }
+    requires own { HasOwnNumbers context.old }
+    requires unknown { IsUnknown pair.now context.old }
+    requires idle { IsIdle pair.now context.old }
+    requires free { IsFree pair.now context.old }
+    ensures { Answers K.Validate M.Matcher.own engine.now question.now (a_pair node.0) context.old context.new result }
 {
     if let Err(stopped) = may_begin(engine, context) {
         return Told::stopped(stopped);

@@ -1,9 +1,8 @@
 //! The verdict of a node and of its entries, by a solver.
 ghost use Rattle.std.specs.Prelude.{IfSome};
 ghost use Rattle.schema_reports.specs.InstanceViews.{subject_of};
-ghost use Rattle.schema_parts.specs.EdgeViews.{edge_of};
-ghost use Rattle.schema_solver.specs.Asked.{solver_by};
-ghost use Rattle.schema_solver.specs.Solved.{MayAsk, Solves, a_node, an_edge, the_entries, the_entry};
+ghost use Rattle.schema_solver.specs.Solved.{a_node, the_edge, the_entries, the_entry};
+ghost use Rattle.schema_solver.specs.Calls.{Answers, CanAsk};
 ghost use Rattle.schema_solver.specs.ToldAtOnce.{TellsAtOnce};
 
 use crate::question::{Asked, SolverEngine};
@@ -26,9 +25,8 @@ pub(crate) fn solve_node<'i, K: Validate, M: Matcher>(
     question: &Asked<'_, 'i>,
     context: &mut SolverContext<'i>,
 ) -> Told
-    requires { MayAsk (solver_by K.Validate M.Matcher.own engine.now) question.now (a_node node.0) context.old }
-    ensures { Solves (solver_by K.Validate M.Matcher.own engine.now) K.says_monotone question.now
-        (a_node node.0) context.old context.new result }
+    requires { CanAsk K.Validate M.Matcher.own engine.now question.now (a_node node.0) context.old }
+    ensures { Answers K.Validate M.Matcher.own engine.now question.now (a_node node.0) context.old context.new result }
 {
     match &engine.nodes.node(node).form {
         None => Told::settled(true),
@@ -65,9 +63,9 @@ fn solve_entries<'i, K: Validate, M: Matcher>(
     question: &Asked<'_, 'i>,
     context: &mut SolverContext<'i>,
 ) -> Told
-    requires { MayAsk (solver_by K.Validate M.Matcher.own engine.now) question.now (the_entries K.shape node.0 entries.now) context.old }
-    ensures { Solves (solver_by K.Validate M.Matcher.own engine.now) K.says_monotone question.now
-        (the_entries K.shape node.0 entries.now) context.old context.new result }
+    requires { CanAsk K.Validate M.Matcher.own engine.now question.now (the_entries K.shape node.0 entries.now) context.old }
+    ensures { Answers K.Validate M.Matcher.own engine.now question.now (the_entries K.shape node.0 entries.now)
+        context.old context.new result }
 {
     let mut waits: Option<usize> = None;
     for (place, entry) in entries.iter().enumerate() {
@@ -106,9 +104,9 @@ fn solve_left<'i, K: Validate, M: Matcher>(
     question: &Asked<'_, 'i>,
     context: &mut SolverContext<'i>,
 ) -> Told
-    requires { MayAsk (solver_by K.Validate M.Matcher.own engine.now) question.now (the_entries K.shape node.0 entries.now) context.old }
-    ensures { Solves (solver_by K.Validate M.Matcher.own engine.now) K.says_monotone question.now
-        (the_entries K.shape node.0 entries.now) context.old context.new result }
+    requires { CanAsk K.Validate M.Matcher.own engine.now question.now (the_entries K.shape node.0 entries.now) context.old }
+    ensures { Answers K.Validate M.Matcher.own engine.now question.now (the_entries K.shape node.0 entries.now)
+        context.old context.new result }
 {
     let mut leans = false;
     for entry in entries {
@@ -130,9 +128,9 @@ fn solve_form<'i, K: Validate, M: Matcher>(
     question: &Asked<'_, 'i>,
     context: &mut SolverContext<'i>,
 ) -> Told
-    requires { MayAsk (solver_by K.Validate M.Matcher.own engine.now) question.now (the_entry K.shape node.0 entry.now) context.old }
-    ensures { Solves (solver_by K.Validate M.Matcher.own engine.now) K.says_monotone question.now
-        (the_entry K.shape node.0 entry.now) context.old context.new result }
+    requires { CanAsk K.Validate M.Matcher.own engine.now question.now (the_entry K.shape node.0 entry.now) context.old }
+    ensures { Answers K.Validate M.Matcher.own engine.now question.now (the_entry K.shape node.0 entry.now)
+        context.old context.new result }
 {
     match &entry.form {
         EntryForm::Keyword(keyword, _) => {
@@ -155,9 +153,9 @@ fn solve_keyword<'i, K: Validate, M: Matcher>(
     question: &Asked<'_, 'i>,
     context: &mut SolverContext<'i>,
 ) -> Told
-    requires { MayAsk (solver_by K.Validate M.Matcher.own engine.now) question.now (the_entry K.shape node.0 entry.now) context.old }
-    ensures { Solves (solver_by K.Validate M.Matcher.own engine.now) K.says_monotone question.now
-        (the_entry K.shape node.0 entry.now) context.old context.new result }
+    requires { CanAsk K.Validate M.Matcher.own engine.now question.now (the_entry K.shape node.0 entry.now) context.old }
+    ensures { Answers K.Validate M.Matcher.own engine.now question.now (the_entry K.shape node.0 entry.now)
+        context.old context.new result }
 {
     match &entry.form {
         EntryForm::Keyword(keyword, children) => {
@@ -184,9 +182,8 @@ fn solve_reference<'i, K: Validate, M: Matcher>(
     question: &Asked<'_, 'i>,
     context: &mut SolverContext<'i>,
 ) -> Told
-    requires { MayAsk (solver_by K.Validate M.Matcher.own engine.now) question.now (an_edge (edge_of edge.now)) context.old }
-    ensures { Solves (solver_by K.Validate M.Matcher.own engine.now) K.says_monotone question.now
-        (an_edge (edge_of edge.now)) context.old context.new result }
+    requires { CanAsk K.Validate M.Matcher.own engine.now question.now (the_edge edge.now) context.old }
+    ensures { Answers K.Validate M.Matcher.own engine.now question.now (the_edge edge.now) context.old context.new result }
 {
     solve_edge(engine, edge, question, context)
 }
@@ -200,9 +197,8 @@ pub(crate) fn solve_node_apart<'i, K: Validate, M: Matcher>(
     question: &Asked<'_, 'i>,
     context: &mut SolverContext<'i>,
 ) -> Told
-    requires { MayAsk (solver_by K.Validate M.Matcher.own engine.now) question.now (a_node node.0) context.old }
-    ensures { Solves (solver_by K.Validate M.Matcher.own engine.now) K.says_monotone question.now
-        (a_node node.0) context.old context.new result }
+    requires { CanAsk K.Validate M.Matcher.own engine.now question.now (a_node node.0) context.old }
+    ensures { Answers K.Validate M.Matcher.own engine.now question.now (a_node node.0) context.old context.new result }
 {
     solve_node(engine, node, question, context)
 }

@@ -1,11 +1,8 @@
 //! The turns of a keyword's run for its verdict, by a solver.
-ghost use Rattle.std.specs.Prelude.{◌≡◌, ◌&&◌, [], Bool, IfErr, IfOk, false, true};
-ghost use Rattle.schema_reports.specs.InstanceViews.{subject_of};
-ghost use Rattle.schema_definitions.specs.Keywords.{for_verdict};
-ghost use Rattle.schema_parts.specs.KeywordViews.{answer_of, fresh};
-ghost use Rattle.schema_solver.specs.Asked.{solver_by};
-ghost use Rattle.schema_solver.specs.Solved.{MayAsk, Solves, Turns, the_keyword};
-ghost use Rattle.schema_solver.specs.TurningOn.{HasBegun};
+ghost use Rattle.std.specs.Prelude.{◌≡◌, [], IfErr, IfOk, false, true};
+ghost use Rattle.schema_pairs.specs.Saying.{said_as};
+ghost use Rattle.schema_solver.specs.Solved.{the_keyword};
+ghost use Rattle.schema_solver.specs.Calls.{Answers, AnswersByTurns, BeginsRun, CanAsk, HasBegunRun};
 
 use crate::question::{Asked, SolverEngine, Stopped};
 use crate::solve::edges::solve_child;
@@ -33,9 +30,9 @@ pub(crate) fn solver_answer<'i, K: Validate, M: Matcher>(
     question: &Asked<'_, 'i>,
     context: &mut SolverContext<'i>,
 ) -> Told
-    requires { MayAsk (solver_by K.Validate M.Matcher.own engine.now) question.now (the_keyword K.shape node.0 keyword.now) context.old }
-    ensures { Solves (solver_by K.Validate M.Matcher.own engine.now) K.says_monotone question.now
-        (the_keyword K.shape node.0 keyword.now) context.old context.new result }
+    requires { CanAsk K.Validate M.Matcher.own engine.now question.now (the_keyword K.shape node.0 keyword.now) context.old }
+    ensures { Answers K.Validate M.Matcher.own engine.now question.now (the_keyword K.shape node.0 keyword.now)
+        context.old context.new result }
 {
     let mut run = match begun_run(engine.alloc, keyword.keyword, question.instance) {
         Ok(run) => run,
@@ -68,8 +65,7 @@ pub(crate) fn solver_answer<'i, K: Validate, M: Matcher>(
 // What is said of a keyword whose run found this verdict. Where one of the yeses leaned that it was told, this is so of a keyword alone
 // that says that it is monotone; of another it stops.
 fn told_of<K: Validate>(keyword: &K, valid: bool, leans: bool) -> Told
-    ensures said { IfOk result (λ s. (s ≡ record { valid = valid; leans = valid && leans })
-        × (leans ≡ true → K.says_monotone (K.shape keyword.now) ≡ true)) }
+    ensures said { IfOk result (λ s. (s ≡ said_as valid leans) × (leans ≡ true → K.says_monotone (K.shape keyword.now) ≡ true)) }
     ensures stops { IfErr result (λ e. (e ≡ Stopped.Leans) × (leans ≡ true) × (K.says_monotone (K.shape keyword.now) ≡ false)) }
 {
     if leans && !keyword.monotone() {
@@ -85,8 +81,7 @@ fn begun_run<K: Validate>(
     keyword: &K,
     instance: Instance<'_>,
 ) -> Result<K::Run, OutOfMemory>
-    ensures begins { IfOk result (λ run. (texts : Bool)
-        → (K.words texts).begin (K.shape keyword.now) (subject_of instance.entry) for_verdict ≡ (run, fresh for_verdict)) }
+    ensures begins { IfOk result (BeginsRun K.Validate keyword.now instance.entry) }
 {
     keyword.begin(alloc, instance, Mode::Verdict)
 }
@@ -102,13 +97,10 @@ fn solver_turns<'i, K: Validate, M: Matcher>(
     answer: &mut Answer<'i>,
     context: &mut SolverContext<'i>,
 ) -> Result<bool, Stopped>
-    requires may_ask { MayAsk (solver_by K.Validate M.Matcher.own engine.now) question.now
-        (the_keyword K.shape node.0 keyword.now) context.old }
-    requires begun { HasBegun (solver_by K.Validate M.Matcher.own engine.now) (subject_of question.now.instance)
-        (K.shape keyword.now.keyword.now) run.old answer.old }
+    requires may_ask { CanAsk K.Validate M.Matcher.own engine.now question.now (the_keyword K.shape node.0 keyword.now) context.old }
+    requires begun { HasBegunRun K.Validate M.Matcher.own engine.now question.now keyword.now run.old answer.old }
     requires no_marks { context.old.marking ≡ [] }
-    ensures { Turns (solver_by K.Validate M.Matcher.own engine.now) K.says_monotone question.now
-        K.shape keyword.now context.old context.new result (λ texts. (answer_of texts answer.new).verdict) }
+    ensures { AnswersByTurns K.Validate M.Matcher.own engine.now question.now keyword.now context.old context.new result answer.new }
 {
     let children = keyword.children;
     let mut told: Option<bool> = None;

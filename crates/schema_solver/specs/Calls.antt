@@ -1,0 +1,73 @@
+-- What the functions of a solver are asked and answer: by the values of the program, and by what the types of its keywords and of its
+-- matcher say of themselves.
+use Rattle.std.specs.Prelude.{Bool, IfErr, IfOk, IfSome, List, Option, Result, length, ◌≡◌}
+use Rattle.serde_json.specs.Data.{object}
+use Rattle.serde_json.specs.View.{members_view}
+use Rattle.schema_definitions.specs.Instance.{a_value}
+use Rattle.schema_definitions.specs.Keywords.{Question, for_verdict}
+use Rattle.schema_reports.specs.InstanceViews.{subject_of}
+use Rattle.schema_reports.specs.declared.instance.Instance.{Instance}
+use Rattle.schema_parts.specs.KeywordViews.{answer_of, fresh}
+use Rattle.schema_parts.specs.declared.keyword.Answer as code_answer
+use Rattle.schema_parts.specs.declared.keyword.Validate as keyword
+use Rattle.schema_parts.specs.declared.matcher.Matcher as matcher
+use Rattle.asked_questions.specs.Members.{Entries}
+use Rattle.asked_questions.specs.Questions.{SaysByQuestions}
+use Rattle.node_table.specs.NodeTable.{numbered}
+use Rattle.run_steps.specs.declared.question.NamedKeyword.{NamedKeyword}
+use Rattle.schema_pairs.specs.Contexts.{Solver}
+use Rattle.schema_pairs.specs.Saying.{WhatIsSaid}
+use Rattle.schema_solver.specs.declared.question.Asked.{Asked}
+use Rattle.schema_solver.specs.declared.question.SolverEngine.{SolverEngine}
+use Rattle.schema_solver.specs.declared.question.Stopped.{Stopped}
+use Rattle.schema_solver.specs.declared.question.Stopped.TheVariants as stopped
+use Rattle.schema_solver.specs.Asked.{solver_by}
+use Rattle.schema_solver.specs.Solved.{MayAsk, Solves, Turns, Wanted}
+use Rattle.schema_solver.specs.Solving.{EachSays}
+use Rattle.schema_solver.specs.TurningOn.{HasBegun}
+
+-- ---- what is found of a root
+
+-- this is so of a verdict, where one is found
+abbrev pub IfFound : {A E : Type 0} → Result (Option A) E → (A → Type 0) → Type 0
+IfFound result Holds = IfOk result (λ found. IfSome found Holds)
+
+-- this is so where it stops at the limit
+abbrev pub IfAtLimit : {A : Type 0} → Result A Stopped → Type 0 → Type 0
+IfAtLimit result Holds = IfErr result (λ e. e ≡ stopped.Limit → Holds)
+
+-- ---- what is asked, and what is told
+
+-- the instance is an object with these members
+abbrev pub HasMembers : Asked → Entries → Type 0
+HasMembers q members = a_value (object (members_view members)) ≡ subject_of q.instance
+
+module _ {C R K : Type 0} (k : keyword.Ghosts C R K) where
+  -- each keyword of the engine's nodes says of itself that it is monotone
+  abbrev pub EachSaysMonotone : {M : Type 0} → SolverEngine C M → Type 0
+  EachSaysMonotone e = EachSays k.says_monotone (numbered k.shape e.nodes.now) (length e.nodes.now)
+
+  -- the keyword says what the answers of these questions say: whether all of them accept, or one does
+  abbrev pub SaysBy : C → Asked → Bool → List Question → Type 0
+  SaysBy c q all questions = SaysByQuestions k.words k.is_whole (subject_of q.instance) (k.shape c) all questions
+
+  -- a run of the keyword on the instance begins for a verdict
+  abbrev pub BeginsRun : C → Instance → R → Type 0
+  BeginsRun c instance run = (texts : Bool) → (k.words texts).begin (k.shape c) (subject_of instance) for_verdict ≡ (run, fresh for_verdict)
+
+module _ {C R K M : Type 0} (k : keyword.Ghosts C R K) (m : matcher.Ghosts M) (e : SolverEngine C M) (q : Asked) where
+  -- the question may be put to this
+  abbrev pub CanAsk : Wanted K → Solver → Type 0
+  CanAsk wanted c = MayAsk (solver_by k m e) q wanted c
+
+  -- and is answered by what is told
+  abbrev pub Answers : Wanted K → Solver → Solver → Result WhatIsSaid Stopped → Type 0
+  Answers wanted old new told = Solves (solver_by k m e) k.says_monotone q wanted old new told
+
+  -- the keyword's run on the instance has begun, and its answer is fresh
+  abbrev pub HasBegunRun : NamedKeyword C → R → code_answer.Answer → Type 0
+  HasBegunRun named run answer = HasBegun (solver_by k m e) (subject_of q.instance) (k.shape named.keyword.now) run answer
+
+  -- the keyword's turns are done, with this answer
+  abbrev pub AnswersByTurns : NamedKeyword C → Solver → Solver → Result Bool Stopped → code_answer.Answer → Type 0
+  AnswersByTurns named old new told answer = Turns (solver_by k m e) k.says_monotone q k.shape named old new told (λ texts. (answer_of texts answer).verdict)
