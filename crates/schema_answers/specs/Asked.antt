@@ -1,6 +1,6 @@
 -- What the calls of a validator answer of an instance: the sentences that their clauses cite. They are those of `Answers`,
 -- `Program` and `Spoken`, over the members of the keyword type's and the matcher type's traits.
-use Rattle.std.specs.Prelude.{Bool, List, Option}
+use Rattle.std.specs.Prelude.{Bool, IfOk, List, Option, Result, true, ◌≡◌}
 use Rattle.serde_json.specs.Data.{Data}
 use Rattle.schema_definitions.specs.Cover.{is_valid}
 use Rattle.schema_meaning.specs.Headline.{VerdictSays}
@@ -17,6 +17,10 @@ use Rattle.schema_answers.specs.Answers.{MeetsMatches, SaysErrors, SaysFirst, Sa
 use Rattle.schema_calls.specs.Evaluated.{EvaluationAnswered, UnitsAnswered}
 use Rattle.schema_answers.specs.Program.{FromSomeDepth, HasUnits, OfEveryEvaluation, OfEverySense, Program}
 use Rattle.schema_calls.specs.Spoken.{EachIsGiven, ErrorsAnswered, FirstAnswered, FirstIsGiven}
+
+-- this is so where the answer is a yes
+abbrev pub IfYes : {E : Type 0} → Result Bool E → Type 0 → Type 0
+IfYes result Holds = IfOk result (λ b. b ≡ true → Holds)
 
 -- C is a keyword of the code, K what is known of it, M a matcher of the code
 module _ {C Run K M : Type 0} (keywords : KeywordMembers C Run K) (matchers : MatcherMembers M) (p : Program C M) (instance : Data) where

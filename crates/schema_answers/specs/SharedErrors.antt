@@ -14,12 +14,18 @@ use Rattle.schema_parts.specs.declared.keyword.Validate.{Ghosts as KeywordMember
 use Rattle.schema_parts.specs.declared.matcher.Matcher.{Ghosts as MatcherMembers}
 use Rattle.schema_answers.specs.Asked.{ErrorsFromSomeDepth, EvaluatesFromSomeDepth, FirstFromSomeDepth, RunMeets}
 use Rattle.schema_answers.specs.Program.{Program}
+use Rattle.schema_answers.specs.Taken.{TakesByRuns}
+use Rattle.schema_contexts.specs.Works.{Budget}
 
 -- C is a keyword of the code, K what is known of it, M a matcher of the code
 module _ {C Run K M : Type 0} (keywords : KeywordMembers C Run K) (matchers : MatcherMembers M) (p : Program C M) (instance : Data) (first : Remembered) where
   -- the first run was made for this call
   abbrev pub Begins : Call → Type 0
   Begins call = RunMeets keywords matchers p instance (mode_of call []) (starting []) first
+
+  -- so much is taken by the runs of each call for which it was made, where the further runs want all errors
+  abbrev pub TakesAsBegun : Budget → Budget → Type 0
+  TakesAsBegun old new = (call : Call) → WantsAllLater call → Begins call → TakesByRuns keywords matchers p instance call old new
 
   pub record AreShared (es : List ValidationError) : Type 0 where
     -- they are what `iter_errors` answers

@@ -19,6 +19,10 @@ use Rattle.schema_answers.specs.Program.{Program}
 abbrev pub IsCountedIn : SolvedVerdict → Budget → Budget → Type 0
 IsCountedIn v old new = old.limited ≡ true → v.context.begun + new.left ≡ old.left
 
+-- each keyword of the nodes says of itself that it is monotone
+abbrev pub AllSayMonotone : {C Run K M : Type 0} → KeywordMembers C Run K → Program C M → Type 0
+AllSayMonotone keywords p = EachSays keywords.says_monotone (numbered keywords.shape p.nodes) (length p.nodes)
+
 -- C is a keyword of the code, K what is known of it, M a matcher of the code
 module _ {C Run K M : Type 0} (keywords : KeywordMembers C Run K) (matchers : MatcherMembers M) (p : Program C M) (instance : Value) where
   -- what the solver of the validator is made with, where it follows these numbers
@@ -49,7 +53,7 @@ module _ {C Run K M : Type 0} (keywords : KeywordMembers C Run K) (matchers : Ma
   -- that it is monotone, and so many pairs are enough
   pub record IsDecidedWithin (limit : ℕ) : Type 0 where
     pub finishing : matchers.finishing p.matcher ≡ true
-    pub monotone : EachSays keywords.says_monotone (numbered keywords.shape p.nodes) (length p.nodes)
+    pub monotone : AllSayMonotone keywords p
     pub enough : AreEnough limit
 
 -- a validator has a solver; which numbers that follows is said by weights that cover the nodes

@@ -10,19 +10,18 @@ ghost use Rattle.schema_parts.specs.FaultViews.{errors_in};
 ghost use Rattle.schema_parts.specs.KeywordViews.{mode_of, reply_of};
 ghost use Rattle.schema_parts.specs.MatcherViews.{FinishesEach};
 ghost use Rattle.run_steps.specs.ReplyModes.{reply_by};
-ghost use Rattle.schema_definitions.specs.Cover.{Call, evaluate, is_valid, iter_errors, validate};
+ghost use Rattle.schema_definitions.specs.Cover.{evaluate, is_valid, iter_errors, validate};
 ghost use Rattle.schema_definitions.specs.Reports.{Outcome};
 ghost use Rattle.schema_definitions.specs.Keywords.{for_all, for_first, for_units, for_verdict};
 ghost use Rattle.schema_answers.specs.Asked.{DecidesFromSomeDepth, ErrorsFromSomeDepth, FirstFromSomeDepth};
-ghost use Rattle.schema_answers.specs.Asked.{EvaluatesFromSomeDepth};
+ghost use Rattle.schema_answers.specs.Asked.{EvaluatesFromSomeDepth, IfYes};
 ghost use Rattle.schema_answers.specs.Asked.{RunGivesUnit, UnitsFromSomeDepth};
-ghost use Rattle.schema_answers.specs.SharedErrors.{AreShared, Begins};
-ghost use Rattle.schema_answers.specs.Solved.{BeganFew, IsCountedIn, IsDecidedWithin, RestsOnContext, StopsLate};
+ghost use Rattle.schema_answers.specs.SharedErrors.{AreShared, TakesAsBegun};
+ghost use Rattle.schema_answers.specs.Solved.{AllSayMonotone, BeganFew, IsCountedIn, IsDecidedWithin, RestsOnContext, StopsLate};
 ghost use Rattle.schema_answers.specs.Taken.{TakesByRuns};
 ghost use Rattle.schema_answers.specs.Asked.{RunDecides, RunFindsFirst, RunListsErrors, RunMeets, RunReplies};
 ghost use Rattle.schema_meaning.specs.Numbered.{Ranked};
-ghost use Rattle.schema_meaning.specs.Searched.{WantsAllLater};
-ghost use Rattle.schema_verdicts.specs.Saying.{EachSays};
+ghost use Rattle.schema_solver.specs.Calls.{IfFound};
 ghost use Rattle.node_table.specs.NodeTable.{numbered};
 
 mod cloning;
@@ -267,18 +266,16 @@ impl<K: Validate, M: Matcher> CompiledSchema<K, M> {
         work: &mut Work,
     ) -> Result<Option<SolvedVerdict<'i>>, OutOfMemory>
         requires finishes { finishes ≡ true → FinishesEach (M.matching self.now.matcher) }
-        ensures exactly { EachSays K.says_monotone (numbered K.shape self.now.nodes) (length self.now.nodes)
+        ensures exactly { AllSayMonotone K.Validate self.now
             → IfOk result (λ found. is_some found ≡ (is_some self.now.followed && finishes)) }
         ensures only { IfOk result (λ found. is_some found ≡ true → (is_some self.now.followed && finishes) ≡ true) }
-        ensures finishes { IfOk result (λ found. IfSome found (λ _. FinishesEach (M.matching self.now.matcher))) }
-        ensures says { IfOk result (λ found. IfSome found (λ v. RunDecides
-            K.Validate M.Matcher.own self.now (view instance.now) [] v.valid)) }
-        ensures depth { IfOk result (λ found. IfSome found (λ v. DecidesFromSomeDepth
-            K.Validate M.Matcher.own self.now (view instance.now) v.valid)) }
-        ensures rests { IfOk result (λ found. IfSome found (RestsOnContext K.Validate M.Matcher.own self.now instance.now)) }
-        ensures few { IfOk result (λ found. IfSome found (BeganFew K.Validate M.Matcher.own self.now instance.now)) }
+        ensures finishes { IfFound result (λ _. FinishesEach (M.matching self.now.matcher)) }
+        ensures says { IfFound result (λ v. RunDecides K.Validate M.Matcher.own self.now (view instance.now) [] v.valid) }
+        ensures depth { IfFound result (λ v. DecidesFromSomeDepth K.Validate M.Matcher.own self.now (view instance.now) v.valid) }
+        ensures rests { IfFound result (RestsOnContext K.Validate M.Matcher.own self.now instance.now) }
+        ensures few { IfFound result (BeganFew K.Validate M.Matcher.own self.now instance.now) }
         ensures works { IfOk result (λ _. Spends work.old work.new) }
-        ensures counted { IfOk result (λ found. IfSome found (λ v. IsCountedIn v work.old work.new)) }
+        ensures counted { IfFound result (λ v. IsCountedIn v work.old work.new) }
         ensures late { OnErr result (work.old.stopped ≡ false → work.new.stopped ≡ true
             → StopsLate K.Validate M.Matcher.own self.now instance.now work.old.left) }
     {
@@ -306,8 +303,7 @@ impl<K: Validate, M: Matcher> CompiledSchema<K, M> {
     ) -> Result<bool, OutOfMemory>
         ensures works { IfOk result (λ _. TakesByRuns
             K.Validate M.Matcher.own self.now (view instance.now) is_valid work.old work.new) }
-        ensures depth { IfOk result (λ valid. DecidesFromSomeDepth
-            K.Validate M.Matcher.own self.now (view instance.now) valid) }
+        ensures depth { IfOk result (DecidesFromSomeDepth K.Validate M.Matcher.own self.now (view instance.now)) }
         ensures decides { IsDecidedWithin K.Validate M.Matcher.own self.now instance.now work.old.left
             → OnErr result (work.old.stopped ≡ false → work.new.stopped ≡ false) }
     {
@@ -335,11 +331,9 @@ impl<K: Validate, M: Matcher> CompiledSchema<K, M> {
         work: &mut Work,
     ) -> Result<bool, OutOfMemory>
         ensures works { IfOk result (λ _. Spends work.old work.new) }
-        ensures finishes { IfOk result (λ accepts. accepts ≡ true → FinishesEach (M.matching self.now.matcher) × (1 ≤ self.now.runs)) }
-        ensures first { IfOk result (λ accepts. accepts ≡ true → FirstFromSomeDepth
-            K.Validate M.Matcher.own self.now (view instance.now) None) }
-        ensures errors { IfOk result (λ accepts. accepts ≡ true → ErrorsFromSomeDepth
-            K.Validate M.Matcher.own self.now (view instance.now) []) }
+        ensures finishes { IfYes result (FinishesEach (M.matching self.now.matcher) × (1 ≤ self.now.runs)) }
+        ensures first { IfYes result (FirstFromSomeDepth K.Validate M.Matcher.own self.now (view instance.now) None) }
+        ensures errors { IfYes result (ErrorsFromSomeDepth K.Validate M.Matcher.own self.now (view instance.now) []) }
     {
         if self.matcher.finishes() {
             if let Some(solved) = self.solved(alloc, true, instance, work)? {
@@ -414,9 +408,8 @@ impl<K: Validate, M: Matcher> CompiledSchema<K, M> {
         requires met { IsSome first.0.unassumed }
         ensures shares { IfOk result (λ es. AreShared
             K.Validate M.Matcher.own self.now (view instance.now) first.entry.0 es.items) }
-        ensures works { IfOk result (λ _. (call : Call)
-            → WantsAllLater call → Begins K.Validate M.Matcher.own self.now (view instance.now) first.entry.0 call
-            → TakesByRuns K.Validate M.Matcher.own self.now (view instance.now) call work.old work.new) }
+        ensures works { IfOk result (λ _. TakesAsBegun
+            K.Validate M.Matcher.own self.now (view instance.now) first.entry.0 work.old work.new) }
     {
         let shared = errors_under_each(
             alloc,
@@ -440,8 +433,7 @@ impl<K: Validate, M: Matcher> CompiledSchema<K, M> {
         instance: &'i Value,
         work: &mut Work,
     ) -> Result<Option<ValidationError<'i>>, OutOfMemory>
-        ensures depth { IfOk result (λ e. FirstFromSomeDepth
-            K.Validate M.Matcher.own self.now (view instance.now) e) }
+        ensures depth { IfOk result (FirstFromSomeDepth K.Validate M.Matcher.own self.now (view instance.now)) }
         ensures borrows { IfOk result (λ e. IfSome e (BorrowsItsPlace (view instance.now))) }
         ensures works { IfOk result (λ _. TakesByRuns
             K.Validate M.Matcher.own self.now (view instance.now) validate work.old work.new) }
@@ -541,10 +533,8 @@ impl<K: Validate, M: Matcher> CompiledSchema<K, M> {
         instance: &Value,
         work: &mut Work,
     ) -> Result<EvaluationNode, OutOfMemory>
-        ensures depth { IfOk result (λ u. EvaluatesFromSomeDepth
-            K.Validate M.Matcher.own self.now (view instance.now) u) }
-        ensures units { IfOk result (λ u. UnitsFromSomeDepth
-            K.Validate M.Matcher.own self.now (view instance.now) u) }
+        ensures depth { IfOk result (EvaluatesFromSomeDepth K.Validate M.Matcher.own self.now (view instance.now)) }
+        ensures units { IfOk result (UnitsFromSomeDepth K.Validate M.Matcher.own self.now (view instance.now)) }
         ensures works { IfOk result (λ _. TakesByRuns
             K.Validate M.Matcher.own self.now (view instance.now) evaluate work.old work.new) }
     {
