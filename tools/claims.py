@@ -11,7 +11,7 @@ a trait that has none. A function is public where every module above it is, or w
 --all    functions that only their crate sees too
 --succeeds  only those that answer no `Result`, and so cannot be refused memory, with their signatures
 --contracts  prints the contracts of these functions of the crates in `SCOPE`, as `Validator::is_valid`, in the form of the kit's pages: S is
-         what `self` points to, and `parts` what `handed` makes of all that is handed in
+         what `self` points to, and `parts` all that is handed in, or what `handed` makes of it
 --check  compares docs/CLAIMS.md with the sources, both ways: each clause of each public call has its line there, and each line there names
          clauses that the call has. What a public call is, `SCOPE` says. It compares the contracts in crates/schema_engine/CALLING.md too.
          Ends with 1 where something differs.
@@ -54,7 +54,7 @@ SCOPE = (
 )
 
 
-HANDED = "(handed S.Resolver T.KeywordTable K.Validate M.Matcher.own resolver.now table.now matcher.now)"
+PARTS = "S.Resolver T.KeywordTable K.Validate M.Matcher.own resolver.now table.now matcher.now"
 
 
 class Item:
@@ -79,7 +79,7 @@ class Item:
 
 
 def shortened(said):
-    said = " ".join(said.split()).replace(HANDED, "parts")
+    said = " ".join(said.split()).replace(f"(handed {PARTS})", "parts").replace(PARTS, "parts")
     return said.replace("self.now", "S").replace("self.old", "S").replace("self.new", "S'")
 
 

@@ -1,6 +1,6 @@
 -- A map of validators, as the list of its pointers and what stands at each.
 use Rattle.std.specs.BTreeMap.{BTreeMap}
-use Rattle.std.specs.Prelude.{List, Option, bytes_eq, map, string_bytes}
+use Rattle.std.specs.Prelude.{List, Option, Some, bytes_eq, if◌then◌else◌, map, string_bytes, ◌≡◌}
 use Rattle.std.specs.List.{IsDistinct}
 use Rattle.std.specs.Map.{lookup, keys_of}
 use Rattle.std.specs.declared.string.String.{String}
@@ -16,6 +16,10 @@ entries_of m = map (λ e. (string_bytes e.0, e.1)) m.entries
 -- what stands at a pointer
 abbrev pub at_pointer : {X : Type 0} → Entries X → Text → Option X
 at_pointer es pointer = lookup (bytes_eq pointer) es
+
+-- at this pointer stands this now, and at any other what stood there
+abbrev pub PutsAt : {X : Type 0} → Text → X → Entries X → Entries X → Type 0
+PutsAt pointer x old new = (other : Text) → at_pointer new other ≡ (if bytes_eq pointer other then Some x else at_pointer old other)
 
 -- each pointer once
 abbrev pub EachOnce : {X : Type 0} → Entries X → Type 0

@@ -1,12 +1,10 @@
 //! Validators by the default options.
 ghost use Rattle.std.specs.Prelude.{◌≡◌, IfOk, IfErr};
 ghost use Rattle.serde_json.specs.View.{view};
-ghost use Rattle.schema_validator.specs.Called.{HasPlainUnits, IsCompiledFrom, MeansPlainly, PointsPlainly, SchemaBuilds, BuildRefused};
-ghost use Rattle.schema_validator.specs.Called.{UnitsPointPlainly};
+ghost use Rattle.schema_validator.specs.Building.{AcceptsAsBuilt, CanBeBuilt, HasUnitsAsBuilt, IsBuiltWith, MeansAsBuilt, NamesFirst};
+ghost use Rattle.schema_validator.specs.Building.{PointsAsBuilt, RefusesToBuild, UnitsPointAsBuilt};
 ghost use Rattle.schema_validator.specs.Checked.{PassesCheck};
-ghost use Rattle.schema_validator.specs.FirstCauses.{FirstOfBuild};
-ghost use Rattle.schema_validator.specs.Greatest.{AcceptsAsSchema};
-ghost use Rattle.schema_validator.specs.Handed.{default_nested, default_options, handed};
+ghost use Rattle.schema_validator.specs.Handed.{default_nested, default_options};
 ghost use Rattle.schema_answers.specs.Solved.{HasSolver};
 
 use crate::options::ValidationOptions;
@@ -44,36 +42,27 @@ impl<K: Validate, M: Matcher> Validator<K, M> {
         matcher: &M,
         metas: &V,
     ) -> Result<Validator<K, M>, BuildError>
-        ensures means { IfOk result (λ v. MeansPlainly
-            (handed S.Resolver T.KeywordTable K.Validate M.Matcher.own resolver.now table.now matcher.now)
-            default_options (view schema.now) v) }
-        ensures units { IfOk result (λ v. HasPlainUnits
-            (handed S.Resolver T.KeywordTable K.Validate M.Matcher.own resolver.now table.now matcher.now)
-            default_options (view schema.now) v) }
-        ensures points { IfOk result (λ v. PointsPlainly
-            (handed S.Resolver T.KeywordTable K.Validate M.Matcher.own resolver.now table.now matcher.now)
-            default_options (view schema.now) v) }
-        ensures units_point { IfOk result (λ v. UnitsPointPlainly
-            (handed S.Resolver T.KeywordTable K.Validate M.Matcher.own resolver.now table.now matcher.now)
-            default_options (view schema.now) v) }
-        ensures greatest { IfOk result (λ v. AcceptsAsSchema
-            (handed S.Resolver T.KeywordTable K.Validate M.Matcher.own resolver.now table.now matcher.now)
-            default_options (view schema.now) v) }
-        ensures program { IfOk result (λ v. IsCompiledFrom
-            (handed S.Resolver T.KeywordTable K.Validate M.Matcher.own resolver.now table.now matcher.now)
-            default_options (view schema.now) default_nested v) }
+        ensures means { IfOk result (MeansAsBuilt S.Resolver T.KeywordTable K.Validate M.Matcher.own
+            resolver.now table.now matcher.now default_options schema.now) }
+        ensures units { IfOk result (HasUnitsAsBuilt S.Resolver T.KeywordTable K.Validate M.Matcher.own
+            resolver.now table.now matcher.now default_options schema.now) }
+        ensures points { IfOk result (PointsAsBuilt S.Resolver T.KeywordTable K.Validate M.Matcher.own
+            resolver.now table.now matcher.now default_options schema.now) }
+        ensures units_point { IfOk result (UnitsPointAsBuilt S.Resolver T.KeywordTable K.Validate M.Matcher.own
+            resolver.now table.now matcher.now default_options schema.now) }
+        ensures greatest { IfOk result (AcceptsAsBuilt S.Resolver T.KeywordTable K.Validate M.Matcher.own
+            resolver.now table.now matcher.now default_options schema.now) }
+        ensures program { IfOk result (λ v. IsBuiltWith S.Resolver T.KeywordTable K.Validate M.Matcher.own
+            resolver.now table.now matcher.now default_options schema.now default_nested v) }
         ensures solver { IfOk result HasSolver }
-        ensures built { IfOk result (λ _. SchemaBuilds
-            (handed S.Resolver T.KeywordTable K.Validate M.Matcher.own resolver.now table.now matcher.now)
-            default_options (view schema.now)) }
+        ensures built { IfOk result (λ _. CanBeBuilt S.Resolver T.KeywordTable K.Validate M.Matcher.own
+            resolver.now table.now matcher.now default_options schema.now) }
         ensures passed { IfOk result (λ _. PassesCheck (S.resolving resolver.now) (V.checked metas.now)
             default_options (view schema.now)) }
-        ensures refused { IfErr result (λ e. BuildRefused
-            (handed S.Resolver T.KeywordTable K.Validate M.Matcher.own resolver.now table.now matcher.now)
-            (V.checked metas.now) default_options (view schema.now) e) }
-        ensures first { IfErr result (λ e. FirstOfBuild
-            (handed S.Resolver T.KeywordTable K.Validate M.Matcher.own resolver.now table.now matcher.now)
-            (V.checked metas.now) default_options (view schema.now) e) }
+        ensures refused { IfErr result (RefusesToBuild S.Resolver T.KeywordTable K.Validate M.Matcher.own
+            resolver.now table.now matcher.now default_options schema.now (V.checked metas.now)) }
+        ensures first { IfErr result (NamesFirst S.Resolver T.KeywordTable K.Validate M.Matcher.own
+            resolver.now table.now matcher.now default_options schema.now (V.checked metas.now)) }
     {
         Validator::<K, M>::options(alloc).build(alloc, schema, table, resolver, matcher, metas)
     }

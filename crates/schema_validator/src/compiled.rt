@@ -1,9 +1,9 @@
 //! Validators of compiled nodes.
 ghost use Rattle.std.specs.Prelude.{◌≡◌, ◌<◌, ◌≤◌, IfOk, None, length};
 ghost use Rattle.schema_keywords.specs.KeywordViews.{draft_of};
-ghost use Rattle.node_table.specs.NodeTable.{numbered};
-ghost use Rattle.schema_validator.specs.Called.{HasUnitsAsCompiled, MeansAsCompiled};
-ghost use Rattle.schema_validator.specs.Handed.{default_runs, handed};
+ghost use Rattle.schema_validator.specs.Building.{HasUnitsFromNodes, MeansFromNodes};
+ghost use Rattle.schema_validator.specs.CallWords.{IsMadeOf};
+ghost use Rattle.schema_validator.specs.Handed.{default_runs};
 
 use crate::validator::{CallLimits, Validator};
 use node_table::node::Nodes;
@@ -34,17 +34,15 @@ pub fn of_compiled<S: Resolver, T: KeywordTable<K>, K: Validate, M: Matcher>(
     draft: Draft,
 ) -> Result<Validator<K, M>, OutOfMemory>
     requires inside { root.0 < length nodes }
-    ensures made { IfOk result (λ v. (v.nodes ≡ nodes) × (v.root ≡ root.0) × (v.draft ≡ draft_of draft)) }
+    ensures made { IfOk result (IsMadeOf nodes root.0 (draft_of draft)) }
     ensures runs { IfOk result (λ v. v.runs ≡ default_runs) }
     ensures work { IfOk result (λ v. v.work ≡ None) }
     ensures solver { IfOk result (λ v. v.followed ≡ None) }
     ensures matcher { IfOk result (λ v. M.matching v.matcher ≡ M.matching matcher.now) }
-    ensures means { IfOk result (λ v. MeansAsCompiled
-        (handed S.Resolver T.KeywordTable K.Validate M.Matcher.own resolver.now table.now matcher.now)
-        nodes root.0 v) }
-    ensures units { IfOk result (λ v. HasUnitsAsCompiled
-        (handed S.Resolver T.KeywordTable K.Validate M.Matcher.own resolver.now table.now matcher.now)
-        nodes root.0 v) }
+    ensures means { IfOk result (MeansFromNodes S.Resolver T.KeywordTable K.Validate M.Matcher.own
+        resolver.now table.now matcher.now nodes root.0) }
+    ensures units { IfOk result (HasUnitsFromNodes S.Resolver T.KeywordTable K.Validate M.Matcher.own
+        resolver.now table.now matcher.now nodes root.0) }
 {
     of_compiled_within(
         table,
@@ -74,17 +72,15 @@ pub(crate) fn of_compiled_within<S: Resolver, T: KeywordTable<K>, K: Validate, M
 ) -> Result<Validator<K, M>, OutOfMemory>
     requires inside { root.0 < length nodes }
     requires limit { 1 ≤ limits.runs }
-    ensures made { IfOk result (λ v. (v.nodes ≡ nodes) × (v.root ≡ root.0) × (v.draft ≡ draft_of draft)) }
+    ensures made { IfOk result (IsMadeOf nodes root.0 (draft_of draft)) }
     ensures runs { IfOk result (λ v. v.runs ≡ limits.runs) }
     ensures work { IfOk result (λ v. v.work ≡ limits.work) }
     ensures solver { IfOk result (λ v. v.followed ≡ finder) }
     ensures matcher { IfOk result (λ v. M.matching v.matcher ≡ M.matching matcher.now) }
-    ensures means { IfOk result (λ v. MeansAsCompiled
-        (handed S.Resolver T.KeywordTable K.Validate M.Matcher.own resolver.now table.now matcher.now)
-        nodes root.0 v) }
-    ensures units { IfOk result (λ v. HasUnitsAsCompiled
-        (handed S.Resolver T.KeywordTable K.Validate M.Matcher.own resolver.now table.now matcher.now)
-        nodes root.0 v) }
+    ensures means { IfOk result (MeansFromNodes S.Resolver T.KeywordTable K.Validate M.Matcher.own
+        resolver.now table.now matcher.now nodes root.0) }
+    ensures units { IfOk result (HasUnitsFromNodes S.Resolver T.KeywordTable K.Validate M.Matcher.own
+        resolver.now table.now matcher.now nodes root.0) }
 {
     let matcher = matcher.clone()?;
     Ok(Validator::of_nodes_within(nodes, root, draft, matcher, limits, finder))

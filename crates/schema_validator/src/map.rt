@@ -1,9 +1,8 @@
 //! The validators of a document's schemas, by their pointers.
-ghost use Rattle.std.specs.Prelude.{◌≡◌, ◌↔◌, [], OnErr, OnOk, IsTrue, Some};
-ghost use Rattle.std.specs.Prelude.{bytes_eq, if◌then◌else◌, is_some, length, map, option_copied, string_bytes};
+ghost use Rattle.std.specs.Prelude.{◌≡◌, ◌↔◌, [], OnErr, OnOk, IsTrue};
+ghost use Rattle.std.specs.Prelude.{is_some, length, map, option_copied, string_bytes};
 ghost use Rattle.std.specs.Map.{keys_of};
-ghost use Rattle.schema_definitions.specs.Instance.{Text};
-ghost use Rattle.schema_validator.specs.MapViews.{EachOnce, at_pointer};
+ghost use Rattle.schema_validator.specs.MapViews.{EachOnce, PutsAt, at_pointer};
 
 use crate::validator::Validator;
 use schema_parts::keyword::Validate;
@@ -49,8 +48,7 @@ impl<K: Validate, M: Drop> ValidatorMap<K, M> {
         pointer: String,
         validator: Validator<K, M>,
     ) -> Result<(), OutOfMemory>
-        ensures set { OnOk result ((other : Text) → at_pointer self.new other ≡
-            (if bytes_eq (string_bytes pointer) other then Some validator else at_pointer self.old other)) }
+        ensures set { OnOk result (PutsAt (string_bytes pointer) validator self.old self.new) }
         ensures unchanged { OnErr result (self.new ≡ self.old) }
     {
         self.entries.insert(pointer, validator)?;

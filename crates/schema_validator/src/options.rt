@@ -1,6 +1,7 @@
 //! The options of a build.
-ghost use Rattle.std.specs.Prelude.{◌≡◌, ◌≤◌, ◌++◌, ◌∷◌, [], Some, IfOk};
+ghost use Rattle.std.specs.Prelude.{◌≡◌, ◌≤◌, ◌++◌, ◌∷◌, [], Some};
 ghost use Rattle.schema_keywords.specs.KeywordViews.{draft_of};
+ghost use Rattle.schema_parts.specs.Showing.{Yields};
 ghost use Rattle.schema_validator.specs.Handed.{default_options};
 
 use schema_keys::options::CompileOptions;
@@ -94,7 +95,7 @@ impl ValidationOptions {
     ///
     /// Fails out of memory; the options are dropped.
     pub fn with_base_uri(self, alloc: Global, uri: &str) -> Result<ValidationOptions, OutOfMemory>
-        ensures base { IfOk result (λ o. o ≡ record self { base = Some uri.now }) }
+        ensures base { Yields result (record self { base = Some uri.now }) }
     {
         let mut options = self;
         options.base = Some(String::from_str(alloc, uri)?);
@@ -171,7 +172,7 @@ impl ValidationOptions {
     ///
     /// Fails out of memory; the options are dropped.
     pub fn with_vocabulary(self, alloc: Global, uri: &str) -> Result<ValidationOptions, OutOfMemory>
-        ensures declared { IfOk result (λ o. o ≡ record self { declared = self.declared ++ uri.now ∷ [] }) }
+        ensures declared { Yields result (record self { declared = self.declared ++ uri.now ∷ [] }) }
     {
         let mut options = self;
         let name = String::from_str(alloc, uri)?;

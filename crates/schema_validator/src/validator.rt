@@ -1,11 +1,9 @@
 //! A validator: what it answers of instances.
-ghost use Rattle.std.specs.Prelude.{◌≡◌, ◌↔◌, ◌<◌, ◌≤◌, false, true, Bool, None, Option, IfOk, All, IfSome, OnErr};
-ghost use Rattle.std.specs.Prelude.{is_some, length};
+ghost use Rattle.std.specs.Prelude.{◌≡◌, ◌↔◌, ◌<◌, ◌≤◌, false, true, None, IfOk, OnErr, length};
 ghost use Rattle.serde_json.specs.View.{view};
 ghost use Rattle.schema_definitions.specs.Cover.{evaluate, is_valid, iter_errors, validate};
 ghost use Rattle.schema_keywords.specs.KeywordViews.{draft_of};
-ghost use Rattle.schema_contexts.specs.Works.{IsSpent, Spends};
-ghost use Rattle.schema_reports.specs.ReportViews.{BorrowsItsPlace};
+ghost use Rattle.schema_contexts.specs.Works.{Spends};
 ghost use Rattle.schema_parts.specs.MatcherViews.{FinishesEach};
 ghost use Rattle.schema_answers.specs.Answers.{refusal_of};
 ghost use Rattle.schema_answers.specs.Asked.{DecidesFromSomeDepth, ErrorsFromSomeDepth, FirstFromSomeDepth};
@@ -13,12 +11,14 @@ ghost use Rattle.schema_answers.specs.Asked.{DecidesInEverySense, ErrorsInEveryS
 ghost use Rattle.schema_answers.specs.Asked.{ErrorsPointAsNodes, FirstPointsAsNodes};
 ghost use Rattle.schema_answers.specs.Asked.{EvaluatesFromSomeDepth, EvaluatesInEverySense};
 ghost use Rattle.schema_answers.specs.Asked.{UnitsFromSomeDepth, UnitsInEverySense};
-ghost use Rattle.schema_validator.specs.Greatest.{DecidesAccepted, ErrorsAccepted, EvaluatesAccepted, FirstAccepted, NodesAreMonotone};
+ghost use Rattle.schema_validator.specs.CallWords.{AllAreMonotone, EachBorrows, EachSaysMonotone, FindsBySolver, FindsOnlyBySolver};
+ghost use Rattle.schema_validator.specs.CallWords.{FindsVerdict, FindsWith, FirstBorrows, FirstIsSo, IsSpentIfStopped, StaysUnstopped};
+ghost use Rattle.schema_validator.specs.CallWords.{program_with};
+ghost use Rattle.schema_validator.specs.Greatest.{DecidesAccepted, ErrorsAccepted, EvaluatesAccepted, FirstAccepted};
 ghost use Rattle.schema_validator.specs.Handed.{default_runs};
 ghost use Rattle.schema_answers.specs.Solved.{AreEnough, BeganFew, IsCountedIn, IsDecidedWithin, RestsOnContext, StopsLate};
 ghost use Rattle.schema_answers.specs.Taken.{TakesByRuns};
 ghost use Rattle.schema_meaning.specs.Numbered.{Ranked};
-ghost use Rattle.schema_verdicts.specs.Saying.{EachSays};
 ghost use Rattle.node_table.specs.NodeTable.{numbered};
 
 mod calls;
@@ -76,15 +76,7 @@ impl<K: Validate, M: Matcher> Validator<K, M> {
     /// runs at most for unfinished matches, take any number of steps, and it has no solver. Allocates nothing.
     pub fn of_nodes(nodes: Nodes<K>, root: SchemaNode, draft: Draft, matcher: M) -> Validator<K, M>
         requires inside { root.0 < length nodes }
-        ensures made { result ≡ record {
-          nodes = nodes;
-          root = root.0;
-          draft = draft_of draft;
-          matcher = matcher;
-          runs = default_runs;
-          work = None;
-          followed = None;
-        } }
+        ensures made { result ≡ program_with nodes root.0 (draft_of draft) matcher default_runs None None }
     {
         Validator::of_nodes_within(
             nodes,
@@ -110,15 +102,7 @@ impl<K: Validate, M: Matcher> Validator<K, M> {
     ) -> Validator<K, M>
         requires inside { root.0 < length nodes }
         requires limit { 1 ≤ limits.runs }
-        ensures made { result ≡ record {
-          nodes = nodes;
-          root = root.0;
-          draft = draft_of draft;
-          matcher = matcher;
-          runs = limits.runs;
-          work = limits.work;
-          followed = finder;
-        } }
+        ensures made { result ≡ program_with nodes root.0 (draft_of draft) matcher limits.runs limits.work finder }
     {
         Validator {
             schema: CompiledSchema::of_nodes(nodes, root, draft, matcher, limits, finder),
@@ -165,8 +149,8 @@ impl<K: Validate, M: Matcher> Validator<K, M> {
     /// of the nodes: the largest set of numbers and places, each of which accepts where exactly those of the set do; also where chains
     /// of references return. Allocates nothing.
     pub fn is_monotone(&self) -> bool
-        ensures exactly { (result ≡ true) ↔ EachSays K.says_monotone (numbered K.shape self.now.nodes) (length self.now.nodes) }
-        ensures monotone { result ≡ true → (texts : Bool) → NodesAreMonotone K.shape K.words self.now texts }
+        ensures exactly { (result ≡ true) ↔ EachSaysMonotone K.Validate self.now }
+        ensures monotone { result ≡ true → AllAreMonotone K.Validate self.now }
     {
         is_monotone(self.nodes())
     }
@@ -192,17 +176,14 @@ impl<K: Validate, M: Matcher> Validator<K, M> {
         instance: &Value,
         work: &mut Work,
     ) -> Result<bool, OutOfMemory>
-        ensures depth { IfOk result (λ valid. DecidesFromSomeDepth
-            K.Validate M.Matcher.own self.now (view instance.now) valid) }
-        ensures senses { IfOk result (λ valid. DecidesInEverySense
-            K.Validate M.Matcher.own self.now (view instance.now) valid) }
-        ensures greatest { IfOk result (λ valid. DecidesAccepted
-            K.Validate M.Matcher.own self.now (view instance.now) valid) }
+        ensures depth { IfOk result (DecidesFromSomeDepth K.Validate M.Matcher.own self.now (view instance.now)) }
+        ensures senses { IfOk result (DecidesInEverySense K.Validate M.Matcher.own self.now (view instance.now)) }
+        ensures greatest { IfOk result (DecidesAccepted K.Validate M.Matcher.own self.now (view instance.now)) }
         ensures works { IfOk result (λ _. TakesByRuns
             K.Validate M.Matcher.own self.now (view instance.now) is_valid work.old work.new) }
-        ensures stopped { OnErr result (work.new.stopped ≡ true → IsSpent work.new) }
+        ensures stopped { OnErr result (IsSpentIfStopped work.new) }
         ensures decides { IsDecidedWithin K.Validate M.Matcher.own self.now instance.now work.old.left
-            → OnErr result (work.old.stopped ≡ false → work.new.stopped ≡ false) }
+            → OnErr result (StaysUnstopped work.old work.new) }
     {
         let _ranked = self.node_count();
         let answer = self.schema.valid_under_each(alloc, instance, work);
@@ -229,15 +210,12 @@ impl<K: Validate, M: Matcher> Validator<K, M> {
         instance: &'i Value,
     ) -> Result<Option<SolvedVerdict<'i>>, OutOfMemory>
         requires finishes { FinishesEach (M.matching self.now.matcher) }
-        ensures exactly { EachSays K.says_monotone (numbered K.shape self.now.nodes) (length self.now.nodes)
-            → IfOk result (λ found. is_some found ≡ is_some self.now.followed) }
-        ensures only { IfOk result (λ found. is_some found ≡ true → is_some self.now.followed ≡ true) }
-        ensures depth { IfOk result (λ found. IfSome found (λ v. DecidesFromSomeDepth
-            K.Validate M.Matcher.own self.now (view instance.now) v.valid)) }
-        ensures greatest { IfOk result (λ found. IfSome found (λ v. DecidesAccepted
-            K.Validate M.Matcher.own self.now (view instance.now) v.valid)) }
-        ensures rests { IfOk result (λ found. IfSome found (RestsOnContext K.Validate M.Matcher.own self.now instance.now)) }
-        ensures few { IfOk result (λ found. IfSome found (BeganFew K.Validate M.Matcher.own self.now instance.now)) }
+        ensures exactly { EachSaysMonotone K.Validate self.now → IfOk result (FindsBySolver self.now) }
+        ensures only { IfOk result (FindsOnlyBySolver self.now) }
+        ensures depth { IfOk result (FindsVerdict (DecidesFromSomeDepth K.Validate M.Matcher.own self.now (view instance.now))) }
+        ensures greatest { IfOk result (FindsVerdict (DecidesAccepted K.Validate M.Matcher.own self.now (view instance.now))) }
+        ensures rests { IfOk result (FindsWith (RestsOnContext K.Validate M.Matcher.own self.now instance.now)) }
+        ensures few { IfOk result (FindsWith (BeganFew K.Validate M.Matcher.own self.now instance.now)) }
     {
         let mut work = Work::unlimited();
         self.solve_within(alloc, instance, &mut work)
@@ -257,21 +235,18 @@ impl<K: Validate, M: Matcher> Validator<K, M> {
         work: &mut Work,
     ) -> Result<Option<SolvedVerdict<'i>>, OutOfMemory>
         requires finishes { FinishesEach (M.matching self.now.matcher) }
-        ensures exactly { EachSays K.says_monotone (numbered K.shape self.now.nodes) (length self.now.nodes)
-            → IfOk result (λ found. is_some found ≡ is_some self.now.followed) }
-        ensures only { IfOk result (λ found. is_some found ≡ true → is_some self.now.followed ≡ true) }
-        ensures depth { IfOk result (λ found. IfSome found (λ v. DecidesFromSomeDepth
-            K.Validate M.Matcher.own self.now (view instance.now) v.valid)) }
-        ensures greatest { IfOk result (λ found. IfSome found (λ v. DecidesAccepted
-            K.Validate M.Matcher.own self.now (view instance.now) v.valid)) }
-        ensures rests { IfOk result (λ found. IfSome found (RestsOnContext K.Validate M.Matcher.own self.now instance.now)) }
-        ensures few { IfOk result (λ found. IfSome found (BeganFew K.Validate M.Matcher.own self.now instance.now)) }
+        ensures exactly { EachSaysMonotone K.Validate self.now → IfOk result (FindsBySolver self.now) }
+        ensures only { IfOk result (FindsOnlyBySolver self.now) }
+        ensures depth { IfOk result (FindsVerdict (DecidesFromSomeDepth K.Validate M.Matcher.own self.now (view instance.now))) }
+        ensures greatest { IfOk result (FindsVerdict (DecidesAccepted K.Validate M.Matcher.own self.now (view instance.now))) }
+        ensures rests { IfOk result (FindsWith (RestsOnContext K.Validate M.Matcher.own self.now instance.now)) }
+        ensures few { IfOk result (FindsWith (BeganFew K.Validate M.Matcher.own self.now instance.now)) }
         ensures works { IfOk result (λ _. Spends work.old work.new) }
-        ensures counted { IfOk result (λ found. IfSome found (λ v. IsCountedIn v work.old work.new)) }
+        ensures counted { IfOk result (FindsWith (λ v. IsCountedIn v work.old work.new)) }
         ensures late { OnErr result (work.old.stopped ≡ false → work.new.stopped ≡ true
             → StopsLate K.Validate M.Matcher.own self.now instance.now work.old.left) }
         ensures decides { AreEnough K.Validate M.Matcher.own self.now instance.now work.old.left
-            → OnErr result (work.old.stopped ≡ false → work.new.stopped ≡ false) }
+            → OnErr result (StaysUnstopped work.old work.new) }
     {
         let _ranked = self.node_count();
         self.schema.solved(alloc, true, instance, work)
@@ -289,18 +264,14 @@ impl<K: Validate, M: Matcher> Validator<K, M> {
         instance: &'i Value,
         work: &mut Work,
     ) -> Result<Result<(), ValidationError<'i>>, OutOfMemory>
-        ensures depth { IfOk result (λ r. FirstFromSomeDepth
-            K.Validate M.Matcher.own self.now (view instance.now) (refusal_of r)) }
-        ensures senses { IfOk result (λ r. FirstInEverySense
-            K.Validate M.Matcher.own self.now (view instance.now) (refusal_of r)) }
-        ensures greatest { IfOk result (λ r. FirstAccepted
-            K.Validate M.Matcher.own self.now (view instance.now) (refusal_of r)) }
-        ensures points { IfOk result (λ r. FirstPointsAsNodes
-            K.Validate M.Matcher.own self.now (view instance.now) (refusal_of r)) }
-        ensures borrows { IfOk result (λ r. IfSome (refusal_of r) (BorrowsItsPlace (view instance.now))) }
+        ensures depth { IfOk result (FirstIsSo K.Validate M.Matcher.own self.now instance.now FirstFromSomeDepth) }
+        ensures senses { IfOk result (FirstIsSo K.Validate M.Matcher.own self.now instance.now FirstInEverySense) }
+        ensures greatest { IfOk result (FirstIsSo K.Validate M.Matcher.own self.now instance.now FirstAccepted) }
+        ensures points { IfOk result (FirstIsSo K.Validate M.Matcher.own self.now instance.now FirstPointsAsNodes) }
+        ensures borrows { IfOk result (FirstBorrows instance.now) }
         ensures works { IfOk result (λ _. TakesByRuns
             K.Validate M.Matcher.own self.now (view instance.now) validate work.old work.new) }
-        ensures stopped { OnErr result (work.new.stopped ≡ true → IsSpent work.new) }
+        ensures stopped { OnErr result (IsSpentIfStopped work.new) }
     {
         let _ranked = self.node_count();
         let answer = self.schema.first_under_each(alloc, instance, work);
@@ -320,18 +291,14 @@ impl<K: Validate, M: Matcher> Validator<K, M> {
         instance: &'i Value,
         work: &mut Work,
     ) -> Result<ErrorIterator<'i>, OutOfMemory>
-        ensures depth { IfOk result (λ es. ErrorsFromSomeDepth
-            K.Validate M.Matcher.own self.now (view instance.now) es) }
-        ensures senses { IfOk result (λ es. ErrorsInEverySense
-            K.Validate M.Matcher.own self.now (view instance.now) es) }
-        ensures greatest { IfOk result (λ es. ErrorsAccepted
-            K.Validate M.Matcher.own self.now (view instance.now) es) }
-        ensures points { IfOk result (λ es. ErrorsPointAsNodes
-            K.Validate M.Matcher.own self.now (view instance.now) es) }
-        ensures borrows { IfOk result (λ es. All (BorrowsItsPlace (view instance.now)) es) }
+        ensures depth { IfOk result (ErrorsFromSomeDepth K.Validate M.Matcher.own self.now (view instance.now)) }
+        ensures senses { IfOk result (ErrorsInEverySense K.Validate M.Matcher.own self.now (view instance.now)) }
+        ensures greatest { IfOk result (ErrorsAccepted K.Validate M.Matcher.own self.now (view instance.now)) }
+        ensures points { IfOk result (ErrorsPointAsNodes K.Validate M.Matcher.own self.now (view instance.now)) }
+        ensures borrows { IfOk result (EachBorrows instance.now) }
         ensures works { IfOk result (λ _. TakesByRuns
             K.Validate M.Matcher.own self.now (view instance.now) iter_errors work.old work.new) }
-        ensures stopped { OnErr result (work.new.stopped ≡ true → IsSpent work.new) }
+        ensures stopped { OnErr result (IsSpentIfStopped work.new) }
     {
         let _ranked = self.node_count();
         let answer = self.schema.all_under_each(alloc, instance, work);
@@ -351,19 +318,14 @@ impl<K: Validate, M: Matcher> Validator<K, M> {
         instance: &Value,
         work: &mut Work,
     ) -> Result<Evaluation, OutOfMemory>
-        ensures depth { IfOk result (λ u. EvaluatesFromSomeDepth
-            K.Validate M.Matcher.own self.now (view instance.now) u) }
-        ensures senses { IfOk result (λ u. EvaluatesInEverySense
-            K.Validate M.Matcher.own self.now (view instance.now) u) }
-        ensures greatest { IfOk result (λ u. EvaluatesAccepted
-            K.Validate M.Matcher.own self.now (view instance.now) u) }
-        ensures units { IfOk result (λ u. UnitsFromSomeDepth
-            K.Validate M.Matcher.own self.now (view instance.now) u) }
-        ensures plain { IfOk result (λ u. UnitsInEverySense
-            K.Validate M.Matcher.own self.now (view instance.now) u) }
+        ensures depth { IfOk result (EvaluatesFromSomeDepth K.Validate M.Matcher.own self.now (view instance.now)) }
+        ensures senses { IfOk result (EvaluatesInEverySense K.Validate M.Matcher.own self.now (view instance.now)) }
+        ensures greatest { IfOk result (EvaluatesAccepted K.Validate M.Matcher.own self.now (view instance.now)) }
+        ensures units { IfOk result (UnitsFromSomeDepth K.Validate M.Matcher.own self.now (view instance.now)) }
+        ensures plain { IfOk result (UnitsInEverySense K.Validate M.Matcher.own self.now (view instance.now)) }
         ensures works { IfOk result (λ _. TakesByRuns
             K.Validate M.Matcher.own self.now (view instance.now) evaluate work.old work.new) }
-        ensures stopped { OnErr result (work.new.stopped ≡ true → IsSpent work.new) }
+        ensures stopped { OnErr result (IsSpentIfStopped work.new) }
     {
         let _ranked = self.node_count();
         let answer = self.schema.evaluated_under_each(alloc, instance, work);

@@ -1,15 +1,10 @@
 //! Building a validator.
-ghost use Rattle.std.specs.Prelude.{◌≡◌, IfOk, IfErr, true};
+ghost use Rattle.std.specs.Prelude.{IfOk, IfErr};
 ghost use Rattle.serde_json.specs.View.{view};
-ghost use Rattle.schema_validator.specs.Called.{HasPlainUnits, IsCompiledFrom, MeansPlainly, PointsPlainly, SchemaBuilds, BuildRefused};
-ghost use Rattle.schema_validator.specs.Called.{UnitsPointPlainly};
-ghost use Rattle.schema_keywords.specs.KeywordViews.{draft_of};
-ghost use Rattle.schema_parts.specs.ResolverViews.{place_of};
-ghost use Rattle.schema_keys.specs.Checking.{AcceptsSchema, RefusesSchema};
+ghost use Rattle.schema_validator.specs.Building.{AcceptsAsBuilt, CanBeBuilt, HasUnitsAsBuilt, IsBuiltWith, MeansAsBuilt, NamesFirst};
+ghost use Rattle.schema_validator.specs.Building.{PointsAsBuilt, RefusesToBuild, UnitsPointAsBuilt};
 ghost use Rattle.schema_validator.specs.Checked.{PassesCheck};
-ghost use Rattle.schema_validator.specs.FirstCauses.{FirstOfBuild};
-ghost use Rattle.schema_validator.specs.Greatest.{AcceptsAsSchema};
-ghost use Rattle.schema_validator.specs.Handed.{handed};
+ghost use Rattle.schema_validator.specs.RootWords.{FailsIfChecked, PassesIfChecked};
 ghost use Rattle.schema_answers.specs.Solved.{HasSolver};
 
 use crate::compiled::of_compiled_within;
@@ -56,36 +51,27 @@ impl ValidationOptions {
         matcher: &M,
         metas: &V,
     ) -> Result<Validator<K, M>, BuildError>
-        ensures means { IfOk result (λ v. MeansPlainly
-            (handed S.Resolver T.KeywordTable K.Validate M.Matcher.own resolver.now table.now matcher.now)
-            self.now (view schema.now) v) }
-        ensures units { IfOk result (λ v. HasPlainUnits
-            (handed S.Resolver T.KeywordTable K.Validate M.Matcher.own resolver.now table.now matcher.now)
-            self.now (view schema.now) v) }
-        ensures points { IfOk result (λ v. PointsPlainly
-            (handed S.Resolver T.KeywordTable K.Validate M.Matcher.own resolver.now table.now matcher.now)
-            self.now (view schema.now) v) }
-        ensures units_point { IfOk result (λ v. UnitsPointPlainly
-            (handed S.Resolver T.KeywordTable K.Validate M.Matcher.own resolver.now table.now matcher.now)
-            self.now (view schema.now) v) }
-        ensures greatest { IfOk result (λ v. AcceptsAsSchema
-            (handed S.Resolver T.KeywordTable K.Validate M.Matcher.own resolver.now table.now matcher.now)
-            self.now (view schema.now) v) }
-        ensures program { IfOk result (λ v. IsCompiledFrom
-            (handed S.Resolver T.KeywordTable K.Validate M.Matcher.own resolver.now table.now matcher.now)
-            self.now (view schema.now) self.now.nested v) }
+        ensures means { IfOk result (MeansAsBuilt S.Resolver T.KeywordTable K.Validate M.Matcher.own
+            resolver.now table.now matcher.now self.now schema.now) }
+        ensures units { IfOk result (HasUnitsAsBuilt S.Resolver T.KeywordTable K.Validate M.Matcher.own
+            resolver.now table.now matcher.now self.now schema.now) }
+        ensures points { IfOk result (PointsAsBuilt S.Resolver T.KeywordTable K.Validate M.Matcher.own
+            resolver.now table.now matcher.now self.now schema.now) }
+        ensures units_point { IfOk result (UnitsPointAsBuilt S.Resolver T.KeywordTable K.Validate M.Matcher.own
+            resolver.now table.now matcher.now self.now schema.now) }
+        ensures greatest { IfOk result (AcceptsAsBuilt S.Resolver T.KeywordTable K.Validate M.Matcher.own
+            resolver.now table.now matcher.now self.now schema.now) }
+        ensures program { IfOk result (λ v. IsBuiltWith S.Resolver T.KeywordTable K.Validate M.Matcher.own
+            resolver.now table.now matcher.now self.now schema.now self.now.nested v) }
         ensures solver { IfOk result HasSolver }
-        ensures built { IfOk result (λ _. SchemaBuilds
-            (handed S.Resolver T.KeywordTable K.Validate M.Matcher.own resolver.now table.now matcher.now)
-            self.now (view schema.now)) }
+        ensures built { IfOk result (λ _. CanBeBuilt S.Resolver T.KeywordTable K.Validate M.Matcher.own
+            resolver.now table.now matcher.now self.now schema.now) }
         ensures passed { IfOk result (λ _. PassesCheck (S.resolving resolver.now) (V.checked metas.now)
             self.now (view schema.now)) }
-        ensures refused { IfErr result (λ e. BuildRefused
-            (handed S.Resolver T.KeywordTable K.Validate M.Matcher.own resolver.now table.now matcher.now)
-            (V.checked metas.now) self.now (view schema.now) e) }
-        ensures first { IfErr result (λ e. FirstOfBuild
-            (handed S.Resolver T.KeywordTable K.Validate M.Matcher.own resolver.now table.now matcher.now)
-            (V.checked metas.now) self.now (view schema.now) e) }
+        ensures refused { IfErr result (RefusesToBuild S.Resolver T.KeywordTable K.Validate M.Matcher.own
+            resolver.now table.now matcher.now self.now schema.now (V.checked metas.now)) }
+        ensures first { IfErr result (NamesFirst S.Resolver T.KeywordTable K.Validate M.Matcher.own
+            resolver.now table.now matcher.now self.now schema.now (V.checked metas.now)) }
     {
         self.build_nested(
             alloc,
@@ -122,36 +108,27 @@ impl ValidationOptions {
         metas: &V,
         nested: usize,
     ) -> Result<Validator<K, M>, BuildError>
-        ensures means { IfOk result (λ v. MeansPlainly
-            (handed S.Resolver T.KeywordTable K.Validate M.Matcher.own resolver.now table.now matcher.now)
-            self.now (view schema.now) v) }
-        ensures units { IfOk result (λ v. HasPlainUnits
-            (handed S.Resolver T.KeywordTable K.Validate M.Matcher.own resolver.now table.now matcher.now)
-            self.now (view schema.now) v) }
-        ensures points { IfOk result (λ v. PointsPlainly
-            (handed S.Resolver T.KeywordTable K.Validate M.Matcher.own resolver.now table.now matcher.now)
-            self.now (view schema.now) v) }
-        ensures units_point { IfOk result (λ v. UnitsPointPlainly
-            (handed S.Resolver T.KeywordTable K.Validate M.Matcher.own resolver.now table.now matcher.now)
-            self.now (view schema.now) v) }
-        ensures greatest { IfOk result (λ v. AcceptsAsSchema
-            (handed S.Resolver T.KeywordTable K.Validate M.Matcher.own resolver.now table.now matcher.now)
-            self.now (view schema.now) v) }
-        ensures program { IfOk result (λ v. IsCompiledFrom
-            (handed S.Resolver T.KeywordTable K.Validate M.Matcher.own resolver.now table.now matcher.now)
-            self.now (view schema.now) nested v) }
+        ensures means { IfOk result (MeansAsBuilt S.Resolver T.KeywordTable K.Validate M.Matcher.own
+            resolver.now table.now matcher.now self.now schema.now) }
+        ensures units { IfOk result (HasUnitsAsBuilt S.Resolver T.KeywordTable K.Validate M.Matcher.own
+            resolver.now table.now matcher.now self.now schema.now) }
+        ensures points { IfOk result (PointsAsBuilt S.Resolver T.KeywordTable K.Validate M.Matcher.own
+            resolver.now table.now matcher.now self.now schema.now) }
+        ensures units_point { IfOk result (UnitsPointAsBuilt S.Resolver T.KeywordTable K.Validate M.Matcher.own
+            resolver.now table.now matcher.now self.now schema.now) }
+        ensures greatest { IfOk result (AcceptsAsBuilt S.Resolver T.KeywordTable K.Validate M.Matcher.own
+            resolver.now table.now matcher.now self.now schema.now) }
+        ensures program { IfOk result (λ v. IsBuiltWith S.Resolver T.KeywordTable K.Validate M.Matcher.own
+            resolver.now table.now matcher.now self.now schema.now nested v) }
         ensures solver { IfOk result HasSolver }
-        ensures built { IfOk result (λ _. SchemaBuilds
-            (handed S.Resolver T.KeywordTable K.Validate M.Matcher.own resolver.now table.now matcher.now)
-            self.now (view schema.now)) }
+        ensures built { IfOk result (λ _. CanBeBuilt S.Resolver T.KeywordTable K.Validate M.Matcher.own
+            resolver.now table.now matcher.now self.now schema.now) }
         ensures passed { IfOk result (λ _. PassesCheck (S.resolving resolver.now) (V.checked metas.now)
             self.now (view schema.now)) }
-        ensures refused { IfErr result (λ e. BuildRefused
-            (handed S.Resolver T.KeywordTable K.Validate M.Matcher.own resolver.now table.now matcher.now)
-            (V.checked metas.now) self.now (view schema.now) e) }
-        ensures first { IfErr result (λ e. FirstOfBuild
-            (handed S.Resolver T.KeywordTable K.Validate M.Matcher.own resolver.now table.now matcher.now)
-            (V.checked metas.now) self.now (view schema.now) e) }
+        ensures refused { IfErr result (RefusesToBuild S.Resolver T.KeywordTable K.Validate M.Matcher.own
+            resolver.now table.now matcher.now self.now schema.now (V.checked metas.now)) }
+        ensures first { IfErr result (NamesFirst S.Resolver T.KeywordTable K.Validate M.Matcher.own
+            resolver.now table.now matcher.now self.now schema.now (V.checked metas.now)) }
     {
         let root = root_key(alloc, resolver, self, schema)?;
         let draft = root.draft;
@@ -186,10 +163,10 @@ impl ValidationOptions {
         metas: &V,
         root: &SchemaKey<S::State>,
     ) -> Result<(), BuildError>
-        ensures accepted { IfOk result (λ _. self.now.checks ≡ true → AcceptsSchema
-            (S.resolving resolver.now) (V.checked metas.now) (draft_of root.now.draft) (place_of root.now.place)) }
-        ensures refused { IfErr result (λ e. (self.now.checks ≡ true) × RefusesSchema
-            (S.resolving resolver.now) (V.checked metas.now) (draft_of root.now.draft) (place_of root.now.place) e) }
+        ensures accepted { IfOk result (λ _. PassesIfChecked (S.resolving resolver.now) (V.checked metas.now)
+            self.now root.now) }
+        ensures refused { IfErr result (FailsIfChecked (S.resolving resolver.now) (V.checked metas.now)
+            self.now root.now) }
     {
         if !self.checks {
             return Ok(());

@@ -1,18 +1,15 @@
 //! Building the map of a document's validators.
-ghost use Rattle.std.specs.Prelude.{◌≡◌, IfOk, IfErr, MatchOption, OnOk, Some, string_bytes};
-ghost use Rattle.serde_json.specs.View.{view};
-ghost use Rattle.schema_meaning.specs.MapPointers.{entry_key};
+ghost use Rattle.std.specs.Prelude.{◌≡◌, IfOk, IfErr, OnOk, Some, string_bytes};
 ghost use Rattle.schema_keys.specs.Alone.{RefusesKeyAlone};
-ghost use Rattle.schema_keys.specs.Compiling.{resolving_parts};
 ghost use Rattle.schema_keys.specs.KeyViews.{key_of};
-ghost use Rattle.schema_validator.specs.Entries.{FailsEntry, HoldsPlaces, IsCompiledAlone, IsEntry, IsLeftOut, IsMade, IsPut};
-ghost use Rattle.schema_validator.specs.Entries.{RefusesAlone, RefusesEntry, RefusesOneOf};
-ghost use Rattle.schema_validator.specs.FirstCauses.{FirstOfMap};
-ghost use Rattle.schema_validator.specs.Handed.{handed};
-ghost use Rattle.schema_validator.specs.Mapped.{EachAcceptsGreatest, EachHasPlainUnits, EachIsCompiledFrom, EachMeansPlainly};
-ghost use Rattle.schema_validator.specs.Mapped.{EachPointsPlainly, EachHasSolver, EachsUnitsPoint};
-ghost use Rattle.schema_validator.specs.Mapped.{HoldsCompiled, HoldsEach, MapIsBuilt, MapRefused, name_of};
-ghost use Rattle.schema_validator.specs.Roots.{IsRootKey, root_parts};
+ghost use Rattle.schema_parts.specs.Showing.{Shows};
+ghost use Rattle.schema_validator.specs.Building.{CanBeMapped, EachAcceptsAsBuilt, EachHasUnitsAsBuilt, EachIsBuilt, EachMeansAsBuilt};
+ghost use Rattle.schema_validator.specs.Building.{EachPointsAsBuilt, EachSolvesAsBuilt, EachsUnitsPointAsBuilt, HoldsEachThere};
+ghost use Rattle.schema_validator.specs.Building.{HoldsWhatCompiles, NamesFirstOfMap, RefusesToMap};
+ghost use Rattle.schema_validator.specs.MapWords.{HasNoEntryAt, HoldsEntries, HoldsRootKey, IsCompiledOf, IsEntryAt, IsEntryIfCompiled};
+ghost use Rattle.schema_validator.specs.MapWords.{IsMadeMap, NamesFirstMade, PutsEntry, RefusesForEntry, RefusesForOneOf, RefusesMade};
+ghost use Rattle.schema_validator.specs.MapWords.{RefusesToCompile, key_below, root_held};
+ghost use Rattle.schema_validator.specs.Mapped.{name_of};
 
 use crate::compiled::of_compiled_within;
 use crate::map::ValidatorMap;
@@ -57,42 +54,30 @@ impl ValidationOptions {
         matcher: &M,
         metas: &V,
     ) -> Result<ValidatorMap<K, M>, BuildError>
-        ensures holds { IfOk result (λ m. HoldsCompiled
-            (handed S.Resolver T.KeywordTable K.Validate M.Matcher.own resolver.now table.now matcher.now)
-            self.now (view schema.now) m) }
-        ensures means { IfOk result (λ m. EachMeansPlainly
-            (handed S.Resolver T.KeywordTable K.Validate M.Matcher.own resolver.now table.now matcher.now)
-            self.now (view schema.now) m) }
-        ensures units { IfOk result (λ m. EachHasPlainUnits
-            (handed S.Resolver T.KeywordTable K.Validate M.Matcher.own resolver.now table.now matcher.now)
-            self.now (view schema.now) m) }
-        ensures points { IfOk result (λ m. EachPointsPlainly
-            (handed S.Resolver T.KeywordTable K.Validate M.Matcher.own resolver.now table.now matcher.now)
-            self.now (view schema.now) m) }
-        ensures units_point { IfOk result (λ m. EachsUnitsPoint
-            (handed S.Resolver T.KeywordTable K.Validate M.Matcher.own resolver.now table.now matcher.now)
-            self.now (view schema.now) m) }
-        ensures greatest { IfOk result (λ m. EachAcceptsGreatest
-            (handed S.Resolver T.KeywordTable K.Validate M.Matcher.own resolver.now table.now matcher.now)
-            self.now (view schema.now) m) }
-        ensures solver { IfOk result (λ m. EachHasSolver
-            (handed S.Resolver T.KeywordTable K.Validate M.Matcher.own resolver.now table.now matcher.now)
-            self.now (view schema.now) m) }
-        ensures programs { IfOk result (λ m. EachIsCompiledFrom
-            (handed S.Resolver T.KeywordTable K.Validate M.Matcher.own resolver.now table.now matcher.now)
-            self.now (view schema.now) m) }
-        ensures at_each { IfOk result (λ m. HoldsEach
-            (handed S.Resolver T.KeywordTable K.Validate M.Matcher.own resolver.now table.now matcher.now)
-            self.now (view schema.now) m) }
-        ensures built { IfOk result (λ _. MapIsBuilt
-            (handed S.Resolver T.KeywordTable K.Validate M.Matcher.own resolver.now table.now matcher.now)
-            self.now (view schema.now) (V.checked metas.now)) }
-        ensures refused { IfErr result (λ e. MapRefused
-            (handed S.Resolver T.KeywordTable K.Validate M.Matcher.own resolver.now table.now matcher.now)
-            self.now (view schema.now) (V.checked metas.now) e) }
-        ensures first { IfErr result (λ e. FirstOfMap
-            (handed S.Resolver T.KeywordTable K.Validate M.Matcher.own resolver.now table.now matcher.now)
-            (V.checked metas.now) self.now (view schema.now) e) }
+        ensures holds { IfOk result (HoldsWhatCompiles S.Resolver T.KeywordTable K.Validate M.Matcher.own
+            resolver.now table.now matcher.now self.now schema.now) }
+        ensures means { IfOk result (EachMeansAsBuilt S.Resolver T.KeywordTable K.Validate M.Matcher.own
+            resolver.now table.now matcher.now self.now schema.now) }
+        ensures units { IfOk result (EachHasUnitsAsBuilt S.Resolver T.KeywordTable K.Validate M.Matcher.own
+            resolver.now table.now matcher.now self.now schema.now) }
+        ensures points { IfOk result (EachPointsAsBuilt S.Resolver T.KeywordTable K.Validate M.Matcher.own
+            resolver.now table.now matcher.now self.now schema.now) }
+        ensures units_point { IfOk result (EachsUnitsPointAsBuilt S.Resolver T.KeywordTable K.Validate M.Matcher.own
+            resolver.now table.now matcher.now self.now schema.now) }
+        ensures greatest { IfOk result (EachAcceptsAsBuilt S.Resolver T.KeywordTable K.Validate M.Matcher.own
+            resolver.now table.now matcher.now self.now schema.now) }
+        ensures solver { IfOk result (EachSolvesAsBuilt S.Resolver T.KeywordTable K.Validate M.Matcher.own
+            resolver.now table.now matcher.now self.now schema.now) }
+        ensures programs { IfOk result (EachIsBuilt S.Resolver T.KeywordTable K.Validate M.Matcher.own
+            resolver.now table.now matcher.now self.now schema.now) }
+        ensures at_each { IfOk result (HoldsEachThere S.Resolver T.KeywordTable K.Validate M.Matcher.own
+            resolver.now table.now matcher.now self.now schema.now) }
+        ensures built { IfOk result (λ _. CanBeMapped S.Resolver T.KeywordTable K.Validate M.Matcher.own
+            resolver.now table.now matcher.now self.now schema.now (V.checked metas.now)) }
+        ensures refused { IfErr result (RefusesToMap S.Resolver T.KeywordTable K.Validate M.Matcher.own
+            resolver.now table.now matcher.now self.now schema.now (V.checked metas.now)) }
+        ensures first { IfErr result (NamesFirstOfMap S.Resolver T.KeywordTable K.Validate M.Matcher.own
+            resolver.now table.now matcher.now self.now schema.now (V.checked metas.now)) }
     {
         let root = root_key(alloc, resolver, self, schema)?;
         let building = MapBuilding {
@@ -128,17 +113,10 @@ impl<'p, S: Resolver, T, M: Matcher> MapBuilding<'p, S, T, M> {
     ) -> Result<ValidatorMap<K, M>, BuildError>
     where
         T: KeywordTable<K>,
-        requires root { IsRootKey (root_parts (S.resolving self.now.resolver.now) self.now.options.now)
-            (view self.now.schema.now) (key_of S.point self.now.root.now) }
-        ensures made { IfOk result (IsMade
-            (handed S.Resolver T.KeywordTable K.Validate M.Matcher.own self.now.resolver.now self.now.table.now self.now.matcher.now)
-            self.now.options.now (view self.now.schema.now) (key_of S.point self.now.root.now) (V.checked metas.now)) }
-        ensures refused { IfErr result (MapRefused
-            (handed S.Resolver T.KeywordTable K.Validate M.Matcher.own self.now.resolver.now self.now.table.now self.now.matcher.now)
-            self.now.options.now (view self.now.schema.now) (V.checked metas.now)) }
-        ensures first { IfErr result (λ e. FirstOfMap
-            (handed S.Resolver T.KeywordTable K.Validate M.Matcher.own self.now.resolver.now self.now.table.now self.now.matcher.now)
-            (V.checked metas.now) self.now.options.now (view self.now.schema.now) e) }
+        requires root { HoldsRootKey S.Resolver self.now }
+        ensures made { IfOk result (IsMadeMap S.Resolver T.KeywordTable K.Validate M.Matcher.own self.now (V.checked metas.now)) }
+        ensures refused { IfErr result (RefusesMade S.Resolver T.KeywordTable K.Validate M.Matcher.own self.now (V.checked metas.now)) }
+        ensures first { IfErr result (NamesFirstMade S.Resolver T.KeywordTable K.Validate M.Matcher.own self.now (V.checked metas.now)) }
     {
         let options = self.options;
         validate_schema(
@@ -166,7 +144,7 @@ impl<'p, S: Resolver, T, M: Matcher> MapBuilding<'p, S, T, M> {
 
     /// A copy of the root's key.
     fn root_again(&self) -> Result<SchemaKey<S::State>, OutOfMemory>
-        ensures key { IfOk result (λ k. key_of S.point k ≡ key_of S.point self.now.root.now) }
+        ensures key { Shows (key_of S.point) result (root_held S.Resolver self.now) }
         ensures draft { IfOk result (λ k. k.draft ≡ self.now.root.now.draft) }
     {
         Ok(SchemaKey {
@@ -182,10 +160,8 @@ impl<'p, S: Resolver, T, M: Matcher> MapBuilding<'p, S, T, M> {
 
     /// The key of the schema at a path below the root: the root's own, or that of a subschema by itself.
     fn key_at(&self, path: &SchemaPath) -> Result<SchemaKey<S::State>, BuildError>
-        ensures key { IfOk result (λ k. entry_key (resolving_parts (S.resolving self.now.resolver.now))
-            (key_of S.point self.now.root.now) path.now ≡ Some (key_of S.point k)) }
-        ensures refused { IfErr result (RefusesKeyAlone (entry_key (resolving_parts (S.resolving self.now.resolver.now))
-            (key_of S.point self.now.root.now) path.now)) }
+        ensures key { IfOk result (λ k. key_below S.Resolver self.now path.now ≡ Some (key_of S.point k)) }
+        ensures refused { IfErr result (RefusesKeyAlone (key_below S.Resolver self.now path.now)) }
     {
         if path.len() == 0 {
             return Ok(self.root_again()?);
@@ -204,14 +180,9 @@ impl<'p, S: Resolver, T, M: Matcher> MapBuilding<'p, S, T, M> {
     fn compiled<K: Validate>(&self, key: SchemaKey<S::State>) -> Result<Validator<K, M>, BuildError>
     where
         T: KeywordTable<K>,
-        requires root { IsRootKey (root_parts (S.resolving self.now.resolver.now) self.now.options.now)
-            (view self.now.schema.now) (key_of S.point self.now.root.now) }
-        ensures compiled { IfOk result (λ v. IsCompiledAlone
-            (handed S.Resolver T.KeywordTable K.Validate M.Matcher.own self.now.resolver.now self.now.table.now self.now.matcher.now)
-            self.now.options.now (view self.now.schema.now) (key_of S.point key) v) }
-        ensures refused { IfErr result (λ e. RefusesAlone
-            (handed S.Resolver T.KeywordTable K.Validate M.Matcher.own self.now.resolver.now self.now.table.now self.now.matcher.now)
-            self.now.options.now (key_of S.point key) e) }
+        requires root { HoldsRootKey S.Resolver self.now }
+        ensures compiled { IfOk result (IsCompiledOf S.Resolver T.KeywordTable K.Validate M.Matcher.own self.now key) }
+        ensures refused { IfErr result (RefusesToCompile S.Resolver T.KeywordTable K.Validate M.Matcher.own self.now key) }
     {
         let options = self.options;
         let compiled = compile_subschema(
@@ -248,14 +219,9 @@ impl<'p, S: Resolver, T, M: Matcher> MapBuilding<'p, S, T, M> {
     fn entry<K: Validate>(&self, path: &SchemaPath) -> Result<Validator<K, M>, BuildError>
     where
         T: KeywordTable<K>,
-        requires root { IsRootKey (root_parts (S.resolving self.now.resolver.now) self.now.options.now)
-            (view self.now.schema.now) (key_of S.point self.now.root.now) }
-        ensures entry { IfOk result (λ v. IsEntry
-            (handed S.Resolver T.KeywordTable K.Validate M.Matcher.own self.now.resolver.now self.now.table.now self.now.matcher.now)
-            self.now.options.now (view self.now.schema.now) (key_of S.point self.now.root.now) path.now v) }
-        ensures refused { IfErr result (λ e. FailsEntry
-            (handed S.Resolver T.KeywordTable K.Validate M.Matcher.own self.now.resolver.now self.now.table.now self.now.matcher.now)
-            self.now.options.now (key_of S.point self.now.root.now) path.now e) }
+        requires root { HoldsRootKey S.Resolver self.now }
+        ensures entry { IfOk result (IsEntryAt S.Resolver T.KeywordTable K.Validate M.Matcher.own self.now path.now) }
+        ensures refused { IfErr result (HasNoEntryAt S.Resolver T.KeywordTable K.Validate M.Matcher.own self.now path.now) }
     {
         let key = self.key_at(path)?;
         self.compiled(key)
@@ -268,18 +234,9 @@ impl<'p, S: Resolver, T, M: Matcher> MapBuilding<'p, S, T, M> {
     ) -> Result<Option<Validator<K, M>>, BuildError>
     where
         T: KeywordTable<K>,
-        requires root { IsRootKey (root_parts (S.resolving self.now.resolver.now) self.now.options.now)
-            (view self.now.schema.now) (key_of S.point self.now.root.now) }
-        ensures entry { IfOk result (λ o. MatchOption o
-            (IsLeftOut
-            (handed S.Resolver T.KeywordTable K.Validate M.Matcher.own self.now.resolver.now self.now.table.now self.now.matcher.now)
-            self.now.options.now (key_of S.point self.now.root.now) path.now)
-            (IsEntry
-            (handed S.Resolver T.KeywordTable K.Validate M.Matcher.own self.now.resolver.now self.now.table.now self.now.matcher.now)
-            self.now.options.now (view self.now.schema.now) (key_of S.point self.now.root.now) path.now)) }
-        ensures refused { IfErr result (RefusesEntry
-            (handed S.Resolver T.KeywordTable K.Validate M.Matcher.own self.now.resolver.now self.now.table.now self.now.matcher.now)
-            self.now.options.now (key_of S.point self.now.root.now) path.now) }
+        requires root { HoldsRootKey S.Resolver self.now }
+        ensures entry { IfOk result (IsEntryIfCompiled S.Resolver T.KeywordTable K.Validate M.Matcher.own self.now path.now) }
+        ensures refused { IfErr result (RefusesForEntry S.Resolver T.KeywordTable K.Validate M.Matcher.own self.now path.now) }
     {
         match self.entry(path) {
             Ok(validator) => Ok(Some(validator)),
@@ -293,7 +250,7 @@ impl<'p, S: Resolver, T, M: Matcher> MapBuilding<'p, S, T, M> {
 
     /// What the place at a path is called: `#` and its pointer.
     fn name_of(&self, path: &SchemaPath) -> Result<String, OutOfMemory>
-        ensures name { IfOk result (λ t. string_bytes t ≡ name_of path.now) }
+        ensures name { Shows string_bytes result (name_of path.now) }
     {
         let pointer = path.pointer(self.alloc)?;
         let mut name = String::from_str(self.alloc, "#")?;
@@ -309,14 +266,9 @@ impl<'p, S: Resolver, T, M: Matcher> MapBuilding<'p, S, T, M> {
     ) -> Result<(), BuildError>
     where
         T: KeywordTable<K>,
-        requires root { IsRootKey (root_parts (S.resolving self.now.resolver.now) self.now.options.now)
-            (view self.now.schema.now) (key_of S.point self.now.root.now) }
-        ensures put { OnOk result (IsPut
-            (handed S.Resolver T.KeywordTable K.Validate M.Matcher.own self.now.resolver.now self.now.table.now self.now.matcher.now)
-            self.now.options.now (view self.now.schema.now) (key_of S.point self.now.root.now) path.now map.old map.new) }
-        ensures refused { IfErr result (RefusesEntry
-            (handed S.Resolver T.KeywordTable K.Validate M.Matcher.own self.now.resolver.now self.now.table.now self.now.matcher.now)
-            self.now.options.now (key_of S.point self.now.root.now) path.now) }
+        requires root { HoldsRootKey S.Resolver self.now }
+        ensures put { OnOk result (PutsEntry S.Resolver T.KeywordTable K.Validate M.Matcher.own self.now path.now map.old map.new) }
+        ensures refused { IfErr result (RefusesForEntry S.Resolver T.KeywordTable K.Validate M.Matcher.own self.now path.now) }
     {
         if let Some(validator) = self.entry_if_compiled(path)? {
             let name = self.name_of(path)?;
@@ -329,14 +281,9 @@ impl<'p, S: Resolver, T, M: Matcher> MapBuilding<'p, S, T, M> {
     fn map_of<K: Validate>(&self, paths: &[SchemaPath]) -> Result<ValidatorMap<K, M>, BuildError>
     where
         T: KeywordTable<K>,
-        requires root { IsRootKey (root_parts (S.resolving self.now.resolver.now) self.now.options.now)
-            (view self.now.schema.now) (key_of S.point self.now.root.now) }
-        ensures holds { IfOk result (λ m. HoldsPlaces
-            (handed S.Resolver T.KeywordTable K.Validate M.Matcher.own self.now.resolver.now self.now.table.now self.now.matcher.now)
-            self.now.options.now (view self.now.schema.now) (key_of S.point self.now.root.now) paths.now m) }
-        ensures refused { IfErr result (RefusesOneOf
-            (handed S.Resolver T.KeywordTable K.Validate M.Matcher.own self.now.resolver.now self.now.table.now self.now.matcher.now)
-            self.now.options.now (key_of S.point self.now.root.now) paths.now) }
+        requires root { HoldsRootKey S.Resolver self.now }
+        ensures holds { IfOk result (HoldsEntries S.Resolver T.KeywordTable K.Validate M.Matcher.own self.now paths.now) }
+        ensures refused { IfErr result (RefusesForOneOf S.Resolver T.KeywordTable K.Validate M.Matcher.own self.now paths.now) }
     {
         let mut map = ValidatorMap::new(self.alloc);
         for path in paths {

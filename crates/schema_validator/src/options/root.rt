@@ -1,12 +1,8 @@
 //! The key of a schema's root.
-ghost use Rattle.std.specs.Prelude.{◌≡◌, Ok, IfOk, IfErr};
-ghost use Rattle.serde_json.specs.View.{view};
-ghost use Rattle.schema_keywords.specs.KeywordViews.{draft_of};
-ghost use Rattle.schema_meaning.specs.Root.{root_draft, base_of, key_at};
-ghost use Rattle.schema_parts.specs.ResolverViews.{place_of};
+ghost use Rattle.std.specs.Prelude.{◌≡◌, IfOk, IfErr};
 ghost use Rattle.schema_keys.specs.KeyViews.{key_of};
-ghost use Rattle.schema_keys.specs.Compiling as compiling;
-ghost use Rattle.schema_validator.specs.Roots.{IsRootKey, RefusesKey, root_parts};
+ghost use Rattle.schema_parts.specs.Showing.{Shows};
+ghost use Rattle.schema_validator.specs.RootWords.{HasRootDraft, IsKeyOfRoot, RefusesRootKey, key_begun, root_base};
 
 use crate::options::ValidationOptions;
 use schema_keys::error::BuildError;
@@ -31,12 +27,9 @@ pub fn root_key<R: Resolver>(
     options: &ValidationOptions,
     schema: &Value,
 ) -> Result<SchemaKey<R::State>, BuildError>
-    ensures key { IfOk result (λ k. IsRootKey
-        (root_parts (R.resolving resolver.now) options.now) (view schema.now) (key_of R.point k)) }
-    ensures drafted { IfOk result (λ k. root_draft
-        (root_parts (R.resolving resolver.now) options.now) (view schema.now) ≡ Ok (draft_of k.draft)) }
-    ensures refused { IfErr result (RefusesKey
-        (root_parts (R.resolving resolver.now) options.now) (view schema.now)) }
+    ensures key { IfOk result (IsKeyOfRoot R.Resolver resolver.now options.now schema.now) }
+    ensures drafted { IfOk result (λ k. HasRootDraft R.Resolver resolver.now options.now schema.now k.draft) }
+    ensures refused { IfErr result (RefusesRootKey R.Resolver resolver.now options.now schema.now) }
 {
     let draft = options.root_draft(alloc, resolver, schema)?;
     let base = options.base_of(resolver, draft, schema);
@@ -54,10 +47,8 @@ impl ValidationOptions {
         resolver: &R,
         schema: &Value,
     ) -> Result<Draft, BuildError>
-        ensures drafted { IfOk result (λ d. root_draft
-            (root_parts (R.resolving resolver.now) self.now) (view schema.now) ≡ Ok (draft_of d)) }
-        ensures refused { IfErr result (RefusesKey
-            (root_parts (R.resolving resolver.now) self.now) (view schema.now)) }
+        ensures drafted { IfOk result (HasRootDraft R.Resolver resolver.now self.now schema.now) }
+        ensures refused { IfErr result (RefusesRootKey R.Resolver resolver.now self.now schema.now) }
     {
         match self.draft {
             Some(draft) => Ok(draft),
@@ -67,8 +58,7 @@ impl ValidationOptions {
 
     // The base of a schema's root.
     fn base_of<'v, R: Resolver>(&'v self, resolver: &R, draft: Draft, schema: &'v Value) -> &'v str
-        ensures base { result.now ≡ base_of (root_parts (R.resolving resolver.now) self.now)
-            (draft_of draft) (view schema.now) }
+        ensures base { result.now ≡ root_base R.Resolver resolver.now self.now schema.now draft }
     {
         if let Some(base) = &self.base {
             return base.as_str();
@@ -88,9 +78,7 @@ fn key_at<R: Resolver>(
     place: SchemaPlace,
     draft: Draft,
 ) -> Result<SchemaKey<R::State>, OutOfMemory>
-    ensures key { IfOk result (λ k. key_of R.point k ≡ key_at
-        (compiling.resolving_parts (R.resolving resolver.now))
-        (record { place = place_of place; state = R.point state }) (draft_of draft)) }
+    ensures key { Shows (key_of R.point) result (key_begun R.Resolver resolver.now state place draft) }
     ensures draft { IfOk result (λ k. k.draft ≡ draft) }
 {
     let vocabularies = resolver.find_vocabularies(alloc, &state, draft, &place)?;

@@ -1,16 +1,14 @@
 //! The calls of a validator, within its limit of steps.
-ghost use Rattle.std.specs.Prelude.{◌≡◌, All, IfOk, IfSome, Some, false, true};
+ghost use Rattle.std.specs.Prelude.{◌≡◌, IfOk, IfSome, Some, true};
 ghost use Rattle.serde_json.specs.View.{view};
-ghost use Rattle.schema_reports.specs.ReportViews.{BorrowsItsPlace};
-ghost use Rattle.schema_answers.specs.Answers.{refusal_of};
 ghost use Rattle.schema_answers.specs.Asked.{DecidesFromSomeDepth, ErrorsFromSomeDepth, FirstFromSomeDepth};
 ghost use Rattle.schema_answers.specs.Asked.{DecidesInEverySense, ErrorsInEverySense, FirstInEverySense};
 ghost use Rattle.schema_answers.specs.Asked.{ErrorsPointAsNodes, FirstPointsAsNodes};
 ghost use Rattle.schema_answers.specs.Asked.{EvaluatesFromSomeDepth, EvaluatesInEverySense};
 ghost use Rattle.schema_answers.specs.Asked.{UnitsFromSomeDepth, UnitsInEverySense};
+ghost use Rattle.schema_validator.specs.CallWords.{AreSoOrGiveLimit, AreSoOrTell, EachBorrows, FirstBorrows, FirstIsSoOrTells, IsSoOrNo};
 ghost use Rattle.schema_validator.specs.Greatest.{DecidesAccepted, ErrorsAccepted, EvaluatesAccepted, FirstAccepted};
 ghost use Rattle.schema_answers.specs.Solved.{IsDecidedWithin};
-ghost use Rattle.schema_answers.specs.Stopped.{FirstTellsLimit, GivesLimit, OnlyTellsLimit, UnlessStopped};
 
 use crate::validator::Validator;
 use schema_answers::stopping::{limit_failure, limit_failure_alone};
@@ -47,14 +45,11 @@ impl<K: Validate, M: Matcher> Validator<K, M> {
     ///
     /// Fails out of memory.
     pub fn is_valid(&self, alloc: Global, instance: &Value) -> Result<bool, OutOfMemory>
-        ensures depth { IfOk result (λ valid. UnlessStopped self.now.work (λ limit. valid ≡ false)
-            (DecidesFromSomeDepth K.Validate M.Matcher.own self.now (view instance.now) valid)) }
-        ensures senses { IfOk result (λ valid. UnlessStopped self.now.work (λ limit. valid ≡ false)
-            (DecidesInEverySense K.Validate M.Matcher.own self.now (view instance.now) valid)) }
-        ensures greatest { IfOk result (λ valid. UnlessStopped self.now.work (λ limit. valid ≡ false)
-            (DecidesAccepted K.Validate M.Matcher.own self.now (view instance.now) valid)) }
+        ensures depth { IfOk result (IsSoOrNo K.Validate M.Matcher.own self.now instance.now DecidesFromSomeDepth) }
+        ensures senses { IfOk result (IsSoOrNo K.Validate M.Matcher.own self.now instance.now DecidesInEverySense) }
+        ensures greatest { IfOk result (IsSoOrNo K.Validate M.Matcher.own self.now instance.now DecidesAccepted) }
         ensures decides { IfSome self.now.work (IsDecidedWithin K.Validate M.Matcher.own self.now instance.now)
-            → IfOk result (λ valid. DecidesFromSomeDepth K.Validate M.Matcher.own self.now (view instance.now) valid) }
+            → IfOk result (DecidesFromSomeDepth K.Validate M.Matcher.own self.now (view instance.now)) }
     {
         let mut work = Work::within(self.work_limit());
         match self.is_valid_within(alloc, instance, &mut work) {
@@ -82,15 +77,11 @@ impl<K: Validate, M: Matcher> Validator<K, M> {
         alloc: Global,
         instance: &'i Value,
     ) -> Result<Result<(), ValidationError<'i>>, OutOfMemory>
-        ensures depth { IfOk result (λ r. UnlessStopped self.now.work (FirstTellsLimit (view instance.now) (refusal_of r))
-            (FirstFromSomeDepth K.Validate M.Matcher.own self.now (view instance.now) (refusal_of r))) }
-        ensures senses { IfOk result (λ r. UnlessStopped self.now.work (FirstTellsLimit (view instance.now) (refusal_of r))
-            (FirstInEverySense K.Validate M.Matcher.own self.now (view instance.now) (refusal_of r))) }
-        ensures greatest { IfOk result (λ r. UnlessStopped self.now.work (FirstTellsLimit (view instance.now) (refusal_of r))
-            (FirstAccepted K.Validate M.Matcher.own self.now (view instance.now) (refusal_of r))) }
-        ensures points { IfOk result (λ r. UnlessStopped self.now.work (FirstTellsLimit (view instance.now) (refusal_of r))
-            (FirstPointsAsNodes K.Validate M.Matcher.own self.now (view instance.now) (refusal_of r))) }
-        ensures borrows { IfOk result (λ r. IfSome (refusal_of r) (BorrowsItsPlace (view instance.now))) }
+        ensures depth { IfOk result (FirstIsSoOrTells K.Validate M.Matcher.own self.now instance.now FirstFromSomeDepth) }
+        ensures senses { IfOk result (FirstIsSoOrTells K.Validate M.Matcher.own self.now instance.now FirstInEverySense) }
+        ensures greatest { IfOk result (FirstIsSoOrTells K.Validate M.Matcher.own self.now instance.now FirstAccepted) }
+        ensures points { IfOk result (FirstIsSoOrTells K.Validate M.Matcher.own self.now instance.now FirstPointsAsNodes) }
+        ensures borrows { IfOk result (FirstBorrows instance.now) }
     {
         let mut work = Work::within(self.work_limit());
         match self.validate_within(alloc, instance, &mut work) {
@@ -118,15 +109,11 @@ impl<K: Validate, M: Matcher> Validator<K, M> {
         alloc: Global,
         instance: &'i Value,
     ) -> Result<ErrorIterator<'i>, OutOfMemory>
-        ensures depth { IfOk result (λ es. UnlessStopped self.now.work (OnlyTellsLimit (view instance.now) es)
-            (ErrorsFromSomeDepth K.Validate M.Matcher.own self.now (view instance.now) es)) }
-        ensures senses { IfOk result (λ es. UnlessStopped self.now.work (OnlyTellsLimit (view instance.now) es)
-            (ErrorsInEverySense K.Validate M.Matcher.own self.now (view instance.now) es)) }
-        ensures greatest { IfOk result (λ es. UnlessStopped self.now.work (OnlyTellsLimit (view instance.now) es)
-            (ErrorsAccepted K.Validate M.Matcher.own self.now (view instance.now) es)) }
-        ensures points { IfOk result (λ es. UnlessStopped self.now.work (OnlyTellsLimit (view instance.now) es)
-            (ErrorsPointAsNodes K.Validate M.Matcher.own self.now (view instance.now) es)) }
-        ensures borrows { IfOk result (λ es. All (BorrowsItsPlace (view instance.now)) es) }
+        ensures depth { IfOk result (AreSoOrTell K.Validate M.Matcher.own self.now instance.now ErrorsFromSomeDepth) }
+        ensures senses { IfOk result (AreSoOrTell K.Validate M.Matcher.own self.now instance.now ErrorsInEverySense) }
+        ensures greatest { IfOk result (AreSoOrTell K.Validate M.Matcher.own self.now instance.now ErrorsAccepted) }
+        ensures points { IfOk result (AreSoOrTell K.Validate M.Matcher.own self.now instance.now ErrorsPointAsNodes) }
+        ensures borrows { IfOk result (EachBorrows instance.now) }
     {
         let mut work = Work::within(self.work_limit());
         match self.iter_errors_within(alloc, instance, &mut work) {
@@ -152,16 +139,11 @@ impl<K: Validate, M: Matcher> Validator<K, M> {
     ///
     /// Fails out of memory.
     pub fn evaluate(&self, alloc: Global, instance: &Value) -> Result<Evaluation, OutOfMemory>
-        ensures depth { IfOk result (λ u. UnlessStopped self.now.work (GivesLimit u)
-            (EvaluatesFromSomeDepth K.Validate M.Matcher.own self.now (view instance.now) u)) }
-        ensures senses { IfOk result (λ u. UnlessStopped self.now.work (GivesLimit u)
-            (EvaluatesInEverySense K.Validate M.Matcher.own self.now (view instance.now) u)) }
-        ensures greatest { IfOk result (λ u. UnlessStopped self.now.work (GivesLimit u)
-            (EvaluatesAccepted K.Validate M.Matcher.own self.now (view instance.now) u)) }
-        ensures units { IfOk result (λ u. UnlessStopped self.now.work (GivesLimit u)
-            (UnitsFromSomeDepth K.Validate M.Matcher.own self.now (view instance.now) u)) }
-        ensures plain { IfOk result (λ u. UnlessStopped self.now.work (GivesLimit u)
-            (UnitsInEverySense K.Validate M.Matcher.own self.now (view instance.now) u)) }
+        ensures depth { IfOk result (AreSoOrGiveLimit K.Validate M.Matcher.own self.now instance.now EvaluatesFromSomeDepth) }
+        ensures senses { IfOk result (AreSoOrGiveLimit K.Validate M.Matcher.own self.now instance.now EvaluatesInEverySense) }
+        ensures greatest { IfOk result (AreSoOrGiveLimit K.Validate M.Matcher.own self.now instance.now EvaluatesAccepted) }
+        ensures units { IfOk result (AreSoOrGiveLimit K.Validate M.Matcher.own self.now instance.now UnitsFromSomeDepth) }
+        ensures plain { IfOk result (AreSoOrGiveLimit K.Validate M.Matcher.own self.now instance.now UnitsInEverySense) }
     {
         let mut work = Work::within(self.work_limit());
         match self.evaluate_within(alloc, instance, &mut work) {

@@ -1,0 +1,111 @@
+-- What a validator is made of, and what is said of the answers of its calls: where they may stop at its limit of steps, where they are
+-- bounded by a budget, and where its solver is asked.
+use Rattle.std.specs.Prelude.{All, Bool, IfSome, List, Option, Result, false, is_some, length, true, ℕ, ◌≡◌}
+use Rattle.serde_json.specs.Data.{Data}
+use Rattle.serde_json.specs.View.{view}
+use Rattle.serde_json.specs.declared.value.Value.{Value}
+use Rattle.schema_definitions.specs.Drafts.{Draft}
+use Rattle.schema_contexts.specs.Works.{Budget, IsSpent}
+use Rattle.schema_reports.specs.ReportViews.{BorrowsItsPlace}
+use Rattle.schema_reports.specs.declared.evaluation.EvaluationNode.{EvaluationNode}
+use Rattle.schema_reports.specs.declared.reports.ValidationError.{ValidationError}
+use Rattle.schema_parts.specs.declared.keyword.Validate.{Ghosts as KeywordMembers}
+use Rattle.schema_parts.specs.declared.matcher.Matcher.{Ghosts as MatcherMembers}
+use Rattle.node_table.specs.NodeTable.{NodeEntry, numbered}
+use Rattle.schema_verdicts.specs.Saying.{EachSays}
+use Rattle.schema_verdicts.specs.declared.eligible.SolvedVerdict.{SolvedVerdict}
+use Rattle.schema_answers.specs.Answers.{refusal_of}
+use Rattle.schema_answers.specs.Program.{Program}
+use Rattle.schema_answers.specs.Stopped.{FirstTellsLimit, GivesLimit, OnlyTellsLimit, UnlessStopped}
+use Rattle.schema_validator.specs.Greatest.{NodesAreMonotone}
+
+-- ---- what a validator is made of
+
+-- nodes, the root's number and draft, the matcher, the limits on runs and steps, and the numbers that a solver follows
+abbrev pub program_with : {C M : Type 0} → List (NodeEntry C) → ℕ → Draft → M → ℕ → Option ℕ → Option (List Bool) → Program C M
+program_with nodes root draft matcher runs work followed = record {
+  nodes = nodes;
+  root = root;
+  draft = draft;
+  matcher = matcher;
+  runs = runs;
+  work = work;
+  followed = followed;
+}
+
+-- it has these nodes, and the root has this number and this draft
+abbrev pub IsMadeOf : {C M : Type 0} → List (NodeEntry C) → ℕ → Draft → Program C M → Type 0
+IsMadeOf nodes root draft p = (p.nodes ≡ nodes) × (p.root ≡ root) × (p.draft ≡ draft)
+
+-- each keyword of its nodes says that it is monotone
+abbrev pub EachSaysMonotone : {C Run K M : Type 0} → KeywordMembers C Run K → Program C M → Type 0
+EachSaysMonotone k p = EachSays k.says_monotone (numbered k.shape p.nodes) (length p.nodes)
+
+-- each of them is monotone, whether texts are spoken of or not
+abbrev pub AllAreMonotone : {C Run K M : Type 0} → KeywordMembers C Run K → Program C M → Type 0
+AllAreMonotone k p = (texts : Bool) → NodesAreMonotone k.shape k.words p texts
+
+-- ---- an answer of which a word of a call says something, as those of `Asked` and `Greatest`
+
+module _ {C Run K M : Type 0} (k : KeywordMembers C Run K) (m : MatcherMembers M) (p : Program C M) (instance : Value) where
+  -- the verdict is so; or the call stopped at the validator's limit, and it is no
+  abbrev pub IsSoOrNo : (KeywordMembers C Run K → MatcherMembers M → Program C M → Data → Bool → Type 0) → Bool → Type 0
+  IsSoOrNo fact valid = UnlessStopped p.work (λ limit. valid ≡ false) (fact k m p (view instance) valid)
+
+  -- the first error, or none, is so
+  abbrev pub FirstIsSo : (KeywordMembers C Run K → MatcherMembers M → Program C M → Data → Option ValidationError → Type 0)
+      → Result (Unit {0}) ValidationError → Type 0
+  FirstIsSo fact r = fact k m p (view instance) (refusal_of r)
+
+  -- it is so; or the call stopped at that limit, and it tells of the limit
+  abbrev pub FirstIsSoOrTells : (KeywordMembers C Run K → MatcherMembers M → Program C M → Data → Option ValidationError → Type 0)
+      → Result (Unit {0}) ValidationError → Type 0
+  FirstIsSoOrTells fact r = UnlessStopped p.work (FirstTellsLimit (view instance) (refusal_of r)) (fact k m p (view instance) (refusal_of r))
+
+  -- the errors are so; or the call stopped there, and the only one tells of the limit
+  abbrev pub AreSoOrTell : (KeywordMembers C Run K → MatcherMembers M → Program C M → Data → List ValidationError → Type 0)
+      → List ValidationError → Type 0
+  AreSoOrTell fact es = UnlessStopped p.work (OnlyTellsLimit (view instance) es) (fact k m p (view instance) es)
+
+  -- the units are so; or the call stopped there, and they are made of the error that tells of the limit
+  abbrev pub AreSoOrGiveLimit : (KeywordMembers C Run K → MatcherMembers M → Program C M → Data → EvaluationNode → Type 0)
+      → EvaluationNode → Type 0
+  AreSoOrGiveLimit fact u = UnlessStopped p.work (GivesLimit u) (fact k m p (view instance) u)
+
+-- ---- where errors borrow
+
+-- the first error, where there is one, borrows what stands at its place in the instance
+abbrev pub FirstBorrows : Value → Result (Unit {0}) ValidationError → Type 0
+FirstBorrows instance r = IfSome (refusal_of r) (BorrowsItsPlace (view instance))
+
+-- so does each error
+abbrev pub EachBorrows : Value → List ValidationError → Type 0
+EachBorrows instance es = All (BorrowsItsPlace (view instance)) es
+
+-- ---- a budget
+
+-- where the call stopped, none is left of it
+abbrev pub IsSpentIfStopped : Budget → Type 0
+IsSpentIfStopped w = w.stopped ≡ true → IsSpent w
+
+-- a budget at which nothing had stopped is still one
+abbrev pub StaysUnstopped : Budget → Budget → Type 0
+StaysUnstopped old new = old.stopped ≡ false → new.stopped ≡ false
+
+-- ---- what a solver finds, or nothing
+
+-- a verdict of which this holds
+abbrev pub FindsVerdict : (Bool → Type 0) → Option SolvedVerdict → Type 0
+FindsVerdict Holds found = IfSome found (λ v. Holds v.valid)
+
+-- a verdict with a context, of which this holds
+abbrev pub FindsWith : (SolvedVerdict → Type 0) → Option SolvedVerdict → Type 0
+FindsWith Holds found = IfSome found Holds
+
+-- something, exactly where the validator has a solver
+abbrev pub FindsBySolver : {C M : Type 0} → Program C M → Option SolvedVerdict → Type 0
+FindsBySolver p found = is_some found ≡ is_some p.followed
+
+-- something, only where it has one
+abbrev pub FindsOnlyBySolver : {C M : Type 0} → Program C M → Option SolvedVerdict → Type 0
+FindsOnlyBySolver p found = is_some found ≡ true → is_some p.followed ≡ true

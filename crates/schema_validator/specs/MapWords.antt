@@ -1,0 +1,99 @@
+-- What is said while a map is built, of what it is built from.
+use Rattle.std.specs.Prelude.{List, MatchOption, Option}
+use Rattle.serde_json.specs.View.{view}
+use Rattle.schema_definitions.specs.Instance.{Place}
+use Rattle.schema_definitions.specs.Keywords.{Answer}
+use Rattle.schema_definitions.specs.Plan.{Key}
+use Rattle.schema_meaning.specs.MapPointers.{entry_key}
+use Rattle.schema_parts.specs.declared.keyword.Validate.{Ghosts as KeywordMembers}
+use Rattle.schema_parts.specs.declared.matcher.Matcher.{Ghosts as MatcherMembers}
+use Rattle.schema_parts.specs.declared.resolver.Resolver.{Ghosts as ResolverMembers}
+use Rattle.schema_parts.specs.declared.table.KeywordTable.{Ghosts as TableMembers}
+use Rattle.schema_keys.specs.Checking.{MetaChecks}
+use Rattle.schema_keys.specs.Compiling.{resolving_parts}
+use Rattle.schema_keys.specs.KeyViews.{key_of}
+use Rattle.schema_keys.specs.declared.error.BuildError.{BuildError}
+use Rattle.schema_keys.specs.declared.key.SchemaKey.{SchemaKey}
+use Rattle.schema_answers.specs.Program.{Program}
+use Rattle.schema_validator.specs.Entries.{FailsEntry, HoldsPlaces, IsCompiledAlone, IsEntry, IsLeftOut, IsMade, IsPut, RefusesAlone, RefusesEntry, RefusesOneOf}
+use Rattle.schema_validator.specs.FirstCauses.{FirstOfMap}
+use Rattle.schema_validator.specs.Handed.{Handed, handed}
+use Rattle.schema_validator.specs.MapViews.{Entries}
+use Rattle.schema_validator.specs.Mapped.{MapRefused}
+use Rattle.schema_validator.specs.RootWords.{IsKeyOfRoot}
+use Rattle.schema_validator.specs.declared.options.map.MapBuilding.{MapBuilding}
+
+module _ {A T M P S : Type 0} (r : ResolverMembers A P S) (b : MapBuilding A T M P S) where
+  -- the key that is held for the root's
+  abbrev pub root_held : Key S
+  root_held = key_of r.point b.root.now
+
+  -- it is the root's
+  abbrev pub HoldsRootKey : Type 0
+  HoldsRootKey = IsKeyOfRoot r b.resolver.now b.options.now b.schema.now b.root.now
+
+  -- the key of what stands at a path below the root, where it has one
+  abbrev pub key_below : Place → Option (Key S)
+  key_below path = entry_key (resolving_parts (r.resolving b.resolver.now)) root_held path
+
+module _ {A T M P S C Maker Run K : Type 0} (r : ResolverMembers A P S) (t : TableMembers T C Maker Run K) (k : KeywordMembers C Run K) (m : MatcherMembers M) (b : MapBuilding A T M P S) where
+  abbrev parts : Handed S K (Run × Answer) C M
+  parts = handed r t k m b.resolver.now b.table.now b.matcher.now
+
+  -- ---- of a key
+
+  -- the validator is compiled from it, by itself
+  abbrev pub IsCompiledOf : SchemaKey P → Program C M → Type 0
+  IsCompiledOf key p = IsCompiledAlone parts b.options.now (view b.schema.now) (key_of r.point key) p
+
+  -- it is refused
+  abbrev pub RefusesToCompile : SchemaKey P → BuildError → Type 0
+  RefusesToCompile key e = RefusesAlone parts b.options.now (key_of r.point key) e
+
+  -- ---- of a path below the root
+
+  -- the validator of the schema that stands there
+  abbrev pub IsEntryAt : Place → Program C M → Type 0
+  IsEntryAt path p = IsEntry parts b.options.now (view b.schema.now) (root_held r b) path p
+
+  -- there is no key for it, or it is refused
+  abbrev pub HasNoEntryAt : Place → BuildError → Type 0
+  HasNoEntryAt path e = FailsEntry parts b.options.now (root_held r b) path e
+
+  -- that validator; none where what stands there does not compile
+  abbrev pub IsEntryIfCompiled : Place → Option (Program C M) → Type 0
+  IsEntryIfCompiled path o = MatchOption o
+      (IsLeftOut parts b.options.now (root_held r b) path)
+      (IsEntry parts b.options.now (view b.schema.now) (root_held r b) path)
+
+  -- the whole map is refused for it
+  abbrev pub RefusesForEntry : Place → BuildError → Type 0
+  RefusesForEntry path e = RefusesEntry parts b.options.now (root_held r b) path e
+
+  -- the map has its validator too, or what stands there does not compile
+  abbrev pub PutsEntry : Place → Entries (Program C M) → Entries (Program C M) → Type 0
+  PutsEntry path old new = IsPut parts b.options.now (view b.schema.now) (root_held r b) path old new
+
+  -- ---- of several paths
+
+  -- the map has the validators of those that compile, and no other
+  abbrev pub HoldsEntries : List Place → Entries (Program C M) → Type 0
+  HoldsEntries paths es = HoldsPlaces parts b.options.now (view b.schema.now) (root_held r b) paths es
+
+  -- it is refused for one of them
+  abbrev pub RefusesForOneOf : List Place → BuildError → Type 0
+  RefusesForOneOf paths e = RefusesOneOf parts b.options.now (root_held r b) paths e
+
+  -- ---- of the document
+
+  -- the schema is accepted, the root's vocabularies are declared, and the map holds what compiles
+  abbrev pub IsMadeMap : MetaChecks → Entries (Program C M) → Type 0
+  IsMadeMap refuses es = IsMade parts b.options.now (view b.schema.now) (root_held r b) refuses es
+
+  -- there is no map, and why
+  abbrev pub RefusesMade : MetaChecks → BuildError → Type 0
+  RefusesMade refuses e = MapRefused parts b.options.now (view b.schema.now) refuses e
+
+  -- of several causes the first
+  abbrev pub NamesFirstMade : MetaChecks → BuildError → Type 0
+  NamesFirstMade refuses e = FirstOfMap parts refuses b.options.now (view b.schema.now) e
