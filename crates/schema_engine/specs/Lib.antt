@@ -1,3 +1,4 @@
 pub mod Nesting
 pub mod FreeCalls
 pub mod GreatestCalls
+pub mod OneCall

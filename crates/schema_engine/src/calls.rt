@@ -3,14 +3,13 @@ ghost use Rattle.std.specs.Prelude.{IfOk, IfErr, IfSome, All};
 ghost use Rattle.serde_json.specs.View.{view};
 ghost use Rattle.schema_reports.specs.ReportViews.{BorrowsItsPlace};
 ghost use Rattle.schema_answers.specs.Answers.{refusal_of};
-ghost use Rattle.schema_validator.specs.Checked.{PassesCheck};
-ghost use Rattle.schema_validator.specs.Called.{DecidesGuardedly, DecidesPlainly, BuildRefused, SchemaBuilds};
+ghost use Rattle.schema_validator.specs.Called.{DecidesGuardedly, DecidesPlainly, BuildRefused};
 ghost use Rattle.schema_validator.specs.Called.{EvaluatesGuardedly, EvaluatesPlainly, UnitsGuardedly, UnitsPlainly};
 ghost use Rattle.schema_validator.specs.Called.{ErrorsPlainly, ErrorsGuardedly, EachLeads, FirstPlainly, FirstGuardedly, FirstLeads};
 ghost use Rattle.schema_validator.specs.Called.{UnitsLead};
 ghost use Rattle.schema_validator.specs.FirstCauses.{FirstOfBuild};
 ghost use Rattle.schema_engine.specs.GreatestCalls.{DecidesGreatest, ErrorsGreatest, EvaluatesGreatest, FirstGreatest};
-ghost use Rattle.schema_validator.specs.Handed.{default_options, handed};
+ghost use Rattle.schema_engine.specs.OneCall.{Builds, Passes, Refuses, Says};
 
 use schema_keys::error::BuildError;
 use schema_output::evaluation::Evaluation;
@@ -40,26 +39,19 @@ pub fn is_valid<S: Resolver, T: KeywordTable<K>, K: Validate, M: Matcher, V: Met
     matcher: &M,
     metas: &V,
 ) -> Result<bool, BuildError>
-    ensures answer { IfOk result (λ valid. DecidesPlainly
-        (handed S.Resolver T.KeywordTable K.Validate M.Matcher.own resolver.now table.now matcher.now)
-        default_options (view schema.now) (view instance.now) valid) }
-    ensures guarded { IfOk result (λ valid. DecidesGuardedly
-        (handed S.Resolver T.KeywordTable K.Validate M.Matcher.own resolver.now table.now matcher.now)
-        default_options (view schema.now) (view instance.now) valid) }
-    ensures greatest { IfOk result (λ valid. DecidesGreatest
-        (handed S.Resolver T.KeywordTable K.Validate M.Matcher.own resolver.now table.now matcher.now)
-        default_options (view schema.now) (view instance.now) valid) }
-    ensures built { IfOk result (λ _. SchemaBuilds
-        (handed S.Resolver T.KeywordTable K.Validate M.Matcher.own resolver.now table.now matcher.now)
-        default_options (view schema.now)) }
-    ensures passed { IfOk result (λ _. PassesCheck (S.resolving resolver.now) (V.checked metas.now)
-        default_options (view schema.now)) }
-    ensures refused { IfErr result (λ e. BuildRefused
-        (handed S.Resolver T.KeywordTable K.Validate M.Matcher.own resolver.now table.now matcher.now)
-        (V.checked metas.now) default_options (view schema.now) e) }
-    ensures first { IfErr result (λ e. FirstOfBuild
-        (handed S.Resolver T.KeywordTable K.Validate M.Matcher.own resolver.now table.now matcher.now)
-        (V.checked metas.now) default_options (view schema.now) e) }
+    ensures answer { IfOk result (Says S.Resolver T.KeywordTable K.Validate M.Matcher.own resolver.now table.now matcher.now
+        schema.now instance.now DecidesPlainly) }
+    ensures guarded { IfOk result (Says S.Resolver T.KeywordTable K.Validate M.Matcher.own resolver.now table.now matcher.now
+        schema.now instance.now DecidesGuardedly) }
+    ensures greatest { IfOk result (Says S.Resolver T.KeywordTable K.Validate M.Matcher.own resolver.now table.now matcher.now
+        schema.now instance.now DecidesGreatest) }
+    ensures built { IfOk result (λ _. Builds S.Resolver T.KeywordTable K.Validate M.Matcher.own resolver.now table.now matcher.now
+        schema.now) }
+    ensures passed { IfOk result (λ _. Passes (S.resolving resolver.now) (V.checked metas.now) schema.now) }
+    ensures refused { IfErr result (Refuses S.Resolver T.KeywordTable K.Validate M.Matcher.own resolver.now table.now matcher.now
+        (V.checked metas.now) schema.now BuildRefused) }
+    ensures first { IfErr result (Refuses S.Resolver T.KeywordTable K.Validate M.Matcher.own resolver.now table.now matcher.now
+        (V.checked metas.now) schema.now FirstOfBuild) }
 {
     let built = Validator::<K, M>::new(alloc, schema, table, resolver, matcher, metas)?;
     Ok(built.is_valid(alloc, instance)?)
@@ -80,30 +72,22 @@ pub fn validate<'i, S: Resolver, T: KeywordTable<K>, K: Validate, M: Matcher, V:
     matcher: &M,
     metas: &V,
 ) -> Result<Result<(), ValidationError<'i>>, BuildError>
-    ensures answer { IfOk result (λ r. FirstPlainly
-        (handed S.Resolver T.KeywordTable K.Validate M.Matcher.own resolver.now table.now matcher.now)
-        default_options (view schema.now) (view instance.now) (refusal_of r)) }
-    ensures guarded { IfOk result (λ r. FirstGuardedly
-        (handed S.Resolver T.KeywordTable K.Validate M.Matcher.own resolver.now table.now matcher.now)
-        default_options (view schema.now) (view instance.now) (refusal_of r)) }
-    ensures greatest { IfOk result (λ r. FirstGreatest
-        (handed S.Resolver T.KeywordTable K.Validate M.Matcher.own resolver.now table.now matcher.now)
-        default_options (view schema.now) (view instance.now) (refusal_of r)) }
-    ensures leads { IfOk result (λ r. FirstLeads
-        (handed S.Resolver T.KeywordTable K.Validate M.Matcher.own resolver.now table.now matcher.now)
-        default_options (view schema.now) (view instance.now) (refusal_of r)) }
+    ensures answer { IfOk result (λ r. Says S.Resolver T.KeywordTable K.Validate M.Matcher.own resolver.now table.now matcher.now
+        schema.now instance.now FirstPlainly (refusal_of r)) }
+    ensures guarded { IfOk result (λ r. Says S.Resolver T.KeywordTable K.Validate M.Matcher.own resolver.now table.now matcher.now
+        schema.now instance.now FirstGuardedly (refusal_of r)) }
+    ensures greatest { IfOk result (λ r. Says S.Resolver T.KeywordTable K.Validate M.Matcher.own resolver.now table.now matcher.now
+        schema.now instance.now FirstGreatest (refusal_of r)) }
+    ensures leads { IfOk result (λ r. Says S.Resolver T.KeywordTable K.Validate M.Matcher.own resolver.now table.now matcher.now
+        schema.now instance.now FirstLeads (refusal_of r)) }
     ensures borrows { IfOk result (λ r. IfSome (refusal_of r) (BorrowsItsPlace (view instance.now))) }
-    ensures built { IfOk result (λ _. SchemaBuilds
-        (handed S.Resolver T.KeywordTable K.Validate M.Matcher.own resolver.now table.now matcher.now)
-        default_options (view schema.now)) }
-    ensures passed { IfOk result (λ _. PassesCheck (S.resolving resolver.now) (V.checked metas.now)
-        default_options (view schema.now)) }
-    ensures refused { IfErr result (λ e. BuildRefused
-        (handed S.Resolver T.KeywordTable K.Validate M.Matcher.own resolver.now table.now matcher.now)
-        (V.checked metas.now) default_options (view schema.now) e) }
-    ensures first { IfErr result (λ e. FirstOfBuild
-        (handed S.Resolver T.KeywordTable K.Validate M.Matcher.own resolver.now table.now matcher.now)
-        (V.checked metas.now) default_options (view schema.now) e) }
+    ensures built { IfOk result (λ _. Builds S.Resolver T.KeywordTable K.Validate M.Matcher.own resolver.now table.now matcher.now
+        schema.now) }
+    ensures passed { IfOk result (λ _. Passes (S.resolving resolver.now) (V.checked metas.now) schema.now) }
+    ensures refused { IfErr result (Refuses S.Resolver T.KeywordTable K.Validate M.Matcher.own resolver.now table.now matcher.now
+        (V.checked metas.now) schema.now BuildRefused) }
+    ensures first { IfErr result (Refuses S.Resolver T.KeywordTable K.Validate M.Matcher.own resolver.now table.now matcher.now
+        (V.checked metas.now) schema.now FirstOfBuild) }
 {
     let validator = Validator::<K, M>::new(alloc, schema, table, resolver, matcher, metas)?;
     let answer = validator.validate(alloc, instance);
@@ -125,30 +109,22 @@ pub fn iter_errors<'i, S: Resolver, T: KeywordTable<K>, K: Validate, M: Matcher,
     matcher: &M,
     metas: &V,
 ) -> Result<ErrorIterator<'i>, BuildError>
-    ensures answer { IfOk result (λ es. ErrorsPlainly
-        (handed S.Resolver T.KeywordTable K.Validate M.Matcher.own resolver.now table.now matcher.now)
-        default_options (view schema.now) (view instance.now) es) }
-    ensures guarded { IfOk result (λ es. ErrorsGuardedly
-        (handed S.Resolver T.KeywordTable K.Validate M.Matcher.own resolver.now table.now matcher.now)
-        default_options (view schema.now) (view instance.now) es) }
-    ensures greatest { IfOk result (λ es. ErrorsGreatest
-        (handed S.Resolver T.KeywordTable K.Validate M.Matcher.own resolver.now table.now matcher.now)
-        default_options (view schema.now) (view instance.now) es) }
-    ensures leads { IfOk result (λ es. EachLeads
-        (handed S.Resolver T.KeywordTable K.Validate M.Matcher.own resolver.now table.now matcher.now)
-        default_options (view schema.now) (view instance.now) es) }
+    ensures answer { IfOk result (Says S.Resolver T.KeywordTable K.Validate M.Matcher.own resolver.now table.now matcher.now
+        schema.now instance.now ErrorsPlainly) }
+    ensures guarded { IfOk result (Says S.Resolver T.KeywordTable K.Validate M.Matcher.own resolver.now table.now matcher.now
+        schema.now instance.now ErrorsGuardedly) }
+    ensures greatest { IfOk result (Says S.Resolver T.KeywordTable K.Validate M.Matcher.own resolver.now table.now matcher.now
+        schema.now instance.now ErrorsGreatest) }
+    ensures leads { IfOk result (Says S.Resolver T.KeywordTable K.Validate M.Matcher.own resolver.now table.now matcher.now
+        schema.now instance.now EachLeads) }
     ensures borrows { IfOk result (λ es. All (BorrowsItsPlace (view instance.now)) es) }
-    ensures built { IfOk result (λ _. SchemaBuilds
-        (handed S.Resolver T.KeywordTable K.Validate M.Matcher.own resolver.now table.now matcher.now)
-        default_options (view schema.now)) }
-    ensures passed { IfOk result (λ _. PassesCheck (S.resolving resolver.now) (V.checked metas.now)
-        default_options (view schema.now)) }
-    ensures refused { IfErr result (λ e. BuildRefused
-        (handed S.Resolver T.KeywordTable K.Validate M.Matcher.own resolver.now table.now matcher.now)
-        (V.checked metas.now) default_options (view schema.now) e) }
-    ensures first { IfErr result (λ e. FirstOfBuild
-        (handed S.Resolver T.KeywordTable K.Validate M.Matcher.own resolver.now table.now matcher.now)
-        (V.checked metas.now) default_options (view schema.now) e) }
+    ensures built { IfOk result (λ _. Builds S.Resolver T.KeywordTable K.Validate M.Matcher.own resolver.now table.now matcher.now
+        schema.now) }
+    ensures passed { IfOk result (λ _. Passes (S.resolving resolver.now) (V.checked metas.now) schema.now) }
+    ensures refused { IfErr result (Refuses S.Resolver T.KeywordTable K.Validate M.Matcher.own resolver.now table.now matcher.now
+        (V.checked metas.now) schema.now BuildRefused) }
+    ensures first { IfErr result (Refuses S.Resolver T.KeywordTable K.Validate M.Matcher.own resolver.now table.now matcher.now
+        (V.checked metas.now) schema.now FirstOfBuild) }
 {
     let validator = Validator::<K, M>::new(alloc, schema, table, resolver, matcher, metas)?;
     let answer = validator.iter_errors(alloc, instance);
@@ -173,35 +149,25 @@ pub fn evaluate<S: Resolver, T: KeywordTable<K>, K: Validate, M: Matcher, V: Met
     matcher: &M,
     metas: &V,
 ) -> Result<Evaluation, BuildError>
-    ensures answer { IfOk result (λ u. EvaluatesPlainly
-        (handed S.Resolver T.KeywordTable K.Validate M.Matcher.own resolver.now table.now matcher.now)
-        default_options (view schema.now) (view instance.now) u) }
-    ensures guarded { IfOk result (λ u. EvaluatesGuardedly
-        (handed S.Resolver T.KeywordTable K.Validate M.Matcher.own resolver.now table.now matcher.now)
-        default_options (view schema.now) (view instance.now) u) }
-    ensures greatest { IfOk result (λ u. EvaluatesGreatest
-        (handed S.Resolver T.KeywordTable K.Validate M.Matcher.own resolver.now table.now matcher.now)
-        default_options (view schema.now) (view instance.now) u) }
-    ensures plain_units { IfOk result (λ u. UnitsPlainly
-        (handed S.Resolver T.KeywordTable K.Validate M.Matcher.own resolver.now table.now matcher.now)
-        default_options (view schema.now) (view instance.now) u) }
-    ensures units { IfOk result (λ u. UnitsGuardedly
-        (handed S.Resolver T.KeywordTable K.Validate M.Matcher.own resolver.now table.now matcher.now)
-        default_options (view schema.now) (view instance.now) u) }
-    ensures leads { IfOk result (λ u. UnitsLead
-        (handed S.Resolver T.KeywordTable K.Validate M.Matcher.own resolver.now table.now matcher.now)
-        default_options (view schema.now) (view instance.now) u) }
-    ensures built { IfOk result (λ _. SchemaBuilds
-        (handed S.Resolver T.KeywordTable K.Validate M.Matcher.own resolver.now table.now matcher.now)
-        default_options (view schema.now)) }
-    ensures passed { IfOk result (λ _. PassesCheck (S.resolving resolver.now) (V.checked metas.now)
-        default_options (view schema.now)) }
-    ensures refused { IfErr result (λ e. BuildRefused
-        (handed S.Resolver T.KeywordTable K.Validate M.Matcher.own resolver.now table.now matcher.now)
-        (V.checked metas.now) default_options (view schema.now) e) }
-    ensures first { IfErr result (λ e. FirstOfBuild
-        (handed S.Resolver T.KeywordTable K.Validate M.Matcher.own resolver.now table.now matcher.now)
-        (V.checked metas.now) default_options (view schema.now) e) }
+    ensures answer { IfOk result (Says S.Resolver T.KeywordTable K.Validate M.Matcher.own resolver.now table.now matcher.now
+        schema.now instance.now EvaluatesPlainly) }
+    ensures guarded { IfOk result (Says S.Resolver T.KeywordTable K.Validate M.Matcher.own resolver.now table.now matcher.now
+        schema.now instance.now EvaluatesGuardedly) }
+    ensures greatest { IfOk result (Says S.Resolver T.KeywordTable K.Validate M.Matcher.own resolver.now table.now matcher.now
+        schema.now instance.now EvaluatesGreatest) }
+    ensures plain_units { IfOk result (Says S.Resolver T.KeywordTable K.Validate M.Matcher.own resolver.now table.now matcher.now
+        schema.now instance.now UnitsPlainly) }
+    ensures units { IfOk result (Says S.Resolver T.KeywordTable K.Validate M.Matcher.own resolver.now table.now matcher.now
+        schema.now instance.now UnitsGuardedly) }
+    ensures leads { IfOk result (Says S.Resolver T.KeywordTable K.Validate M.Matcher.own resolver.now table.now matcher.now
+        schema.now instance.now UnitsLead) }
+    ensures built { IfOk result (λ _. Builds S.Resolver T.KeywordTable K.Validate M.Matcher.own resolver.now table.now matcher.now
+        schema.now) }
+    ensures passed { IfOk result (λ _. Passes (S.resolving resolver.now) (V.checked metas.now) schema.now) }
+    ensures refused { IfErr result (Refuses S.Resolver T.KeywordTable K.Validate M.Matcher.own resolver.now table.now matcher.now
+        (V.checked metas.now) schema.now BuildRefused) }
+    ensures first { IfErr result (Refuses S.Resolver T.KeywordTable K.Validate M.Matcher.own resolver.now table.now matcher.now
+        (V.checked metas.now) schema.now FirstOfBuild) }
 {
     let validator = Validator::<K, M>::new(alloc, schema, table, resolver, matcher, metas)?;
     let answer = validator.evaluate(alloc, instance);

@@ -5,7 +5,7 @@ ghost use Rattle.schema_engine.specs.FreeCalls.{OneErrorList, OneEvaluation, One
 ghost use Rattle.schema_engine.specs.FreeCalls.{ErrorListAgain, EvaluationAgain, FirstErrorAgain, UnitsAgain, VerdictAgain};
 ghost use Rattle.schema_engine.specs.FreeCalls.{ValidatorCallsAgree};
 ghost use Rattle.schema_engine.specs.GreatestCalls.{FinishingAccepts, FinishingGreatest, GreatestAnswersAgree, GreatestVerdictsAgree};
-ghost use Rattle.schema_validator.specs.Handed.{handed};
+ghost use Rattle.schema_engine.specs.OneCall.{OfAnyHanded, OfAnyParts};
 ghost use Rattle.schema_engine.specs.Nesting.{AllErrorsAgree, BuildsAgree, FirstErrorsAgree, VerdictsAgree};
 ghost use Rattle.schema_engine.specs.Nesting.{EvaluationsOfBoth, UnitsOfBoth};
 ghost use Rattle.schema_engine.specs.Nesting.{LargerErrors, LargerEvaluations, LargerFirstErrors, LargerVerdicts};
@@ -27,40 +27,29 @@ use schema_parts::table::KeywordTable;
 /// unfinished match and texts are spoken of, their units are equal, or both are made of the failure. Where it meets none, their
 /// units are equal if both validators have the units of the plain meaning too; those but for texts where these are not spoken of.
 pub fn limits_agree<S: Resolver, T: KeywordTable<K>, K: Validate, M: Matcher>()
-    ensures verdict { (resolver : S) (table : T) (matcher : M)
-        → VerdictsAgree S.Resolver T.KeywordTable K.Validate M.Matcher.own resolver table matcher }
-    ensures first { (resolver : S) (table : T) (matcher : M)
-        → FirstErrorsAgree S.Resolver T.KeywordTable K.Validate M.Matcher.own resolver table matcher }
-    ensures errors { (resolver : S) (table : T) (matcher : M)
-        → AllErrorsAgree S.Resolver T.KeywordTable K.Validate M.Matcher.own resolver table matcher }
-    ensures evaluation { (resolver : S) (table : T) (matcher : M)
-        → EvaluationsOfBoth S.Resolver T.KeywordTable K.Validate M.Matcher.own resolver table matcher }
-    ensures units { (resolver : S) (table : T) (matcher : M)
-        → UnitsOfBoth S.Resolver T.KeywordTable K.Validate M.Matcher.own resolver table matcher }
+    ensures verdict { OfAnyParts (VerdictsAgree S.Resolver T.KeywordTable K.Validate M.Matcher.own) }
+    ensures first { OfAnyParts (FirstErrorsAgree S.Resolver T.KeywordTable K.Validate M.Matcher.own) }
+    ensures errors { OfAnyParts (AllErrorsAgree S.Resolver T.KeywordTable K.Validate M.Matcher.own) }
+    ensures evaluation { OfAnyParts (EvaluationsOfBoth S.Resolver T.KeywordTable K.Validate M.Matcher.own) }
+    ensures units { OfAnyParts (UnitsOfBoth S.Resolver T.KeywordTable K.Validate M.Matcher.own) }
 {}
 
 /// Of two validators that mean the plain meaning of one schema, the one whose calls may make more runs decides what the other
 /// decides, and answers alike there, where no chain of references returns: the verdicts are equal, and first errors, lists of
 /// errors and evaluations agree as those of two validators do in `limits_agree`.
 pub fn larger_limits_agree<S: Resolver, T: KeywordTable<K>, K: Validate, M: Matcher>()
-    ensures verdict { (resolver : S) (table : T) (matcher : M)
-        → LargerVerdicts S.Resolver T.KeywordTable K.Validate M.Matcher.own resolver table matcher }
-    ensures first { (resolver : S) (table : T) (matcher : M)
-        → LargerFirstErrors S.Resolver T.KeywordTable K.Validate M.Matcher.own resolver table matcher }
-    ensures errors { (resolver : S) (table : T) (matcher : M)
-        → LargerErrors S.Resolver T.KeywordTable K.Validate M.Matcher.own resolver table matcher }
-    ensures evaluation { (resolver : S) (table : T) (matcher : M)
-        → LargerEvaluations S.Resolver T.KeywordTable K.Validate M.Matcher.own resolver table matcher }
+    ensures verdict { OfAnyParts (LargerVerdicts S.Resolver T.KeywordTable K.Validate M.Matcher.own) }
+    ensures first { OfAnyParts (LargerFirstErrors S.Resolver T.KeywordTable K.Validate M.Matcher.own) }
+    ensures errors { OfAnyParts (LargerErrors S.Resolver T.KeywordTable K.Validate M.Matcher.own) }
+    ensures evaluation { OfAnyParts (LargerEvaluations S.Resolver T.KeywordTable K.Validate M.Matcher.own) }
 {}
 
 /// Two validators that accept as one schema does, as `build` and `build_nested` give them whatever the limit on nested targets,
 /// and the limit of runs, agree on every instance also where chains of references return, if each keyword of what the root reaches
 /// is monotone: of any two calls that both decide, one says yes exactly if the other does, and two verdicts are equal.
 pub fn greatest_agree<S: Resolver, T: KeywordTable<K>, K: Validate, M: Matcher>()
-    ensures answers { (resolver : S) (table : T) (matcher : M)
-        → GreatestAnswersAgree S.Resolver T.KeywordTable K.Validate M.Matcher.own resolver table matcher }
-    ensures verdict { (resolver : S) (table : T) (matcher : M)
-        → GreatestVerdictsAgree S.Resolver T.KeywordTable K.Validate M.Matcher.own resolver table matcher }
+    ensures answers { OfAnyParts (GreatestAnswersAgree S.Resolver T.KeywordTable K.Validate M.Matcher.own) }
+    ensures verdict { OfAnyParts (GreatestVerdictsAgree S.Resolver T.KeywordTable K.Validate M.Matcher.own) }
 {}
 
 /// Where the matcher finishes every match, each call of a validator decides. So where each keyword is monotone, its answer is a yes
@@ -69,8 +58,7 @@ pub fn greatest_agree<S: Resolver, T: KeywordTable<K>, K: Validate, M: Matcher>(
 /// place. It is so whatever the limits are, chains of references that return included.
 pub fn finishing_say_greatest<S: Resolver, T: KeywordTable<K>, K: Validate, M: Matcher>()
     ensures nodes { FinishingAccepts K.Validate M.Matcher.own }
-    ensures schema { (resolver : S) (table : T) (matcher : M)
-        → FinishingGreatest S.Resolver T.KeywordTable K.Validate M.Matcher.own resolver table matcher }
+    ensures schema { OfAnyParts (FinishingGreatest S.Resolver T.KeywordTable K.Validate M.Matcher.own) }
 {}
 
 /// One limit on nested targets builds a schema exactly if any other does, want of memory aside, and so does one limit on runs.
@@ -78,8 +66,7 @@ pub fn finishing_say_greatest<S: Resolver, T: KeywordTable<K>, K: Validate, M: M
 /// limits; so where one build of a schema succeeded, another by options that differ in them alone and the same meta validators is
 /// refused for want of memory alone, whether the options have the schema checked or not.
 pub fn builds_agree<S: Resolver, T: KeywordTable<K>, K: Validate, M: Matcher>()
-    ensures memory { (resolver : S) (table : T) (matcher : M)
-        → BuildsAgree S.Resolver T.KeywordTable K.Validate M.Matcher.own resolver table matcher }
+    ensures memory { OfAnyParts (BuildsAgree S.Resolver T.KeywordTable K.Validate M.Matcher.own) }
 {}
 
 /// The calls `is_valid`, `validate`, `iter_errors` and `evaluate` of one schema and one instance agree, also where chains of
@@ -90,30 +77,18 @@ pub fn builds_agree<S: Resolver, T: KeywordTable<K>, K: Validate, M: Matcher>()
 /// exactly if the other does: `is_valid` by answering true, `validate` none, `iter_errors` the empty list, and `evaluate` by a unit
 /// that is valid. For the verdicts and for whether there is an error it does not matter whether texts of errors are spoken of.
 pub fn free_calls_agree<S: Resolver, T: KeywordTable<K>, K: Validate, M: Matcher>()
-    ensures sense { (resolver : S) (table : T) (matcher : M)
-        → OneSense (handed S.Resolver T.KeywordTable K.Validate M.Matcher.own resolver table matcher) }
-    ensures verdict { (resolver : S) (table : T) (matcher : M)
-        → OneVerdict (handed S.Resolver T.KeywordTable K.Validate M.Matcher.own resolver table matcher) }
-    ensures first { (resolver : S) (table : T) (matcher : M)
-        → OneFirstError (handed S.Resolver T.KeywordTable K.Validate M.Matcher.own resolver table matcher) }
-    ensures errors { (resolver : S) (table : T) (matcher : M)
-        → OneErrorList (handed S.Resolver T.KeywordTable K.Validate M.Matcher.own resolver table matcher) }
-    ensures evaluation { (resolver : S) (table : T) (matcher : M)
-        → OneEvaluation (handed S.Resolver T.KeywordTable K.Validate M.Matcher.own resolver table matcher) }
-    ensures units { (resolver : S) (table : T) (matcher : M)
-        → OneTree (handed S.Resolver T.KeywordTable K.Validate M.Matcher.own resolver table matcher) }
-    ensures true_none { (resolver : S) (table : T) (matcher : M)
-        → TrueIffNone (handed S.Resolver T.KeywordTable K.Validate M.Matcher.own resolver table matcher) }
-    ensures true_empty { (resolver : S) (table : T) (matcher : M)
-        → TrueIffEmpty (handed S.Resolver T.KeywordTable K.Validate M.Matcher.own resolver table matcher) }
-    ensures none_empty { (resolver : S) (table : T) (matcher : M)
-        → NoneIffEmpty (handed S.Resolver T.KeywordTable K.Validate M.Matcher.own resolver table matcher) }
-    ensures true_valid { (resolver : S) (table : T) (matcher : M)
-        → TrueIffValid (handed S.Resolver T.KeywordTable K.Validate M.Matcher.own resolver table matcher) }
-    ensures none_valid { (resolver : S) (table : T) (matcher : M)
-        → NoneIffValid (handed S.Resolver T.KeywordTable K.Validate M.Matcher.own resolver table matcher) }
-    ensures empty_valid { (resolver : S) (table : T) (matcher : M)
-        → EmptyIffValid (handed S.Resolver T.KeywordTable K.Validate M.Matcher.own resolver table matcher) }
+    ensures sense { OfAnyHanded S.Resolver T.KeywordTable K.Validate M.Matcher.own OneSense }
+    ensures verdict { OfAnyHanded S.Resolver T.KeywordTable K.Validate M.Matcher.own OneVerdict }
+    ensures first { OfAnyHanded S.Resolver T.KeywordTable K.Validate M.Matcher.own OneFirstError }
+    ensures errors { OfAnyHanded S.Resolver T.KeywordTable K.Validate M.Matcher.own OneErrorList }
+    ensures evaluation { OfAnyHanded S.Resolver T.KeywordTable K.Validate M.Matcher.own OneEvaluation }
+    ensures units { OfAnyHanded S.Resolver T.KeywordTable K.Validate M.Matcher.own OneTree }
+    ensures true_none { OfAnyHanded S.Resolver T.KeywordTable K.Validate M.Matcher.own TrueIffNone }
+    ensures true_empty { OfAnyHanded S.Resolver T.KeywordTable K.Validate M.Matcher.own TrueIffEmpty }
+    ensures none_empty { OfAnyHanded S.Resolver T.KeywordTable K.Validate M.Matcher.own NoneIffEmpty }
+    ensures true_valid { OfAnyHanded S.Resolver T.KeywordTable K.Validate M.Matcher.own TrueIffValid }
+    ensures none_valid { OfAnyHanded S.Resolver T.KeywordTable K.Validate M.Matcher.own NoneIffValid }
+    ensures empty_valid { OfAnyHanded S.Resolver T.KeywordTable K.Validate M.Matcher.own EmptyIffValid }
 {}
 
 /// The four calls of one validator agree on every instance, also where chains of references return: of any two that decide, one
