@@ -1,8 +1,8 @@
 -- The code's makers, as the definitions have them.
-use Rattle.std.specs.Prelude.{option_map, [], true}
-use Rattle.schema_definitions.specs.Making.{Made, a_keyword, nothing, refused}
+use Rattle.std.specs.Prelude.{option_map, [], true, ◌≡◌}
+use Rattle.schema_definitions.specs.Making.{Made, Script, a_keyword, nothing, refused}
 use Rattle.schema_reports.specs.ReportViews.{owned_error_of}
-use Rattle.schema_parts.specs.MakerViews.{Waiting}
+use Rattle.schema_parts.specs.MakerViews.{Waiting, begun}
 use Rattle.keyword_makers.specs.Making.{waiting_in}
 use Rattle.keyword_makers.specs.declared.maker.Ending.{Ending}
 use Rattle.keyword_makers.specs.declared.maker.Ending.TheVariants as ending
@@ -16,3 +16,7 @@ made_of shape (ending.Refused e) = refused true (owned_error_of e)
 
 abbrev pub waiting_of : {C K : Type 0} → (C → K) → PathsMaker C → Waiting K
 waiting_of shape m = waiting_in m.paths.items m.asked (option_map (made_of shape) m.ends)
+
+-- a maker has begun, and goes by this script
+abbrev pub Begins : {C K : Type 0} → (C → K) → Script K → PathsMaker C → Type 0
+Begins shape script maker = waiting_of shape maker ≡ begun script

@@ -6,9 +6,8 @@ ghost use Rattle.serde_json.specs.View.{members_view, view};
 ghost use Rattle.schema_definitions.specs.Drafts as drafts;
 ghost use Rattle.schema_definitions.specs.Instance.{Text};
 ghost use Rattle.schema_keywords.specs.KeywordViews.{draft_of};
-ghost use Rattle.schema_parts.specs.MakerViews as makers;
 ghost use Rattle.keyword_makers.specs.ByObject.{IsRightHere, MadeHere, formed, malformed_beside, script_found, script_here};
-ghost use Rattle.keyword_makers.specs.MakerViews.{waiting_of};
+ghost use Rattle.keyword_makers.specs.MakerViews.{Begins, waiting_of};
 
 use crate::by_value::{Children, paths_of};
 use crate::maker::{Ending, PathsMaker, asks_for, ends};
@@ -88,7 +87,7 @@ fn beside_maker<K: Validate>(
     object: &Map<String, Value>,
     beside: &str,
 ) -> Result<PathsMaker<K>, OutOfMemory>
-    ensures maker { IfOk result (λ m. waiting_of K.shape m ≡ makers.begun (malformed_beside name.now (view value.now) beside.now
+    ensures maker { IfOk result (Begins K.shape (malformed_beside name.now (view value.now) beside.now
         (get_member beside.now (members_view object.now.entries)))) }
 {
     match value_in(object, beside) {
@@ -105,7 +104,7 @@ fn maker_of<K: Validate>(
     object: &Map<String, Value>,
     made: ObjectKeyword<K>,
 ) -> Result<PathsMaker<K>, OutOfMemory>
-    ensures maker { IfOk result (λ m. waiting_of K.shape m ≡ makers.begun (script_here (members_view object.now.entries) name.now
+    ensures maker { IfOk result (Begins K.shape (script_here (members_view object.now.entries) name.now
         (view value.now) (formed K.shape made.entry))) }
 {
     match made {
@@ -132,7 +131,7 @@ fn member_maker<K: Validate, T: MakesByObject<K>>(
     object: &Map<String, Value>,
     draft: Draft,
 ) -> Result<PathsMaker<K>, OutOfMemory>
-    ensures maker { IfOk result (λ m. waiting_of K.shape m ≡ makers.begun (script_found (T.made keywords.now) (draft_of draft)
+    ensures maker { IfOk result (Begins K.shape (script_found (T.made keywords.now) (draft_of draft)
         (members_view object.now.entries) name.now (get_member name.now (members_view object.now.entries)))) }
 {
     match value_in(object, name) {

@@ -4,9 +4,8 @@ ghost use Rattle.serde_json.specs.Data.{Data};
 ghost use Rattle.serde_json.specs.Find.{get_member};
 ghost use Rattle.serde_json.specs.View.{members_view, view};
 ghost use Rattle.schema_definitions.specs.Instance.{Text};
-ghost use Rattle.schema_parts.specs.MakerViews as makers;
 ghost use Rattle.keyword_makers.specs.ByValue.{IsRightMember, MadeMember, children_of, named, script_at, script_of, shaped};
-ghost use Rattle.keyword_makers.specs.MakerViews.{waiting_of};
+ghost use Rattle.keyword_makers.specs.MakerViews.{Begins, waiting_of};
 
 use crate::maker::{Ending, PathsMaker, asks_for, ends};
 use crate::members::{member_below, names_of, values_below};
@@ -122,8 +121,7 @@ fn maker_of<K: Validate>(
     value: &Value,
     made: MemberKeyword<K>,
 ) -> Result<PathsMaker<K>, OutOfMemory>
-    ensures maker { IfOk result (λ m. waiting_of K.shape m
-        ≡ makers.begun (script_of name.now (view value.now) (shaped K.shape made.entry))) }
+    ensures maker { IfOk result (Begins K.shape (script_of name.now (view value.now) (shaped K.shape made.entry))) }
 {
     match made {
         MemberKeyword::Keyword(keyword, children) => {
@@ -142,8 +140,8 @@ fn member_maker<K: Validate, T: MakesByValue<K>>(
     name: &str,
     object: &Map<String, Value>,
 ) -> Result<PathsMaker<K>, OutOfMemory>
-    ensures maker { IfOk result (λ m. waiting_of K.shape m
-        ≡ makers.begun (script_at (T.made keywords.now) name.now (get_member name.now (members_view object.now.entries)))) }
+    ensures maker { IfOk result (Begins K.shape
+        (script_at (T.made keywords.now) name.now (get_member name.now (members_view object.now.entries)))) }
 {
     match value_in(object, name) {
         None => Ok(ends(alloc, Ending::Nothing)),

@@ -2,10 +2,9 @@
 ghost use Rattle.std.specs.Prelude.{◌≡◌, IfOk};
 ghost use Rattle.serde_json.specs.Find.{as_array};
 ghost use Rattle.serde_json.specs.View.{view};
-ghost use Rattle.schema_parts.specs.MakerViews.{begun};
 ghost use Rattle.keyword_ways.specs.Items.{count_in};
 ghost use Rattle.keyword_makers.specs.Making.{each_schema};
-ghost use Rattle.keyword_makers.specs.MakerViews.{waiting_of};
+ghost use Rattle.keyword_makers.specs.MakerViews.{Begins};
 
 use crate::maker::{PathsMaker, each_item};
 use crate::refusals::malformed;
@@ -32,7 +31,7 @@ pub fn each_schema<K: Validate>(
     value: &Value,
     keyword: K,
 ) -> Result<PathsMaker<K>, OutOfMemory>
-    ensures maker { IfOk result (λ m. waiting_of K.shape m ≡ begun (each_schema name.now (view value.now) (K.shape keyword))) }
+    ensures maker { IfOk result (Begins K.shape (each_schema name.now (view value.now) (K.shape keyword))) }
 {
     match value.as_array() {
         Some(items) => each_item(alloc, name, items.as_slice(), keyword),

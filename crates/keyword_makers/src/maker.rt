@@ -4,7 +4,7 @@ ghost use Rattle.serde_json.specs.View.{items_view};
 ghost use Rattle.schema_definitions.specs.Making.{a_keyword, then_end};
 ghost use Rattle.schema_parts.specs.MakerViews.{begun, maker_reply_of, TakesTurn};
 ghost use Rattle.keyword_makers.specs.Making.{asks_for, each_item, only_child};
-ghost use Rattle.keyword_makers.specs.MakerViews.{made_of, waiting_of};
+ghost use Rattle.keyword_makers.specs.MakerViews.{Begins, made_of, waiting_of};
 
 use crate::paths::{items_below, value_of};
 use schema_parts::keyword::Validate;
@@ -59,7 +59,7 @@ pub fn only_child<K: Validate>(
     name: &str,
     keyword: K,
 ) -> Result<PathsMaker<K>, OutOfMemory>
-    ensures maker { IfOk result (λ m. waiting_of K.shape m ≡ begun (only_child name.now (K.shape keyword))) }
+    ensures maker { IfOk result (Begins K.shape (only_child name.now (K.shape keyword))) }
 {
     let mut paths = Vec::new(alloc);
     paths.push(value_of(alloc, name)?)?;
@@ -73,7 +73,7 @@ pub fn each_item<K: Validate>(
     items: &[Value],
     keyword: K,
 ) -> Result<PathsMaker<K>, OutOfMemory>
-    ensures maker { IfOk result (λ m. waiting_of K.shape m ≡ begun (each_item name.now (items_view items.now) (K.shape keyword))) }
+    ensures maker { IfOk result (Begins K.shape (each_item name.now (items_view items.now) (K.shape keyword))) }
 {
     let paths = items_below(alloc, name, items)?;
     Ok(asks_for(paths, keyword))

@@ -5,9 +5,8 @@ ghost use Rattle.serde_json.specs.View.{view};
 ghost use Rattle.schema_definitions.specs.Instance.{to_member};
 ghost use Rattle.schema_definitions.specs.Pointer.{pointer_to};
 ghost use Rattle.schema_reports.specs.ReportViews.{owned_error_of};
-ghost use Rattle.schema_parts.specs.MakerViews.{begun};
 ghost use Rattle.keyword_makers.specs.Making.{makes_if, malformed, malformed_text, refused_error};
-ghost use Rattle.keyword_makers.specs.MakerViews.{waiting_of};
+ghost use Rattle.keyword_makers.specs.MakerViews.{Begins};
 
 use crate::maker::{Ending, PathsMaker, ends};
 use schema_parts::keyword::Validate;
@@ -63,7 +62,7 @@ pub fn malformed<K: Validate>(
     name: &str,
     value: &Value,
 ) -> Result<PathsMaker<K>, OutOfMemory>
-    ensures maker { IfOk result (λ m. waiting_of K.shape m ≡ begun (malformed name.now (view value.now))) }
+    ensures maker { IfOk result (Begins K.shape (malformed name.now (view value.now))) }
 {
     let text = malformed_text(alloc, name)?;
     let error = refused_error(alloc, name, value, text)?;
@@ -77,8 +76,7 @@ pub fn refused<K: Validate>(
     value: &Value,
     text: String,
 ) -> Result<PathsMaker<K>, OutOfMemory>
-    ensures maker { IfOk result (λ m. waiting_of K.shape m
-        ≡ begun (then_end (refused true (refused_error name.now (view value.now) (string_bytes text))))) }
+    ensures maker { IfOk result (Begins K.shape (then_end (refused true (refused_error name.now (view value.now) (string_bytes text))))) }
 {
     let error = refused_error(alloc, name, value, text)?;
     Ok(ends(alloc, Ending::Refused(error)))
@@ -91,8 +89,7 @@ pub fn makes_if<K: Validate>(
     value: &Value,
     keyword: Option<K>,
 ) -> Result<PathsMaker<K>, OutOfMemory>
-    ensures maker { IfOk result (λ m. waiting_of K.shape m
-        ≡ begun (makes_if name.now (view value.now) (option_map K.shape keyword))) }
+    ensures maker { IfOk result (Begins K.shape (makes_if name.now (view value.now) (option_map K.shape keyword))) }
 {
     match keyword {
         Some(keyword) => Ok(ends(alloc, Ending::Keyword(keyword))),

@@ -51,3 +51,12 @@ IfNoFraction instance Holds = subject_has_float (subject_of instance) ≡ false 
 abbrev pub TellsAtOnce : {M : Type 0} → (M → Bool) → (M → Subject → Way) → M → Instance → Mode → Answer → Answer → Type 0
 TellsAtOnce is_whole ways m instance mode old new = (texts : Bool) → Tells texts (is_whole m) (subject_of instance)
     → answer_of texts new ≡ told_at_once (spoken_way texts (ways m (subject_of instance))) mode (answer_of texts old)
+
+-- this holds where texts are spoken of only if neither the keyword nor the instance holds a fraction
+abbrev pub IfTold : Bool → Instance → (Bool → Subject → Type 0) → Type 0
+IfTold whole instance Holds = (texts : Bool) → Tells texts whole (subject_of instance) → Holds texts (subject_of instance)
+
+-- the answer before becomes this, where texts are spoken of only if neither the keyword nor the instance holds a fraction
+abbrev pub BecomesTold : Bool → Instance → (Bool → Subject → spec.Answer → spec.Answer) → Answer → Answer → Type 0
+BecomesTold whole instance f old new = (texts : Bool) → Tells texts whole (subject_of instance)
+    → answer_of texts new ≡ f texts (subject_of instance) (answer_of texts old)

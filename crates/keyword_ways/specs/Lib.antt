@@ -18,6 +18,9 @@ pub mod OwnWays
 pub mod Borrowing
 pub mod AnswerWords
 pub mod TurnWords
+pub mod TextWords
+pub mod SomeWords
+pub mod MeaningWords
 pub mod Branching
 pub mod WayUnits
 pub mod WayVerdicts

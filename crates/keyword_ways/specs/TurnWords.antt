@@ -49,3 +49,22 @@ TellsStep is_whole ways m instance run old reply step = (texts : Bool) → Tells
 -- the step by such a way, whatever they hold
 abbrev pub StepsSpoken : {M : Type 0} → (M → Subject → Way) → M → Instance → Progress → Answer → Reply → Step → Type 0
 StepsSpoken ways m instance run old reply step = (texts : Bool) → StepsIn texts (spoken_way texts (ways m (subject_of instance))) run old reply (turn_of step)
+
+-- ---- by a way that follows from the instance, and from whether texts are spoken of
+
+-- the run and the answer after
+abbrev pub TurnsBy : (Bool → Subject → Way) → Instance → Progress → Answer → Reply → Progress → Answer → Type 0
+TurnsBy ways instance run old reply run' new = (texts : Bool) → TurnsIn texts (ways texts (subject_of instance)) run old reply run' new
+
+-- the step
+abbrev pub StepsBy : (Bool → Subject → Way) → Instance → Progress → Answer → Reply → Step → Type 0
+StepsBy ways instance run old reply step = (texts : Bool) → StepsIn texts (ways texts (subject_of instance)) run old reply (turn_of step)
+
+-- both where texts are spoken of only if neither the keyword nor the instance holds a fraction
+abbrev pub TellsTurnBy : Bool → (Bool → Subject → Way) → Instance → Progress → Answer → Reply → Progress → Answer → Type 0
+TellsTurnBy whole ways instance run old reply run' new = (texts : Bool) → Tells texts whole (subject_of instance)
+    → TurnsIn texts (ways texts (subject_of instance)) run old reply run' new
+
+abbrev pub TellsStepBy : Bool → (Bool → Subject → Way) → Instance → Progress → Answer → Reply → Step → Type 0
+TellsStepBy whole ways instance run old reply step = (texts : Bool) → Tells texts whole (subject_of instance)
+    → StepsIn texts (ways texts (subject_of instance)) run old reply (turn_of step)
