@@ -7,3 +7,5 @@ pub mod Shapes
 pub mod UnitsAsked
 pub mod VerdictsAsked
 pub mod Grows
+pub mod Telling
+pub mod RunWays

@@ -39,8 +39,12 @@ types_text ts s = subject_text s ++ codes " is not of types " ++ names_text ts
 
 -- ---- required
 
+-- whether it is an object without a member of this name
+abbrev pub lacks : Text → Subject → Bool
+lacks k s = is_object s && not (has_member k s)
+
 abbrev pub missing : List Text → Subject → List Text
-missing ks s = filter (λ k. is_object s && not (has_member k s)) ks
+missing ks s = filter (λ k. lacks k s) ks
 
 abbrev pub required_text : Text → Text
 required_text k = subject_text (a_name k) ++ codes " is a required property"

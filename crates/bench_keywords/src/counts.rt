@@ -1,17 +1,14 @@
 //! Keywords that count.
-ghost use Rattle.std.specs.Prelude.{All, ◌≡◌, ◌++◌, ◌==◌, Bool, decimal, false, length, option_map, if◌then◌else◌, map};
-ghost use Rattle.std.specs.Prelude.{string_bytes, true, IfOk};
+ghost use Rattle.std.specs.Prelude.{◌≡◌, ◌==◌, decimal, length, option_map, if◌then◌else◌, IfOk};
 ghost use Rattle.std.specs.Str.{chars};
-ghost use Rattle.serde_json.specs.Data.{Data};
 ghost use Rattle.serde_json.specs.View.{members_view};
 ghost use Rattle.schema_reports.specs.InstanceViews.{subject_of};
-ghost use Rattle.schema_reports.specs.ReportViews.{spoken};
-ghost use Rattle.schema_reports.specs.InstanceTexts.{subject_has_float};
-ghost use Rattle.schema_parts.specs.FaultViews.{faults_in, PassesBorrowed};
-ghost use Rattle.schema_parts.specs.KeywordViews.{answer_of, Tells};
 ghost use Rattle.bench_keywords.specs.Counts.{allows, count_fits, count_name, count_of, count_text, count_words, many_counted};
 ghost use Rattle.bench_keywords.specs.Counts.{member_count, one_counted, subject_members, subject_string};
-ghost use Rattle.keyword_ways.specs.Ways.{noted, unless};
+ghost use Rattle.keyword_ways.specs.Borrowing.{KeepsBorrows};
+ghost use Rattle.bench_keywords.specs.BenchShape.{has_count};
+ghost use Rattle.keyword_ways.specs.TextWords.{Adds, ShowsText};
+ghost use Rattle.bench_keywords.specs.Telling.{TellsOwn};
 
 use keyword_ways::answers::{note, refuse};
 use schema_parts::keyword::{Answer, Mode};
@@ -155,8 +152,7 @@ pub fn count_text(
     limit: u64,
     instance: Instance<'_>,
 ) -> Result<String, OutOfMemory>
-    ensures text { IfOk result (λ text. subject_has_float (subject_of instance.entry) ≡ false → string_bytes text
-        ≡ count_text kind limit (subject_of instance.entry)) }
+    ensures text { IfOk result (ShowsText instance.entry (count_text kind limit)) }
 {
     let mut text = instance.text(alloc)?;
     text.push_str(kind.words())?;
@@ -167,7 +163,7 @@ pub fn count_text(
 
 /// Adds a number in decimal.
 pub fn push_decimal(text: &mut String, number: u64) -> Result<(), OutOfMemory>
-    ensures decimal { IfOk result (λ _. string_bytes text.new ≡ string_bytes text.old ++ decimal number) }
+    ensures decimal { IfOk result (λ _. Adds (decimal number) text.old text.new) }
 {
     write!(text, "{number}")
 }
@@ -181,12 +177,8 @@ pub fn tell_count<'i>(
     instance: Instance<'i>,
     answer: &mut Answer<'i>,
 ) -> Result<(), OutOfMemory>
-    ensures told { IfOk result (λ _. (texts : Bool) → Tells texts true (subject_of instance.entry) → answer_of texts answer.new
-        ≡ noted mode (count_name kind) (answer_of texts answer.old)
-        (map (spoken texts) (unless (count_fits kind limit (subject_of instance.entry))
-        (count_text kind limit (subject_of instance.entry))))) }
-    ensures borrows { IfOk result (λ _. (root : Data) → All (PassesBorrowed root) (faults_in answer.old)
-        → All (PassesBorrowed root) (faults_in answer.new)) }
+    ensures told { IfOk result (λ _. TellsOwn (has_count kind limit) instance.entry mode answer.old answer.new) }
+    ensures borrows { IfOk result (λ _. KeepsBorrows answer.old answer.new) }
 {
     if count_fits(kind, limit, instance) {
         return Ok(());

@@ -1,17 +1,17 @@
 //! The keywords.
-ghost use Rattle.std.specs.Prelude.{All, ◌≡◌, true, Bool, IfOk};
-ghost use Rattle.serde_json.specs.Data.{Data};
+ghost use Rattle.std.specs.Prelude.{◌≡◌, IfOk};
 ghost use Rattle.schema_reports.specs.InstanceViews.{subject_of};
-ghost use Rattle.schema_parts.specs.FaultViews.{errors_in, faults_in, PassesBorrowed};
-ghost use Rattle.schema_parts.specs.KeywordViews.{answer_of, mode_of, reply_of, turn_of, Tells};
+ghost use Rattle.schema_parts.specs.KeywordViews.{mode_of, turn_of};
 ghost use Rattle.schema_definitions.specs.Keywords.{done};
-ghost use Rattle.schema_reports.specs.ReportViews.{BorrowsItsPlace};
 ghost use Rattle.keyword_ways.specs.declared.run.Stage.TheVariants.{Ended};
 ghost use Rattle.keyword_ways.specs.Members.{subject_names};
-ghost use Rattle.keyword_ways.specs.Ways.{at_first, told_at_once, way_begin, way_step, way_turn};
+ghost use Rattle.keyword_ways.specs.Ways.{way_begin};
 ghost use Rattle.bench_keywords.specs.BenchShape.{is_whole};
-ghost use Rattle.bench_keywords.specs.Words.{held_way, way};
 ghost use Rattle.bench_keywords.specs.Shapes.{shape_of};
+ghost use Rattle.keyword_ways.specs.Borrowing.{KeepsBorrows, TakesBorrows};
+ghost use Rattle.bench_keywords.specs.Telling.{TellsFirst, TellsOwn};
+ghost use Rattle.keyword_ways.specs.TurnWords.{TellsStepBy, TellsTurnBy};
+ghost use Rattle.bench_keywords.specs.RunWays.{holding};
 
 use crate::counts::{CountKind, count_fits, tell_count};
 use crate::each::{turn_items, turn_prefix_items};
@@ -93,10 +93,8 @@ fn tell<'i>(
     instance: Instance<'i>,
     answer: &mut Answer<'i>,
 ) -> Result<(), OutOfMemory>
-    ensures told { IfOk result (λ _. (texts : Bool) → Tells texts true (subject_of instance.entry) → answer_of texts answer.new
-        ≡ told_at_once (way texts (shape_of keyword.now) (subject_of instance.entry)) mode (answer_of texts answer.old)) }
-    ensures borrows { IfOk result (λ _. (root : Data) → All (PassesBorrowed root) (faults_in answer.old)
-        → All (PassesBorrowed root) (faults_in answer.new)) }
+    ensures told { IfOk result (λ _. TellsOwn (shape_of keyword.now) instance.entry mode answer.old answer.new) }
+    ensures borrows { IfOk result (λ _. KeepsBorrows answer.old answer.new) }
 {
     match keyword {
         BenchKeyword::Type(name) => tell_type(alloc, *name, mode, instance, answer),
@@ -122,12 +120,9 @@ fn turn_telling<'s, 'i>(
     answer: &mut Answer<'i>,
 ) -> Result<Step<'s>, OutOfMemory>
     ensures stage { IfOk result (λ _. run.new ≡ record run.old { stage = Ended }) }
-    ensures told { IfOk result (λ _. (texts : Bool) → Tells texts true (subject_of instance.entry) → answer_of texts answer.new
-        ≡ at_first run.old.stage (told_at_once (way texts (shape_of keyword.now) (subject_of instance.entry)) run.old.mode
-        (answer_of texts answer.old)) (answer_of texts answer.old)) }
+    ensures told { IfOk result (λ _. TellsFirst (shape_of keyword.now) instance.entry run.old answer.old answer.new) }
     ensures step { IfOk result (λ step. turn_of step ≡ done) }
-    ensures borrows { IfOk result (λ _. (root : Data) → All (BorrowsItsPlace root) (errors_in reply.entry)
-        → All (PassesBorrowed root) (faults_in answer.old) → All (PassesBorrowed root) (faults_in answer.new)) }
+    ensures borrows { IfOk result (λ _. TakesBorrows reply.entry answer.old answer.new) }
 {
     if tell_on(run) {
         tell(keyword, alloc, run.mode, instance, answer)?;
@@ -164,14 +159,11 @@ fn turn_at<'s, 'i: 's>(
     reply: Reply<'i>,
     answer: &mut Answer<'i>,
 ) -> Result<Step<'s>, OutOfMemory>
-    ensures turns { IfOk result (λ _. (texts : Bool) → Tells texts (is_whole (shape_of keyword.now)) (subject_of instance.entry)
-        → way_turn (held_way texts names.now (shape_of keyword.now) (subject_of instance.entry)) (run.old, answer_of texts answer.old)
-        (reply_of texts reply.entry) ≡ (run.new, answer_of texts answer.new)) }
-    ensures steps { IfOk result (λ step. (texts : Bool) → Tells texts (is_whole (shape_of keyword.now)) (subject_of instance.entry)
-        → way_step (held_way texts names.now (shape_of keyword.now) (subject_of instance.entry)) (run.old, answer_of texts answer.old)
-        (reply_of texts reply.entry) ≡ turn_of step) }
-    ensures borrows { IfOk result (λ _. (root : Data) → All (BorrowsItsPlace root) (errors_in reply.entry)
-        → All (PassesBorrowed root) (faults_in answer.old) → All (PassesBorrowed root) (faults_in answer.new)) }
+    ensures turns { IfOk result (λ _. TellsTurnBy (is_whole (shape_of keyword.now)) (holding names.now (shape_of keyword.now))
+        instance.entry run.old answer.old reply.entry run.new answer.new) }
+    ensures steps { IfOk result (TellsStepBy (is_whole (shape_of keyword.now)) (holding names.now (shape_of keyword.now)) instance.entry
+        run.old answer.old reply.entry) }
+    ensures borrows { IfOk result (λ _. TakesBorrows reply.entry answer.old answer.new) }
 {
     match keyword {
         BenchKeyword::Type(_)

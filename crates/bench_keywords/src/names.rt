@@ -1,8 +1,9 @@
 //! Names that a run holds.
-ghost use Rattle.std.specs.Prelude.{◌≡◌, [], map, string_bytes, IfOk};
+ghost use Rattle.std.specs.Prelude.{◌≡◌, [], map, string_bytes};
 ghost use Rattle.serde_json.specs.View.{members_view};
 ghost use Rattle.schema_reports.specs.InstanceViews.{subject_of};
 ghost use Rattle.keyword_ways.specs.Members.{names_in, subject_names};
+ghost use Rattle.schema_parts.specs.Showing.{Yields};
 
 use keyword_ways::run::Progress;
 use schema_reports::instance::Instance;
@@ -52,7 +53,7 @@ impl Names {
 
     /// The names of an object's members. Fails only if memory cannot be allocated.
     fn of_members(alloc: Global, members: &Map<String, Value>) -> Result<Names, OutOfMemory>
-        ensures names { IfOk result (λ names. names ≡ names_in (members_view members.now.entries)) }
+        ensures names { Yields result (names_in (members_view members.now.entries)) }
     {
         let mut texts = Vec::new(alloc);
         for (name, _) in members {
@@ -63,7 +64,7 @@ impl Names {
 
     /// The names of the members of the instance, which are none where it is no object. Fails only if memory cannot be allocated.
     pub fn of(alloc: Global, instance: Instance<'_>) -> Result<Names, OutOfMemory>
-        ensures names { IfOk result (λ names. names ≡ subject_names (subject_of instance.entry)) }
+        ensures names { Yields result (subject_names (subject_of instance.entry)) }
     {
         match instance {
             Instance::Name(_) => Ok(Names::none(alloc)),

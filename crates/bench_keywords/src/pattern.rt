@@ -1,14 +1,12 @@
 //! `pattern`.
-ghost use Rattle.std.specs.Prelude.{All, ◌≡◌, Bool, codes, false, string_bytes, true, IfOk};
-ghost use Rattle.serde_json.specs.Data.{Data};
-ghost use Rattle.schema_reports.specs.InstanceViews.{subject_of};
-ghost use Rattle.schema_reports.specs.InstanceTexts.{subject_has_float};
-ghost use Rattle.schema_reports.specs.ReportViews.{BorrowsItsPlace, spoken};
-ghost use Rattle.schema_parts.specs.FaultViews.{errors_in, faults_in, PassesBorrowed};
-ghost use Rattle.schema_parts.specs.KeywordViews.{answer_of, reply_of, turn_of, Tells};
-ghost use Rattle.bench_keywords.specs.Counts.{subject_string};
-ghost use Rattle.keyword_ways.specs.Ways.{asks_match, noted, unless, way_step, way_turn};
-ghost use Rattle.bench_keywords.specs.Words.{pattern_text, pattern_way};
+ghost use Rattle.std.specs.Prelude.{true, IfOk};
+ghost use Rattle.bench_keywords.specs.Words.{pattern_text};
+ghost use Rattle.keyword_ways.specs.Borrowing.{KeepsBorrows, TakesBorrows};
+ghost use Rattle.bench_keywords.specs.BenchShape.{has_pattern};
+ghost use Rattle.keyword_ways.specs.TextWords.{ShowsText};
+ghost use Rattle.bench_keywords.specs.Telling.{TellsMatch};
+ghost use Rattle.keyword_ways.specs.TurnWords.{StepsBy, TellsTurnBy};
+ghost use Rattle.bench_keywords.specs.RunWays.{as_shape, to_match};
 
 use crate::texts::text_of;
 use keyword_ways::answers::{note, refuse};
@@ -21,8 +19,7 @@ use std::alloc::Global;
 
 /// The error's text.
 fn pattern_text(alloc: Global, pattern: &str, instance: Instance<'_>) -> Result<String, OutOfMemory>
-    ensures text { IfOk result (λ text. subject_has_float (subject_of instance.entry) ≡ false → string_bytes text
-        ≡ pattern_text pattern.now (subject_of instance.entry)) }
+    ensures text { IfOk result (ShowsText instance.entry (pattern_text pattern.now)) }
 {
     let mut text = instance.text(alloc)?;
     text.push_str(" does not match \"")?;
@@ -41,11 +38,8 @@ fn tell_pattern<'i>(
     instance: Instance<'i>,
     answer: &mut Answer<'i>,
 ) -> Result<(), OutOfMemory>
-    ensures told { IfOk result (λ _. (texts : Bool) → Tells texts true (subject_of instance.entry) → answer_of texts answer.new
-        ≡ noted mode (codes "pattern") (answer_of texts answer.old)
-        (unless matches (spoken texts (pattern_text pattern.now (subject_of instance.entry))))) }
-    ensures borrows { IfOk result (λ _. (root : Data) → All (PassesBorrowed root) (faults_in answer.old)
-        → All (PassesBorrowed root) (faults_in answer.new)) }
+    ensures told { IfOk result (λ _. TellsMatch matches pattern.now instance.entry mode answer.old answer.new) }
+    ensures borrows { IfOk result (λ _. KeepsBorrows answer.old answer.new) }
 {
     if matches {
         return Ok(());
@@ -69,16 +63,10 @@ fn turn_of_text<'s, 'i>(
     reply: Reply<'i>,
     answer: &mut Answer<'i>,
 ) -> Result<Step<'s>, OutOfMemory>
-    ensures turns { IfOk result (λ _. (texts : Bool) → Tells texts true (subject_of instance.entry)
-        → way_turn (asks_match (codes "pattern") (record { pattern = pattern.now; subject = text.now })
-        (spoken texts (pattern_text pattern.now (subject_of instance.entry)))) (run.old, answer_of texts answer.old)
-        (reply_of texts reply.entry) ≡ (run.new, answer_of texts answer.new)) }
-    ensures steps { IfOk result (λ step. (texts : Bool)
-        → way_step (asks_match (codes "pattern") (record { pattern = pattern.now; subject = text.now })
-        (spoken texts (pattern_text pattern.now (subject_of instance.entry)))) (run.old, answer_of texts answer.old)
-        (reply_of texts reply.entry) ≡ turn_of step) }
-    ensures borrows { IfOk result (λ _. (root : Data) → All (BorrowsItsPlace root) (errors_in reply.entry)
-        → All (PassesBorrowed root) (faults_in answer.old) → All (PassesBorrowed root) (faults_in answer.new)) }
+    ensures turns { IfOk result (λ _. TellsTurnBy true (to_match pattern.now text.now) instance.entry run.old answer.old reply.entry
+        run.new answer.new) }
+    ensures steps { IfOk result (StepsBy (to_match pattern.now text.now) instance.entry run.old answer.old reply.entry) }
+    ensures borrows { IfOk result (λ _. TakesBorrows reply.entry answer.old answer.new) }
 {
     let mode = run.mode;
     match match_on(run, reply) {
@@ -101,14 +89,10 @@ pub fn turn_pattern<'s, 'i: 's>(
     reply: Reply<'i>,
     answer: &mut Answer<'i>,
 ) -> Result<Step<'s>, OutOfMemory>
-    ensures turns { IfOk result (λ _. (texts : Bool) → Tells texts true (subject_of instance.entry)
-        → way_turn (pattern_way texts pattern.now (subject_of instance.entry) (subject_string (subject_of instance.entry)))
-        (run.old, answer_of texts answer.old) (reply_of texts reply.entry) ≡ (run.new, answer_of texts answer.new)) }
-    ensures steps { IfOk result (λ step. (texts : Bool)
-        → way_step (pattern_way texts pattern.now (subject_of instance.entry) (subject_string (subject_of instance.entry)))
-        (run.old, answer_of texts answer.old) (reply_of texts reply.entry) ≡ turn_of step) }
-    ensures borrows { IfOk result (λ _. (root : Data) → All (BorrowsItsPlace root) (errors_in reply.entry)
-        → All (PassesBorrowed root) (faults_in answer.old) → All (PassesBorrowed root) (faults_in answer.new)) }
+    ensures turns { IfOk result (λ _. TellsTurnBy true (as_shape (has_pattern pattern.now)) instance.entry run.old answer.old reply.entry
+        run.new answer.new) }
+    ensures steps { IfOk result (StepsBy (as_shape (has_pattern pattern.now)) instance.entry run.old answer.old reply.entry) }
+    ensures borrows { IfOk result (λ _. TakesBorrows reply.entry answer.old answer.new) }
 {
     match text_of(instance) {
         Some(text) => turn_of_text(alloc, pattern, text, run, instance, reply, answer),

@@ -1,16 +1,11 @@
 //! `properties`.
-ghost use Rattle.std.specs.Prelude.{All, ◌≡◌, Bool, None, map, option_map, string_bytes, true, IfOk};
-ghost use Rattle.serde_json.specs.Data.{Data};
-ghost use Rattle.schema_reports.specs.ReportViews.{BorrowsItsPlace};
-ghost use Rattle.schema_reports.specs.InstanceViews.{subject_of};
-ghost use Rattle.schema_definitions.specs.Instance.{to_member};
-ghost use Rattle.schema_definitions.specs.Keywords.{down};
-ghost use Rattle.schema_parts.specs.FaultViews.{errors_in, faults_in, PassesBorrowed};
-ghost use Rattle.schema_parts.specs.KeywordViews.{answer_of, reply_of, turn_of};
-ghost use Rattle.keyword_ways.specs.Somes.{question_of, some_from};
-ghost use Rattle.keyword_ways.specs.Ways.{asked, passes_some, stage_some, way_step, way_turn};
-ghost use Rattle.keyword_ways.specs.Asking.{some_at};
-ghost use Rattle.keyword_ways.specs.Members.{members_from};
+ghost use Rattle.std.specs.Prelude.{◌≡◌, None, map, option_map, string_bytes, true, IfOk};
+ghost use Rattle.keyword_ways.specs.Somes.{some_from};
+ghost use Rattle.keyword_ways.specs.Borrowing.{TakesBorrows};
+ghost use Rattle.bench_keywords.specs.BenchShape.{has_properties};
+ghost use Rattle.keyword_ways.specs.SomeWords.{AsksSome, StandsAtSome};
+ghost use Rattle.keyword_ways.specs.TurnWords.{StepsBy, TurnsBy};
+ghost use Rattle.bench_keywords.specs.RunWays.{as_shape, at_members, member_asked};
 
 use keyword_ways::members::has_member;
 use keyword_ways::passing::onward;
@@ -30,16 +25,11 @@ pub fn turn_properties<'s, 'i>(
     reply: Reply<'i>,
     answer: &mut Answer<'i>,
 ) -> Result<Step<'s>, OutOfMemory>
-    ensures turns { IfOk result (λ _. (texts : Bool) → way_turn
-        (passes_some (members_from 0 (map string_bytes names.now) (subject_of instance.entry))) (run.old, answer_of texts answer.old)
-        (reply_of texts reply.entry)
-        ≡ (run.new, answer_of texts answer.new)) }
-    ensures steps { IfOk result (λ step. (texts : Bool) → way_step
-        (passes_some (members_from 0 (map string_bytes names.now) (subject_of instance.entry))) (run.old, answer_of texts answer.old)
-        (reply_of texts reply.entry)
-        ≡ turn_of step) }
-    ensures borrows { IfOk result (λ _. (root : Data) → All (BorrowsItsPlace root) (errors_in reply.entry)
-        → All (PassesBorrowed root) (faults_in answer.old) → All (PassesBorrowed root) (faults_in answer.new)) }
+    ensures turns { IfOk result (λ _. TurnsBy (as_shape (has_properties (map string_bytes names.now))) instance.entry run.old answer.old
+        reply.entry run.new answer.new) }
+    ensures steps { IfOk result (StepsBy (as_shape (has_properties (map string_bytes names.now))) instance.entry run.old answer.old
+        reply.entry) }
+    ensures borrows { IfOk result (λ _. TakesBorrows reply.entry answer.old answer.new) }
 {
     let start = onward(alloc, names.len(), run, reply, answer)?;
     Ok(ask_member(names, start, run, instance))
@@ -47,8 +37,7 @@ pub fn turn_properties<'s, 'i>(
 
 /// Whether no child is asked, where that shows at a glance: the instance has no members.
 pub fn asks_none(names: &[String], instance: Instance<'_>) -> bool
-    ensures none { result ≡ true
-        → some_from 0 (members_from 0 (map string_bytes names.now) (subject_of instance.entry)) ≡ None }
+    ensures none { result ≡ true → some_from 0 (at_members names.now instance.entry) ≡ None }
 {
     !may_have_members(instance) && first_present(names, 0, instance).is_none()
 }
@@ -72,11 +61,8 @@ fn ask_member<'s>(
     run: &mut Progress,
     instance: Instance<'_>,
 ) -> Step<'s>
-    ensures stage { run.new ≡ record run.old {
-      stage = stage_some (some_at (members_from 0 (map string_bytes names.now) (subject_of instance.entry)) start);
-    } }
-    ensures step { turn_of result ≡ asked run.old.mode (question_of (some_at
-        (members_from 0 (map string_bytes names.now) (subject_of instance.entry)) start)) }
+    ensures stage { StandsAtSome (at_members names.now instance.entry) start run.old run.new }
+    ensures step { AsksSome (at_members names.now instance.entry) start run.old.mode result }
 {
     match start {
         None => {
@@ -103,8 +89,7 @@ fn first_present<'s>(
     start: usize,
     instance: Instance<'_>,
 ) -> Option<(usize, &'s str)>
-    ensures present { option_map (λ p. (p.0, record { child = p.0; below = down (to_member p.1.now) })) result
-        ≡ some_from start (members_from 0 (map string_bytes names.now) (subject_of instance.entry)) }
+    ensures present { option_map (λ p. (p.0, member_asked p.0 p.1.now)) result ≡ some_from start (at_members names.now instance.entry) }
 {
     for child in start..names.len() {
         let name = names[child].as_str();

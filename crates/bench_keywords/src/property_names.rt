@@ -1,16 +1,15 @@
 //! `propertyNames`.
-ghost use Rattle.std.specs.Prelude.{All, ◌≡◌, Bool, Some, map, option_map, string_bytes, IfOk};
-ghost use Rattle.serde_json.specs.Data.{Data};
+ghost use Rattle.std.specs.Prelude.{◌≡◌, Some, map, option_map, string_bytes, IfOk};
 ghost use Rattle.serde_json.specs.View.{members_view};
-ghost use Rattle.schema_reports.specs.ReportViews.{BorrowsItsPlace};
 ghost use Rattle.schema_reports.specs.InstanceViews.{subject_of};
-ghost use Rattle.schema_parts.specs.FaultViews.{errors_in, faults_in, PassesBorrowed};
-ghost use Rattle.schema_parts.specs.KeywordViews.{answer_of, reply_of, turn_of};
-ghost use Rattle.keyword_ways.specs.Asking.{some_at};
 ghost use Rattle.keyword_ways.specs.Members.{at_name, only_if};
-ghost use Rattle.keyword_ways.specs.Somes.{question_of, some_from};
-ghost use Rattle.keyword_ways.specs.Ways.{asked, passes_some, stage_some, way_step, way_turn};
+ghost use Rattle.keyword_ways.specs.Somes.{some_from};
 ghost use Rattle.bench_keywords.specs.Words.{is_named, name_asked};
+ghost use Rattle.keyword_ways.specs.Borrowing.{TakesBorrows};
+ghost use Rattle.bench_keywords.specs.BenchShape.{has_property_names};
+ghost use Rattle.keyword_ways.specs.SomeWords.{AsksSome, StandsAtSome};
+ghost use Rattle.keyword_ways.specs.TurnWords.{StepsBy, TurnsBy};
+ghost use Rattle.bench_keywords.specs.RunWays.{at_names, holding};
 
 use keyword_ways::passing::onward;
 use keyword_ways::run::{Progress, Stage};
@@ -51,8 +50,7 @@ fn first_name<'i>(
     start: usize,
     instance: Instance<'i>,
 ) -> Option<(usize, &'i str)>
-    ensures name { option_map (λ p. (p.0, at_name p.1.now)) result
-        ≡ some_from start (map (name_asked (subject_of instance.entry)) (map string_bytes names.now)) }
+    ensures name { option_map (λ p. (p.0, at_name p.1.now)) result ≡ some_from start (at_names names.now instance.entry) }
 {
     for place in start..names.len() {
         if let Some(name) = name_in(instance, names[place].as_str()) {
@@ -70,11 +68,8 @@ fn ask_name<'i>(
     run: &mut Progress,
     instance: Instance<'i>,
 ) -> Step<'i>
-    ensures stage { run.new ≡ record run.old {
-      stage = stage_some (some_at (map (name_asked (subject_of instance.entry)) (map string_bytes names.now)) start);
-    } }
-    ensures step { turn_of result ≡ asked run.old.mode (question_of (some_at
-        (map (name_asked (subject_of instance.entry)) (map string_bytes names.now)) start)) }
+    ensures stage { StandsAtSome (at_names names.now instance.entry) start run.old run.new }
+    ensures step { AsksSome (at_names names.now instance.entry) start run.old.mode result }
 {
     match start {
         None => {
@@ -104,16 +99,11 @@ pub fn turn_property_names<'i>(
     reply: Reply<'i>,
     answer: &mut Answer<'i>,
 ) -> Result<Step<'i>, OutOfMemory>
-    ensures turns { IfOk result (λ _. (texts : Bool) → way_turn
-        (passes_some (map (name_asked (subject_of instance.entry)) (map string_bytes names.now))) (run.old, answer_of texts answer.old)
-        (reply_of texts reply.entry)
-        ≡ (run.new, answer_of texts answer.new)) }
-    ensures steps { IfOk result (λ step. (texts : Bool) → way_step
-        (passes_some (map (name_asked (subject_of instance.entry)) (map string_bytes names.now))) (run.old, answer_of texts answer.old)
-        (reply_of texts reply.entry)
-        ≡ turn_of step) }
-    ensures borrows { IfOk result (λ _. (root : Data) → All (BorrowsItsPlace root) (errors_in reply.entry)
-        → All (PassesBorrowed root) (faults_in answer.old) → All (PassesBorrowed root) (faults_in answer.new)) }
+    ensures turns { IfOk result (λ _. TurnsBy (holding (map string_bytes names.now) has_property_names) instance.entry run.old answer.old
+        reply.entry run.new answer.new) }
+    ensures steps { IfOk result (StepsBy (holding (map string_bytes names.now) has_property_names) instance.entry run.old answer.old
+        reply.entry) }
+    ensures borrows { IfOk result (λ _. TakesBorrows reply.entry answer.old answer.new) }
 {
     let start = onward(alloc, names.len(), run, reply, answer)?;
     Ok(ask_name(names, start, run, instance))

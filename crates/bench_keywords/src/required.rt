@@ -1,14 +1,11 @@
 //! `required`.
-ghost use Rattle.std.specs.Prelude.{All, ◌≡◌, ◌&&◌, not, Bool, codes, map, string_bytes, IfOk};
+ghost use Rattle.std.specs.Prelude.{◌≡◌, map, string_bytes, IfOk};
 ghost use Rattle.std.specs.List.{list_any};
-ghost use Rattle.serde_json.specs.Data.{Data};
 ghost use Rattle.schema_reports.specs.InstanceViews.{subject_of};
-ghost use Rattle.schema_reports.specs.ReportViews.{spoken};
-ghost use Rattle.schema_parts.specs.FaultViews.{faults_in, PassesBorrowed};
-ghost use Rattle.schema_parts.specs.KeywordViews.{answer_of};
-ghost use Rattle.keyword_ways.specs.Members.{has_member, is_object};
-ghost use Rattle.keyword_ways.specs.Ways.{noted};
-ghost use Rattle.bench_keywords.specs.Words.{missing, required_text};
+ghost use Rattle.bench_keywords.specs.Words.{required_text, lacks};
+ghost use Rattle.keyword_ways.specs.Borrowing.{KeepsBorrows};
+ghost use Rattle.bench_keywords.specs.Telling.{TellsMissing};
+ghost use Rattle.schema_parts.specs.Showing.{Shows};
 
 use keyword_ways::answers::{note, refuse};
 use keyword_ways::members::{has_member, is_object};
@@ -25,11 +22,8 @@ pub fn tell_required<'i>(
     instance: Instance<'i>,
     answer: &mut Answer<'i>,
 ) -> Result<(), OutOfMemory>
-    ensures told { IfOk result (λ _. (texts : Bool) → answer_of texts answer.new
-        ≡ noted mode (codes "required") (answer_of texts answer.old)
-        (map (λ k. spoken texts (required_text k)) (missing (map string_bytes names.now) (subject_of instance.entry)))) }
-    ensures borrows { IfOk result (λ _. (root : Data) → All (PassesBorrowed root) (faults_in answer.old)
-        → All (PassesBorrowed root) (faults_in answer.new)) }
+    ensures told { IfOk result (λ _. TellsMissing (map string_bytes names.now) instance.entry mode answer.old answer.new) }
+    ensures borrows { IfOk result (λ _. KeepsBorrows answer.old answer.new) }
 {
     if mode == Mode::Verdict {
         if lacks_one(names, instance) {
@@ -48,24 +42,21 @@ pub fn tell_required<'i>(
 
 /// Whether the instance is an object that lacks one of these members.
 pub fn lacks_one(names: &[String], instance: Instance<'_>) -> bool
-    ensures lacks { result ≡ list_any
-        (λ k. is_object (subject_of instance.entry) && not (has_member (string_bytes k) (subject_of instance.entry)))
-        names.now }
+    ensures lacks { result ≡ list_any (λ k. lacks (string_bytes k) (subject_of instance.entry)) names.now }
 {
     names.iter().any(|name| is_missing(name, instance))
 }
 
 /// Whether the instance is an object without this member.
 fn is_missing(name: &String, instance: Instance<'_>) -> bool
-    ensures missing { result ≡ (is_object (subject_of instance.entry) && not
-        (has_member (string_bytes name.now) (subject_of instance.entry))) }
+    ensures missing { result ≡ lacks (string_bytes name.now) (subject_of instance.entry) }
 {
     is_object(instance) && !has_member(instance, name.as_str())
 }
 
 /// The error's text.
 pub fn required_text(alloc: Global, name: &str) -> Result<String, OutOfMemory>
-    ensures text { IfOk result (λ text. string_bytes text ≡ required_text name.now) }
+    ensures text { Shows string_bytes result (required_text name.now) }
 {
     let mut text = Instance::Name(name).text(alloc)?;
     text.push_str(" is a required property")?;

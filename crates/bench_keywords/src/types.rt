@@ -1,15 +1,13 @@
 //! `type`.
-ghost use Rattle.std.specs.Prelude.{All, ◌≡◌, ◌++◌, Bool, true, codes, false, map, string_bytes, IfOk};
+ghost use Rattle.std.specs.Prelude.{◌≡◌, ◌++◌, codes, IfOk};
 ghost use Rattle.std.specs.List.{list_any};
-ghost use Rattle.serde_json.specs.Data.{Data};
 ghost use Rattle.schema_reports.specs.InstanceViews.{subject_of};
-ghost use Rattle.schema_reports.specs.ReportViews.{spoken};
-ghost use Rattle.schema_reports.specs.InstanceTexts.{subject_has_float};
-ghost use Rattle.schema_parts.specs.FaultViews.{faults_in, PassesBorrowed};
-ghost use Rattle.schema_parts.specs.KeywordViews.{answer_of, Tells};
 ghost use Rattle.bench_keywords.specs.TypeNames.{fits, type_name};
-ghost use Rattle.keyword_ways.specs.Ways.{noted, unless};
 ghost use Rattle.bench_keywords.specs.Words.{more_names, names_text, type_text, types_text};
+ghost use Rattle.keyword_ways.specs.Borrowing.{KeepsBorrows};
+ghost use Rattle.bench_keywords.specs.BenchShape.{has_type, has_types};
+ghost use Rattle.keyword_ways.specs.TextWords.{Adds, ShowsText};
+ghost use Rattle.bench_keywords.specs.Telling.{TellsOwn};
 
 use crate::type_names::TypeName;
 use keyword_ways::answers::{note, refuse};
@@ -26,11 +24,8 @@ pub fn tell_type<'i>(
     instance: Instance<'i>,
     answer: &mut Answer<'i>,
 ) -> Result<(), OutOfMemory>
-    ensures told { IfOk result (λ _. (texts : Bool) → Tells texts true (subject_of instance.entry) → answer_of texts answer.new
-        ≡ noted mode (codes "type") (answer_of texts answer.old)
-        (map (spoken texts) (unless (fits name (subject_of instance.entry)) (type_text name (subject_of instance.entry))))) }
-    ensures borrows { IfOk result (λ _. (root : Data) → All (PassesBorrowed root) (faults_in answer.old)
-        → All (PassesBorrowed root) (faults_in answer.new)) }
+    ensures told { IfOk result (λ _. TellsOwn (has_type name) instance.entry mode answer.old answer.new) }
+    ensures borrows { IfOk result (λ _. KeepsBorrows answer.old answer.new) }
 {
     if name.fits(instance) {
         return Ok(());
@@ -49,8 +44,7 @@ pub fn type_text(
     name: TypeName,
     instance: Instance<'_>,
 ) -> Result<String, OutOfMemory>
-    ensures text { IfOk result (λ text. subject_has_float (subject_of instance.entry) ≡ false → string_bytes text
-        ≡ type_text name (subject_of instance.entry)) }
+    ensures text { IfOk result (ShowsText instance.entry (type_text name)) }
 {
     let mut text = instance.text(alloc)?;
     text.push_str(" is not of type \"")?;
@@ -67,12 +61,8 @@ pub fn tell_types<'i>(
     instance: Instance<'i>,
     answer: &mut Answer<'i>,
 ) -> Result<(), OutOfMemory>
-    ensures told { IfOk result (λ _. (texts : Bool) → Tells texts true (subject_of instance.entry) → answer_of texts answer.new
-        ≡ noted mode (codes "type") (answer_of texts answer.old)
-        (map (spoken texts) (unless (list_any (λ t. fits t (subject_of instance.entry)) names.now)
-        (types_text names.now (subject_of instance.entry))))) }
-    ensures borrows { IfOk result (λ _. (root : Data) → All (PassesBorrowed root) (faults_in answer.old)
-        → All (PassesBorrowed root) (faults_in answer.new)) }
+    ensures told { IfOk result (λ _. TellsOwn (has_types names.now) instance.entry mode answer.old answer.new) }
+    ensures borrows { IfOk result (λ _. KeepsBorrows answer.old answer.new) }
 {
     if fits_one(names, instance) {
         return Ok(());
@@ -98,8 +88,7 @@ pub fn types_text(
     names: &[TypeName],
     instance: Instance<'_>,
 ) -> Result<String, OutOfMemory>
-    ensures text { IfOk result (λ text. subject_has_float (subject_of instance.entry) ≡ false → string_bytes text
-        ≡ types_text names.now (subject_of instance.entry)) }
+    ensures text { IfOk result (ShowsText instance.entry (types_text names.now)) }
 {
     let mut text = instance.text(alloc)?;
     text.push_str(" is not of types ")?;
@@ -109,7 +98,7 @@ pub fn types_text(
 
 /// Adds the names, each in quotes, with a comma between.
 fn push_names(names: &[TypeName], text: &mut String) -> Result<(), OutOfMemory>
-    ensures pushed { IfOk result (λ _. string_bytes text.new ≡ string_bytes text.old ++ names_text names.now) }
+    ensures pushed { IfOk result (λ _. Adds (names_text names.now) text.old text.new) }
 {
     if names.is_empty() {
         return Ok(());
@@ -120,7 +109,7 @@ fn push_names(names: &[TypeName], text: &mut String) -> Result<(), OutOfMemory>
 
 /// Adds the names after the first.
 fn push_more(names: &[TypeName], text: &mut String) -> Result<(), OutOfMemory>
-    ensures pushed { IfOk result (λ _. string_bytes text.new ≡ string_bytes text.old ++ more_names names.now) }
+    ensures pushed { IfOk result (λ _. Adds (more_names names.now) text.old text.new) }
 {
     for name in names {
         push_name(", \"", *name, text)?;
@@ -130,7 +119,7 @@ fn push_more(names: &[TypeName], text: &mut String) -> Result<(), OutOfMemory>
 
 /// Adds what stands before a name, the name, and a quote.
 fn push_name(before: &str, name: TypeName, text: &mut String) -> Result<(), OutOfMemory>
-    ensures pushed { IfOk result (λ _. string_bytes text.new ≡ string_bytes text.old ++ (before.now ++ type_name name ++ codes "\"")) }
+    ensures pushed { IfOk result (λ _. Adds (before.now ++ type_name name ++ codes "\"") text.old text.new) }
 {
     text.push_str(before)?;
     text.push_str(name.as_str())?;

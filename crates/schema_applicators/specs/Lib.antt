@@ -11,3 +11,4 @@ pub mod OneOf
 pub mod Not
 pub mod If
 pub mod Meanings
+pub mod RunWays

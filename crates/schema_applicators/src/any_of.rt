@@ -1,13 +1,9 @@
 //! `anyOf`.
-ghost use Rattle.std.specs.Prelude.{All, ◌≡◌, Bool, codes, true, IfOk};
-ghost use Rattle.serde_json.specs.Data.{Data};
-ghost use Rattle.schema_reports.specs.InstanceViews.{subject_of};
-ghost use Rattle.schema_reports.specs.ReportViews.{BorrowsItsPlace, spoken};
-ghost use Rattle.schema_parts.specs.FaultViews.{errors_in, faults_in, PassesBorrowed};
-ghost use Rattle.schema_parts.specs.KeywordViews.{answer_of, reply_of, turn_of, Tells};
-ghost use Rattle.keyword_ways.specs.Items.{child_here, each_from};
-ghost use Rattle.keyword_ways.specs.Ways.{judges, noted, way_step, way_turn};
-ghost use Rattle.schema_applicators.specs.Words.{any_of_tally, if_none, none_text};
+ghost use Rattle.std.specs.Prelude.{true, IfOk};
+ghost use Rattle.schema_applicators.specs.Words.{any_of_tally};
+ghost use Rattle.keyword_ways.specs.Borrowing.{KeepsBorrows, TakesBorrows};
+ghost use Rattle.keyword_ways.specs.TurnWords.{StepsBy, TellsTurnBy};
+ghost use Rattle.schema_applicators.specs.RunWays.{TellsTally, judges_any_of};
 
 use crate::texts::none_text;
 use keyword_ways::answers::{note, refuse};
@@ -26,11 +22,8 @@ fn tell_any_of<'i>(
     instance: Instance<'i>,
     answer: &mut Answer<'i>,
 ) -> Result<(), OutOfMemory>
-    ensures told { IfOk result (λ _. (texts : Bool) → Tells texts true (subject_of instance.entry) → answer_of texts answer.new
-        ≡ noted mode (codes "anyOf") (answer_of texts answer.old)
-        (if_none (spoken texts (none_text (codes "anyOf") (subject_of instance.entry))) accepted)) }
-    ensures borrows { IfOk result (λ _. (root : Data) → All (PassesBorrowed root) (faults_in answer.old)
-        → All (PassesBorrowed root) (faults_in answer.new)) }
+    ensures told { IfOk result (λ _. TellsTally true any_of_tally accepted instance.entry mode answer.old answer.new) }
+    ensures borrows { IfOk result (λ _. KeepsBorrows answer.old answer.new) }
 {
     if accepted > 0 {
         return Ok(());
@@ -53,14 +46,10 @@ pub fn turn_any_of<'s, 'i>(
     reply: Reply<'i>,
     answer: &mut Answer<'i>,
 ) -> Result<Step<'s>, OutOfMemory>
-    ensures turns { IfOk result (λ _. (texts : Bool) → Tells texts true (subject_of instance.entry)
-        → way_turn (judges (any_of_tally texts (subject_of instance.entry)) (each_from child_here 0 count))
-        (run.old, answer_of texts answer.old) (reply_of texts reply.entry) ≡ (run.new, answer_of texts answer.new)) }
-    ensures steps { IfOk result (λ step. (texts : Bool)
-        → way_step (judges (any_of_tally texts (subject_of instance.entry)) (each_from child_here 0 count))
-        (run.old, answer_of texts answer.old) (reply_of texts reply.entry) ≡ turn_of step) }
-    ensures borrows { IfOk result (λ _. (root : Data) → All (BorrowsItsPlace root) (errors_in reply.entry)
-        → All (PassesBorrowed root) (faults_in answer.old) → All (PassesBorrowed root) (faults_in answer.new)) }
+    ensures turns { IfOk result (λ _. TellsTurnBy true (judges_any_of count) instance.entry run.old answer.old reply.entry run.new
+        answer.new) }
+    ensures steps { IfOk result (StepsBy (judges_any_of count) instance.entry run.old answer.old reply.entry) }
+    ensures borrows { IfOk result (λ _. TakesBorrows reply.entry answer.old answer.new) }
 {
     let mode = run.mode;
     let judge = Judge {

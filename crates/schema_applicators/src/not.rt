@@ -1,16 +1,12 @@
 //! `not`.
-ghost use Rattle.std.specs.Prelude.{All, ◌≡◌, Bool, codes, false, not, string_bytes, IfOk};
-ghost use Rattle.serde_json.specs.Data.{Data};
+ghost use Rattle.std.specs.Prelude.{◌≡◌, false, not, IfOk};
 ghost use Rattle.serde_json.specs.View.{view};
 ghost use Rattle.serde_json.specs.Written.{compact_text, has_float};
-ghost use Rattle.schema_reports.specs.InstanceViews.{subject_of};
-ghost use Rattle.schema_reports.specs.ReportViews.{BorrowsItsPlace, spoken};
-ghost use Rattle.schema_reports.specs.InstanceTexts.{subject_has_float};
-ghost use Rattle.schema_parts.specs.FaultViews.{errors_in, faults_in, PassesBorrowed};
-ghost use Rattle.schema_parts.specs.KeywordViews.{answer_of, reply_of, turn_of, Tells};
-ghost use Rattle.keyword_ways.specs.Items.{child_here, each_from};
-ghost use Rattle.keyword_ways.specs.Ways.{judges, noted, way_step, way_turn};
-ghost use Rattle.schema_applicators.specs.Words.{if_any, not_tally, not_text};
+ghost use Rattle.schema_applicators.specs.Words.{not_text};
+ghost use Rattle.keyword_ways.specs.Borrowing.{KeepsBorrows, TakesBorrows};
+ghost use Rattle.keyword_ways.specs.TextWords.{ShowsText};
+ghost use Rattle.keyword_ways.specs.TurnWords.{StepsBy, TellsTurnBy};
+ghost use Rattle.schema_applicators.specs.RunWays.{TellsTally, judges_not, tally_of_not};
 
 use keyword_ways::answers::{note, refuse};
 use keyword_ways::judging::{Judge, Judging, judge_children};
@@ -23,8 +19,8 @@ use std::alloc::Global;
 
 /// The error's text.
 fn not_text(alloc: Global, schema: &Value, instance: Instance<'_>) -> Result<String, OutOfMemory>
-    ensures text { IfOk result (λ text. has_float (view schema.now) ≡ false → subject_has_float (subject_of instance.entry) ≡ false
-        → string_bytes text ≡ not_text (compact_text (view schema.now)) (subject_of instance.entry)) }
+    ensures text { IfOk result (λ text. has_float (view schema.now) ≡ false → ShowsText instance.entry
+        (not_text (compact_text (view schema.now))) text) }
 {
     let mut text = schema.to_string(alloc)?;
     text.push_str(" is not allowed for ")?;
@@ -42,12 +38,9 @@ fn tell_not<'i>(
     instance: Instance<'i>,
     answer: &mut Answer<'i>,
 ) -> Result<(), OutOfMemory>
-    ensures told { IfOk result (λ _. (texts : Bool) → Tells texts (not (has_float (view schema.now))) (subject_of instance.entry)
-        → answer_of texts answer.new
-        ≡ noted mode (codes "not") (answer_of texts answer.old)
-        (if_any (spoken texts (not_text (compact_text (view schema.now)) (subject_of instance.entry))) accepted)) }
-    ensures borrows { IfOk result (λ _. (root : Data) → All (PassesBorrowed root) (faults_in answer.old)
-        → All (PassesBorrowed root) (faults_in answer.new)) }
+    ensures told { IfOk result (λ _. TellsTally (not (has_float (view schema.now))) (tally_of_not (view schema.now)) accepted
+        instance.entry mode answer.old answer.new) }
+    ensures borrows { IfOk result (λ _. KeepsBorrows answer.old answer.new) }
 {
     if accepted == 0 {
         return Ok(());
@@ -70,14 +63,10 @@ pub fn turn_not<'s, 'i>(
     reply: Reply<'i>,
     answer: &mut Answer<'i>,
 ) -> Result<Step<'s>, OutOfMemory>
-    ensures turns { IfOk result (λ _. (texts : Bool) → Tells texts (not (has_float (view schema.now))) (subject_of instance.entry)
-        → way_turn (judges (not_tally texts (compact_text (view schema.now)) (subject_of instance.entry)) (each_from child_here 0 1))
-        (run.old, answer_of texts answer.old) (reply_of texts reply.entry) ≡ (run.new, answer_of texts answer.new)) }
-    ensures steps { IfOk result (λ step. (texts : Bool)
-        → way_step (judges (not_tally texts (compact_text (view schema.now)) (subject_of instance.entry)) (each_from child_here 0 1))
-        (run.old, answer_of texts answer.old) (reply_of texts reply.entry) ≡ turn_of step) }
-    ensures borrows { IfOk result (λ _. (root : Data) → All (BorrowsItsPlace root) (errors_in reply.entry)
-        → All (PassesBorrowed root) (faults_in answer.old) → All (PassesBorrowed root) (faults_in answer.new)) }
+    ensures turns { IfOk result (λ _. TellsTurnBy (not (has_float (view schema.now))) (judges_not (view schema.now)) instance.entry run.old
+        answer.old reply.entry run.new answer.new) }
+    ensures steps { IfOk result (StepsBy (judges_not (view schema.now)) instance.entry run.old answer.old reply.entry) }
+    ensures borrows { IfOk result (λ _. TakesBorrows reply.entry answer.old answer.new) }
 {
     let mode = run.mode;
     let judge = Judge {

@@ -1,14 +1,10 @@
 //! `oneOf`.
-ghost use Rattle.std.specs.Prelude.{All, ◌≡◌, Bool, codes, true, IfOk, false, string_bytes};
-ghost use Rattle.serde_json.specs.Data.{Data};
-ghost use Rattle.schema_reports.specs.InstanceViews.{subject_of};
-ghost use Rattle.schema_reports.specs.ReportViews.{BorrowsItsPlace, spoken};
-ghost use Rattle.schema_reports.specs.InstanceTexts.{subject_has_float};
-ghost use Rattle.schema_parts.specs.FaultViews.{errors_in, faults_in, PassesBorrowed};
-ghost use Rattle.schema_parts.specs.KeywordViews.{answer_of, reply_of, turn_of, Tells};
-ghost use Rattle.keyword_ways.specs.Items.{child_here, each_from};
-ghost use Rattle.keyword_ways.specs.Ways.{judges, noted, way_step, way_turn};
-ghost use Rattle.schema_applicators.specs.Words.{many_text, none_text, one_of_tally, unless_one};
+ghost use Rattle.std.specs.Prelude.{true, IfOk};
+ghost use Rattle.schema_applicators.specs.Words.{many_text, one_of_tally};
+ghost use Rattle.keyword_ways.specs.Borrowing.{KeepsBorrows, TakesBorrows};
+ghost use Rattle.keyword_ways.specs.TextWords.{ShowsText};
+ghost use Rattle.keyword_ways.specs.TurnWords.{StepsBy, TellsTurnBy};
+ghost use Rattle.schema_applicators.specs.RunWays.{TellsTally, judges_one_of};
 
 use crate::texts::none_text;
 use keyword_ways::answers::{note, refuse};
@@ -21,8 +17,7 @@ use std::alloc::Global;
 
 /// The error's text where more than one accepts.
 fn many_text(alloc: Global, instance: Instance<'_>) -> Result<String, OutOfMemory>
-    ensures text { IfOk result (λ text. subject_has_float (subject_of instance.entry) ≡ false → string_bytes text
-        ≡ many_text (subject_of instance.entry)) }
+    ensures text { IfOk result (ShowsText instance.entry many_text) }
 {
     let mut text = instance.text(alloc)?;
     text.push_str(" is valid under more than one of the schemas listed in the 'oneOf' keyword")?;
@@ -37,12 +32,8 @@ fn tell_one_of<'i>(
     instance: Instance<'i>,
     answer: &mut Answer<'i>,
 ) -> Result<(), OutOfMemory>
-    ensures told { IfOk result (λ _. (texts : Bool) → Tells texts true (subject_of instance.entry) → answer_of texts answer.new
-        ≡ noted mode (codes "oneOf") (answer_of texts answer.old)
-        (unless_one (spoken texts (none_text (codes "oneOf") (subject_of instance.entry)))
-        (spoken texts (many_text (subject_of instance.entry))) accepted)) }
-    ensures borrows { IfOk result (λ _. (root : Data) → All (PassesBorrowed root) (faults_in answer.old)
-        → All (PassesBorrowed root) (faults_in answer.new)) }
+    ensures told { IfOk result (λ _. TellsTally true one_of_tally accepted instance.entry mode answer.old answer.new) }
+    ensures borrows { IfOk result (λ _. KeepsBorrows answer.old answer.new) }
 {
     if accepted == 1 {
         return Ok(());
@@ -69,14 +60,10 @@ pub fn turn_one_of<'s, 'i>(
     reply: Reply<'i>,
     answer: &mut Answer<'i>,
 ) -> Result<Step<'s>, OutOfMemory>
-    ensures turns { IfOk result (λ _. (texts : Bool) → Tells texts true (subject_of instance.entry)
-        → way_turn (judges (one_of_tally texts (subject_of instance.entry)) (each_from child_here 0 count))
-        (run.old, answer_of texts answer.old) (reply_of texts reply.entry) ≡ (run.new, answer_of texts answer.new)) }
-    ensures steps { IfOk result (λ step. (texts : Bool)
-        → way_step (judges (one_of_tally texts (subject_of instance.entry)) (each_from child_here 0 count))
-        (run.old, answer_of texts answer.old) (reply_of texts reply.entry) ≡ turn_of step) }
-    ensures borrows { IfOk result (λ _. (root : Data) → All (BorrowsItsPlace root) (errors_in reply.entry)
-        → All (PassesBorrowed root) (faults_in answer.old) → All (PassesBorrowed root) (faults_in answer.new)) }
+    ensures turns { IfOk result (λ _. TellsTurnBy true (judges_one_of count) instance.entry run.old answer.old reply.entry run.new
+        answer.new) }
+    ensures steps { IfOk result (StepsBy (judges_one_of count) instance.entry run.old answer.old reply.entry) }
+    ensures borrows { IfOk result (λ _. TakesBorrows reply.entry answer.old answer.new) }
 {
     let mode = run.mode;
     let judge = Judge {
