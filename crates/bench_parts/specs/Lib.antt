@@ -3,3 +3,4 @@ pub mod MakerLaws
 pub mod BenchMatching
 pub mod BenchMeta
 pub mod MetaPlaces
+pub mod FaultWords

@@ -1,5 +1,5 @@
 //! The meta validators.
-ghost use Rattle.std.specs.Prelude.{◌≡◌, ◌++◌, ◌∷◌, [], Bool, IfOk, IfSome, Some, true, false, is_some, option_map, string_bytes};
+ghost use Rattle.std.specs.Prelude.{◌≡◌, [], Bool, IfOk, Some, true, false, is_some, string_bytes};
 ghost use Rattle.serde_json.specs.Data.{Data, array, object};
 ghost use Rattle.serde_json.specs.Find.{as_array};
 ghost use Rattle.serde_json.specs.Written.{has_float, items_have_float, members_have_float};
@@ -10,6 +10,7 @@ ghost use Rattle.schema_reports.specs.ReportViews.{BorrowsItsPlace, error_of};
 ghost use Rattle.bench_parts.specs.BenchMeta.{HasNoFaultInside, HasNoFaultItself};
 ghost use Rattle.bench_parts.specs.BenchMeta.{fault_in, fault_in_items, fault_in_members, is_2020_12, is_schema, member_fault};
 ghost use Rattle.bench_parts.specs.BenchMeta.{is_list_of_items, is_no_length, mistyped, type_text};
+ghost use Rattle.bench_parts.specs.FaultWords.{FaultBorrows, FaultIs};
 ghost use Rattle.bench_parts.specs.MetaPlaces.{steps_to};
 
 use crate::meta_place::MetaPlace;
@@ -113,10 +114,9 @@ fn member_fault<'v>(
     name: &str,
     member: &'v Value,
 ) -> Result<Option<ValidationError<'v>>, OutOfMemory>
-    ensures fault { IfOk result (λ o. (texts : Bool) → (texts ≡ true → has_float (view member.now) ≡ false)
-        → option_map (error_of texts) o ≡ member_fault texts (draft_of draft) (steps_to place.now) name.now (view member.now)) }
-    ensures borrows { IfOk result (λ o. (root : Data) → subject_at root (steps_to place.now) ≡ Some (a_value (view member.now))
-        → IfSome o (BorrowsItsPlace root)) }
+    ensures fault { IfOk result (FaultIs (has_float (view member.now))
+        (λ texts. member_fault texts (draft_of draft) (steps_to place.now) name.now (view member.now))) }
+    ensures borrows { IfOk result (FaultBorrows (steps_to place.now) (view member.now)) }
 {
     if is_no_length(name, member) {
         return Ok(Some(mistyped(alloc, place.made(alloc)?, member, "type \"number\"")?));
@@ -140,10 +140,9 @@ fn fault_in<'v>(
     place: &MetaPlace<'_, 'v>,
     value: &'v Value,
 ) -> Result<Option<ValidationError<'v>>, OutOfMemory>
-    ensures fault { IfOk result (λ o. (texts : Bool) → (texts ≡ true → has_float (view value.now) ≡ false)
-        → option_map (error_of texts) o ≡ fault_in texts (draft_of draft) (steps_to place.now) (view value.now)) }
-    ensures borrows { IfOk result (λ o. (root : Data) → subject_at root (steps_to place.now) ≡ Some (a_value (view value.now))
-        → IfSome o (BorrowsItsPlace root)) }
+    ensures fault { IfOk result (FaultIs (has_float (view value.now))
+        (λ texts. fault_in texts (draft_of draft) (steps_to place.now) (view value.now))) }
+    ensures borrows { IfOk result (FaultBorrows (steps_to place.now) (view value.now)) }
 {
     match value {
         Value::Array(items) => fault_in_items(alloc, draft, place, items),
@@ -160,10 +159,9 @@ fn fault_in_items<'v>(
     place: &MetaPlace<'_, 'v>,
     items: &'v Vec<Value>,
 ) -> Result<Option<ValidationError<'v>>, OutOfMemory>
-    ensures fault { IfOk result (λ o. (texts : Bool) → (texts ≡ true → items_have_float (items_view items.now.items) ≡ false)
-        → option_map (error_of texts) o ≡ fault_in_items texts (draft_of draft) (steps_to place.now) 0 (items_view items.now.items)) }
-    ensures borrows { IfOk result (λ o. (root : Data)
-        → subject_at root (steps_to place.now) ≡ Some (a_value (array (items_view items.now.items))) → IfSome o (BorrowsItsPlace root)) }
+    ensures fault { IfOk result (FaultIs (items_have_float (items_view items.now.items))
+        (λ texts. fault_in_items texts (draft_of draft) (steps_to place.now) 0 (items_view items.now.items))) }
+    ensures borrows { IfOk result (FaultBorrows (steps_to place.now) (array (items_view items.now.items))) }
 {
     for (index, item) in items.iter().enumerate() {
         if !has_inside(item) {
@@ -185,12 +183,9 @@ fn fault_in_members<'v>(
     place: &MetaPlace<'_, 'v>,
     members: &'v Map<String, Value>,
 ) -> Result<Option<ValidationError<'v>>, OutOfMemory>
-    ensures fault { IfOk result (λ o. (texts : Bool) → (texts ≡ true → members_have_float (members_view members.now.entries) ≡ false)
-        → option_map (error_of texts) o
-        ≡ fault_in_members texts (draft_of draft) (steps_to place.now) (members_view members.now.entries)) }
-    ensures borrows { IfOk result (λ o. (root : Data)
-        → subject_at root (steps_to place.now) ≡ Some (a_value (object (members_view members.now.entries)))
-        → IfSome o (BorrowsItsPlace root)) }
+    ensures fault { IfOk result (FaultIs (members_have_float (members_view members.now.entries))
+        (λ texts. fault_in_members texts (draft_of draft) (steps_to place.now) (members_view members.now.entries))) }
+    ensures borrows { IfOk result (FaultBorrows (steps_to place.now) (object (members_view members.now.entries))) }
 {
     for (name, member) in members.iter() {
         let named = name.as_str();

@@ -1,10 +1,9 @@
 //! The keyword table.
-ghost use Rattle.std.specs.Prelude.{◌≡◌, IfOk};
+ghost use Rattle.std.specs.Prelude.{IfOk};
 ghost use Rattle.serde_json.specs.Find.{get_member};
 ghost use Rattle.serde_json.specs.View.{members_view, view};
 ghost use Rattle.schema_keywords.specs.KeywordViews.{draft_of};
-ghost use Rattle.schema_parts.specs.MakerViews as makers;
-ghost use Rattle.keyword_makers.specs.MakerViews.{waiting_of};
+ghost use Rattle.keyword_makers.specs.MakerViews.{Begins, waiting_of};
 ghost use Rattle.bench_parts.specs.Makers.{items_script, later_script, member_script, properties_script, schema_script, value_script};
 ghost use Rattle.bench_keywords.specs.Shapes.{shape_of};
 
@@ -43,7 +42,7 @@ fn properties_maker(
     name: &str,
     value: &Value,
 ) -> Result<PathsMaker<BenchKeyword>, OutOfMemory>
-    ensures maker { IfOk result (λ m. waiting_of shape_of m ≡ makers.begun (properties_script name.now (view value.now))) }
+    ensures maker { IfOk result (Begins shape_of (properties_script name.now (view value.now))) }
 {
     match value.as_object() {
         Some(members) => {
@@ -63,8 +62,8 @@ fn items_maker(
     object: &Map<String, Value>,
     draft: Draft,
 ) -> Result<PathsMaker<BenchKeyword>, OutOfMemory>
-    ensures maker { IfOk result (λ m. waiting_of shape_of m
-        ≡ makers.begun (items_script (draft_of draft) (members_view object.now.entries) name.now (view value.now))) }
+    ensures maker { IfOk result (Begins shape_of
+        (items_script (draft_of draft) (members_view object.now.entries) name.now (view value.now))) }
 {
     if is_older_list(draft, value) {
         return Ok(ends(alloc, Ending::Nothing));
@@ -81,8 +80,8 @@ fn value_maker(
     object: &Map<String, Value>,
     draft: Draft,
 ) -> Result<PathsMaker<BenchKeyword>, OutOfMemory>
-    ensures maker { IfOk result (λ m. waiting_of shape_of m
-        ≡ makers.begun (value_script (draft_of draft) (members_view object.now.entries) name.now (view value.now))) }
+    ensures maker { IfOk result (Begins shape_of
+        (value_script (draft_of draft) (members_view object.now.entries) name.now (view value.now))) }
 {
     if name == "type" {
         let keyword = type_keyword(alloc, value)?;
@@ -106,8 +105,8 @@ fn later_maker(
     object: &Map<String, Value>,
     draft: Draft,
 ) -> Result<PathsMaker<BenchKeyword>, OutOfMemory>
-    ensures maker { IfOk result (λ m. waiting_of shape_of m
-        ≡ makers.begun (later_script (draft_of draft) (members_view object.now.entries) name.now (view value.now))) }
+    ensures maker { IfOk result (Begins shape_of
+        (later_script (draft_of draft) (members_view object.now.entries) name.now (view value.now))) }
 {
     if name == "minLength" {
         return makes_if(
@@ -148,8 +147,8 @@ fn schema_maker(
     object: &Map<String, Value>,
     draft: Draft,
 ) -> Result<PathsMaker<BenchKeyword>, OutOfMemory>
-    ensures maker { IfOk result (λ m. waiting_of shape_of m
-        ≡ makers.begun (schema_script (draft_of draft) (members_view object.now.entries) name.now (view value.now))) }
+    ensures maker { IfOk result (Begins shape_of
+        (schema_script (draft_of draft) (members_view object.now.entries) name.now (view value.now))) }
 {
     if name == "allOf" {
         return each_schema(alloc, name, value, BenchKeyword::AllOf(list_length(value)));
@@ -188,8 +187,7 @@ fn member_maker(
     object: &Map<String, Value>,
     draft: Draft,
 ) -> Result<PathsMaker<BenchKeyword>, OutOfMemory>
-    ensures maker { IfOk result (λ m. waiting_of shape_of m
-        ≡ makers.begun (member_script (draft_of draft) (members_view object.now.entries) name.now
+    ensures maker { IfOk result (Begins shape_of (member_script (draft_of draft) (members_view object.now.entries) name.now
         (get_member name.now (members_view object.now.entries)))) }
 {
     match value_in(object, name) {
