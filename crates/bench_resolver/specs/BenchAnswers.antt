@@ -1,11 +1,13 @@
 -- What the resolver of some documents answers. (Core 2020-12, sections 8.2 and 9.1)
-use Rattle.std.specs.Prelude.{List, None, Option, Some, [], map, slice_get, ℕ, ◌≡◌, ◌∷◌, string_bytes}
+use Rattle.std.specs.Prelude.{IsSome, List, None, Option, Some, [], map, slice_get, ℕ, ◌≡◌, ◌∷◌, string_bytes}
+use Rattle.serde_json.specs.View.{view}
+use Rattle.serde_json.specs.declared.value.Value.{Value}
 use Rattle.schema_definitions.specs.Instance.{Text}
 use Rattle.schema_definitions.specs.Drafts.{Draft, Vocabularies, at_path}
 use Rattle.schema_definitions.specs.Resolving.{Entrance, Resolver}
 use Rattle.schema_parts.specs.declared.resolver.LookupError.{LookupError}
 use Rattle.schema_parts.specs.declared.resolver.LookupError.TheVariants.{OutOfMemory, Refused}
-use Rattle.bench_subschemas.specs.BenchResolving.{detected, identifier, is_known, root_draft, subschemas_of, without_fragment}
+use Rattle.bench_subschemas.specs.BenchResolving.{detected, identifier, is_known, root_draft, root_place, subschemas_of, without_fragment}
 use Rattle.bench_resolver.specs.BenchDocuments.{BenchDocument, Document, documents_of, value_in, vocabularies_in}
 use Rattle.bench_resolver.specs.BenchUris.{resolve_uri}
 use Rattle.bench_resolver.specs.BenchResources.{Resource, Table, number_of, place_of_resource, table_for}
@@ -57,3 +59,11 @@ base_of r = without_fragment r.uri
 abbrev pub RefusesWith : Text → LookupError → Type 0
 RefusesWith t (Refused text) = string_bytes text ≡ t
 RefusesWith t OutOfMemory = Unit {0}
+
+-- the value at the root's place is this document
+abbrev pub HasRoot : Value → BenchDocument → Type 0
+HasRoot document r = (bench_resolving r).value root_place ≡ Some (view document)
+
+-- the root's document is found under its URI
+abbrev pub FindsRoot : BenchDocument → Type 0
+FindsRoot r = IsSome ((bench_resolving r).root (base_of r))

@@ -1,11 +1,12 @@
 -- What the resolver holds: documents, each under a URI, the rule by which they are read, their default draft, and the vocabularies of
 -- each draft. The first document is the root's. (Core 2020-12, sections 8.2.1 and 9.1.1)
-use Rattle.std.specs.Prelude.{List, None, Option, Some, map, slice_get, ◌≡◌, ◌++◌, ◌∷◌}
-use Rattle.serde_json.specs.Data.{Data}
-use Rattle.serde_json.specs.View.{view}
+use Rattle.std.specs.Prelude.{List, None, Option, Some, String, map, slice_get, ◌≡◌, ◌++◌, ◌∷◌}
+use Rattle.std.specs.declared.alloc.Global.{Global}
+use Rattle.serde_json.specs.Data.{Data, object}
+use Rattle.serde_json.specs.View.{members_view, view}
 use Rattle.serde_json.specs.declared.value.Value.{Value}
-use Rattle.schema_definitions.specs.Instance.{Text, subject_at}
-use Rattle.schema_definitions.specs.Drafts.{Draft, SchemaPlace, Vocabularies, Vocabulary, draft_2019_09, draft_2020_12, draft_4, draft_6}
+use Rattle.schema_definitions.specs.Instance.{Place, Text, subject_at}
+use Rattle.schema_definitions.specs.Drafts.{Draft, SchemaPlace, Vocabularies, Vocabulary, at_path, draft_2019_09, draft_2020_12, draft_4, draft_6}
 use Rattle.schema_definitions.specs.Drafts.{draft_7, draft_unknown, has_vocabulary}
 use Rattle.schema_definitions.specs.VocabularySets.{custom_of}
 use Rattle.bench_resolver.specs.declared.resolver.vocabularies.DraftVocabularies.{DraftVocabularies}
@@ -66,3 +67,8 @@ value_of (Some d) p = data_of (subject_at d.value p.path)
 -- what stands at a place: documents are numbered from 0
 abbrev pub value_in : List Document → SchemaPlace → Option Data
 value_in documents p = value_of (slice_get documents p.document) p
+
+-- a value is what stands at a place, where that lies at a path below an object with these members
+abbrev pub StandsInside : List Document → List (String Global × Value) → Place → SchemaPlace → Option Data → Type 0
+StandsInside documents members path place value = (outer : SchemaPlace) → place ≡ at_path outer path
+    → value_in documents outer ≡ Some (object (members_view members)) → value ≡ value_in documents place

@@ -17,3 +17,7 @@ speaking rule everywhere v = speaks rule everywhere v.draft v.schema
 abbrev pub kept_if : Bool → Visited → List Visited
 kept_if true v = v ∷ []
 kept_if false v = []
+
+-- the schema itself, where it has what the walk looks for
+abbrev pub kept : Rule → Bool → Visited → List Visited
+kept rule everywhere v = kept_if (speaking rule everywhere v) v

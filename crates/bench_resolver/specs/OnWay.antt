@@ -1,10 +1,14 @@
 -- A subschema lies one or two steps below its schema: so these steps say whether a path leads to one, and no list of all
 -- subschemas is needed. (Core 2020-12, sections 8.2 and 9.2; section 4 of RFC 6901)
-use Rattle.std.specs.Prelude.{Bool, List, None, Option, Some, false, flat_map, ℕ, ◌&&◌, ◌++◌, ◌+◌, ◌||◌}
+use Rattle.std.specs.Prelude.{Bool, List, None, Option, Some, [], false, flat_map, map, ℕ, ◌&&◌, ◌++◌, ◌+◌, ◌||◌, ◌∷◌}
+use Rattle.std.specs.List.{list_any}
+use Rattle.std.proofs.Common.{Bor}
 use Rattle.serde_json.specs.Data.{Data, Items, Members, array, item, member, no_items, no_members, object}
 use Rattle.serde_json.specs.Find.{get}
 use Rattle.schema_definitions.specs.Drafts.{Draft}
-use Rattle.schema_definitions.specs.Instance.{Place, Step, same_step, to_item, to_member}
+use Rattle.schema_definitions.specs.Instance.{Place, Step, Text, same_place, same_step, to_item, to_member}
+use Rattle.schema_parts.specs.SchemaViews.{schema_step_of}
+use Rattle.schema_parts.specs.declared.schema_place.SchemaStep.{SchemaStep}
 use Rattle.bench_subschemas.specs.declared.rules.Rule.{Rule}
 use Rattle.bench_subschemas.specs.BenchResolving.{below_list, below_object, below_value, is_schema, names_of_lists, names_of_objects}
 use Rattle.bench_subschemas.specs.BenchResolving.{names_of_values}
@@ -38,3 +42,14 @@ leads_to_item s _ = false
 abbrev pub schema_found : Option Data → Bool
 schema_found None = false
 schema_found (Some d) = is_schema d
+
+-- whether two steps, or one, lead to one of these places
+abbrev pub pair_among : SchemaStep → SchemaStep → List Place → Bool
+pair_among first second places = list_any (same_place (schema_step_of first ∷ schema_step_of second ∷ [])) places
+
+abbrev pub step_among : SchemaStep → List Place → Bool
+step_among step places = list_any (same_place (schema_step_of step ∷ [])) places
+
+-- the places below the members of a schema that have these names
+abbrev pub below_each : (Text → Option Data → List Place) → List (Bor Text) → Data → List Place
+below_each below keywords schema = flat_map (λ k. below k (get k schema)) (map (λ k. k.now) keywords)

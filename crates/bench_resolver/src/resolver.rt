@@ -1,12 +1,12 @@
 //! The resolver.
-ghost use Rattle.std.specs.Prelude.{◌≡◌, [], IfOk, IsSome, Some, codes, map, string_bytes};
+ghost use Rattle.std.specs.Prelude.{◌≡◌, [], IfOk, codes, map, string_bytes};
 ghost use Rattle.serde_json.specs.View.{view};
 ghost use Rattle.schema_definitions.specs.Drafts.{draft_2020_12};
 ghost use Rattle.schema_keywords.specs.KeywordViews.{draft_of};
 ghost use Rattle.bench_subschemas.specs.declared.rules.Rule.TheVariants.{Narrow, Standard};
-ghost use Rattle.bench_subschemas.specs.BenchResolving.{document_uri, root_place};
+ghost use Rattle.bench_subschemas.specs.BenchResolving.{document_uri};
 ghost use Rattle.bench_resolver.specs.BenchDocuments.{HasCustom, HasDrafts};
-ghost use Rattle.bench_resolver.specs.BenchAnswers.{base_of, bench_resolving};
+ghost use Rattle.bench_resolver.specs.BenchAnswers.{bench_resolving, HasRoot, FindsRoot};
 ghost use Rattle.bench_resolver.specs.BenchViews.{given_of};
 
 pub mod documents;
@@ -124,8 +124,8 @@ impl<'a> BenchResolver<'a> {
         ensures draft { IfOk result (λ r. r.default_draft ≡ draft_2020_12) }
         ensures drafts { IfOk result (λ r. HasDrafts vocabularies r.vocabularies) }
         ensures custom { IfOk result (λ r. HasCustom vocabularies r.vocabularies) }
-        ensures root_value { IfOk result (λ r. (bench_resolving r).value root_place ≡ Some (view document.now)) }
-        ensures root { IfOk result (λ r. IsSome ((bench_resolving r).root (base_of r))) }
+        ensures root_value { IfOk result (HasRoot document.now) }
+        ensures root { IfOk result FindsRoot }
     {
         BenchResolver::with_draft(alloc, Draft::Draft202012, document, vocabularies)
     }
@@ -149,8 +149,8 @@ impl<'a> BenchResolver<'a> {
         ensures draft { IfOk result (λ r. r.default_draft ≡ draft_of draft) }
         ensures drafts { IfOk result (λ r. HasDrafts vocabularies r.vocabularies) }
         ensures custom { IfOk result (λ r. HasCustom vocabularies r.vocabularies) }
-        ensures root_value { IfOk result (λ r. (bench_resolving r).value root_place ≡ Some (view document.now)) }
-        ensures root { IfOk result (λ r. IsSome ((bench_resolving r).root (base_of r))) }
+        ensures root_value { IfOk result (HasRoot document.now) }
+        ensures root { IfOk result FindsRoot }
     {
         let uri = match identifier(detected(draft, document), document) {
             Some(uri) => String::from_str(alloc, without_fragment(uri))?,
@@ -182,8 +182,8 @@ impl<'a> BenchResolver<'a> {
         ensures draft { IfOk result (λ r. r.default_draft ≡ draft_of draft) }
         ensures drafts { IfOk result (λ r. HasDrafts vocabularies r.vocabularies) }
         ensures custom { IfOk result (λ r. HasCustom vocabularies r.vocabularies) }
-        ensures root_value { IfOk result (λ r. (bench_resolving r).value root_place ≡ Some (view root.entry.value.now)) }
-        ensures root { IfOk result (λ r. IsSome ((bench_resolving r).root (base_of r))) }
+        ensures root_value { IfOk result (HasRoot root.entry.value.now) }
+        ensures root { IfOk result FindsRoot }
     {
         BenchResolver::by_rule(alloc, Rule::Narrow, draft, root, others, vocabularies)
     }
@@ -209,8 +209,8 @@ impl<'a> BenchResolver<'a> {
         ensures draft { IfOk result (λ r. r.default_draft ≡ draft_of draft) }
         ensures drafts { IfOk result (λ r. HasDrafts vocabularies r.vocabularies) }
         ensures custom { IfOk result (λ r. HasCustom vocabularies r.vocabularies) }
-        ensures root_value { IfOk result (λ r. (bench_resolving r).value root_place ≡ Some (view document.now)) }
-        ensures root { IfOk result (λ r. IsSome ((bench_resolving r).root (base_of r))) }
+        ensures root_value { IfOk result (HasRoot document.now) }
+        ensures root { IfOk result FindsRoot }
     {
         let root = Document {
             uri: String::from_str(alloc, "json-schema:///")?,
@@ -239,8 +239,8 @@ impl<'a> BenchResolver<'a> {
         ensures draft { IfOk result (λ r. r.default_draft ≡ draft_of draft) }
         ensures drafts { IfOk result (λ r. HasDrafts vocabularies r.vocabularies) }
         ensures custom { IfOk result (λ r. HasCustom vocabularies r.vocabularies) }
-        ensures root_value { IfOk result (λ r. (bench_resolving r).value root_place ≡ Some (view root.entry.value.now)) }
-        ensures root { IfOk result (λ r. IsSome ((bench_resolving r).root (base_of r))) }
+        ensures root_value { IfOk result (HasRoot root.entry.value.now) }
+        ensures root { IfOk result FindsRoot }
     {
         BenchResolver::by_rule(alloc, Rule::Standard, draft, root, others, vocabularies)
     }
@@ -261,8 +261,8 @@ impl<'a> BenchResolver<'a> {
         ensures draft { IfOk result (λ r. r.default_draft ≡ draft_of draft) }
         ensures drafts { IfOk result (λ r. HasDrafts vocabularies r.vocabularies) }
         ensures custom { IfOk result (λ r. HasCustom vocabularies r.vocabularies) }
-        ensures root_value { IfOk result (λ r. (bench_resolving r).value root_place ≡ Some (view root.entry.value.now)) }
-        ensures root { IfOk result (λ r. IsSome ((bench_resolving r).root (base_of r))) }
+        ensures root_value { IfOk result (HasRoot root.entry.value.now) }
+        ensures root { IfOk result FindsRoot }
     {
         let documents = Documents {
             uri: root.uri,

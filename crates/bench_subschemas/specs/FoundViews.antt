@@ -1,6 +1,7 @@
 -- Subschemas that the code has found, as the definitions have them.
-use Rattle.std.specs.Prelude.{List, Option, Some, [], ◌∷◌}
+use Rattle.std.specs.Prelude.{List, Option, Some, [], ◌∷◌, ◌++◌, ◌≡◌, flat_map, map}
 use Rattle.serde_json.specs.Data.{Data}
+use Rattle.serde_json.specs.Find.{get}
 use Rattle.serde_json.specs.View.{view}
 use Rattle.schema_definitions.specs.Instance.{Place, Text, to_item, to_member}
 use Rattle.schema_definitions.specs.Drafts.{SchemaPlace, at_path}
@@ -11,7 +12,7 @@ use Rattle.bench_subschemas.specs.declared.subschemas.Inside.TheVariants.{Item, 
 use Rattle.bench_subschemas.specs.declared.subschemas.Lying.{Lying}
 use Rattle.bench_subschemas.specs.declared.subschemas.Lying.TheVariants.{AsValue, InList, InObject}
 use Rattle.bench_subschemas.specs.BenchResolving.{below_list, below_object, below_value}
-use Rattle.bench_subschemas.specs.FoundSchemas.{Found}
+use Rattle.bench_subschemas.specs.FoundSchemas.{Found, found_at}
 
 abbrev pub steps_inside : Inside → Place
 steps_inside Nothing = []
@@ -33,3 +34,15 @@ abbrev pub below : Lying → Text → Option Data → List Place
 below InObject k o = below_object k o
 below InList k o = below_list k o
 below AsValue k o = below_value k o
+
+-- to what was found, what stands at these paths of a schema has been added
+abbrev pub AddsPaths : Data → List Place → List FoundSchema → List FoundSchema → Type 0
+AddsPaths schema paths old new = map found_of new ≡ map found_of old ++ map (found_at schema) paths
+
+-- to what was found, the subschemas of this schema that lie so under a keyword have been added
+abbrev pub AddsBelow : Data → (Text → Option Data → List Place) → Text → List FoundSchema → List FoundSchema → Type 0
+AddsBelow schema lies k old new = AddsPaths schema (lies k (get k schema)) old new
+
+-- or under each of these keywords
+abbrev pub AddsBelowEach : Data → (Text → Option Data → List Place) → List Text → List FoundSchema → List FoundSchema → Type 0
+AddsBelowEach schema lies ks old new = AddsPaths schema (flat_map (λ k. lies k (get k schema)) ks) old new

@@ -10,7 +10,7 @@ ghost use Rattle.schema_parts.specs.ResolverViews.{place_of, placed_of};
 ghost use Rattle.bench_subschemas.specs.BenchResolving.{below_list, below_object, below_value, is_schema};
 ghost use Rattle.bench_subschemas.specs.BenchResolving.{subschemas};
 ghost use Rattle.bench_subschemas.specs.FoundSchemas.{found_at, schema_if};
-ghost use Rattle.bench_subschemas.specs.FoundViews.{below, found_of, path_of, placed_at, steps_inside};
+ghost use Rattle.bench_subschemas.specs.FoundViews.{AddsBelow, AddsBelowEach, below, found_of, path_of, placed_at, steps_inside};
 
 use crate::plain::any_names_schemas;
 use crate::rules::Rule;
@@ -95,9 +95,8 @@ fn find_in_object<'v>(
     keyword: &'v str,
     found: &mut Vec<FoundSchema<'v>>,
 ) -> Result<(), OutOfMemory>
-    ensures found { IfOk result (λ _. let schema = object (members_view members.now.entries) in
-        map found_of found.new.items ≡ map found_of found.old.items
-        ++ map (found_at schema) (below_object keyword.now (get keyword.now schema))) }
+    ensures found { IfOk result (λ _. AddsBelow (object (members_view members.now.entries)) below_object keyword.now
+        found.old.items found.new.items) }
 {
     let Some(value) = member(members, keyword) else {
         return Ok(());
@@ -122,9 +121,8 @@ fn find_in_list<'v>(
     keyword: &'v str,
     found: &mut Vec<FoundSchema<'v>>,
 ) -> Result<(), OutOfMemory>
-    ensures found { IfOk result (λ _. let schema = object (members_view members.now.entries) in
-        map found_of found.new.items ≡ map found_of found.old.items
-        ++ map (found_at schema) (below_list keyword.now (get keyword.now schema))) }
+    ensures found { IfOk result (λ _. AddsBelow (object (members_view members.now.entries)) below_list keyword.now
+        found.old.items found.new.items) }
 {
     let Some(value) = member(members, keyword) else {
         return Ok(());
@@ -149,9 +147,8 @@ fn find_value<'v>(
     keyword: &'v str,
     found: &mut Vec<FoundSchema<'v>>,
 ) -> Result<(), OutOfMemory>
-    ensures found { IfOk result (λ _. let schema = object (members_view members.now.entries) in
-        map found_of found.new.items ≡ map found_of found.old.items
-        ++ map (found_at schema) (below_value keyword.now (get keyword.now schema))) }
+    ensures found { IfOk result (λ _. AddsBelow (object (members_view members.now.entries)) below_value keyword.now
+        found.old.items found.new.items) }
 {
     let Some(value) = member(members, keyword) else {
         return Ok(());
@@ -179,9 +176,8 @@ fn find_under<'v>(
     keyword: &'v str,
     found: &mut Vec<FoundSchema<'v>>,
 ) -> Result<(), OutOfMemory>
-    ensures found { IfOk result (λ _. let schema = object (members_view members.now.entries) in
-        map found_of found.new.items ≡ map found_of found.old.items
-        ++ map (found_at schema) (below lying keyword.now (get keyword.now schema))) }
+    ensures found { IfOk result (λ _. AddsBelow (object (members_view members.now.entries)) (below lying) keyword.now
+        found.old.items found.new.items) }
 {
     match lying {
         Lying::InObject => find_in_object(members, keyword, found),
@@ -197,9 +193,8 @@ fn find_under_each<'v>(
     keywords: &[&'v str],
     found: &mut Vec<FoundSchema<'v>>,
 ) -> Result<(), OutOfMemory>
-    ensures found { IfOk result (λ _. let schema = object (members_view members.now.entries) in
-        map found_of found.new.items ≡ map found_of found.old.items
-        ++ map (found_at schema) (flat_map (λ k. below lying k (get k schema)) (map (λ k. k.now) keywords.now))) }
+    ensures found { IfOk result (λ _. AddsBelowEach (object (members_view members.now.entries)) (below lying)
+        (map (λ k. k.now) keywords.now) found.old.items found.new.items) }
 {
     for keyword in keywords {
         find_under(lying, members, *keyword, found)?;

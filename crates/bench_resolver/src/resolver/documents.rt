@@ -1,9 +1,8 @@
 //! The documents that the resolver holds.
 ghost use Rattle.std.specs.Prelude.{◌≡◌, option_map, slice_get};
-ghost use Rattle.serde_json.specs.View.{view};
 ghost use Rattle.schema_parts.specs.ResolverViews.{place_of};
 ghost use Rattle.bench_resolver.specs.BenchDocuments.{value_in};
-ghost use Rattle.bench_resolver.specs.BenchViews.{held};
+ghost use Rattle.bench_resolver.specs.BenchViews.{held, value_read, text_read};
 
 use crate::resolver::places::value_after;
 use schema_parts::schema_place::SchemaPlace;
@@ -27,7 +26,7 @@ pub struct Documents<'a> {
 impl<'a> Documents<'a> {
     /// The document of a number.
     fn document(&self, number: usize) -> Option<&'a Value>
-        ensures document { option_map (λ v. view v.now) result ≡ option_map (λ d. d.value) (slice_get (held self.now) number) }
+        ensures document { value_read result ≡ option_map (λ d. d.value) (slice_get (held self.now) number) }
     {
         if number == 0 {
             return Some(self.root);
@@ -40,7 +39,7 @@ impl<'a> Documents<'a> {
 
     /// The URI of the document of a number.
     pub fn uri_of(&self, number: usize) -> Option<&str>
-        ensures uri { option_map (λ t. t.now) result ≡ option_map (λ d. d.uri) (slice_get (held self.now) number) }
+        ensures uri { text_read result ≡ option_map (λ d. d.uri) (slice_get (held self.now) number) }
     {
         if number == 0 {
             return Some(self.uri.as_str());
@@ -53,7 +52,7 @@ impl<'a> Documents<'a> {
 
     /// The value at a place.
     pub fn value_at(&self, place: &SchemaPlace) -> Option<&'a Value>
-        ensures value { option_map (λ v. view v.now) result ≡ value_in (held self.now) (place_of place.now) }
+        ensures value { value_read result ≡ value_in (held self.now) (place_of place.now) }
     {
         match self.document(place.document) {
             Some(document) => value_after(document, place.path.steps()),

@@ -1,10 +1,12 @@
 //! The names in a resource.
-ghost use Rattle.std.specs.Prelude.{◌≡◌, ◌++◌, IfOk, map, option_and_then, option_map, slice_get};
+ghost use Rattle.std.specs.Prelude.{◌≡◌, IfOk, map, option_and_then, option_map, slice_get};
 ghost use Rattle.std.specs.HashMap.{get_by_text};
 ghost use Rattle.bench_resolver.specs.BenchKeys.{IsNumbered};
 ghost use Rattle.bench_resolver.specs.BenchResources.{dynamic_key, dynamic_number, name_if, name_key, name_number, names_at, names_in};
 ghost use Rattle.bench_resolver.specs.BenchNameViews.{name_of};
-ghost use Rattle.bench_resolver.specs.BenchViews.{visited_of};
+ghost use Rattle.bench_resolver.specs.BenchViews.{visited_of, text_read};
+ghost use Rattle.schema_parts.specs.Showing.{Yields};
+ghost use Rattle.bench_resolver.specs.BenchShowing.{Appends};
 
 use crate::resolver::numbers::add_number;
 use crate::resolver::walk::{Visited, walked};
@@ -82,8 +84,8 @@ fn push_name(
     is_dynamic: bool,
     names: &mut Vec<Name>,
 ) -> Result<(), OutOfMemory>
-    ensures pushed { IfOk result (λ _. map name_of names.new.items ≡ map name_of names.old.items
-        ++ name_if (option_map (λ t. t.now) name.entry) is_dynamic (visited_of visited.now)) }
+    ensures pushed { IfOk result (λ _. Appends name_of names.old.items names.new.items
+        (name_if (text_read name.entry) is_dynamic (visited_of visited.now))) }
 {
     if let Some(name) = name {
         names.push(Name {
@@ -103,8 +105,8 @@ fn push_names(
     visited: &Visited<'_>,
     names: &mut Vec<Name>,
 ) -> Result<(), OutOfMemory>
-    ensures pushed { IfOk result (λ _. map name_of names.new.items
-        ≡ map name_of names.old.items ++ names_at rule (visited_of visited.now)) }
+    ensures pushed { IfOk result (λ _. Appends name_of names.old.items names.new.items
+        (names_at rule (visited_of visited.now))) }
 {
     let plain = plain_name(rule, visited.draft, visited.schema);
     push_name(alloc, visited, plain, false, names)?;
@@ -114,7 +116,7 @@ fn push_names(
 
 /// The text of a dynamic name.
 fn dynamic_key(name: &Name) -> Option<&str>
-    ensures key { option_map (λ t. t.now) result ≡ dynamic_key (name_of name.now) }
+    ensures key { text_read result ≡ dynamic_key (name_of name.now) }
 {
     if name.is_dynamic {
         Some(name.name.as_str())
@@ -125,7 +127,7 @@ fn dynamic_key(name: &Name) -> Option<&str>
 
 /// The names, found by their texts.
 fn numbered(alloc: Global, names: Vec<Name>) -> Result<Names, OutOfMemory>
-    ensures same { IfOk result (λ n. n ≡ map name_of names.items) }
+    ensures same { Yields result (map name_of names.items) }
 {
     let mut numbers = HashMap::new(alloc);
     let mut dynamic_numbers = HashMap::new(alloc);
@@ -146,7 +148,7 @@ fn numbered(alloc: Global, names: Vec<Name>) -> Result<Names, OutOfMemory>
 ///
 /// Fails only if memory cannot be allocated.
 pub fn names_in(alloc: Global, rule: Rule, root: &Visited<'_>) -> Result<Names, OutOfMemory>
-    ensures names { IfOk result (λ n. n ≡ names_in rule (visited_of root.now)) }
+    ensures names { Yields result (names_in rule (visited_of root.now)) }
 {
     let mut names = Vec::new(alloc);
     push_names(alloc, rule, root, &mut names)?;

@@ -1,8 +1,8 @@
 //! Elements of a list that are found by a text.
-ghost use Rattle.std.specs.Prelude.{◌≡◌, ◌++◌, ◌∷◌, [], IfOk, List, Option, length, option_map};
+ghost use Rattle.std.specs.Prelude.{IfOk};
 ghost use Rattle.std.specs.HashMap.{get_by_text};
-ghost use Rattle.schema_definitions.specs.Instance.{Text};
-ghost use Rattle.bench_resolver.specs.BenchKeys.{IsNumbered};
+ghost use Rattle.bench_resolver.specs.BenchViews.{text_read};
+ghost use Rattle.bench_resolver.specs.BenchKeys.{NumbersNext};
 
 use schema_reports::location::OutOfMemory;
 use std::alloc::Global;
@@ -15,8 +15,7 @@ pub fn add_number(
     text: Option<&str>,
     number: usize,
 ) -> Result<(), OutOfMemory>
-    ensures added { IfOk result (λ _. (keys : List (Option Text)) → IsNumbered keys (get_by_text numbers.old) → length keys ≡ number
-        → IsNumbered (keys ++ option_map (λ t. t.now) text.entry ∷ []) (get_by_text numbers.new)) }
+    ensures added { IfOk result (λ _. NumbersNext (get_by_text numbers.old) (get_by_text numbers.new) number (text_read text.entry)) }
 {
     if let Some(text) = text {
         if numbers.get(text).is_none() {

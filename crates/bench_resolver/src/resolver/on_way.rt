@@ -1,14 +1,15 @@
 //! Whether a path leads from a schema to one of its subschemas, by the steps of the path.
-ghost use Rattle.std.specs.Prelude.{◌≡◌, ◌∷◌, [], flat_map, map, option_map};
-ghost use Rattle.std.specs.List.{list_any};
+ghost use Rattle.std.specs.Prelude.{◌≡◌};
 ghost use Rattle.serde_json.specs.Find.{get};
 ghost use Rattle.serde_json.specs.View.{view};
-ghost use Rattle.schema_definitions.specs.Instance.{same_place, same_step, to_member};
+ghost use Rattle.schema_definitions.specs.Instance.{same_step, to_member};
 ghost use Rattle.schema_keywords.specs.KeywordViews.{draft_of};
 ghost use Rattle.schema_parts.specs.SchemaViews.{schema_step_of};
 ghost use Rattle.bench_subschemas.specs.BenchResolving.{below_list, below_object, below_value};
 ghost use Rattle.bench_resolver.specs.BenchLookups.{is_subschema};
 ghost use Rattle.bench_resolver.specs.OnWay.{leads_to_item, leads_to_member, pairs_below, schema_found, singles_below};
+ghost use Rattle.bench_resolver.specs.BenchViews.{value_read};
+ghost use Rattle.bench_resolver.specs.OnWay.{pair_among, step_among, below_each};
 
 use bench_subschemas::rules::Rule;
 use bench_subschemas::schema_names::{names_of_lists, names_of_objects, names_of_values};
@@ -29,7 +30,7 @@ fn is_named(step: &SchemaStep, keyword: &str) -> bool
 
 /// Whether there is a value and it is a schema.
 fn is_schema_there(value: Option<&Value>) -> bool
-    ensures there { result ≡ schema_found (option_map (λ v. view v.now) value.entry) }
+    ensures there { result ≡ schema_found (value_read value.entry) }
 {
     match value {
         Some(value) => is_schema(value),
@@ -64,8 +65,7 @@ fn leads_to_item(value: &Value, step: &SchemaStep) -> bool
 
 /// Whether two steps lead to a schema in the object under this name.
 fn in_object(schema: &Value, keyword: &str, first: &SchemaStep, second: &SchemaStep) -> bool
-    ensures among { result ≡ list_any (same_place (schema_step_of first.now ∷ schema_step_of second.now ∷ []))
-        (below_object keyword.now (get keyword.now (view schema.now))) }
+    ensures among { result ≡ pair_among first.now second.now (below_object keyword.now (get keyword.now (view schema.now))) }
 {
     if !is_named(first, keyword) {
         return false;
@@ -78,8 +78,7 @@ fn in_object(schema: &Value, keyword: &str, first: &SchemaStep, second: &SchemaS
 
 /// Whether two steps lead to a schema in the list under this name.
 fn in_list(schema: &Value, keyword: &str, first: &SchemaStep, second: &SchemaStep) -> bool
-    ensures among { result ≡ list_any (same_place (schema_step_of first.now ∷ schema_step_of second.now ∷ []))
-        (below_list keyword.now (get keyword.now (view schema.now))) }
+    ensures among { result ≡ pair_among first.now second.now (below_list keyword.now (get keyword.now (view schema.now))) }
 {
     if !is_named(first, keyword) {
         return false;
@@ -92,8 +91,7 @@ fn in_list(schema: &Value, keyword: &str, first: &SchemaStep, second: &SchemaSte
 
 /// Whether a step leads to the schema under this name.
 fn at_value(schema: &Value, keyword: &str, step: &SchemaStep) -> bool
-    ensures among { result ≡ list_any (same_place (schema_step_of step.now ∷ []))
-        (below_value keyword.now (get keyword.now (view schema.now))) }
+    ensures among { result ≡ step_among step.now (below_value keyword.now (get keyword.now (view schema.now))) }
 {
     if !is_named(step, keyword) {
         return false;
@@ -106,8 +104,7 @@ fn at_value(schema: &Value, keyword: &str, step: &SchemaStep) -> bool
 
 /// Whether two steps lead to a schema in one of the objects under these names.
 fn in_objects(schema: &Value, keywords: &[&str], first: &SchemaStep, second: &SchemaStep) -> bool
-    ensures among { result ≡ list_any (same_place (schema_step_of first.now ∷ schema_step_of second.now ∷ []))
-        (flat_map (λ k. below_object k (get k (view schema.now))) (map (λ k. k.now) keywords.now)) }
+    ensures among { result ≡ pair_among first.now second.now (below_each below_object keywords.now (view schema.now)) }
 {
     for keyword in keywords {
         if in_object(schema, *keyword, first, second) {
@@ -119,8 +116,7 @@ fn in_objects(schema: &Value, keywords: &[&str], first: &SchemaStep, second: &Sc
 
 /// Whether two steps lead to a schema in one of the lists under these names.
 fn in_lists(schema: &Value, keywords: &[&str], first: &SchemaStep, second: &SchemaStep) -> bool
-    ensures among { result ≡ list_any (same_place (schema_step_of first.now ∷ schema_step_of second.now ∷ []))
-        (flat_map (λ k. below_list k (get k (view schema.now))) (map (λ k. k.now) keywords.now)) }
+    ensures among { result ≡ pair_among first.now second.now (below_each below_list keywords.now (view schema.now)) }
 {
     for keyword in keywords {
         if in_list(schema, *keyword, first, second) {
@@ -132,8 +128,7 @@ fn in_lists(schema: &Value, keywords: &[&str], first: &SchemaStep, second: &Sche
 
 /// Whether a step leads to one of the schemas under these names.
 fn at_values(schema: &Value, keywords: &[&str], step: &SchemaStep) -> bool
-    ensures among { result ≡ list_any (same_place (schema_step_of step.now ∷ []))
-        (flat_map (λ k. below_value k (get k (view schema.now))) (map (λ k. k.now) keywords.now)) }
+    ensures among { result ≡ step_among step.now (below_each below_value keywords.now (view schema.now)) }
 {
     for keyword in keywords {
         if at_value(schema, *keyword, step) {
@@ -151,8 +146,7 @@ fn is_pair(
     first: &SchemaStep,
     second: &SchemaStep,
 ) -> bool
-    ensures among { result ≡ list_any (same_place (schema_step_of first.now ∷ schema_step_of second.now ∷ []))
-        (pairs_below rule (draft_of draft) (view schema.now)) }
+    ensures among { result ≡ pair_among first.now second.now (pairs_below rule (draft_of draft) (view schema.now)) }
 {
     in_objects(schema, names_of_objects(rule, draft), first, second)
         || in_lists(schema, names_of_lists(rule, draft), first, second)
@@ -160,7 +154,7 @@ fn is_pair(
 
 /// Whether a step leads to one of the other schemas.
 fn is_single(rule: Rule, draft: Draft, schema: &Value, step: &SchemaStep) -> bool
-    ensures among { result ≡ list_any (same_place (schema_step_of step.now ∷ [])) (singles_below rule (draft_of draft) (view schema.now)) }
+    ensures among { result ≡ step_among step.now (singles_below rule (draft_of draft) (view schema.now)) }
 {
     at_values(schema, names_of_values(rule, draft), step)
 }

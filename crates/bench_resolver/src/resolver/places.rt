@@ -1,16 +1,15 @@
 //! Places of a document, and the values there.
-ghost use Rattle.std.specs.Prelude.{◌≡◌, ◌<◌, ◌++◌, IfOk, Some, length, map, option_map, string_bytes};
+ghost use Rattle.std.specs.Prelude.{◌≡◌, ◌<◌, ◌++◌, length, map, string_bytes};
 ghost use Rattle.serde_json.specs.Data.{object};
 ghost use Rattle.serde_json.specs.View.{members_view, view};
 ghost use Rattle.schema_definitions.specs.Instance.{after_step, a_value, subject_from};
-ghost use Rattle.schema_definitions.specs.Drafts as schemas;
-ghost use Rattle.schema_definitions.specs.Drafts.{at_path};
 ghost use Rattle.schema_parts.specs.SchemaViews.{schema_step_of};
 ghost use Rattle.schema_parts.specs.ResolverViews.{place_of};
 ghost use Rattle.bench_subschemas.specs.BenchResolving.{root_place};
-ghost use Rattle.bench_resolver.specs.BenchDocuments.{value_in};
-ghost use Rattle.bench_resolver.specs.BenchViews.{held};
+ghost use Rattle.bench_resolver.specs.BenchViews.{held, value_read, subject_read};
 ghost use Rattle.bench_resolver.specs.BenchAnswers.{RefusesWith};
+ghost use Rattle.schema_parts.specs.Showing.{Shows};
+ghost use Rattle.bench_resolver.specs.BenchDocuments.{StandsInside};
 
 use crate::resolver::documents::Documents;
 use schema_parts::resolver::LookupError;
@@ -31,7 +30,7 @@ pub fn root_place(alloc: Global) -> SchemaPlace
 
 /// Two texts, one after the other.
 fn joined(alloc: Global, first: &str, second: &str) -> Result<String, OutOfMemory>
-    ensures joined { IfOk result (λ t. string_bytes t ≡ first.now ++ second.now) }
+    ensures joined { Shows string_bytes result (first.now ++ second.now) }
 {
     let mut text = String::from_str(alloc, first)?;
     text.push_str(second)?;
@@ -50,7 +49,7 @@ pub fn refusal(alloc: Global, text: &str, about: &str) -> LookupError
 
 /// The value one step below.
 pub fn value_below<'v>(value: &'v Value, step: &SchemaStep) -> Option<&'v Value>
-    ensures below { option_map (λ v. a_value (view v.now)) result ≡ after_step (schema_step_of step.now) (a_value (view value.now)) }
+    ensures below { subject_read result ≡ after_step (schema_step_of step.now) (a_value (view value.now)) }
 {
     match step {
         SchemaStep::Member(name) => value.get(name.as_str()),
@@ -60,8 +59,7 @@ pub fn value_below<'v>(value: &'v Value, step: &SchemaStep) -> Option<&'v Value>
 
 /// The value at the end of some steps.
 pub fn value_after<'v>(value: &'v Value, steps: &[SchemaStep]) -> Option<&'v Value>
-    ensures after { option_map (λ v. a_value (view v.now)) result
-        ≡ subject_from (map schema_step_of steps.now) (a_value (view value.now)) }
+    ensures after { subject_read result ≡ subject_from (map schema_step_of steps.now) (a_value (view value.now)) }
 {
     let mut reached = value;
     for step in steps {
@@ -75,8 +73,7 @@ pub fn value_after<'v>(value: &'v Value, steps: &[SchemaStep]) -> Option<&'v Val
 
 /// The value one step below an object with these members.
 fn member_below<'v>(members: &'v Map<String, Value>, step: &SchemaStep) -> Option<&'v Value>
-    ensures below { option_map (λ v. a_value (view v.now)) result
-        ≡ after_step (schema_step_of step.now) (a_value (object (members_view members.now.entries))) }
+    ensures below { subject_read result ≡ after_step (schema_step_of step.now) (a_value (object (members_view members.now.entries))) }
 {
     match step {
         SchemaStep::Member(name) => members.get(name.as_str()),
@@ -90,8 +87,8 @@ fn value_after_member<'v>(
     steps: &[SchemaStep],
 ) -> Option<&'v Value>
     requires step { 0 < length steps.now }
-    ensures after { option_map (λ v. a_value (view v.now)) result
-        ≡ subject_from (map schema_step_of steps.now) (a_value (object (members_view members.now.entries))) }
+    ensures after { subject_read result ≡ subject_from (map schema_step_of steps.now)
+        (a_value (object (members_view members.now.entries))) }
 {
     match member_below(members, &steps[0]) {
         Some(value) => value_after(value, &steps[1..]),
@@ -106,10 +103,7 @@ pub fn value_inside<'v>(
     path: &SchemaPath,
     place: &SchemaPlace,
 ) -> Option<&'v Value>
-    ensures value { (outer : schemas.SchemaPlace) →
-        place_of place.now ≡ at_path outer path.now →
-        value_in (held documents.now) outer ≡ Some (object (members_view members.now.entries)) →
-        option_map (λ v. view v.now) result ≡ value_in (held documents.now) (place_of place.now) }
+    ensures value { StandsInside (held documents.now) members.now.entries path.now (place_of place.now) (value_read result) }
 {
     let steps = path.steps();
     if steps.len() == 0 {

@@ -1,5 +1,5 @@
 //! Pointers, and the paths that they name (sections 3 and 4 of RFC 6901).
-ghost use Rattle.std.specs.Prelude.{◌≡◌, IfOk, option_map, string_bytes, ◌==◌};
+ghost use Rattle.std.specs.Prelude.{◌≡◌, option_map, string_bytes, ◌==◌};
 ghost use Rattle.std.specs.List.{slice_split};
 ghost use Rattle.std.specs.Str.{all_ascii_digits};
 ghost use Rattle.std.specs.Str.Lossy.{utf8_lossy};
@@ -8,8 +8,8 @@ ghost use Rattle.serde_json.specs.Find.{unescape};
 ghost use Rattle.serde_json.specs.View.{view};
 ghost use Rattle.schema_parts.specs.SchemaViews.{schema_step_of};
 ghost use Rattle.bench_resolver.specs.BenchPointersLead.{PointersLead};
-ghost use Rattle.bench_resolver.specs.BenchPointers.{index_named, is_index, path_named, path_of_pointer};
-ghost use Rattle.bench_resolver.specs.BenchPointers.{step_named};
+ghost use Rattle.bench_resolver.specs.BenchPointers.{index_named, is_index, path_named, path_of_pointer, step_named};
+ghost use Rattle.schema_parts.specs.Showing.{Yields, Shows};
 
 use crate::resolver::places::value_below;
 use percent_encoding::percent_decode;
@@ -25,7 +25,7 @@ use std::rc::RcStr;
 ///
 /// Fails only if memory cannot be allocated.
 pub fn decoded(alloc: Global, fragment: &str) -> Result<String, OutOfMemory>
-    ensures decoded { IfOk result (λ t. string_bytes t ≡ utf8_lossy (percent_decode fragment.now)) }
+    ensures decoded { Shows string_bytes result (utf8_lossy (percent_decode fragment.now)) }
 {
     percent_decode(fragment.as_bytes())
         .decode_utf8_lossy(alloc)?
@@ -34,7 +34,7 @@ pub fn decoded(alloc: Global, fragment: &str) -> Result<String, OutOfMemory>
 
 /// A segment with `~1` read as `/` and `~0` as `~`.
 fn unescaped(alloc: Global, segment: &str) -> Result<String, OutOfMemory>
-    ensures unescaped { IfOk result (λ t. string_bytes t ≡ unescape segment.now) }
+    ensures unescaped { Shows string_bytes result (unescape segment.now) }
 {
     let mut text = String::new(alloc);
     let mut rest = segment;
@@ -97,7 +97,7 @@ fn step_named(
     segment: &str,
     value: &Value,
 ) -> Result<Option<SchemaStep>, OutOfMemory>
-    ensures step { IfOk result (λ o. option_map schema_step_of o ≡ step_named segment.now (view value.now)) }
+    ensures step { Shows (option_map schema_step_of) result (step_named segment.now (view value.now)) }
 {
     match value {
         Value::Object(_) => Ok(Some(SchemaStep::Member(RcStr::from_string(unescaped(
@@ -117,7 +117,7 @@ fn path_of_segments(
     segments: &str,
     document: &Value,
 ) -> Result<Option<SchemaPath>, OutOfMemory>
-    ensures path { IfOk result (λ o. o ≡ path_named (slice_split (λ b. b == 47) segments.now) (view document.now)) }
+    ensures path { Yields result (path_named (slice_split (λ b. b == 47) segments.now) (view document.now)) }
 {
     let mut path = SchemaPath::root(alloc);
     let mut reached = document;
@@ -145,7 +145,7 @@ pub fn path_of_pointer(
     pointer: &str,
     document: &Value,
 ) -> Result<Option<SchemaPath>, OutOfMemory>
-    ensures path { IfOk result (λ o. o ≡ path_of_pointer pointer.now (view document.now)) }
+    ensures path { Yields result (path_of_pointer pointer.now (view document.now)) }
 {
     if pointer.is_empty() {
         return Ok(Some(SchemaPath::root(alloc)));

@@ -1,8 +1,8 @@
 //! Where references lead.
-ghost use Rattle.std.specs.Prelude.{◌≡◌, [], IfOk, MatchResult, Ok, option_and_then, option_map, slice_get};
+ghost use Rattle.std.specs.Prelude.{[], option_and_then, option_map, slice_get};
 ghost use Rattle.serde_json.specs.View.{view};
 ghost use Rattle.schema_definitions.specs.Parts.{Parts};
-ghost use Rattle.schema_parts.specs.ResolverViews.{found_of, Refuses};
+ghost use Rattle.schema_parts.specs.ResolverViews.{found_of};
 ghost use Rattle.bench_resolver.specs.BenchAnswers.{RefusesWith};
 ghost use Rattle.bench_resolver.specs.BenchDocuments.{value_in};
 ghost use Rattle.bench_resolver.specs.BenchLookups.{arrived, dynamic_in, first_dynamic, first_recursive, looked_up, looked_up_recursive};
@@ -14,6 +14,7 @@ ghost use Rattle.bench_resolver.specs.BenchStates.{Point};
 ghost use Rattle.bench_resolver.specs.BenchNameViews.{name_of};
 ghost use Rattle.bench_resolver.specs.BenchResourceViews.{resource_of};
 ghost use Rattle.bench_resolver.specs.BenchViews.{held, point_of};
+ghost use Rattle.schema_parts.specs.Showing.{Shows, Agrees};
 
 use crate::resolver::BenchState;
 use crate::resolver::documents::Documents;
@@ -77,8 +78,8 @@ fn arrived(
 ) -> Result<Target<BenchState>, LookupError>
     ensures leads { let r = resource_of resource.now in
         let schema = view root.now in
-        let leads = arrived resources.now reference.now r.document r.draft schema [] schema r.path (point_of state) path.now in
-        MatchResult result (λ t. leads ≡ Ok (found_of point_of t)) (Refuses leads) }
+        Agrees (found_of point_of) result
+        (arrived resources.now reference.now r.document r.draft schema [] schema r.path (point_of state) path.now) }
 {
     let mut place = resource.place()?;
     let mut state = state;
@@ -117,9 +118,9 @@ fn target_by_pointer(
     state: BenchState,
     pointer: &str,
 ) -> Result<Target<BenchState>, LookupError>
-    ensures leads { let r = resource_of resource.now in let leads = target_by_pointer resources.now reference.now r (point_of state)
-        pointer.now (value_in (held documents.now) (place_of_resource r)) in
-        MatchResult result (λ t. leads ≡ Ok (found_of point_of t)) (Refuses leads) }
+    ensures leads { let r = resource_of resource.now in
+        Agrees (found_of point_of) result (target_by_pointer resources.now reference.now r (point_of state) pointer.now
+        (value_in (held documents.now) (place_of_resource r))) }
 {
     let place = resource.place()?;
     let Some(root) = documents.value_at(&place) else {
@@ -140,8 +141,8 @@ fn target_named(
     state: &BenchState,
     name: &Name,
 ) -> Result<Target<BenchState>, OutOfMemory>
-    ensures target { IfOk result (λ t. found_of point_of t
-        ≡ target_named number (resource_of resource.now) (point_of state.now) (name_of name.now)) }
+    ensures target { Shows (found_of point_of) result
+        (target_named number (resource_of resource.now) (point_of state.now) (name_of name.now)) }
 {
     Ok(Target {
         place: SchemaPlace {
@@ -161,7 +162,7 @@ fn dynamic_in(
     name: &str,
     number: usize,
 ) -> Result<Option<Target<BenchState>>, OutOfMemory>
-    ensures target { IfOk result (λ o. option_map (found_of point_of) o ≡ dynamic_in resources.now (point_of state.now) name.now number) }
+    ensures target { Shows (option_map (found_of point_of)) result (dynamic_in resources.now (point_of state.now) name.now number) }
 {
     let Some(resource) = resources.get(number) else {
         return Ok(None);
@@ -179,8 +180,8 @@ fn first_dynamic(
     state: &BenchState,
     name: &str,
 ) -> Result<Option<Target<BenchState>>, OutOfMemory>
-    ensures target { IfOk result (λ o. option_map (found_of point_of) o
-        ≡ first_dynamic resources.now (point_of state.now) name.now (point_of state.now).entered) }
+    ensures target { Shows (option_map (found_of point_of)) result
+        (first_dynamic resources.now (point_of state.now) name.now (point_of state.now).entered) }
 {
     for number in &state.entered {
         if let Some(target) = dynamic_in(alloc, resources, state, name, *number)? {
@@ -201,10 +202,10 @@ fn target_by_name(
     state: &BenchState,
     text: &str,
 ) -> Result<Target<BenchState>, LookupError>
-    ensures leads { let r = resource_of resource.now in let name = option_and_then (slice_get r.names) (name_number text.now r.names) in
-        let leads = target_by_name resources.now followed.entry.reference.now number r (point_of state.now)
-        followed.entry.dynamic text.now name in
-        MatchResult result (λ t. leads ≡ Ok (found_of point_of t)) (Refuses leads) }
+    ensures leads { let r = resource_of resource.now in
+        let name = option_and_then (slice_get r.names) (name_number text.now r.names) in
+        Agrees (found_of point_of) result (target_by_name resources.now followed.entry.reference.now number r (point_of state.now)
+        followed.entry.dynamic text.now name) }
 {
     let Some(name) = resource.names.find(text) else {
         let refused = "nothing has the name of the reference ";
@@ -225,7 +226,7 @@ fn target_root(
     resource: &Resource,
     state: &BenchState,
 ) -> Result<Target<BenchState>, OutOfMemory>
-    ensures target { IfOk result (λ t. found_of point_of t ≡ target_root number (resource_of resource.now) (point_of state.now)) }
+    ensures target { Shows (found_of point_of) result (target_root number (resource_of resource.now) (point_of state.now)) }
 {
     Ok(Target {
         place: resource.place()?,
@@ -245,9 +246,8 @@ fn target_by_fragment(
     state: &BenchState,
     fragment: &str,
 ) -> Result<Target<BenchState>, LookupError>
-    ensures leads { let leads = target_by_fragment resources.now (held documents.now) followed.entry.reference.now number
-        (resource_of resource.now) (point_of state.now) followed.entry.dynamic fragment.now in
-        MatchResult result (λ t. leads ≡ Ok (found_of point_of t)) (Refuses leads) }
+    ensures leads { Agrees (found_of point_of) result (target_by_fragment resources.now (held documents.now)
+        followed.entry.reference.now number (resource_of resource.now) (point_of state.now) followed.entry.dynamic fragment.now) }
 {
     if fragment.is_empty() {
         return Ok(target_root(alloc, number, resource, state)?);
@@ -279,8 +279,8 @@ pub fn looked_up(
     reference: &str,
     dynamic: bool,
 ) -> Result<Target<BenchState>, LookupError>
-    ensures leads { let leads = looked_up resources.now (held documents.now) (point_of state.now) reference.now dynamic in
-        MatchResult result (λ t. leads ≡ Ok (found_of point_of t)) (Refuses leads) }
+    ensures leads { Agrees (found_of point_of) result
+        (looked_up resources.now (held documents.now) (point_of state.now) reference.now dynamic) }
 {
     let rule = resources.rule();
     let uri = resolve_uri(alloc, rule, state.base.as_str(), reference)?;
@@ -304,7 +304,7 @@ fn recursive_in(
     state: &BenchState,
     number: usize,
 ) -> Result<Option<Target<BenchState>>, OutOfMemory>
-    ensures target { IfOk result (λ o. option_map (found_of point_of) o ≡ recursive_in resources.now (point_of state.now) number) }
+    ensures target { Shows (option_map (found_of point_of)) result (recursive_in resources.now (point_of state.now) number) }
 {
     match resources.get(number) {
         Some(resource) if resource.is_recursive => {
@@ -320,8 +320,8 @@ fn first_recursive(
     resources: &Resources,
     state: &BenchState,
 ) -> Result<Option<Target<BenchState>>, OutOfMemory>
-    ensures target { IfOk result (λ o. option_map (found_of point_of) o
-        ≡ first_recursive resources.now (point_of state.now) (point_of state.now).entered) }
+    ensures target { Shows (option_map (found_of point_of)) result
+        (first_recursive resources.now (point_of state.now) (point_of state.now).entered) }
 {
     for number in &state.entered {
         if let Some(target) = recursive_in(alloc, resources, state, *number)? {
@@ -348,8 +348,7 @@ pub fn looked_up_recursive(
     resources: &Resources,
     state: &BenchState,
 ) -> Result<Target<BenchState>, LookupError>
-    ensures leads { let leads = looked_up_recursive resources.now (point_of state.now) in
-        MatchResult result (λ t. leads ≡ Ok (found_of point_of t)) (Refuses leads) }
+    ensures leads { Agrees (found_of point_of) result (looked_up_recursive resources.now (point_of state.now)) }
 {
     let Some(number) = resources.number_of(state.base.as_str()) else {
         return Err(no_base(alloc, state.base.as_str()));

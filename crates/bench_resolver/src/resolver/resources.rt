@@ -10,7 +10,8 @@ ghost use Rattle.bench_resolver.specs.BenchResources.{root_visited, table_for};
 ghost use Rattle.bench_resolver.specs.BenchStates.{number_at, resource_under};
 ghost use Rattle.bench_resolver.specs.BenchGathered.{Adds};
 ghost use Rattle.bench_resolver.specs.BenchResourceViews.{resource_of};
-ghost use Rattle.bench_resolver.specs.BenchViews.{held, visited_of};
+ghost use Rattle.bench_resolver.specs.BenchViews.{held, visited_of, document_under};
+ghost use Rattle.schema_parts.specs.Showing.{Yields, Shows};
 
 use crate::resolver::documents::Documents;
 use crate::resolver::names::{Names, names_in};
@@ -48,7 +49,7 @@ impl Resource {
     ///
     /// Fails only if memory cannot be allocated.
     pub fn place(&self) -> Result<SchemaPlace, OutOfMemory>
-        ensures place { IfOk result (λ p. place_of p ≡ place_of_resource (resource_of self.now)) }
+        ensures place { Shows place_of result (place_of_resource (resource_of self.now)) }
     {
         Ok(SchemaPlace {
             document: self.document,
@@ -142,8 +143,8 @@ fn resource_of(
     document: usize,
     root: &Visited<'_>,
 ) -> Result<Resource, OutOfMemory>
-    ensures resource { IfOk result (λ r. resource_of r
-        ≡ spec.resource_of rule (string_bytes uri) (string_bytes base) document (visited_of root.now)) }
+    ensures resource { Shows resource_of result (spec.resource_of rule (string_bytes uri) (string_bytes base) document
+        (visited_of root.now)) }
 {
     Ok(Resource {
         uri,
@@ -232,7 +233,7 @@ fn root_visited<'a>(
     uri: &str,
     value: &'a Value,
 ) -> Result<Visited<'a>, OutOfMemory>
-    ensures root { IfOk result (λ v. visited_of v ≡ root_visited (draft_of draft) (record { uri = uri.now; value = view value.now })) }
+    ensures root { Shows visited_of result (root_visited (draft_of draft) (document_under uri.now value.now)) }
 {
     Ok(Visited {
         path: SchemaPath::root(alloc),
@@ -268,8 +269,8 @@ fn add_embedded(
     value: &Value,
     gathered: &mut Gathered,
 ) -> Result<(), OutOfMemory>
-    ensures added { IfOk result (λ _. Adds (embedded rule (draft_of draft) document (record { uri = uri.now; value = view value.now }))
-        gathered.old gathered.new) }
+    ensures added { IfOk result (λ _. Adds (embedded rule (draft_of draft) document
+        (document_under uri.now value.now)) gathered.old gathered.new) }
 {
     let root = root_visited(alloc, draft, uri, value)?;
     let base = root_base(alloc, rule, uri, root.draft, value)?;
@@ -297,9 +298,8 @@ fn add_document(
     value: &Value,
     gathered: &mut Gathered,
 ) -> Result<(), OutOfMemory>
-    ensures added { IfOk result (λ _.
-        let added = document_resource rule (draft_of draft) document (record { uri = uri.now; value = view value.now }) in
-        Adds (added ∷ []) gathered.old gathered.new) }
+    ensures added { IfOk result (λ _. Adds (document_resource rule (draft_of draft) document
+        (document_under uri.now value.now) ∷ []) gathered.old gathered.new) }
 {
     let root = root_visited(alloc, draft, uri, value)?;
     let own = String::from_str(alloc, without_fragment(uri))?;
@@ -359,7 +359,7 @@ pub fn resources_of(
     draft: Draft,
     documents: &Documents<'_>,
 ) -> Result<Resources, OutOfMemory>
-    ensures resources { IfOk result (λ r. r ≡ table_for rule (draft_of draft) (held documents.now)) }
+    ensures resources { Yields result (table_for rule (draft_of draft) (held documents.now)) }
 {
     let mut gathered = Gathered {
         resources: Vec::new(alloc),

@@ -1,13 +1,14 @@
 //! Where a run of the resolver is.
-ghost use Rattle.std.specs.Prelude.{◌≡◌, IfOk, MatchResult, Ok, nat_eq, option_map, slice_get, string_bytes};
+ghost use Rattle.std.specs.Prelude.{◌≡◌, nat_eq, option_map, slice_get, string_bytes};
 ghost use Rattle.std.specs.List.{list_any};
 ghost use Rattle.serde_json.specs.View.{view};
 ghost use Rattle.schema_keywords.specs.KeywordViews.{draft_of};
-ghost use Rattle.schema_parts.specs.ResolverViews.{Refuses, place_of};
+ghost use Rattle.schema_parts.specs.ResolverViews.{place_of};
 ghost use Rattle.bench_resolver.specs.BenchAnswers.{RefusesWith};
 ghost use Rattle.bench_resolver.specs.BenchStates.{enter, entered, entered_below, entered_by, entered_root, no_identified};
 ghost use Rattle.bench_resolver.specs.BenchStates.{uri_of_document};
-ghost use Rattle.bench_resolver.specs.BenchViews.{held, point_of};
+ghost use Rattle.bench_resolver.specs.BenchViews.{held, point_of, value_read};
+ghost use Rattle.schema_parts.specs.Showing.{Shows, Agrees};
 
 use crate::resolver::BenchState;
 use crate::resolver::documents::Documents;
@@ -46,7 +47,7 @@ pub fn enter(
     number: usize,
     uri: &str,
 ) -> Result<BenchState, OutOfMemory>
-    ensures entered { IfOk result (λ s. point_of s ≡ enter number uri.now (point_of state.now)) }
+    ensures entered { Shows point_of result (enter number uri.now (point_of state.now)) }
 {
     let mut entered = state.entered.clone()?;
     if !has_number(&entered, number) {
@@ -75,8 +76,8 @@ fn entered_by(
     state: &BenchState,
     uri: Option<String>,
 ) -> Result<BenchState, LookupError>
-    ensures entered { let entered = entered_by resources.now (place_of place.now) id.now (point_of state.now)
-        (option_map string_bytes uri) in MatchResult result (λ s. entered ≡ Ok (point_of s)) (Refuses entered) }
+    ensures entered { Agrees point_of result (entered_by resources.now (place_of place.now) id.now
+        (point_of state.now) (option_map string_bytes uri)) }
 {
     let Some(uri) = uri else {
         return Err(no_identified(alloc, id));
@@ -100,8 +101,8 @@ pub fn entered_below(
     place: &SchemaPlace,
     schema: &Value,
 ) -> Result<BenchState, LookupError>
-    ensures entered { let entered = entered_below resources.now (point_of state) (draft_of draft) (place_of place.now) (view schema.now)
-        in MatchResult result (λ s. entered ≡ Ok (point_of s)) (Refuses entered) }
+    ensures entered { Agrees point_of result (entered_below resources.now (point_of state) (draft_of draft)
+        (place_of place.now) (view schema.now)) }
 {
     match identifier(draft, schema) {
         Some(id) => {
@@ -121,8 +122,8 @@ fn uri_of_document(
     draft: Draft,
     schema: &Value,
 ) -> Result<Option<String>, OutOfMemory>
-    ensures uri { IfOk result (λ o. option_map string_bytes o
-        ≡ uri_of_document rule (draft_of draft) (view schema.now) (slice_get (held documents.now) number)) }
+    ensures uri { Shows (option_map string_bytes) result
+        (uri_of_document rule (draft_of draft) (view schema.now) (slice_get (held documents.now) number)) }
 {
     match documents.uri_of(number) {
         Some(uri) => Ok(Some(root_base(alloc, rule, uri, draft, schema)?)),
@@ -140,8 +141,8 @@ fn entered_root(
     place: &SchemaPlace,
     schema: &Value,
 ) -> Result<BenchState, LookupError>
-    ensures entered { let entered = entered_root resources.now (held documents.now) (point_of state) (draft_of draft)
-        (place_of place.now) (view schema.now) in MatchResult result (λ s. entered ≡ Ok (point_of s)) (Refuses entered) }
+    ensures entered { Agrees point_of result (entered_root resources.now (held documents.now) (point_of state)
+        (draft_of draft) (place_of place.now) (view schema.now)) }
 {
     match identifier(draft, schema) {
         Some(id) => {
@@ -167,8 +168,8 @@ pub fn entered(
     place: &SchemaPlace,
     value: Option<&Value>,
 ) -> Result<BenchState, LookupError>
-    ensures entered { let entered = entered resources.now (held documents.now) (point_of state.now) (draft_of draft) (place_of place.now)
-        (option_map (λ v. view v.now) value.entry) in MatchResult result (λ s. entered ≡ Ok (point_of s)) (Refuses entered) }
+    ensures entered { Agrees point_of result (entered resources.now (held documents.now) (point_of state.now)
+        (draft_of draft) (place_of place.now) (value_read value.entry)) }
 {
     let state = state.clone()?;
     match value {

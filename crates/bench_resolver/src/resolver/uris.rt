@@ -1,10 +1,10 @@
 //! References and URIs (RFC 3986, sections 3, 4 and 5.2).
-ghost use Rattle.std.specs.Prelude.{◌≡◌, ◌++◌, IfOk, MatchResult, Ok, option_and_then, option_map, string_bytes, unwrap_or};
+ghost use Rattle.std.specs.Prelude.{◌≡◌, option_and_then, option_map, string_bytes, unwrap_or};
 ghost use Rattle.serde_json.specs.View.{view};
 ghost use Rattle.schema_keywords.specs.KeywordViews.{draft_of};
-ghost use Rattle.schema_parts.specs.ResolverViews.{Refuses};
 ghost use Rattle.bench_subschemas.specs.BenchResolving.{identifier};
 ghost use Rattle.bench_resolver.specs.BenchUris.{is_absolute, own_uri, resolve_narrowly, resolve_uri, root_base};
+ghost use Rattle.schema_parts.specs.Showing.{Shows, Agrees};
 
 use crate::resolver::places::refusal;
 use bench_subschemas::identifiers::{identifier, without_fragment};
@@ -42,7 +42,7 @@ pub fn own_uri(
     base: &str,
     identifier: &str,
 ) -> Result<Option<String>, OutOfMemory>
-    ensures uri { IfOk result (λ o. option_map string_bytes o ≡ own_uri rule base.now identifier.now) }
+    ensures uri { Shows (option_map string_bytes) result (own_uri rule base.now identifier.now) }
 {
     match rule {
         Rule::Narrow => {
@@ -71,8 +71,8 @@ pub fn uri_of(
     draft: Draft,
     schema: &Value,
 ) -> Result<Option<String>, OutOfMemory>
-    ensures uri { IfOk result (λ o. option_map string_bytes o
-        ≡ option_and_then (own_uri rule base.now) (identifier (draft_of draft) (view schema.now))) }
+    ensures uri { Shows (option_map string_bytes) result
+        (option_and_then (own_uri rule base.now) (identifier (draft_of draft) (view schema.now))) }
 {
     match identifier(draft, schema) {
         Some(id) => own_uri(alloc, rule, base, id),
@@ -102,7 +102,7 @@ pub fn root_base(
     draft: Draft,
     schema: &Value,
 ) -> Result<String, OutOfMemory>
-    ensures base { IfOk result (λ t. string_bytes t ≡ root_base rule uri.now (draft_of draft) (view schema.now)) }
+    ensures base { Shows string_bytes result (root_base rule uri.now (draft_of draft) (view schema.now)) }
 {
     let around = without_fragment(uri);
     match rule {
@@ -117,8 +117,7 @@ pub fn root_base(
 /// What a reference stands for from a base by the narrow rule: the base without its fragment, this base followed by a fragment, or a
 /// URI with its scheme.
 fn resolve_narrowly(alloc: Global, base: &str, reference: &str) -> Result<String, LookupError>
-    ensures resolved { MatchResult result (λ t. resolve_narrowly base.now reference.now ≡ Ok (string_bytes t))
-        (Refuses (resolve_narrowly base.now reference.now)) }
+    ensures resolved { Agrees string_bytes result (resolve_narrowly base.now reference.now) }
 {
     if reference.is_empty() {
         return Ok(String::from_str(alloc, without_fragment(base))?);
@@ -147,8 +146,7 @@ pub fn resolve_uri(
     base: &str,
     reference: &str,
 ) -> Result<String, LookupError>
-    ensures resolved { MatchResult result (λ t. resolve_uri rule base.now reference.now ≡ Ok (string_bytes t))
-        (Refuses (resolve_uri rule base.now reference.now)) }
+    ensures resolved { Agrees string_bytes result (resolve_uri rule base.now reference.now) }
 {
     match rule {
         Rule::Narrow => resolve_narrowly(alloc, base, reference),

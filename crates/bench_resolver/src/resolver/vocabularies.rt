@@ -1,7 +1,8 @@
 //! The vocabularies of drafts.
-ghost use Rattle.std.specs.Prelude.{◌≡◌, IfOk};
+ghost use Rattle.std.specs.Prelude.{IfOk};
 ghost use Rattle.schema_keywords.specs.KeywordViews.{draft_of};
 ghost use Rattle.bench_resolver.specs.BenchDocuments.{vocabularies_in, HasCustom, HasDrafts};
+ghost use Rattle.schema_parts.specs.Showing.{Yields};
 
 use schema_keywords::keywords::{Draft, Vocabulary, VocabularySet};
 use schema_reports::location::OutOfMemory;
@@ -48,7 +49,7 @@ impl DraftVocabularies {
     ///
     /// Fails only if memory cannot be allocated.
     pub fn in_draft(&self, draft: Draft) -> Result<VocabularySet, OutOfMemory>
-        ensures vocabularies { IfOk result (λ v. v ≡ vocabularies_in (draft_of draft) self.now) }
+        ensures vocabularies { Yields result (vocabularies_in (draft_of draft) self.now) }
     {
         match draft {
             Draft::Draft4 | Draft::Draft6 | Draft::Draft7 => self.early.clone(),

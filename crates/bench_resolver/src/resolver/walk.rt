@@ -1,13 +1,14 @@
 //! The walk of a document, from schemas to their subschemas.
-ghost use Rattle.std.specs.Prelude.{◌≡◌, ◌<◌, ◌++◌, ◌∷◌, [], ℕ, IfOk, flat_map, map};
+ghost use Rattle.std.specs.Prelude.{◌≡◌, ◌<◌, ℕ, IfOk, map};
 ghost use Rattle.std.specs.List.{filter};
 ghost use Rattle.serde_json.specs.Data.{depth};
 ghost use Rattle.serde_json.specs.View.{view};
 ghost use Rattle.schema_keywords.specs.KeywordViews.{draft_of};
-ghost use Rattle.bench_subschemas.specs.FoundViews.{path_of};
 ghost use Rattle.bench_resolver.specs.BenchResources.{goes_into, visited_below, walked};
-ghost use Rattle.bench_resolver.specs.BenchSpeaking.{kept_if, speaking, speaks};
-ghost use Rattle.bench_resolver.specs.BenchViews.{visited_of};
+ghost use Rattle.bench_resolver.specs.BenchSpeaking.{speaking, speaks, kept};
+ghost use Rattle.bench_resolver.specs.BenchViews.{visited_of, path_over};
+ghost use Rattle.schema_parts.specs.Showing.{Yields, Shows};
+ghost use Rattle.bench_resolver.specs.BenchShowing.{Appends};
 
 use crate::resolver::uris::{or_base, uri_of};
 use bench_subschemas::drafts::detected;
@@ -61,7 +62,7 @@ fn path_over(
     path: &SchemaPath,
     way: &[FoundSchema<'_>],
 ) -> Result<SchemaPath, OutOfMemory>
-    ensures path { IfOk result (λ p. p ≡ path.now ++ flat_map path_of way.now) }
+    ensures path { Yields result (path_over path.now way.now) }
 {
     let mut over = path.clone()?;
     for found in way {
@@ -81,9 +82,9 @@ fn keep<'a>(
     schema: &'a Value,
     visited: &mut Vec<Visited<'a>>,
 ) -> Result<(), OutOfMemory>
-    ensures kept { IfOk result (λ _. map visited_of visited.new.items ≡ map visited_of visited.old.items
-        ++ kept_if (speaks aim.rule aim.everywhere (draft_of draft) (view schema.now))
-        (record { path = path.now ++ flat_map path_of way.now; base = base.now; draft = draft_of draft; schema = view schema.now })) }
+    ensures kept { IfOk result (λ _. Appends visited_of visited.old.items visited.new.items
+        (kept aim.rule aim.everywhere
+        (record { path = path_over path.now way.now; base = base.now; draft = draft_of draft; schema = view schema.now }))) }
 {
     if speaks(aim.rule, aim.everywhere, draft, schema) {
         visited.push(Visited {
@@ -109,10 +110,10 @@ fn visit_below<'a>(
     visited: &mut Vec<Visited<'a>>,
 ) -> Result<(), OutOfMemory>
     ensures way { IfOk result (λ _. way.new.items ≡ way.old.items) }
-    ensures visited { IfOk result (λ _. (n : ℕ) → depth (view schema.now) < n → map visited_of visited.new.items
-        ≡ map visited_of visited.old.items ++ filter (speaking aim.rule aim.everywhere)
-        (visited_below aim.rule aim.everywhere n (path.now ++ flat_map path_of way.old.items) base.now (draft_of draft)
-        (view schema.now))) }
+    ensures visited { IfOk result (λ _. (n : ℕ) → depth (view schema.now) < n →
+        Appends visited_of visited.old.items visited.new.items (filter (speaking aim.rule aim.everywhere)
+        (visited_below aim.rule aim.everywhere n (path_over path.now way.old.items) base.now (draft_of draft)
+        (view schema.now)))) }
 {
     for found in &subschemas_found(alloc, aim.rule, draft, schema)? {
         let below = found.schema;
@@ -149,8 +150,8 @@ pub fn walked<'a>(
     draft: Draft,
     schema: &'a Value,
 ) -> Result<Vec<Visited<'a>>, OutOfMemory>
-    ensures walked { IfOk result (λ v. map visited_of v.items
-        ≡ filter (speaking rule everywhere) (walked rule everywhere path.now base.now (draft_of draft) (view schema.now))) }
+    ensures walked { Shows (λ v. map visited_of v.items) result
+        (filter (speaking rule everywhere) (walked rule everywhere path.now base.now (draft_of draft) (view schema.now))) }
 {
     let mut visited = Vec::new(alloc);
     let mut way = Vec::new(alloc);
