@@ -9,3 +9,4 @@ pub mod FusedGrows
 pub mod FusedScripts
 pub mod FusedMakers
 pub mod FusedMakerLaws
+pub mod Borrowing

@@ -1,15 +1,17 @@
 //! `minItems`, and `items` that absorbs it and `type`.
-ghost use Rattle.std.specs.Prelude.{All, ◌≡◌, ◌+◌, ◌^◌, ◌<◌, Bool, IfOk, IfSome, map, option_map, true};
-ghost use Rattle.serde_json.specs.Data.{Data};
+ghost use Rattle.std.specs.Prelude.{◌≡◌, ◌+◌, ◌^◌, ◌<◌, Bool, IfOk, IfSome, map, option_map, true};
 ghost use Rattle.schema_reports.specs.InstanceViews.{subject_of};
 ghost use Rattle.schema_definitions.specs.Keywords.{for_first};
 ghost use Rattle.schema_definitions.specs.Laws.{first_fault};
-ghost use Rattle.schema_reports.specs.ReportViews.{BorrowsItsPlace};
-ghost use Rattle.schema_parts.specs.FaultViews.{PassesBorrowed, errors_in, faults_in};
-ghost use Rattle.schema_parts.specs.KeywordViews.{Tells, answer_of, fault_of, reply_of, turn_of, with_errors, with_gives};
+ghost use Rattle.schema_parts.specs.FaultViews.{faults_in};
+ghost use Rattle.schema_parts.specs.KeywordViews.{answer_of, fault_of, reply_of, turn_of, with_errors, with_gives};
 ghost use Rattle.keyword_ways.specs.Items.{first_at_item};
-ghost use Rattle.keyword_ways.specs.Ways.{asked, at_first, passes_on, way_step, way_turn};
+ghost use Rattle.keyword_ways.specs.Ways.{asked, at_first, passes_on, way_turn};
 ghost use Rattle.fused_keywords.specs.Openings.{asked_count, before_of, checks_hold, errors, first_gives, opening, run_questions};
+ghost use Rattle.keyword_ways.specs.AnswerWords.{BecomesTold, IfTold};
+ghost use Rattle.keyword_ways.specs.Borrowing.{KeepsBorrows, TakesBorrows};
+ghost use Rattle.keyword_ways.specs.TurnWords.{Steps};
+ghost use Rattle.fused_keywords.specs.Borrowing.{BorrowsAll, KeepsAll};
 
 use crate::checks::Check;
 use keyword_ways::items::item_count;
@@ -44,8 +46,7 @@ fn ask_at_item<'s>(number: Option<usize>, mode: Mode) -> Step<'s>
 fn first_of<'i>(alloc: Global, faults: Vec<Fault<'i>>) -> Result<Answer<'i>, OutOfMemory>
     ensures first { IfOk result (λ a. (texts : Bool) → answer_of texts a
         ≡ with_errors for_first (first_fault (map (fault_of texts) faults.entry.items))) }
-    ensures borrows { IfOk result (λ a. (root : Data) → All (PassesBorrowed root) faults.entry.items
-        → All (PassesBorrowed root) (faults_in a)) }
+    ensures borrows { IfOk result (λ a. KeepsAll faults.entry.items (faults_in a)) }
 {
     match faults.into_iter().next() {
         Some(fault) => Ok(Answer::First(Some(Box::new(alloc, fault)?))),
@@ -111,9 +112,9 @@ impl ArrayKeyword {
         alloc: Global,
         instance: Instance<'i>,
     ) -> Result<Vec<Fault<'i>>, OutOfMemory>
-        ensures errors { IfOk result (λ faults. (texts : Bool) → Tells texts true (subject_of instance.entry)
-            → map (fault_of texts) faults.items ≡ errors texts self (subject_of instance.entry)) }
-        ensures borrows { IfOk result (λ faults. (root : Data) → All (PassesBorrowed root) faults.items) }
+        ensures errors { IfOk result (λ faults. IfTold true instance.entry (λ texts s. map (fault_of texts) faults.items ≡ errors texts
+            self s)) }
+        ensures borrows { IfOk result (λ faults. BorrowsAll faults.items) }
     {
         let mut faults = Vec::new(alloc);
         match self {
@@ -135,9 +136,9 @@ impl ArrayKeyword {
         alloc: Global,
         instance: Instance<'i>,
     ) -> Result<Answer<'i>, OutOfMemory>
-        ensures gives { IfOk result (λ a. (texts : Bool) → Tells texts true (subject_of instance.entry)
-            → answer_of texts a ≡ with_gives (first_gives texts self (subject_of instance.entry))) }
-        ensures borrows { IfOk result (λ a. (root : Data) → All (PassesBorrowed root) (faults_in a)) }
+        ensures gives { IfOk result (λ a. IfTold true instance.entry (λ texts s. answer_of texts a ≡ with_gives
+            (first_gives texts self s))) }
+        ensures borrows { IfOk result (λ a. BorrowsAll (faults_in a)) }
     {
         let mut absorbed = Vec::new(alloc);
         match self {
@@ -163,9 +164,8 @@ impl ArrayKeyword {
         mode: Mode,
         instance: Instance<'i>,
     ) -> Result<Answer<'i>, OutOfMemory>
-        ensures opened { IfOk result (λ a. (texts : Bool) → Tells texts true (subject_of instance.entry)
-            → answer_of texts a ≡ opening texts mode self (subject_of instance.entry)) }
-        ensures borrows { IfOk result (λ a. (root : Data) → All (PassesBorrowed root) (faults_in a)) }
+        ensures opened { IfOk result (λ a. IfTold true instance.entry (λ texts s. answer_of texts a ≡ opening texts mode self s)) }
+        ensures borrows { IfOk result (λ a. BorrowsAll (faults_in a)) }
     {
         match mode {
             Mode::Verdict => Ok(Answer::Verdict(self.checks_hold(instance))),
@@ -186,10 +186,9 @@ impl ArrayKeyword {
         instance: Instance<'i>,
         answer: &mut Answer<'i>,
     ) -> Result<(), OutOfMemory>
-        ensures opened { IfOk result (λ _. (texts : Bool) → Tells texts true (subject_of instance.entry) → answer_of texts answer.new
-            ≡ at_first run.now.stage (opening texts run.now.mode self (subject_of instance.entry)) (answer_of texts answer.old)) }
-        ensures borrows { IfOk result (λ _. (root : Data) → All (PassesBorrowed root) (faults_in answer.old)
-            → All (PassesBorrowed root) (faults_in answer.new)) }
+        ensures opened { IfOk result (λ _. BecomesTold true instance.entry (λ texts s a. at_first run.now.stage
+            (opening texts run.now.mode self s) a) answer.old answer.new) }
+        ensures borrows { IfOk result (λ _. KeepsBorrows answer.old answer.new) }
     {
         match run.stage {
             Stage::Begun => {
@@ -210,15 +209,12 @@ impl ArrayKeyword {
         reply: Reply<'i>,
         answer: &mut Answer<'i>,
     ) -> Result<Step<'s>, OutOfMemory>
-        ensures turns { IfOk result (λ _. (texts : Bool) → Tells texts true (subject_of instance.entry)
-            → way_turn (passes_on (run_questions run.old.mode self (subject_of instance.entry)))
-            (run.old, at_first run.old.stage (opening texts run.old.mode self (subject_of instance.entry)) (answer_of texts answer.old))
-            (reply_of texts reply.entry) ≡ (run.new, answer_of texts answer.new)) }
-        ensures steps { IfOk result (λ step. (texts : Bool)
-            → way_step (passes_on (run_questions run.old.mode self (subject_of instance.entry))) (run.old, answer_of texts answer.old)
-            (reply_of texts reply.entry) ≡ turn_of step) }
-        ensures borrows { IfOk result (λ _. (root : Data) → All (BorrowsItsPlace root) (errors_in reply.entry)
-            → All (PassesBorrowed root) (faults_in answer.old) → All (PassesBorrowed root) (faults_in answer.new)) }
+        ensures turns { IfOk result (λ _. IfTold true instance.entry (λ texts s. way_turn (passes_on (run_questions run.old.mode self s))
+            (run.old, at_first run.old.stage (opening texts run.old.mode self s) (answer_of texts answer.old)) (reply_of texts reply.entry)
+            ≡ (run.new, answer_of texts answer.new))) }
+        ensures steps { IfOk result (Steps (passes_on (run_questions run.old.mode self (subject_of instance.entry))) run.old answer.old
+            reply.entry) }
+        ensures borrows { IfOk result (λ _. TakesBorrows reply.entry answer.old answer.new) }
     {
         let mode = run.mode;
         let count = self.asked_count(mode, instance);

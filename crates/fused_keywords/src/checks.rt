@@ -1,14 +1,16 @@
 //! What an array is checked for beside its items.
-ghost use Rattle.std.specs.Prelude.{All, ◌≡◌, ◌++◌, Bool, IfOk, decimal, false, map, string_bytes, true};
+ghost use Rattle.std.specs.Prelude.{◌≡◌, ◌++◌, Bool, IfOk, decimal, map, string_bytes, true};
 ghost use Rattle.serde_json.specs.Data.{Data};
 ghost use Rattle.schema_reports.specs.EvaluationResults.{gives_of, named_of};
 ghost use Rattle.schema_reports.specs.InstanceViews.{subject_of};
-ghost use Rattle.schema_reports.specs.InstanceTexts.{subject_has_float};
 ghost use Rattle.schema_reports.specs.ReportViews.{spoken};
 ghost use Rattle.schema_parts.specs.FaultViews.{PassesBorrowed};
-ghost use Rattle.schema_parts.specs.KeywordViews.{Tells, fault_of};
+ghost use Rattle.schema_parts.specs.KeywordViews.{fault_of};
 ghost use Rattle.fused_keywords.specs.Checks.{absorbed_unit, counted_items, error_at, error_text, errors_at, holds, name, own_unit};
 ghost use Rattle.fused_keywords.specs.Checks.{spot_name};
+ghost use Rattle.keyword_ways.specs.AnswerWords.{IfTold};
+ghost use Rattle.keyword_ways.specs.TextWords.{Adds, ShowsText};
+ghost use Rattle.fused_keywords.specs.Borrowing.{KeepsAll};
 
 use keyword_ways::items::{is_list, item_count};
 use schema_parts::keyword::{Fault, OwnError};
@@ -36,7 +38,7 @@ fn counted_items(limit: u64) -> &'static str
 
 /// Adds a number in decimal.
 fn push_decimal(text: &mut String, number: u64) -> Result<(), OutOfMemory>
-    ensures decimal { IfOk result (λ _. string_bytes text.new ≡ string_bytes text.old ++ decimal number) }
+    ensures decimal { IfOk result (λ _. Adds (decimal number) text.old text.new) }
 {
     write!(text, "{number}")
 }
@@ -89,8 +91,7 @@ impl Check {
 
     /// The text of its error.
     fn text(self, alloc: Global, instance: Instance<'_>) -> Result<String, OutOfMemory>
-        ensures text { IfOk result (λ text. subject_has_float (subject_of instance.entry) ≡ false → string_bytes text
-            ≡ error_text self (subject_of instance.entry)) }
+        ensures text { IfOk result (ShowsText instance.entry (error_text self)) }
     {
         let mut text = instance.text(alloc)?;
         match self {
@@ -116,11 +117,9 @@ impl Check {
         instance: Instance<'i>,
         faults: &mut Vec<Fault<'i>>,
     ) -> Result<(), OutOfMemory>
-        ensures pushed { IfOk result (λ _. (texts : Bool) → Tells texts true (subject_of instance.entry)
-            → map (fault_of texts) faults.new.items ≡ map (fault_of texts) faults.old.items
-            ++ errors_at texts absorbed self (subject_of instance.entry)) }
-        ensures borrows { IfOk result (λ _. (root : Data) → All (PassesBorrowed root) faults.old.items
-            → All (PassesBorrowed root) faults.new.items) }
+        ensures pushed { IfOk result (λ _. IfTold true instance.entry (λ texts s. map (fault_of texts) faults.new.items ≡ map
+            (fault_of texts) faults.old.items ++ errors_at texts absorbed self s)) }
+        ensures borrows { IfOk result (λ _. KeepsAll faults.old.items faults.new.items) }
     {
         if self.holds(instance) {
             return Ok(());
@@ -136,8 +135,7 @@ impl Check {
         alloc: Global,
         instance: Instance<'_>,
     ) -> Result<EvaluationResult, OutOfMemory>
-        ensures unit { IfOk result (λ r. (texts : Bool) → Tells texts true (subject_of instance.entry)
-            → gives_of texts r ≡ own_unit texts self (subject_of instance.entry)) }
+        ensures unit { IfOk result (λ r. IfTold true instance.entry (λ texts s. gives_of texts r ≡ own_unit texts self s)) }
     {
         if self.holds(instance) {
             return Ok(EvaluationResult::valid_empty(alloc));
@@ -155,8 +153,7 @@ impl Check {
         alloc: Global,
         instance: Instance<'_>,
     ) -> Result<AbsorbedResult, OutOfMemory>
-        ensures unit { IfOk result (λ r. (texts : Bool) → Tells texts true (subject_of instance.entry)
-            → named_of texts r ≡ absorbed_unit texts self (subject_of instance.entry)) }
+        ensures unit { IfOk result (λ r. IfTold true instance.entry (λ texts s. named_of texts r ≡ absorbed_unit texts self s)) }
     {
         Ok(AbsorbedResult {
             keyword: String::from_str(alloc, self.name())?,

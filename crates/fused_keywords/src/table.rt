@@ -1,10 +1,9 @@
 //! The keyword table.
 ghost use Rattle.std.specs.Prelude.{◌≡◌, ◌∷◌, [], IfOk, codes, map, option_map, string_bytes};
-ghost use Rattle.serde_json.specs.Find.{get_member};
 ghost use Rattle.serde_json.specs.View.{members_view, view};
 ghost use Rattle.schema_keywords.specs.KeywordViews.{draft_of};
 ghost use Rattle.schema_parts.specs.MakerViews as makers;
-ghost use Rattle.keyword_makers.specs.MakerViews.{made_of, waiting_of};
+ghost use Rattle.keyword_makers.specs.MakerViews.{made_of, waiting_of, Begins};
 ghost use Rattle.bench_keywords.specs.Shapes.{shape_of};
 ghost use Rattle.fused_keywords.specs.FusedMakers.{fused_waiting};
 ghost use Rattle.fused_keywords.specs.FusedScripts.{fused_limit, is_known, least_in, limit_of};
@@ -172,8 +171,8 @@ fn plain_maker(
     vocabularies: &VocabularySet,
     formats: bool,
 ) -> Result<PathsMaker<FusedKeyword>, OutOfMemory>
-    ensures maker { IfOk result (λ m. waiting_of fused_shape m ≡ makers.begun (plain_script name.now (members_view object.now.entries)
-        (draft_of draft) vocabularies.now formats)) }
+    ensures maker { IfOk result (Begins fused_shape (plain_script name.now (members_view object.now.entries) (draft_of draft)
+        vocabularies.now formats)) }
 {
     let origin = KeywordOrigin::Builtin(name);
     if name == "minItems" {

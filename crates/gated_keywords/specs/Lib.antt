@@ -7,3 +7,4 @@ pub mod Making
 pub mod Meanings
 pub mod Present
 pub mod Gates
+pub mod MoveWords

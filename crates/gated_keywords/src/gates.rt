@@ -1,12 +1,11 @@
 //! Gates, and the runs of keywords whose questions stand behind them.
-ghost use Rattle.std.specs.Prelude.{◌≡◌, [], All, Bool, IfOk};
-ghost use Rattle.serde_json.specs.Data.{Data};
-ghost use Rattle.schema_reports.specs.ReportViews.{BorrowsItsPlace};
-ghost use Rattle.schema_parts.specs.FaultViews.{errors_in, faults_in, PassesBorrowed};
-ghost use Rattle.schema_parts.specs.KeywordViews.{answer_of, mode_of, reply_of};
+ghost use Rattle.std.specs.Prelude.{◌≡◌, [], IfOk};
+ghost use Rattle.schema_parts.specs.KeywordViews.{mode_of, reply_of};
 ghost use Rattle.gated_keywords.specs.GateMoves.{answer_at, run_begin};
 ghost use Rattle.gated_keywords.specs.Gates.{opens};
 ghost use Rattle.gated_keywords.specs.declared.gates.GateStage.TheVariants.{Ended};
+ghost use Rattle.keyword_ways.specs.AnswerWords.{Becomes};
+ghost use Rattle.keyword_ways.specs.Borrowing.{TakesBorrows};
 
 use crate::names::{NamesLeft, Texts};
 use keyword_ways::answers::take;
@@ -97,10 +96,8 @@ pub fn take_asked<'i>(
     reply: Reply<'i>,
     answer: &mut Answer<'i>,
 ) -> Result<(), OutOfMemory>
-    ensures answered { IfOk result (λ _. (texts : Bool) → answer_of texts answer.new
-        ≡ answer_at stage (answer_of texts answer.old) (reply_of texts reply.entry)) }
-    ensures borrows { IfOk result (λ _. (root : Data) → All (BorrowsItsPlace root) (errors_in reply.entry)
-        → All (PassesBorrowed root) (faults_in answer.old) → All (PassesBorrowed root) (faults_in answer.new)) }
+    ensures answered { IfOk result (λ _. Becomes answer.old (λ texts a. answer_at stage a (reply_of texts reply.entry)) answer.new) }
+    ensures borrows { IfOk result (λ _. TakesBorrows reply.entry answer.old answer.new) }
 {
     match stage {
         GateStage::Asked(_) => take(alloc, reply, answer),

@@ -1,22 +1,19 @@
 //! `patternProperties` and `additionalProperties`.
-ghost use Rattle.std.specs.Prelude.{◌≡◌, ◌∷◌, [], ◌+◌, ◌^◌, ◌<◌, All, Bool, IfOk, IfSome, List, None, Some, drop, if◌then◌else◌};
+ghost use Rattle.std.specs.Prelude.{◌≡◌, ◌∷◌, [], ◌+◌, ◌^◌, ◌<◌, IfOk, IfSome, None, Some, if◌then◌else◌};
 ghost use Rattle.std.specs.Prelude.{is_some, map, option_map, string_bytes};
-ghost use Rattle.serde_json.specs.Data.{Data};
 ghost use Rattle.serde_json.specs.Find.{get_member};
 ghost use Rattle.serde_json.specs.View.{members_view};
-ghost use Rattle.schema_definitions.specs.Instance.{Subject, Text};
 ghost use Rattle.schema_reports.specs.InstanceViews.{subject_of};
-ghost use Rattle.schema_reports.specs.ReportViews.{BorrowsItsPlace};
-ghost use Rattle.schema_parts.specs.FaultViews.{errors_in, faults_in, PassesBorrowed};
-ghost use Rattle.schema_parts.specs.KeywordViews.{answer_of, mode_of, reply_of, turn_of};
-ghost use Rattle.schema_parts.specs.declared.keyword.Mode.{Mode as ModeOfRun};
+ghost use Rattle.schema_parts.specs.KeywordViews.{turn_of};
 ghost use Rattle.keyword_ways.specs.Members.{has_member};
 ghost use Rattle.gated_keywords.specs.Gates.{opens};
-ghost use Rattle.gated_keywords.specs.Firsts.{first_of};
-ghost use Rattle.gated_keywords.specs.GatedKeywords.{form_of, gate_of, gates_from, gates_of, move_of, moved_by, name_here};
-ghost use Rattle.gated_keywords.specs.GatedKeywords.{names_of, other_gate};
-ghost use Rattle.gated_keywords.specs.GateMoves.{Move as MoveOfRun, answer_by, at_gates, at_pattern, enters, matched_by, move_by};
-ghost use Rattle.gated_keywords.specs.GateMoves.{run_after, seeks, settles, tested, told_in, turn_by};
+ghost use Rattle.gated_keywords.specs.GatedKeywords.{form_of, gates_from, gates_of, name_here, names_of, other_gate};
+ghost use Rattle.gated_keywords.specs.GateMoves.{answer_by, run_after, told_in, turn_by};
+ghost use Rattle.keyword_ways.specs.AnswerWords.{Becomes};
+ghost use Rattle.keyword_ways.specs.Borrowing.{KeepsBorrows};
+ghost use Rattle.gated_keywords.specs.MoveWords.{Enters, IsGate, Looks, Moves, SeekAlike, Seeks, SeeksHere, Settles};
+ghost use Rattle.gated_keywords.specs.MoveWords.{TakesMatch, Tests, moved_in};
+ghost use Rattle.schema_parts.specs.Showing.{Yields};
 
 use crate::gates::{Condition, Gate, GateRun, GateStage, Move, opens, take_asked};
 use crate::listed::Listed;
@@ -51,7 +48,7 @@ pub enum GatedKeyword {
 
 /// The gate of the pattern of a number.
 fn pattern_gate(patterns: &[String], number: usize) -> Option<Gate<'_>>
-    ensures gate { option_map gate_of result ≡ first_of (drop number (gates_from 0 (map string_bytes patterns.now))) }
+    ensures gate { IsGate (gates_from 0 (map string_bytes patterns.now)) number result }
     ensures inside { IfSome result (λ _. number + 1 < 2 ^ 64) }
 {
     if number < patterns.len() {
@@ -67,7 +64,7 @@ fn pattern_gate(patterns: &[String], number: usize) -> Option<Gate<'_>>
 
 /// The only gate.
 fn only_gate(patterns: &[String], number: usize) -> Option<Gate<'_>>
-    ensures gate { option_map gate_of result ≡ first_of (drop number (other_gate (map string_bytes patterns.now) ∷ [])) }
+    ensures gate { IsGate (other_gate (map string_bytes patterns.now) ∷ []) number result }
     ensures inside { IfSome result (λ _. number + 1 < 2 ^ 64) }
 {
     if number == 0 {
@@ -119,7 +116,7 @@ fn name_here<'i>(run: &GateRun, instance: Instance<'i>) -> Option<&'i str>
 impl GatedKeyword {
     /// The gate of a number.
     fn gate(&self, number: usize) -> Option<Gate<'_>>
-        ensures gate { option_map gate_of result ≡ first_of (drop number (gates_of self.now)) }
+        ensures gate { IsGate (gates_of self.now) number result }
         ensures inside { IfSome result (λ _. number + 1 < 2 ^ 64) }
     {
         match self {
@@ -142,9 +139,7 @@ impl GatedKeyword {
         number: usize,
         gate: Gate<'s>,
     ) -> Result<Option<Move<'s>>, OutOfMemory>
-        ensures enters { IfOk result (λ made. (s : Subject) (next : List Text → MoveOfRun)
-            → enters (gates_of self.now) (form_of self.now) s run.old.mode (form_of self.now) run.old.names run.old.left name.now number
-            (gate_of gate.entry) next ≡ moved_by made run.new next) }
+        ensures enters { IfOk result (λ made. Enters self.now run.old run.new name.now number gate.entry made) }
         ensures names { IfOk result (λ _. run.new.names ≡ run.old.names) }
         ensures mode { IfOk result (λ _. run.new.mode ≡ run.old.mode) }
     {
@@ -171,9 +166,8 @@ impl GatedKeyword {
         gate: Gate<'s>,
         matched: bool,
     ) -> Result<Option<Move<'s>>, OutOfMemory>
-        ensures settles { IfOk result (λ made. (s : Subject) (next : List Text → MoveOfRun)
-            → settles (gates_of self.now) (form_of self.now) s run.old.mode (opens gate.entry.condition matched) run.old.names run.old.left
-            name.now number (gate_of gate.entry) next ≡ moved_by made run.new next) }
+        ensures settles { IfOk result (λ made. Settles self.now run.old run.new name.now number (opens gate.entry.condition matched)
+            gate.entry made) }
         ensures names { IfOk result (λ _. run.new.names ≡ run.old.names) }
         ensures mode { IfOk result (λ _. run.new.mode ≡ run.old.mode) }
     {
@@ -194,9 +188,7 @@ impl GatedKeyword {
         gate: Gate<'s>,
         place: usize,
     ) -> Result<Option<Move<'s>>, OutOfMemory>
-        ensures looks { IfOk result (λ made. (s : Subject) (next : List Text → MoveOfRun)
-            → at_pattern (gates_of self.now) (form_of self.now) s run.old.mode run.old.names run.old.left name.now number place
-            (gate_of gate.entry) (drop place (map string_bytes gate.entry.patterns.now)) next ≡ moved_by made run.new next) }
+        ensures looks { IfOk result (λ made. Looks self.now run.old run.new name.now number place gate.entry made) }
         ensures names { IfOk result (λ _. run.new.names ≡ run.old.names) }
         ensures mode { IfOk result (λ _. run.new.mode ≡ run.old.mode) }
     {
@@ -215,9 +207,7 @@ impl GatedKeyword {
         name: &'s str,
         from: usize,
     ) -> Result<Option<Move<'s>>, OutOfMemory>
-        ensures seeks { IfOk result (λ made. (s : Subject) (next : List Text → MoveOfRun)
-            → at_gates (gates_of self.now) (form_of self.now) s run.old.mode run.old.names run.old.left name.now from
-            (drop from (gates_of self.now)) next ≡ moved_by made run.new next) }
+        ensures seeks { IfOk result (λ made. SeeksHere self.now run.old run.new name.now from made) }
         ensures names { IfOk result (λ _. run.new.names ≡ run.old.names) }
         ensures mode { IfOk result (λ _. run.new.mode ≡ run.old.mode) }
     {
@@ -239,8 +229,7 @@ impl GatedKeyword {
         instance: Instance<'i>,
         from: usize,
     ) -> Result<Move<'s>, OutOfMemory>
-        ensures seeks { IfOk result (λ made. seeks (gates_of self.now) (form_of self.now) (subject_of instance.entry) run.old.mode from
-            run.old.left run.old.names ≡ move_of made run.new.names run.new.left) }
+        ensures seeks { IfOk result (λ made. Seeks self.now instance.entry run.old run.new from made) }
         ensures mode { IfOk result (λ _. run.new.mode ≡ run.old.mode) }
     {
         let mut number = from;
@@ -265,8 +254,7 @@ impl GatedKeyword {
         instance: Instance<'i>,
         number: usize,
     ) -> Result<Move<'s>, OutOfMemory>
-        ensures seeks { IfOk result (λ made. seeks (gates_of self.now) (form_of self.now) (subject_of instance.entry) run.old.mode number
-            run.old.left run.old.names ≡ move_of made run.new.names run.new.left) }
+        ensures seeks { IfOk result (λ made. Seeks self.now instance.entry run.old run.new number made) }
         ensures mode { IfOk result (λ _. run.new.mode ≡ run.old.mode) }
     {
         match self.gate(number) {
@@ -290,9 +278,7 @@ impl GatedKeyword {
         place: usize,
         won: bool,
     ) -> Result<Option<Move<'s>>, OutOfMemory>
-        ensures takes { IfOk result (λ made. (s : Subject) (next : List Text → MoveOfRun)
-            → matched_by (gates_of self.now) (form_of self.now) s run.old.mode won run.old.names run.old.left name.now number place
-            (gate_of gate.entry) next ≡ moved_by made run.new next) }
+        ensures takes { IfOk result (λ made. TakesMatch self.now run.old run.new name.now number place won gate.entry made) }
         ensures names { IfOk result (λ _. run.new.names ≡ run.old.names) }
         ensures mode { IfOk result (λ _. run.new.mode ≡ run.old.mode) }
     {
@@ -315,8 +301,7 @@ impl GatedKeyword {
         place: usize,
         won: bool,
     ) -> Result<Move<'s>, OutOfMemory>
-        ensures tested { IfOk result (λ made. tested (gates_of self.now) (form_of self.now) (subject_of instance.entry) run.old.mode won
-            number place run.old.left run.old.names ≡ move_of made run.new.names run.new.left) }
+        ensures tested { IfOk result (λ made. Tests self.now instance.entry run.old run.new number place won made) }
         ensures mode { IfOk result (λ _. run.new.mode ≡ run.old.mode) }
     {
         match (name_here(run, instance), self.gate(number)) {
@@ -332,9 +317,7 @@ impl GatedKeyword {
 
     /// The number of the gate after this one, where there is this one.
     fn next_gate(&self, number: usize) -> usize
-        ensures next { (s : Subject) (m : ModeOfRun) (left names : List Text)
-            → seeks (gates_of self.now) (form_of self.now) s m result left names
-            ≡ seeks (gates_of self.now) (form_of self.now) s m (number + 1) left names }
+        ensures next { SeekAlike self.now result (number + 1) }
     {
         match self.gate(number) {
             Some(_) => number + 1,
@@ -351,8 +334,7 @@ impl GatedKeyword {
         won: bool,
         onward: bool,
     ) -> Result<Move<'s>, OutOfMemory>
-        ensures moves { IfOk result (λ made. move_by (gates_of self.now) (form_of self.now) (subject_of instance.entry) run.old.mode
-            run.old.stage run.old.left run.old.names won onward ≡ move_of made run.new.names run.new.left) }
+        ensures moves { IfOk result (λ made. Moves self.now instance.entry run.old run.new won onward made) }
         ensures mode { IfOk result (λ _. run.new.mode ≡ run.old.mode) }
     {
         match run.stage {
@@ -379,10 +361,9 @@ impl GatedKeyword {
         names: &[String],
         answer: &mut Answer<'i>,
     ) -> Result<(), OutOfMemory>
-        ensures told { IfOk result (λ _. (texts : Bool) → answer_of texts answer.new
-            ≡ told_in texts (form_of self.now) mode (answer_of texts answer.old) (map string_bytes names.now)) }
-        ensures borrows { IfOk result (λ _. (root : Data) → All (PassesBorrowed root) (faults_in answer.old)
-            → All (PassesBorrowed root) (faults_in answer.new)) }
+        ensures told { IfOk result (λ _. Becomes answer.old (λ texts a. told_in texts (form_of self.now) mode a
+            (map string_bytes names.now)) answer.new) }
+        ensures borrows { IfOk result (λ _. KeepsBorrows answer.old answer.new) }
     {
         match self {
             GatedKeyword::NoAdditionalProperties(_) => {
@@ -408,13 +389,11 @@ impl GatedKeyword {
         made: Move<'s>,
         answer: &mut Answer<'i>,
     ) -> Result<Step<'s>, OutOfMemory>
-        ensures answered { IfOk result (λ _. (texts : Bool) → answer_of texts answer.new
-            ≡ answer_by texts (form_of self.now) run.old.mode (answer_of texts answer.old)
-            (move_of made.entry run.old.names run.old.left)) }
-        ensures run { IfOk result (λ _. run.new ≡ run_after run.old.mode (move_of made.entry run.old.names run.old.left)) }
-        ensures step { IfOk result (λ step. turn_of step ≡ turn_by run.old.mode (move_of made.entry run.old.names run.old.left)) }
-        ensures borrows { IfOk result (λ _. (root : Data) → All (PassesBorrowed root) (faults_in answer.old)
-            → All (PassesBorrowed root) (faults_in answer.new)) }
+        ensures answered { IfOk result (λ _. Becomes answer.old (λ texts a. answer_by texts (form_of self.now) run.old.mode a
+            (moved_in run.old made.entry)) answer.new) }
+        ensures run { IfOk result (λ _. run.new ≡ run_after run.old.mode (moved_in run.old made.entry)) }
+        ensures step { IfOk result (λ step. turn_of step ≡ turn_by run.old.mode (moved_in run.old made.entry)) }
+        ensures borrows { IfOk result (λ _. KeepsBorrows answer.old answer.new) }
     {
         match made {
             Move::Halts => {
@@ -435,7 +414,7 @@ impl GatedKeyword {
 
     /// The names of the members that it looks at, in order.
     fn names(&self, alloc: Global, instance: Instance<'_>) -> Result<NamesLeft, OutOfMemory>
-        ensures names { IfOk result (λ names. names ≡ names_of self.now (subject_of instance.entry)) }
+        ensures names { Yields result (names_of self.now (subject_of instance.entry)) }
     {
         match self {
             GatedKeyword::PatternProperties(_) => all_names(alloc, instance),

@@ -1,10 +1,11 @@
 //! The names of an instance's members.
-ghost use Rattle.std.specs.Prelude.{◌≡◌, IfOk};
+ghost use Rattle.std.specs.Prelude.{◌≡◌};
 ghost use Rattle.serde_json.specs.View.{members_view};
 ghost use Rattle.schema_reports.specs.InstanceViews.{subject_of};
 ghost use Rattle.schema_parts.specs.KeywordViews.{is_nil};
 ghost use Rattle.keyword_ways.specs.Members.{names_in, subject_names};
 ghost use Rattle.gated_keywords.specs.GatedKeywords.{unlisted};
+ghost use Rattle.schema_parts.specs.Showing.{Yields};
 
 use crate::listed::Listed;
 use crate::names::NamesLeft;
@@ -16,7 +17,7 @@ use std::alloc::Global;
 
 /// The names of an object's members.
 fn names_in(alloc: Global, members: &Map<String, Value>) -> Result<NamesLeft, OutOfMemory>
-    ensures names { IfOk result (λ names. names ≡ names_in (members_view members.now.entries)) }
+    ensures names { Yields result (names_in (members_view members.now.entries)) }
 {
     let mut names = NamesLeft::none(alloc);
     for (name, _) in members {
@@ -31,7 +32,7 @@ fn unlisted_in(
     listed: &Listed,
     members: &Map<String, Value>,
 ) -> Result<NamesLeft, OutOfMemory>
-    ensures names { IfOk result (λ names. names ≡ unlisted listed.now (names_in (members_view members.now.entries))) }
+    ensures names { Yields result (unlisted listed.now (names_in (members_view members.now.entries))) }
 {
     let mut left = NamesLeft::none(alloc);
     for (name, _) in members {
@@ -57,7 +58,7 @@ fn lists_each_in(listed: &Listed, members: &Map<String, Value>) -> bool
 
 /// The names of the instance's members, in order.
 pub fn all_names(alloc: Global, instance: Instance<'_>) -> Result<NamesLeft, OutOfMemory>
-    ensures names { IfOk result (λ names. names ≡ subject_names (subject_of instance.entry)) }
+    ensures names { Yields result (subject_names (subject_of instance.entry)) }
 {
     match members_of(instance) {
         Some(members) => names_in(alloc, members),
@@ -71,7 +72,7 @@ pub fn unlisted_names(
     listed: &Listed,
     instance: Instance<'_>,
 ) -> Result<NamesLeft, OutOfMemory>
-    ensures names { IfOk result (λ names. names ≡ unlisted listed.now (subject_names (subject_of instance.entry))) }
+    ensures names { Yields result (unlisted listed.now (subject_names (subject_of instance.entry))) }
 {
     match members_of(instance) {
         Some(members) => unlisted_in(alloc, listed, members),

@@ -4,6 +4,7 @@ ghost use Rattle.serde_json.specs.View.{members_view};
 ghost use Rattle.keyword_makers.specs.Members.{names_of};
 ghost use Rattle.schema_parts.specs.KeywordViews.{is_nil};
 ghost use Rattle.gated_keywords.specs.Firsts.{first_of, later_of};
+ghost use Rattle.schema_parts.specs.Showing.{Yields};
 
 use keyword_makers::members::names_of;
 use schema_reports::location::OutOfMemory;
@@ -61,7 +62,7 @@ impl Texts {
 
     /// The names of an object's members.
     pub fn of_members(alloc: Global, members: &Map<String, Value>) -> Result<Texts, OutOfMemory>
-        ensures names { IfOk result (λ t. t ≡ names_of (members_view members.now.entries)) }
+        ensures names { Yields result (names_of (members_view members.now.entries)) }
     {
         let items = names_of(alloc, members)?;
         Ok(Texts { items })

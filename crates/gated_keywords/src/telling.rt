@@ -1,13 +1,15 @@
 //! The error of `additionalProperties`.
-ghost use Rattle.std.specs.Prelude.{◌≡◌, ◌++◌, [], IfOk, map, string_bytes};
+ghost use Rattle.std.specs.Prelude.{◌≡◌, [], IfOk, map, string_bytes};
 ghost use Rattle.gated_keywords.specs.GatedKeywords.{in_quotes, unexpected_text, were_unexpected};
+ghost use Rattle.keyword_ways.specs.TextWords.{Adds};
+ghost use Rattle.schema_parts.specs.Showing.{Shows};
 
 use schema_reports::location::OutOfMemory;
 use std::alloc::Global;
 
 /// Adds each name in quotes, with a comma between two.
 fn push_quoted(names: &[String], text: &mut String) -> Result<(), OutOfMemory>
-    ensures pushed { IfOk result (λ _. string_bytes text.new ≡ string_bytes text.old ++ in_quotes [] (map string_bytes names.now)) }
+    ensures pushed { IfOk result (λ _. Adds (in_quotes [] (map string_bytes names.now)) text.old text.new) }
 {
     let mut before = "";
     for name in names {
@@ -33,7 +35,7 @@ fn were_unexpected(names: &[String]) -> &'static str
 
 /// The text that says which names were unexpected.
 pub fn unexpected_text(alloc: Global, names: &[String]) -> Result<String, OutOfMemory>
-    ensures text { IfOk result (λ text. string_bytes text ≡ unexpected_text (map string_bytes names.now)) }
+    ensures text { Shows string_bytes result (unexpected_text (map string_bytes names.now)) }
 {
     let mut text = String::from_str(alloc, "Additional properties are not allowed (")?;
     push_quoted(names, &mut text)?;
