@@ -1,5 +1,6 @@
 //! What `contentEncoding` and `contentMediaType` assert of a text.
-ghost use Rattle.std.specs.Prelude.{◌≡◌, IfOk};
+ghost use Rattle.std.specs.Prelude.{◌≡◌};
+ghost use Rattle.schema_parts.specs.Showing.{Yields};
 ghost use Rattle.format_keywords.specs.Contents as spec;
 
 use base64::DecodeAllocError;
@@ -14,7 +15,7 @@ use std::alloc::{AllocError, Global};
 ///
 /// Fails only if memory cannot be allocated.
 pub fn is_base64(alloc: Global, text: &str) -> Result<bool, OutOfMemory>
-    ensures base64 { IfOk result (λ b. b ≡ spec.is_base64 text.now) }
+    ensures base64 { Yields result (spec.is_base64 text.now) }
 {
     match STANDARD.decode(alloc, text.as_bytes()) {
         Ok(_) => Ok(true),
@@ -31,7 +32,7 @@ pub fn is_base64(alloc: Global, text: &str) -> Result<bool, OutOfMemory>
 ///
 /// Fails only if memory cannot be allocated.
 pub fn is_json(alloc: Global, text: &str) -> Result<bool, OutOfMemory>
-    ensures json { IfOk result (λ b. b ≡ spec.is_json text.now) }
+    ensures json { Yields result (spec.is_json text.now) }
 {
     match Value::from_str(alloc, text) {
         Ok(_) => Ok(true),
@@ -47,7 +48,7 @@ pub fn is_json(alloc: Global, text: &str) -> Result<bool, OutOfMemory>
 
 #[tactic(auto, using(crate::proofs::TextTests::told_text, crate::proofs::TextTests::told_other))]
 fn is_json_bytes(alloc: Global, bytes: &[u8]) -> Result<bool, OutOfMemory>
-    ensures json { IfOk result (λ b. b ≡ spec.is_json_bytes bytes.now) }
+    ensures json { Yields result (spec.is_json_bytes bytes.now) }
 {
     match std::str::from_utf8(bytes) {
         Ok(text) => is_json(alloc, text),
@@ -61,7 +62,7 @@ fn is_json_bytes(alloc: Global, bytes: &[u8]) -> Result<bool, OutOfMemory>
 ///
 /// Fails only if memory cannot be allocated.
 pub fn is_json_in_base64(alloc: Global, text: &str) -> Result<bool, OutOfMemory>
-    ensures json { IfOk result (λ b. b ≡ spec.is_json_in_base64 text.now) }
+    ensures json { Yields result (spec.is_json_in_base64 text.now) }
 {
     match STANDARD.decode(alloc, text.as_bytes()) {
         Ok(bytes) => is_json_bytes(alloc, bytes.as_slice()),

@@ -1,7 +1,8 @@
 //! Internationalized names of hosts. (RFC 5890, section 2.3.2.3; UTS #46, section 4.2)
-ghost use Rattle.std.specs.Prelude.{◌≡◌, IfOk, not};
+ghost use Rattle.std.specs.Prelude.{◌≡◌, not};
 ghost use Rattle.std.specs.List.{list_all};
 ghost use Rattle.std.specs.Str.{chars};
+ghost use Rattle.schema_parts.specs.Showing.{Yields};
 ghost use Rattle.format_keywords.specs.IdnHostnames as spec;
 
 use idna::{Errors, domain_to_ascii_strict};
@@ -28,7 +29,7 @@ fn are_not_excepted(text: &str) -> bool
 ///
 /// Fails only if memory cannot be allocated.
 pub fn is_idn_hostname(alloc: Global, text: &str) -> Result<bool, OutOfMemory>
-    ensures hostname { IfOk result (λ b. b ≡ spec.is_idn_hostname text.now) }
+    ensures hostname { Yields result (spec.is_idn_hostname text.now) }
 {
     match domain_to_ascii_strict(alloc, text) {
         Ok(_) => Ok(are_not_excepted(text)),

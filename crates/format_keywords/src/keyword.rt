@@ -2,6 +2,7 @@
 ghost use Rattle.std.specs.Prelude.{◌≡◌, ◌++◌, ◌∷◌, [], IfOk, IfSome, Bool, false, map, string_bytes, true};
 ghost use Rattle.schema_reports.specs.InstanceTexts.{subject_has_float};
 ghost use Rattle.schema_reports.specs.InstanceViews.{subject_of};
+ghost use Rattle.schema_parts.specs.Showing.{Yields};
 ghost use Rattle.format_keywords.specs.FormatWords.{complaint, error_text, holds, no_format, takes};
 
 use crate::contents::{is_base64, is_json, is_json_in_base64};
@@ -54,7 +55,7 @@ impl FormatKeyword {
 
     /// Whether a text is as the keyword wants.
     fn takes(self, alloc: Global, text: &str) -> Result<bool, OutOfMemory>
-        ensures takes { IfOk result (λ b. b ≡ takes self text.now) }
+        ensures takes { Yields result (takes self text.now) }
     {
         match self {
             FormatKeyword::Of(format) => Ok(format.accepts(text)),

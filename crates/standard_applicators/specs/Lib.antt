@@ -16,3 +16,5 @@ pub mod DependentSchemas
 pub mod MetWants
 pub mod OwnErrors
 pub mod Meanings
+pub mod RunWays
+pub mod UnmetWords

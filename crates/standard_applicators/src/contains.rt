@@ -1,6 +1,7 @@
 //! `contains`, with `minContains` and `maxContains` beside it.
-ghost use Rattle.std.specs.Prelude.{◌≡◌, IfOk, string_bytes};
+ghost use Rattle.std.specs.Prelude.{string_bytes};
 ghost use Rattle.standard_applicators.specs.Containing.{fewer_than, how_many, more_than};
+ghost use Rattle.schema_parts.specs.Showing.{Shows};
 
 use keyword_ways::items::is_list;
 use keyword_ways::planned::{Asks, Plan, PlannedKeyword};
@@ -17,7 +18,7 @@ pub struct Contains {
 
 /// How an error begins where more items fit than this.
 fn more_than(alloc: Global, most: usize) -> Result<String, OutOfMemory>
-    ensures more { IfOk result (λ text. string_bytes text ≡ more_than most) }
+    ensures more { Shows string_bytes result (more_than most) }
 {
     let mut text = String::new(alloc);
     write!(text, "More than {most} of ")?;
@@ -26,7 +27,7 @@ fn more_than(alloc: Global, most: usize) -> Result<String, OutOfMemory>
 
 /// How an error begins where fewer items fit than this.
 fn fewer_than(alloc: Global, least: usize) -> Result<String, OutOfMemory>
-    ensures fewer { IfOk result (λ text. string_bytes text ≡ fewer_than least) }
+    ensures fewer { Shows string_bytes result (fewer_than least) }
 {
     if least == 1 {
         return String::from_str(alloc, "None of ");
@@ -39,7 +40,7 @@ fn fewer_than(alloc: Global, least: usize) -> Result<String, OutOfMemory>
 impl Contains {
     /// How its error begins, where so many items fit.
     fn how_many(self, alloc: Global, accepted: usize) -> Result<String, OutOfMemory>
-        ensures how_many { IfOk result (λ text. string_bytes text ≡ how_many self.least self.most accepted) }
+        ensures how_many { Shows string_bytes result (how_many self.least self.most accepted) }
     {
         match self.most {
             None => fewer_than(alloc, self.least),

@@ -1,17 +1,13 @@
 //! `dependencies`: names that members want beside them, and schemas that count where a member is there.
-ghost use Rattle.std.specs.Prelude.{All, ◌≡◌, [], Bool, IfOk, List, Option, codes, if◌then◌else◌, map, string_bytes};
-ghost use Rattle.serde_json.specs.Data.{Data};
+ghost use Rattle.std.specs.Prelude.{◌≡◌, [], IfOk, if◌then◌else◌, map, string_bytes};
 ghost use Rattle.schema_definitions.specs.Instance.{Subject};
-ghost use Rattle.schema_definitions.specs.Keywords.{Question};
-ghost use Rattle.schema_reports.specs.InstanceViews.{subject_of};
-ghost use Rattle.schema_reports.specs.ReportViews.{BorrowsItsPlace, spoken};
-ghost use Rattle.schema_parts.specs.FaultViews.{errors_in, faults_in, PassesBorrowed};
-ghost use Rattle.schema_parts.specs.KeywordViews.{answer_of, reply_of, turn_of};
-ghost use Rattle.keyword_ways.specs.Ways.{at_first, noted};
-ghost use Rattle.standard_applicators.specs.Courses.{course_step, course_turn, ends_run, left_to_ask, spoken_course};
-ghost use Rattle.standard_applicators.specs.Courses.{tells_first, wants_one};
+ghost use Rattle.keyword_ways.specs.Ways.{at_first};
+ghost use Rattle.standard_applicators.specs.Courses.{wants_one};
 ghost use Rattle.standard_applicators.specs.Dependents.{dependents_from};
-ghost use Rattle.standard_applicators.specs.Wanting.{missing_texts};
+ghost use Rattle.keyword_ways.specs.AnswerWords.{Becomes};
+ghost use Rattle.keyword_ways.specs.Borrowing.{KeepsBorrows, TakesBorrows};
+ghost use Rattle.standard_applicators.specs.RunWays.{StepsCourse, TurnsCourse, dependencies_course};
+ghost use Rattle.standard_applicators.specs.UnmetWords.{EndsByUnmet, with_unmet};
 
 use crate::dependents::turn_dependents;
 use crate::wants::{Want, has_unmet, tell_unmet};
@@ -41,14 +37,10 @@ fn tell_first<'i>(
     instance: Instance<'i>,
     answer: &mut Answer<'i>,
 ) -> Result<bool, OutOfMemory>
-    ensures told { IfOk result (λ _. (texts : Bool) → answer_of texts answer.new
-        ≡ at_first run.now.stage (noted run.now.mode (codes "dependencies") (answer_of texts answer.old)
-        (map (spoken texts) (missing_texts wants.now (subject_of instance.entry)))) (answer_of texts answer.old)) }
-    ensures ends { IfOk result (λ ends. (texts : Bool) (os : List (Option Question))
-        → left_to_ask run.now.stage (ends_run run.now.mode (map (spoken texts) (missing_texts wants.now (subject_of instance.entry)))) os
-        ≡ (if ends then [] else os)) }
-    ensures borrows { IfOk result (λ _. (root : Data) → All (PassesBorrowed root) (faults_in answer.old)
-        → All (PassesBorrowed root) (faults_in answer.new)) }
+    ensures told { IfOk result (λ _. Becomes answer.old (λ texts a. at_first run.now.stage
+        (with_unmet wants.now instance.entry run.now.mode texts a) a) answer.new) }
+    ensures ends { IfOk result (EndsByUnmet wants.now instance.entry run.now) }
+    ensures borrows { IfOk result (λ _. KeepsBorrows answer.old answer.new) }
 {
     match run.stage {
         Stage::Begun => {
@@ -78,14 +70,10 @@ pub fn turn_dependencies<'s, 'i>(
     reply: Reply<'i>,
     answer: &mut Answer<'i>,
 ) -> Result<Step<'s>, OutOfMemory>
-    ensures turns { IfOk result (λ _. (texts : Bool) → course_turn (spoken_course texts (tells_first (codes "dependencies")
-        (missing_texts wants.now (subject_of instance.entry)) (dependents_from 0 (map string_bytes names.now) (subject_of instance.entry))))
-        (run.old, answer_of texts answer.old) (reply_of texts reply.entry) ≡ (run.new, answer_of texts answer.new)) }
-    ensures steps { IfOk result (λ step. (texts : Bool) → course_step (spoken_course texts (tells_first (codes "dependencies")
-        (missing_texts wants.now (subject_of instance.entry)) (dependents_from 0 (map string_bytes names.now) (subject_of instance.entry))))
-        (run.old, answer_of texts answer.old) (reply_of texts reply.entry) ≡ turn_of step) }
-    ensures borrows { IfOk result (λ _. (root : Data) → All (BorrowsItsPlace root) (errors_in reply.entry)
-        → All (PassesBorrowed root) (faults_in answer.old) → All (PassesBorrowed root) (faults_in answer.new)) }
+    ensures turns { IfOk result (λ _. TurnsCourse (dependencies_course wants.now names.now instance.entry) run.old answer.old reply.entry
+        run.new answer.new) }
+    ensures steps { IfOk result (StepsCourse (dependencies_course wants.now names.now instance.entry) run.old answer.old reply.entry) }
+    ensures borrows { IfOk result (λ _. TakesBorrows reply.entry answer.old answer.new) }
 {
     let ends = tell_first(alloc, wants, run, instance, answer)?;
     let asked = asked_names(ends, names);

@@ -1,12 +1,12 @@
 //! Children at items: each of several at the item of its number, or the only one at each item after so many.
-ghost use Rattle.std.specs.Prelude.{All, ◌≡◌, ◌+◌, ◌-◌, ◌^◌, ◌<◌, Bool, IfOk, min, option_map};
-ghost use Rattle.serde_json.specs.Data.{Data};
-ghost use Rattle.schema_reports.specs.ReportViews.{BorrowsItsPlace};
+ghost use Rattle.std.specs.Prelude.{◌≡◌, ◌+◌, ◌-◌, ◌^◌, ◌<◌, IfOk, min, option_map};
 ghost use Rattle.schema_reports.specs.InstanceViews.{subject_of};
-ghost use Rattle.schema_parts.specs.FaultViews.{errors_in, faults_in, PassesBorrowed};
-ghost use Rattle.schema_parts.specs.KeywordViews.{answer_of, reply_of, turn_of};
-ghost use Rattle.keyword_ways.specs.Items.{child_at_item, each_from, first_at_item, item_count};
-ghost use Rattle.keyword_ways.specs.Ways.{asked, passes_on, way_step, way_turn};
+ghost use Rattle.schema_parts.specs.KeywordViews.{turn_of};
+ghost use Rattle.keyword_ways.specs.Items.{child_at_item, first_at_item, item_count};
+ghost use Rattle.keyword_ways.specs.Ways.{asked};
+ghost use Rattle.keyword_ways.specs.Borrowing.{TakesBorrows};
+ghost use Rattle.keyword_ways.specs.TurnWords.{Steps, Turns};
+ghost use Rattle.standard_applicators.specs.RunWays.{at_later, at_listed};
 
 use keyword_ways::items::item_count;
 use keyword_ways::passing::next_number;
@@ -45,14 +45,9 @@ pub fn turn_listed_items<'s, 'i>(
     reply: Reply<'i>,
     answer: &mut Answer<'i>,
 ) -> Result<Step<'s>, OutOfMemory>
-    ensures turns { IfOk result (λ _. (texts : Bool) → way_turn
-        (passes_on (each_from child_at_item 0 (min children (item_count (subject_of instance.entry)))))
-        (run.old, answer_of texts answer.old) (reply_of texts reply.entry) ≡ (run.new, answer_of texts answer.new)) }
-    ensures steps { IfOk result (λ step. (texts : Bool) → way_step
-        (passes_on (each_from child_at_item 0 (min children (item_count (subject_of instance.entry)))))
-        (run.old, answer_of texts answer.old) (reply_of texts reply.entry) ≡ turn_of step) }
-    ensures borrows { IfOk result (λ _. (root : Data) → All (BorrowsItsPlace root) (errors_in reply.entry)
-        → All (PassesBorrowed root) (faults_in answer.old) → All (PassesBorrowed root) (faults_in answer.new)) }
+    ensures turns { IfOk result (λ _. Turns (at_listed children instance.entry) run.old answer.old reply.entry run.new answer.new) }
+    ensures steps { IfOk result (Steps (at_listed children instance.entry) run.old answer.old reply.entry) }
+    ensures borrows { IfOk result (λ _. TakesBorrows reply.entry answer.old answer.new) }
 {
     let count = listed_count(children, instance);
     let mode = run.mode;
@@ -69,14 +64,9 @@ pub fn turn_later_items<'s, 'i>(
     reply: Reply<'i>,
     answer: &mut Answer<'i>,
 ) -> Result<Step<'s>, OutOfMemory>
-    ensures turns { IfOk result (λ _. (texts : Bool) → way_turn
-        (passes_on (each_from first_at_item before (item_count (subject_of instance.entry) - before))) (run.old, answer_of texts answer.old)
-        (reply_of texts reply.entry) ≡ (run.new, answer_of texts answer.new)) }
-    ensures steps { IfOk result (λ step. (texts : Bool) → way_step
-        (passes_on (each_from first_at_item before (item_count (subject_of instance.entry) - before))) (run.old, answer_of texts answer.old)
-        (reply_of texts reply.entry) ≡ turn_of step) }
-    ensures borrows { IfOk result (λ _. (root : Data) → All (BorrowsItsPlace root) (errors_in reply.entry)
-        → All (PassesBorrowed root) (faults_in answer.old) → All (PassesBorrowed root) (faults_in answer.new)) }
+    ensures turns { IfOk result (λ _. Turns (at_later before instance.entry) run.old answer.old reply.entry run.new answer.new) }
+    ensures steps { IfOk result (Steps (at_later before instance.entry) run.old answer.old reply.entry) }
+    ensures borrows { IfOk result (λ _. TakesBorrows reply.entry answer.old answer.new) }
 {
     let count = items_after(before, instance);
     let mode = run.mode;

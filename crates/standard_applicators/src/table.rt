@@ -1,10 +1,9 @@
 //! The table of the keywords.
-ghost use Rattle.std.specs.Prelude.{◌≡◌, IfOk};
+ghost use Rattle.std.specs.Prelude.{IfOk};
 ghost use Rattle.serde_json.specs.Find.{get_member};
 ghost use Rattle.serde_json.specs.View.{members_view, view};
 ghost use Rattle.schema_keywords.specs.KeywordViews.{draft_of};
-ghost use Rattle.schema_parts.specs.MakerViews as makers;
-ghost use Rattle.keyword_makers.specs.MakerViews.{waiting_of};
+ghost use Rattle.keyword_makers.specs.MakerViews.{waiting_of, Begins};
 ghost use Rattle.standard_applicators.specs.Makers.{additional_items_script, after_listed, contains_script, dependent_schemas_script};
 ghost use Rattle.standard_applicators.specs.Makers.{dependencies_script, items_script, member_script, value_script};
 
@@ -44,8 +43,7 @@ fn contains_maker(
     object: &Map<String, Value>,
     draft: Draft,
 ) -> Result<Maker, OutOfMemory>
-    ensures maker { IfOk result (λ m. waiting_of (λ k. k) m
-        ≡ makers.begun (contains_script (draft_of draft) (members_view object.now.entries) name.now)) }
+    ensures maker { IfOk result (Begins (λ k. k) (contains_script (draft_of draft) (members_view object.now.entries) name.now)) }
 {
     if let Some(value) = refused_limit(draft, "minContains", object) {
         return malformed(alloc, "minContains", value);
@@ -63,7 +61,7 @@ fn contains_maker(
 
 /// The maker of `dependentSchemas`.
 fn dependent_schemas_maker(alloc: Global, name: &str, value: &Value) -> Result<Maker, OutOfMemory>
-    ensures maker { IfOk result (λ m. waiting_of (λ k. k) m ≡ makers.begun (dependent_schemas_script name.now (view value.now))) }
+    ensures maker { IfOk result (Begins (λ k. k) (dependent_schemas_script name.now (view value.now))) }
 {
     match value.as_object() {
         Some(members) => {
@@ -78,7 +76,7 @@ fn dependent_schemas_maker(alloc: Global, name: &str, value: &Value) -> Result<M
 
 /// The maker of `dependencies`.
 fn dependencies_maker(alloc: Global, name: &str, value: &Value) -> Result<Maker, OutOfMemory>
-    ensures maker { IfOk result (λ m. waiting_of (λ k. k) m ≡ makers.begun (dependencies_script name.now (view value.now))) }
+    ensures maker { IfOk result (Begins (λ k. k) (dependencies_script name.now (view value.now))) }
 {
     match value.as_object() {
         Some(members) if are_lists_of_texts(members) => {
@@ -100,8 +98,8 @@ fn items_maker(
     object: &Map<String, Value>,
     draft: Draft,
 ) -> Result<Maker, OutOfMemory>
-    ensures maker { IfOk result (λ m. waiting_of (λ k. k) m
-        ≡ makers.begun (items_script (draft_of draft) (members_view object.now.entries) name.now (view value.now))) }
+    ensures maker { IfOk result (Begins (λ k. k) (items_script (draft_of draft) (members_view object.now.entries) name.now
+        (view value.now))) }
 {
     if is_older_list(draft, value) {
         let keyword = StandardApplicator::ListedItems(list_length(value));
@@ -118,7 +116,7 @@ fn after_listed(
     name: &str,
     value: &Value,
 ) -> Result<Maker, OutOfMemory>
-    ensures maker { IfOk result (λ m. waiting_of (λ k. k) m ≡ makers.begun (after_listed listed name.now (view value.now))) }
+    ensures maker { IfOk result (Begins (λ k. k) (after_listed listed name.now (view value.now))) }
 {
     match listed {
         None => Ok(ends(alloc, Ending::Nothing)),
@@ -141,8 +139,8 @@ fn additional_items_maker(
     object: &Map<String, Value>,
     draft: Draft,
 ) -> Result<Maker, OutOfMemory>
-    ensures maker { IfOk result (λ m. waiting_of (λ k. k) m
-        ≡ makers.begun (additional_items_script (draft_of draft) (members_view object.now.entries) name.now (view value.now))) }
+    ensures maker { IfOk result (Begins (λ k. k) (additional_items_script (draft_of draft) (members_view object.now.entries) name.now
+        (view value.now))) }
 {
     after_listed(alloc, listed_beside(draft, object), name, value)
 }
@@ -155,8 +153,8 @@ fn value_maker(
     object: &Map<String, Value>,
     draft: Draft,
 ) -> Result<Maker, OutOfMemory>
-    ensures maker { IfOk result (λ m. waiting_of (λ k. k) m
-        ≡ makers.begun (value_script (draft_of draft) (members_view object.now.entries) name.now (view value.now))) }
+    ensures maker { IfOk result (Begins (λ k. k) (value_script (draft_of draft) (members_view object.now.entries) name.now
+        (view value.now))) }
 {
     if name == "contains" {
         return contains_maker(alloc, name, object, draft);
@@ -183,8 +181,7 @@ fn member_maker(
     object: &Map<String, Value>,
     draft: Draft,
 ) -> Result<Maker, OutOfMemory>
-    ensures maker { IfOk result (λ m. waiting_of (λ k. k) m
-        ≡ makers.begun (member_script (draft_of draft) (members_view object.now.entries) name.now
+    ensures maker { IfOk result (Begins (λ k. k) (member_script (draft_of draft) (members_view object.now.entries) name.now
         (get_member name.now (members_view object.now.entries)))) }
 {
     match value_in(object, name) {

@@ -4,6 +4,7 @@ ghost use Rattle.serde_json.specs.View.{items_view, view};
 ghost use Rattle.serde_json.specs.Written.{compact_text, has_float, items_have_float};
 ghost use Rattle.schema_reports.specs.InstanceViews.{subject_of};
 ghost use Rattle.standard_applicators.specs.Unexpected.{items_after, listed, subject_items, were};
+ghost use Rattle.keyword_ways.specs.TextWords.{Adds};
 
 use keyword_ways::items::item_count;
 use keyword_ways::leaf::LeafKeyword;
@@ -25,8 +26,8 @@ fn push_shown(
     item: &Value,
     text: &mut String,
 ) -> Result<(), OutOfMemory>
-    ensures pushed { IfOk result (λ _. has_float (view item.now) ≡ false
-        → string_bytes text.new ≡ string_bytes text.old ++ (before.now ++ compact_text (view item.now))) }
+    ensures pushed { IfOk result (λ _. has_float (view item.now) ≡ false → Adds (before.now ++ compact_text (view item.now)) text.old
+        text.new) }
 {
     let shown = item.to_string(alloc)?;
     text.push_str(before)?;

@@ -1,13 +1,12 @@
 //! Members that want others: where an object has the one, it is to have the other.
-ghost use Rattle.std.specs.Prelude.{All, ◌≡◌, ◌&&◌, not, Bool, IfOk, codes, map, string_bytes};
+ghost use Rattle.std.specs.Prelude.{◌≡◌, IfOk, string_bytes};
 ghost use Rattle.std.specs.List.{list_any};
-ghost use Rattle.serde_json.specs.Data.{Data};
 ghost use Rattle.schema_reports.specs.InstanceViews.{subject_of};
-ghost use Rattle.schema_reports.specs.ReportViews.{spoken};
-ghost use Rattle.schema_parts.specs.FaultViews.{faults_in, PassesBorrowed};
-ghost use Rattle.schema_parts.specs.KeywordViews.{answer_of};
-ghost use Rattle.keyword_ways.specs.Ways.{noted};
-ghost use Rattle.standard_applicators.specs.Wanting.{is_unmet, missing_texts, required_text};
+ghost use Rattle.standard_applicators.specs.Wanting.{is_unmet, required_text};
+ghost use Rattle.keyword_ways.specs.AnswerWords.{Becomes};
+ghost use Rattle.keyword_ways.specs.Borrowing.{KeepsBorrows};
+ghost use Rattle.standard_applicators.specs.UnmetWords.{with_unmet};
+ghost use Rattle.schema_parts.specs.Showing.{Shows, Yields};
 
 use keyword_ways::answers::{note, refuse};
 use keyword_ways::members::has_member;
@@ -36,7 +35,7 @@ impl Model for Want {
 impl Want {
     /// A member of this name wants one of that name.
     pub fn new(alloc: Global, member: &str, wanted: &str) -> Result<Want, OutOfMemory>
-        ensures want { IfOk result (λ want. want ≡ (member.now, wanted.now)) }
+        ensures want { Yields result (member.now, wanted.now) }
     {
         let member = String::from_str(alloc, member)?;
         let wanted = String::from_str(alloc, wanted)?;
@@ -52,7 +51,7 @@ impl Want {
 
     /// The text of its error.
     fn text(&self, alloc: Global) -> Result<String, OutOfMemory>
-        ensures text { IfOk result (λ text. string_bytes text ≡ required_text self.now) }
+        ensures text { Shows string_bytes result (required_text self.now) }
     {
         let mut text = Instance::Name(self.wanted.as_str()).text(alloc)?;
         text.push_str(" is a required property")?;
@@ -128,11 +127,8 @@ pub fn tell_unmet<'i>(
     instance: Instance<'i>,
     answer: &mut Answer<'i>,
 ) -> Result<(), OutOfMemory>
-    ensures told { IfOk result (λ _. (texts : Bool) → answer_of texts answer.new
-        ≡ noted mode (codes "dependencies") (answer_of texts answer.old)
-        (map (spoken texts) (missing_texts wants.now (subject_of instance.entry)))) }
-    ensures borrows { IfOk result (λ _. (root : Data) → All (PassesBorrowed root) (faults_in answer.old)
-        → All (PassesBorrowed root) (faults_in answer.new)) }
+    ensures told { IfOk result (λ _. Becomes answer.old (with_unmet wants.now instance.entry mode) answer.new) }
+    ensures borrows { IfOk result (λ _. KeepsBorrows answer.old answer.new) }
 {
     if mode == Mode::Verdict {
         if has_unmet(wants, instance) {

@@ -1,10 +1,12 @@
 -- `dependentRequired` has an object as its value, the members of which are lists of names: where an object has a member of such a name, it
 -- has to have those of the list as well, and each that it lacks is an error. What is no object is accepted. (Validation 2020-12, 6.5.4)
-use Rattle.std.specs.Prelude.{List, None, Option, Some, [], if◌then◌else◌, ◌++◌, ◌∷◌}
+use Rattle.std.specs.Prelude.{List, None, Option, Some, String, [], if◌then◌else◌, map, string_bytes, ◌++◌, ◌∷◌, ◌≡◌}
+use Rattle.std.specs.declared.alloc.Global.{Global}
 use Rattle.serde_json.specs.Data.{Data, Items, Members, item, member, no_items, no_members}
 use Rattle.serde_json.specs.Find.{as_array, as_object, as_str}
 use Rattle.schema_definitions.specs.Instance.{Subject, Text}
 use Rattle.keyword_ways.specs.Members.{has_member}
+use Rattle.bench_keywords.specs.Words.{required_text}
 
 -- the name, where the instance has no such member
 abbrev pub missing_name : Option Text → Subject → List Text
@@ -35,3 +37,7 @@ wanted_of (Some ms) s = wanted_by_each ms s
 -- the names that are missing, in the order of the value's members and then of their lists; one may be missing more than once
 abbrev pub missing_dependents : Data → Subject → List Text
 missing_dependents dependents s = wanted_of (as_object dependents) s
+
+-- for each of these names the text of its error is added
+abbrev pub AddsRequired : List Text → List (String Global) → List (String Global) → Type 0
+AddsRequired names old new = map string_bytes new ≡ map string_bytes old ++ map required_text names

@@ -1,8 +1,8 @@
 //! The keywords that assert by themselves, as one type.
-ghost use Rattle.std.specs.Prelude.{◌≡◌, ◌∷◌, [], IfOk, false, map, string_bytes, true};
-ghost use Rattle.schema_reports.specs.InstanceTexts.{subject_has_float};
+ghost use Rattle.std.specs.Prelude.{◌≡◌, ◌∷◌, [], IfOk, map, string_bytes, true};
 ghost use Rattle.schema_reports.specs.InstanceViews.{subject_of};
 ghost use Rattle.standard_assertions.specs.Assertions.{error_text, holds, shows_no_fraction};
+ghost use Rattle.keyword_ways.specs.TextWords.{ShowsText};
 
 use crate::constants::{
     constant_text, distinct_text, has_distinct_items, has_distinct_items_by_pairs, is_constant,
@@ -74,8 +74,7 @@ impl Assertion {
 
     /// The text of the keyword's one error; of `dependentRequired`, which has an error for each name that is missing, none.
     fn text(&self, alloc: Global, instance: Instance<'_>) -> Result<String, OutOfMemory>
-        ensures text { IfOk result (λ text. shows_no_fraction self.now ≡ true → subject_has_float (subject_of instance.entry) ≡ false
-            → string_bytes text ≡ error_text self.now (subject_of instance.entry)) }
+        ensures text { IfOk result (λ text. shows_no_fraction self.now ≡ true → ShowsText instance.entry (error_text self.now) text) }
     {
         match self {
             Assertion::Type(_, name) => type_text(alloc, *name, instance),

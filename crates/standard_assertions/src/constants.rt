@@ -3,11 +3,12 @@ ghost use Rattle.std.specs.Prelude.{◌≡◌, ◌++◌, IfOk, false, string_byt
 ghost use Rattle.serde_json.specs.Data.{string};
 ghost use Rattle.serde_json.specs.View.{items_view, view};
 ghost use Rattle.serde_json.specs.Written.{compact_text, has_float, items_have_float};
-ghost use Rattle.schema_reports.specs.InstanceTexts.{subject_has_float};
 ghost use Rattle.schema_reports.specs.InstanceViews.{subject_of};
 ghost use Rattle.json_values.specs.Equality.{has_equal};
 ghost use Rattle.standard_assertions.specs.Constants.{constant_text, distinct_text, has_distinct_items, is_constant, is_listed};
 ghost use Rattle.standard_assertions.specs.Constants.{items_in, listed_text, more_values, parting, values_text};
+ghost use Rattle.keyword_ways.specs.TextWords.{Adds, ShowsText};
+ghost use Rattle.schema_parts.specs.Showing.{Yields};
 
 use json_values::distinct::are_all_distinct;
 use json_values::equality::{are_all_distinct_by_pairs, is_among};
@@ -82,8 +83,7 @@ pub fn listed_text(
     values: &HeldValue,
     instance: Instance<'_>,
 ) -> Result<String, OutOfMemory>
-    ensures text { IfOk result (λ text. has_float values.now ≡ false → subject_has_float (subject_of instance.entry) ≡ false
-        → string_bytes text ≡ listed_text values.now (subject_of instance.entry)) }
+    ensures text { IfOk result (λ text. has_float values.now ≡ false → ShowsText instance.entry (listed_text values.now) text) }
 {
     let mut text = instance.text(alloc)?;
     text.push_str(" is not one of ")?;
@@ -93,8 +93,8 @@ pub fn listed_text(
 
 /// Adds the values: ` or ` before the last, and `, ` before each other one but the first.
 fn push_values(alloc: Global, values: &[Value], text: &mut String) -> Result<(), OutOfMemory>
-    ensures pushed { IfOk result (λ _. items_have_float (items_view values.now) ≡ false
-        → string_bytes text.new ≡ string_bytes text.old ++ values_text (items_view values.now)) }
+    ensures pushed { IfOk result (λ _. items_have_float (items_view values.now) ≡ false → Adds (values_text (items_view values.now))
+        text.old text.new) }
 {
     match values.split_first() {
         None => Ok(()),
@@ -117,8 +117,8 @@ fn parting(others: &[Value]) -> &'static str
 
 /// Adds the values after the first.
 fn push_more(alloc: Global, values: &[Value], text: &mut String) -> Result<(), OutOfMemory>
-    ensures pushed { IfOk result (λ _. items_have_float (items_view values.now) ≡ false
-        → string_bytes text.new ≡ string_bytes text.old ++ more_values (items_view values.now)) }
+    ensures pushed { IfOk result (λ _. items_have_float (items_view values.now) ≡ false → Adds (more_values (items_view values.now))
+        text.old text.new) }
 {
     let mut rest = values;
     while let Some((first, others)) = rest.split_first() {
@@ -162,7 +162,7 @@ pub fn has_distinct_items_by_pairs(instance: Instance<'_>) -> bool
 ///
 /// `OutOfMemory` if memory cannot be allocated.
 pub fn has_distinct_items(alloc: Global, instance: Instance<'_>) -> Result<bool, OutOfMemory>
-    ensures distinct { IfOk result (λ distinct. distinct ≡ has_distinct_items (subject_of instance.entry)) }
+    ensures distinct { Yields result (has_distinct_items (subject_of instance.entry)) }
 {
     match instance {
         Instance::Name(_) => Ok(true),
@@ -179,8 +179,7 @@ pub fn has_distinct_items(alloc: Global, instance: Instance<'_>) -> Result<bool,
 ///
 /// `OutOfMemory` if memory cannot be allocated.
 pub fn distinct_text(alloc: Global, instance: Instance<'_>) -> Result<String, OutOfMemory>
-    ensures text { IfOk result (λ text. subject_has_float (subject_of instance.entry) ≡ false → string_bytes text
-        ≡ distinct_text (subject_of instance.entry)) }
+    ensures text { IfOk result (ShowsText instance.entry distinct_text) }
 {
     let mut text = instance.text(alloc)?;
     text.push_str(" has non-unique elements")?;

@@ -1,11 +1,11 @@
 //! `dependentRequired` (JSON Schema Validation 2020-12, 6.5.4).
-ghost use Rattle.std.specs.Prelude.{◌≡◌, ◌++◌, IfOk, map, string_bytes};
+ghost use Rattle.std.specs.Prelude.{◌≡◌, IfOk, map, string_bytes};
 ghost use Rattle.serde_json.specs.Find.{as_array};
 ghost use Rattle.serde_json.specs.View.{items_view, members_view, view};
 ghost use Rattle.schema_reports.specs.InstanceViews.{subject_of};
 ghost use Rattle.schema_parts.specs.KeywordViews.{is_nil};
 ghost use Rattle.bench_keywords.specs.Words.{required_text};
-ghost use Rattle.standard_assertions.specs.Dependents.{missing_dependents, missing_names, missing_of, wanted_by_each};
+ghost use Rattle.standard_assertions.specs.Dependents.{missing_dependents, missing_names, missing_of, wanted_by_each, AddsRequired};
 
 use bench_keywords::required::required_text;
 use json_values::held::HeldValue;
@@ -70,8 +70,8 @@ fn push_missing(
     instance: Instance<'_>,
     texts: &mut Vec<String>,
 ) -> Result<(), OutOfMemory>
-    ensures pushed { IfOk result (λ _. map string_bytes texts.new.items ≡ map string_bytes texts.old.items
-        ++ map required_text (missing_names (items_view names.now) (subject_of instance.entry))) }
+    ensures pushed { IfOk result (λ _. AddsRequired (missing_names (items_view names.now) (subject_of instance.entry)) texts.old.items
+        texts.new.items) }
 {
     for name in names {
         if let Some(name) = name.as_str() {
@@ -90,8 +90,8 @@ fn push_missing_of(
     instance: Instance<'_>,
     texts: &mut Vec<String>,
 ) -> Result<(), OutOfMemory>
-    ensures pushed { IfOk result (λ _. map string_bytes texts.new.items ≡ map string_bytes texts.old.items
-        ++ map required_text (missing_of (as_array (view names.now)) (subject_of instance.entry))) }
+    ensures pushed { IfOk result (λ _. AddsRequired (missing_of (as_array (view names.now)) (subject_of instance.entry)) texts.old.items
+        texts.new.items) }
 {
     match names.as_array() {
         Some(names) => push_missing(alloc, names.as_slice(), instance, texts),
@@ -106,8 +106,8 @@ fn push_wanted(
     instance: Instance<'_>,
     texts: &mut Vec<String>,
 ) -> Result<(), OutOfMemory>
-    ensures pushed { IfOk result (λ _. map string_bytes texts.new.items ≡ map string_bytes texts.old.items
-        ++ map required_text (wanted_by_each (members_view dependents.now.entries) (subject_of instance.entry))) }
+    ensures pushed { IfOk result (λ _. AddsRequired (wanted_by_each (members_view dependents.now.entries) (subject_of instance.entry))
+        texts.old.items texts.new.items) }
 {
     for (name, wanted) in dependents.iter() {
         if has_member(instance, name.as_str()) {

@@ -1,10 +1,10 @@
 //! `minimum`, `maximum`, `exclusiveMinimum` and `exclusiveMaximum` (JSON Schema Validation 2020-12, 6.2.2 to 6.2.5).
-ghost use Rattle.std.specs.Prelude.{◌≡◌, IfOk, false, string_bytes};
+ghost use Rattle.std.specs.Prelude.{◌≡◌, IfOk, false};
 ghost use Rattle.serde_json.specs.Find.{is_float};
 ghost use Rattle.serde_json.specs.View.{number_view};
-ghost use Rattle.schema_reports.specs.InstanceTexts.{subject_has_float};
 ghost use Rattle.schema_reports.specs.InstanceViews.{subject_of};
 ghost use Rattle.standard_assertions.specs.Limits.{is_within, keeps_limit, limit_name, limit_text, limit_words};
+ghost use Rattle.keyword_ways.specs.TextWords.{ShowsText};
 
 use crate::numbers::HeldNumber;
 use json_values::numbers::{is_at_most, is_less};
@@ -92,8 +92,7 @@ pub fn limit_text(
     limit: &HeldNumber,
     instance: Instance<'_>,
 ) -> Result<String, OutOfMemory>
-    ensures text { IfOk result (λ text. is_float limit.now ≡ false → subject_has_float (subject_of instance.entry) ≡ false
-        → string_bytes text ≡ limit_text kind limit.now (subject_of instance.entry)) }
+    ensures text { IfOk result (λ text. is_float limit.now ≡ false → ShowsText instance.entry (limit_text kind limit.now) text) }
 {
     let mut text = instance.text(alloc)?;
     text.push_str(kind.words())?;

@@ -1,9 +1,9 @@
 //! `multipleOf` (JSON Schema Validation 2020-12, 6.2.1).
-ghost use Rattle.std.specs.Prelude.{◌≡◌, IfOk, false, string_bytes};
+ghost use Rattle.std.specs.Prelude.{◌≡◌, IfOk, false};
 ghost use Rattle.serde_json.specs.Find.{is_float};
-ghost use Rattle.schema_reports.specs.InstanceTexts.{subject_has_float};
 ghost use Rattle.schema_reports.specs.InstanceViews.{subject_of};
 ghost use Rattle.standard_assertions.specs.Multiples.{is_multiple, multiple_text};
+ghost use Rattle.keyword_ways.specs.TextWords.{ShowsText};
 
 use crate::numbers::HeldNumber;
 use json_values::multiples::is_rounded_multiple_of;
@@ -35,8 +35,7 @@ pub fn multiple_text(
     divisor: &HeldNumber,
     instance: Instance<'_>,
 ) -> Result<String, OutOfMemory>
-    ensures text { IfOk result (λ text. is_float divisor.now ≡ false → subject_has_float (subject_of instance.entry) ≡ false
-        → string_bytes text ≡ multiple_text divisor.now (subject_of instance.entry)) }
+    ensures text { IfOk result (λ text. is_float divisor.now ≡ false → ShowsText instance.entry (multiple_text divisor.now) text) }
 {
     let mut text = instance.text(alloc)?;
     text.push_str(" is not a multiple of ")?;

@@ -1,9 +1,9 @@
 //! `minItems`, `maxItems` and `maxProperties` (JSON Schema Validation 2020-12, 6.4.1, 6.4.2 and 6.5.1).
-ghost use Rattle.std.specs.Prelude.{◌≡◌, ◌==◌, IfOk, None, Some, false, if◌then◌else◌, string_bytes};
-ghost use Rattle.schema_reports.specs.InstanceTexts.{subject_has_float};
+ghost use Rattle.std.specs.Prelude.{◌≡◌, ◌==◌, IfOk, None, Some, if◌then◌else◌};
 ghost use Rattle.schema_reports.specs.InstanceViews.{subject_of};
 ghost use Rattle.keyword_ways.specs.Items.{is_list, item_count};
 ghost use Rattle.standard_assertions.specs.Sizes.{allows, many_counted, one_counted, size_fits, size_name, size_of, size_text, size_words};
+ghost use Rattle.keyword_ways.specs.TextWords.{ShowsText};
 
 use bench_keywords::counts::{members_count, push_decimal};
 use keyword_ways::items::{is_list, item_count};
@@ -116,8 +116,7 @@ pub fn size_text(
     limit: u64,
     instance: Instance<'_>,
 ) -> Result<String, OutOfMemory>
-    ensures text { IfOk result (λ text. subject_has_float (subject_of instance.entry) ≡ false → string_bytes text
-        ≡ size_text kind limit (subject_of instance.entry)) }
+    ensures text { IfOk result (ShowsText instance.entry (size_text kind limit)) }
 {
     let mut text = instance.text(alloc)?;
     text.push_str(kind.words())?;

@@ -1,9 +1,10 @@
 //! The table that makes the keywords that assert by themselves.
-ghost use Rattle.std.specs.Prelude.{◌≡◌, IfOk};
+ghost use Rattle.std.specs.Prelude.{◌≡◌};
 ghost use Rattle.serde_json.specs.Find.{as_bool, get_member};
 ghost use Rattle.serde_json.specs.View.{members_view, view};
 ghost use Rattle.schema_keywords.specs.KeywordViews.{draft_of};
 ghost use Rattle.keyword_makers.specs.ByObject.{formed};
+ghost use Rattle.schema_parts.specs.Showing.{Shows};
 ghost use Rattle.standard_assertions.specs.Made.{excludes, here_if, limit_here, made_of_counts, made_of_lists, made_of_numbers};
 ghost use Rattle.standard_assertions.specs.Made.{unique_made};
 ghost use Rattle.standard_assertions.specs.Shapes.{shape_of};
@@ -104,7 +105,7 @@ fn made_of_lists(
     name: &str,
     value: &Value,
 ) -> Result<Made, OutOfMemory>
-    ensures made { IfOk result (λ m. formed shape_of m ≡ made_of_lists (draft_of draft) name.now (view value.now)) }
+    ensures made { Shows (formed shape_of) result (made_of_lists (draft_of draft) name.now (view value.now)) }
 {
     if name == "minItems" {
         Ok(here_if(size_made(SizeKind::MinItems, draft, value)))
@@ -129,8 +130,8 @@ fn made_of_numbers(
     name: &str,
     value: &Value,
 ) -> Result<Made, OutOfMemory>
-    ensures made { IfOk result (λ m. formed shape_of m
-        ≡ made_of_numbers (draft_of draft) (members_view object.now.entries) name.now (view value.now)) }
+    ensures made { Shows (formed shape_of) result
+        (made_of_numbers (draft_of draft) (members_view object.now.entries) name.now (view value.now)) }
 {
     if name == "minimum" {
         let (including, excluding) = (LimitKind::Minimum, LimitKind::MinimumExcluded);

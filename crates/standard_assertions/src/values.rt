@@ -1,11 +1,12 @@
 //! The values of these keywords, as their draft reads them.
-ghost use Rattle.std.specs.Prelude.{◌≡◌, IfOk, option_and_then, option_map};
+ghost use Rattle.std.specs.Prelude.{◌≡◌, option_and_then, option_map};
 ghost use Rattle.serde_json.specs.Find.{as_array, as_number, as_object};
 ghost use Rattle.serde_json.specs.View.{items_view, members_view, view};
 ghost use Rattle.schema_keywords.specs.KeywordViews.{draft_of};
 ghost use Rattle.standard_assertions.specs.Values.{are_text_lists, are_texts, count_made, dependents_made, enum_made, has_text_lists};
 ghost use Rattle.standard_assertions.specs.Values.{integers_of, is_any_text_list, is_draft_4, limit_made, multiple_made};
 ghost use Rattle.standard_assertions.specs.Values.{size_limit, size_made, type_made};
+ghost use Rattle.schema_parts.specs.Showing.{Yields};
 
 use crate::assertion::Assertion;
 use crate::limits::LimitKind;
@@ -46,7 +47,7 @@ pub fn type_made(
     integers: Integers,
     value: &Value,
 ) -> Result<Option<Assertion>, OutOfMemory>
-    ensures made { IfOk result (λ made. made ≡ type_made integers (view value.now)) }
+    ensures made { Yields result (type_made integers (view value.now)) }
 {
     match value {
         Value::String(name) => match type_named(name.as_str()) {
@@ -63,7 +64,7 @@ pub fn type_made(
 
 /// `enum`.
 pub fn enum_made(alloc: Global, value: &Value) -> Result<Option<Assertion>, OutOfMemory>
-    ensures made { IfOk result (λ made. made ≡ enum_made (view value.now)) }
+    ensures made { Yields result (enum_made (view value.now)) }
 {
     if value.is_array() {
         let values = HeldValue::of(alloc, value)?;
@@ -165,7 +166,7 @@ fn are_text_lists(members: &Map<String, Value>) -> bool
 
 /// `dependentRequired`.
 pub fn dependents_made(alloc: Global, value: &Value) -> Result<Option<Assertion>, OutOfMemory>
-    ensures made { IfOk result (λ made. made ≡ dependents_made (view value.now)) }
+    ensures made { Yields result (dependents_made (view value.now)) }
 {
     if has_text_lists(value) {
         let dependents = HeldValue::of(alloc, value)?;

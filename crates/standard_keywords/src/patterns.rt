@@ -4,6 +4,7 @@ ghost use Rattle.serde_json.specs.Find.{get_member};
 ghost use Rattle.serde_json.specs.View.{members_view, view};
 ghost use Rattle.schema_parts.specs.MakerViews.{is_own, name_of};
 ghost use Rattle.keyword_makers.specs.Members.{names_of};
+ghost use Rattle.schema_parts.specs.Showing.{Shows};
 ghost use Rattle.standard_keywords.specs.Patterns.{pattern_refusal, refusal_among, refusal_in, unreadable_text};
 
 use keyword_makers::paths::value_in;
@@ -26,7 +27,7 @@ pub enum UnreadablePatterns {
 
 /// What the refusal of a pattern says.
 fn unreadable_text(alloc: Global, pattern: &str) -> Result<String, OutOfMemory>
-    ensures text { IfOk result (λ text. string_bytes text ≡ unreadable_text pattern.now) }
+    ensures text { Shows string_bytes result (unreadable_text pattern.now) }
 {
     let mut text = Instance::Name(pattern).text(alloc)?;
     text.push_str(" is not a \"regex\"")?;
@@ -35,7 +36,7 @@ fn unreadable_text(alloc: Global, pattern: &str) -> Result<String, OutOfMemory>
 
 /// The refusal of a pattern, if it cannot be read.
 fn refusal_of(alloc: Global, pattern: &str) -> Result<Option<String>, OutOfMemory>
-    ensures refusal { IfOk result (λ found. option_map string_bytes found ≡ refusal_among (pattern.now ∷ [])) }
+    ensures refusal { Shows (option_map string_bytes) result (refusal_among (pattern.now ∷ [])) }
 {
     if is_readable(alloc, pattern)? {
         return Ok(None);
@@ -49,7 +50,7 @@ fn refusal_of_names(
     alloc: Global,
     members: &Map<String, Value>,
 ) -> Result<Option<String>, OutOfMemory>
-    ensures refusal { IfOk result (λ found. option_map string_bytes found ≡ refusal_among (names_of (members_view members.now.entries))) }
+    ensures refusal { Shows (option_map string_bytes) result (refusal_among (names_of (members_view members.now.entries))) }
 {
     for (name, _) in members {
         let refusal = refusal_of(alloc, name.as_str())?;
@@ -62,7 +63,7 @@ fn refusal_of_names(
 
 /// The refusal of a member of this name and value, if it holds a pattern that cannot be read.
 fn refusal_in(alloc: Global, name: &str, value: &Value) -> Result<Option<String>, OutOfMemory>
-    ensures refusal { IfOk result (λ found. option_map string_bytes found ≡ refusal_in name.now (view value.now)) }
+    ensures refusal { Shows (option_map string_bytes) result (refusal_in name.now (view value.now)) }
 {
     if name == "pattern" {
         return match value.as_str() {

@@ -1,9 +1,10 @@
 //! What becomes of each keyword of the standard.
-ghost use Rattle.std.specs.Prelude.{◌≡◌, IfOk, string_bytes};
+ghost use Rattle.std.specs.Prelude.{◌≡◌, string_bytes};
 ghost use Rattle.serde_json.specs.View.{members_view};
 ghost use Rattle.schema_keywords.specs.KeywordViews.{draft_of};
 ghost use Rattle.keyword_ways.specs.Texts.{is_among};
 ghost use Rattle.bench_parts.specs.Makers.{has_prefix};
+ghost use Rattle.schema_parts.specs.Showing.{Shows};
 ghost use Rattle.standard_keywords.specs.Treatments.{is_applied, is_asserted, is_basic, is_formatted, is_gated, is_older_items};
 ghost use Rattle.standard_keywords.specs.Treatments.{of_branches, of_counts, of_each_draft, of_lists_and_objects};
 ghost use Rattle.standard_keywords.specs.Treatments.{of_numbers, of_places};
@@ -187,7 +188,7 @@ pub fn treatment_of(draft: Draft, object: &Map<String, Value>, name: &str) -> Tr
 ///
 /// Memory cannot be allocated.
 pub fn refusal_text(alloc: Global, name: &str) -> Result<String, OutOfMemory>
-    ensures text { IfOk result (λ text. string_bytes text ≡ refusal_text name.now) }
+    ensures text { Shows string_bytes result (refusal_text name.now) }
 {
     let mut text = String::from_str(alloc, "\"")?;
     text.push_str(name)?;
