@@ -4,6 +4,7 @@ ghost use Rattle.serde_json.specs.View.{view};
 ghost use Rattle.bench_resolver.specs.BenchDocuments.{HasCustom, HasDrafts};
 ghost use Rattle.bench_subschemas.specs.declared.rules.Rule.TheVariants.{Standard};
 ghost use Rattle.schema_keys.specs.declared.error.BuildError.TheVariants.{OutOfMemory};
+ghost use Rattle.schema_parts.specs.Showing.{Yields};
 ghost use Rattle.standard_validator.specs.Built.{IsBuilt, IsBuiltOf, IsRefused, IsRefusedOf};
 ghost use Rattle.standard_validator.specs.Sources.{default_draft_of, options_by, uri_of};
 
@@ -41,7 +42,7 @@ fn options_for(
     options: ValidationOptions,
     sources: &Sources<'_>,
 ) -> Result<ValidationOptions, OutOfMemory>
-    ensures options { IfOk result (λ o. o ≡ options_by sources.now options) }
+    ensures options { Yields result (options_by sources.now options) }
 {
     let mut options = options;
     if let Some(draft) = sources.draft {

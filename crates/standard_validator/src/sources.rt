@@ -4,6 +4,7 @@ ghost use Rattle.schema_keywords.specs.KeywordViews.{draft_of};
 ghost use Rattle.bench_resolver.specs.BenchViews.{given_of};
 ghost use Rattle.regex_matcher.specs.SchemaPatterns.{IsAdded, IsFaultOf, patterns_of};
 ghost use Rattle.serde_json.specs.View.{view};
+ghost use Rattle.schema_parts.specs.Showing.{Yields};
 ghost use Rattle.standard_validator.specs.Sources.{values_of};
 
 use bench_resolver::resolver::documents::Document;
@@ -81,7 +82,7 @@ impl<'a> Sources<'a> {
     ///
     /// Fails only if memory cannot be allocated.
     pub fn with_uri(self, alloc: Global, uri: &str) -> Result<Sources<'a>, OutOfMemory>
-        ensures uri { IfOk result (λ s. s ≡ record self.entry { uri = Some uri.now }) }
+        ensures uri { Yields result (record self.entry { uri = Some uri.now }) }
     {
         let mut sources = self;
         sources.uri = Some(String::from_str(alloc, uri)?);
@@ -108,9 +109,8 @@ impl<'a> Sources<'a> {
         uri: &str,
         document: &'a Value,
     ) -> Result<Sources<'a>, OutOfMemory>
-        ensures document { IfOk result (λ s. s ≡ record self.entry {
-          documents = self.entry.documents ++ record { uri = uri.now; value = document.now } ∷ [];
-        }) }
+        ensures document { Yields result
+            (record self.entry { documents = self.entry.documents ++ record { uri = uri.now; value = document.now } ∷ [] }) }
     {
         let mut sources = self;
         sources.documents.push(Document {
@@ -131,7 +131,7 @@ impl<'a> Sources<'a> {
         alloc: Global,
         metas: &'a MetaDocuments,
     ) -> Result<Sources<'a>, OutOfMemory>
-        ensures documents { IfOk result (λ s. s ≡ record self.entry { documents = self.entry.documents ++ metas.now.documents }) }
+        ensures documents { Yields result (record self.entry { documents = self.entry.documents ++ metas.now.documents }) }
     {
         let mut sources = self;
         add_meta_schemas(alloc, metas, &mut sources.documents)?;

@@ -11,6 +11,7 @@ ghost use Rattle.schema_reports.specs.UnitViews.{unit_of};
 ghost use Rattle.schema_validator.specs.Handed.{Options};
 ghost use Rattle.bench_resolver.specs.BenchStates.{Point};
 ghost use Rattle.bench_keywords.specs.BenchShape.{BenchShape};
+ghost use Rattle.schema_parts.specs.Showing.{Shows};
 ghost use Rattle.bench_program.specs.ProgramMeaning.{AnswersFromSomeDepth, AnswersInEverySense, AnswersPlainly, BenchHasUnits, BenchMeans};
 ghost use Rattle.bench_program.specs.ProgramRuns.{answer_status};
 ghost use Rattle.bench_program.specs.ProgramTexts.{IsJsonLine, error_line, verdict_text};
@@ -82,7 +83,7 @@ fn verdict(
 
 /// The line of a verdict.
 fn verdict_text(alloc: Global, accepted: bool) -> Result<String, OutOfMemory>
-    ensures text { IfOk result (λ text. string_bytes text ≡ verdict_text accepted) }
+    ensures text { Shows string_bytes result (verdict_text accepted) }
 {
     if accepted {
         String::from_str(alloc, "true\n")

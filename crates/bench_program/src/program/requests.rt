@@ -2,6 +2,7 @@
 ghost use Rattle.std.specs.Prelude.{◌≡◌, IfOk, IfErr, map, option_map, string_bytes};
 ghost use Rattle.serde_json.specs.View.{view};
 ghost use Rattle.bench_parts.specs.Makers.{texts_of};
+ghost use Rattle.schema_parts.specs.Showing.{Shows};
 ghost use Rattle.bench_program.specs.ProgramFaults.{FaultStands, Unlisted, Unread};
 ghost use Rattle.bench_program.specs.ProgramViews.{texts, words_of};
 ghost use Rattle.bench_program.specs.ProgramWords.{Holds, IsListOf, IsTextOf, call_in, call_named, listed, words_in};
@@ -94,7 +95,7 @@ fn json_in(alloc: Global, text: &[u8], word: Word) -> Result<Value, Fault>
 
 /// The texts that a value lists, if it is a list of texts.
 fn listed(alloc: Global, value: &Value) -> Result<Option<Vec<String>>, OutOfMemory>
-    ensures listed { IfOk result (λ found. option_map (λ v. map string_bytes v.items) found ≡ listed (view value.now)) }
+    ensures listed { Shows (option_map (λ v. map string_bytes v.items)) result (listed (view value.now)) }
 {
     let Value::Array(items) = value else {
         return Ok(None);
