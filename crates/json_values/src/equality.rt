@@ -1,5 +1,5 @@
 //! JSON equality (JSON Schema Core 2020-12, 4.2.2), by which `enum`, `const` and `uniqueItems` compare.
-ghost use Rattle.std.specs.Prelude.{◌≡◌, ◌==◌, option_map};
+ghost use Rattle.std.specs.Prelude.{◌≡◌, ◌==◌};
 ghost use Rattle.serde_json.specs.Data.{string};
 ghost use Rattle.serde_json.specs.Events.{members_len};
 ghost use Rattle.std.specs.List.Sorted.{IsStrictlySortedBy};

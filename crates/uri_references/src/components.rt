@@ -1,5 +1,5 @@
 //! The five components of a reference (RFC 3986, 3 and appendix B).
-ghost use Rattle.std.specs.Prelude.{◌≡◌, ◌++◌, ◌<◌, ◌≤◌, ◌==◌, IfOk, codes, option_map, string_bytes};
+ghost use Rattle.std.specs.Prelude.{◌≡◌, ◌++◌, ◌<◌, ◌≤◌, ◌==◌, IfOk, option_map, string_bytes};
 ghost use Rattle.std.specs.List.{position_or_len};
 ghost use Rattle.uri_references.specs.Components as spec;
 ghost use Rattle.uri_references.specs.Components.{around};
