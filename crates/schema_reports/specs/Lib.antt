@@ -8,3 +8,4 @@ pub mod InstanceTexts
 pub mod Owned
 pub mod SamePlaces
 pub mod PlaceInputs
+pub mod Showing

@@ -1,5 +1,6 @@
 //! Evaluations: what each place of a schema says of a place of an instance, unit by unit. (Core 2020-12, 12.4)
-ghost use Rattle.std.specs.Prelude.{◌≡◌, [], ◌++◌, ◌∷◌, Bool, IfOk, OnErr, map};
+ghost use Rattle.std.specs.Prelude.{◌≡◌, [], ◌++◌, ◌∷◌, Bool, OnErr, map, OnOk};
+ghost use Rattle.schema_reports.specs.Showing.{Yields};
 ghost use Rattle.std.specs.List.{list_all};
 ghost use Rattle.schema_definitions.specs.Reports.{report_of};
 ghost use Rattle.schema_reports.specs.UnitViews.{unit_of};
@@ -71,7 +72,7 @@ impl ChildList {
 
     /// Returns a list with the one unit. Fails only if memory cannot be allocated.
     pub fn of(alloc: Global, node: EvaluationNode) -> Result<ChildList, OutOfMemory>
-        ensures one { IfOk result (λ l. l ≡ node ∷ []) }
+        ensures one { Yields result (node ∷ []) }
     {
         let mut list = ChildList::new(alloc);
         list.push(node)?;
@@ -87,7 +88,7 @@ impl ChildList {
 
     /// Adds a unit at the end. Fails only if memory cannot be allocated, and then the list is as it was.
     pub fn push(&mut self, node: EvaluationNode) -> Result<(), OutOfMemory>
-        ensures pushed { IfOk result (λ _. self.new ≡ self.old ++ node ∷ []) }
+        ensures pushed { OnOk result (self.new ≡ self.old ++ node ∷ []) }
         ensures unchanged { OnErr result (self.new ≡ self.old) }
     {
         self.nodes.push(node)?;

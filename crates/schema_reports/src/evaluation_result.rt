@@ -1,5 +1,5 @@
 //! What the evaluation of a keyword gives: a verdict, annotations, errors, and the units inside it. (Core 2020-12, 12.4)
-ghost use Rattle.std.specs.Prelude.{◌≡◌, [], ◌∷◌, Bool, IfOk, OnErr, map, true, false};
+ghost use Rattle.std.specs.Prelude.{◌≡◌, [], ◌∷◌, Bool, IfOk, OnErr, map, true, false, OnOk};
 ghost use Rattle.serde_json.specs.View.{view};
 ghost use Rattle.schema_reports.specs.UnitViews.{described_of, unit_of};
 ghost use Rattle.schema_reports.specs.EvaluationResults.{annotated, errored, gives_of, gives_with, of_units, refusing};
@@ -86,8 +86,7 @@ impl EvaluationResult {
 
     /// Sets the annotations, of a valid one and of an invalid one.
     pub fn annotate(&mut self, new_annotations: Annotations)
-        ensures annotated { (texts : Bool)
-            → gives_of texts self.new ≡ annotated (view new_annotations) (gives_of texts self.old) }
+        ensures annotated { (texts : Bool) → gives_of texts self.new ≡ annotated (view new_annotations) (gives_of texts self.old) }
     {
         match self {
             EvaluationResult::Valid(annotations, _) => *annotations = Some(new_annotations),
@@ -102,7 +101,7 @@ impl EvaluationResult {
         alloc: Global,
         error: ErrorDescription,
     ) -> Result<(), OutOfMemory>
-        ensures errored { IfOk result (λ _. (texts : Bool)
+        ensures errored { OnOk result ((texts : Bool)
             → gives_of texts self.new ≡ errored (described_of texts error) (gives_of texts self.old)) }
         ensures unchanged { OnErr result ((texts : Bool) → gives_of texts self.new ≡ gives_of texts self.old) }
     {

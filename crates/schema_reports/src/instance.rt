@@ -1,6 +1,7 @@
 //! Instances and their places.
-ghost use Rattle.std.specs.Prelude.{◌≡◌, List, [], ◌∷◌, ◌++◌, IfOk, option_map, Option, Some, None, map, IfSome, OnErr, false};
+ghost use Rattle.std.specs.Prelude.{◌≡◌, List, [], ◌∷◌, ◌++◌, IfOk, option_map, Option, Some, None, map, IfSome, OnErr, false, OnOk};
 ghost use Rattle.std.specs.Prelude.{fold, length, string_bytes};
+ghost use Rattle.schema_reports.specs.Showing.{Shows, Yields};
 ghost use Rattle.schema_definitions.specs.Instance.{same_place, same_step, after_step, to_member, to_item, to_name};
 ghost use Rattle.std.specs.Cmp.{partial_equiv_from_equiv};
 ghost use Rattle.schema_reports.specs.SamePlaces.{places_equiv};
@@ -111,7 +112,7 @@ impl<'i> Instance<'i> {
 
     /// Returns the instance as an owned value; a name becomes a string. Fails only if memory cannot be allocated.
     pub fn to_value(self, alloc: Global) -> Result<Value, OutOfMemory>
-        ensures value { IfOk result (λ v. view v ≡ value_of (subject_of self.entry)) }
+        ensures value { Shows view result (value_of (subject_of self.entry)) }
     {
         match self {
             Instance::Value(value) => value.clone(),
@@ -122,7 +123,7 @@ impl<'i> Instance<'i> {
 
 // The text of a name.
 fn quoted_text(alloc: Global, name: &str) -> Result<String, OutOfMemory>
-    ensures text { IfOk result (λ s. string_bytes s ≡ quoted name.now) }
+    ensures text { Shows string_bytes result (quoted name.now) }
 {
     let value = Value::String(String::from_str(alloc, name)?);
     value.to_string(alloc)
@@ -179,7 +180,7 @@ fn same_steps(a: &[InstanceStep<'_>], b: &[InstanceStep<'_>]) -> bool
 
 /// Adds one step to a pointer. A step to a name adds nothing. Fails only if memory cannot be allocated.
 pub fn push_step(pointer: &mut Location, step: InstanceStep<'_>) -> Result<(), OutOfMemory>
-    ensures pushed { IfOk result (λ _. pointer.new ≡ pointer.old ++ step_text (step_of step.entry)) }
+    ensures pushed { OnOk result (pointer.new ≡ pointer.old ++ step_text (step_of step.entry)) }
 {
     match step {
         InstanceStep::Member(name) => pointer.push(LocationSegment::Property(name)),
@@ -225,7 +226,7 @@ impl<'i> Place<'i> {
 
     /// Returns the place one step below this one. Fails only if memory cannot be allocated.
     pub fn below(&self, step: InstanceStep<'i>) -> Result<Place<'i>, OutOfMemory>
-        ensures below { IfOk result (λ p. p ≡ self.now ++ step_of step.entry ∷ []) }
+        ensures below { Yields result (self.now ++ step_of step.entry ∷ []) }
     {
         let mut place = self.with_room(1)?;
         place.push(step)?;
@@ -234,7 +235,7 @@ impl<'i> Place<'i> {
 
     /// Returns the same place, with room for so many steps more. Fails only if memory cannot be allocated.
     pub fn with_room(&self, more: usize) -> Result<Place<'i>, OutOfMemory>
-        ensures same { IfOk result (λ p. p ≡ self.now) }
+        ensures same { Yields result self.now }
     {
         let count = self.steps.len().saturating_add(more);
         let mut steps = Vec::with_capacity(*self.steps.allocator(), count)?;
@@ -244,7 +245,7 @@ impl<'i> Place<'i> {
 
     /// Goes one step further down. Fails only if memory cannot be allocated, and then the place is as it was.
     pub fn push(&mut self, step: InstanceStep<'i>) -> Result<(), OutOfMemory>
-        ensures pushed { IfOk result (λ _. self.new ≡ self.old ++ step_of step.entry ∷ []) }
+        ensures pushed { OnOk result (self.new ≡ self.old ++ step_of step.entry ∷ []) }
         ensures unchanged { OnErr result (self.new ≡ self.old) }
     {
         self.steps.push(step)?;
@@ -254,7 +255,7 @@ impl<'i> Place<'i> {
     /// Returns the JSON Pointer of the place. The place of a name has the pointer of its object. Fails only if memory cannot be
     /// allocated.
     pub fn pointer(&self, alloc: Global) -> Result<Location, OutOfMemory>
-        ensures pointer { IfOk result (λ l. l ≡ pointer_to self.now) }
+        ensures pointer { Yields result (pointer_to self.now) }
     {
         let mut location = Location::new(alloc);
         self.push_pointer(&mut location)?;
@@ -263,7 +264,7 @@ impl<'i> Place<'i> {
 
     /// Appends the JSON Pointer of the place to a pointer. Fails only if memory cannot be allocated.
     pub fn push_pointer(&self, pointer: &mut Location) -> Result<(), OutOfMemory>
-        ensures pushed { IfOk result (λ _. pointer.new ≡ pointer.old ++ pointer_to self.now) }
+        ensures pushed { OnOk result (pointer.new ≡ pointer.old ++ pointer_to self.now) }
     {
         for step in self.steps.iter() {
             push_step(pointer, *step)?;

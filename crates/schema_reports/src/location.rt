@@ -1,5 +1,6 @@
 //! Pointer texts (RFC 6901).
-ghost use Rattle.std.specs.Prelude.{◌≡◌, ℕ, List, [], ◌++◌, IfOk, bytes_eq, string_bytes, decimal, true};
+ghost use Rattle.std.specs.Prelude.{◌≡◌, ℕ, List, [], ◌++◌, bytes_eq, string_bytes, decimal, true, OnOk};
+ghost use Rattle.schema_reports.specs.Showing.{Adds, Yields};
 ghost use Rattle.std.specs.Cmp.{partial_equiv_from_equiv};
 ghost use Rattle.std.specs.Cmp.Lexicographic.{nat_list_eq_equiv};
 ghost use Rattle.std.specs.Char.{encode_utf8};
@@ -35,7 +36,7 @@ impl Model for Location {
 
 // One character, escaped.
 fn push_escaped_char(text: &mut String, c: char) -> Result<(), OutOfMemory>
-    ensures escaped { IfOk result (λ _. string_bytes text.new ≡ string_bytes text.old ++ escaped (encode_utf8 c)) }
+    ensures escaped { Adds result text.old text.new (escaped (encode_utf8 c)) }
 {
     if c == '~' {
         text.push_str("~0")
@@ -59,7 +60,7 @@ fn is_bare(name: &[u8]) -> bool
 
 // A name, with `~` as `~0` and `/` as `~1`.
 fn push_escaped(text: &mut String, name: &str) -> Result<(), OutOfMemory>
-    ensures escaped { IfOk result (λ _. string_bytes text.new ≡ string_bytes text.old ++ escaped name.now) }
+    ensures escaped { Adds result text.old text.new (escaped name.now) }
 {
     // (a single character is added sooner than it is looked at)
     if name.len() > 1 && is_bare(name.as_bytes()) {
@@ -73,7 +74,7 @@ fn push_escaped(text: &mut String, name: &str) -> Result<(), OutOfMemory>
 
 // An index in decimal.
 fn push_decimal(text: &mut String, index: usize) -> Result<(), OutOfMemory>
-    ensures decimal { IfOk result (λ _. string_bytes text.new ≡ string_bytes text.old ++ decimal index) }
+    ensures decimal { Adds result text.old text.new (decimal index) }
 {
     write!(text, "{index}")
 }
@@ -99,7 +100,7 @@ impl Location {
     /// Returns the pointer with this text, which must already be escaped: it is taken as it is. Fails only if memory cannot be
     /// allocated.
     pub fn from_escaped(alloc: Global, text: &str) -> Result<Location, OutOfMemory>
-        ensures same { IfOk result (λ l. l ≡ text.now) }
+        ensures same { Yields result text.now }
     {
         Ok(Location {
             text: String::from_str(alloc, text)?,
@@ -108,7 +109,7 @@ impl Location {
 
     /// Returns the pointer of the root, with room for a text of so many bytes. Fails only if memory cannot be allocated.
     pub fn with_capacity(alloc: Global, bytes: usize) -> Result<Location, OutOfMemory>
-        ensures empty { IfOk result (λ l. l ≡ []) }
+        ensures empty { Yields result [] }
     {
         Ok(Location {
             text: String::with_capacity(alloc, bytes)?,
@@ -125,7 +126,7 @@ impl Location {
     /// Returns the pointer with one more segment: `/` and the name with `~` as `~0` and `/` as `~1`, or `/` and the index in
     /// decimal. Fails only if memory cannot be allocated.
     pub fn join(&self, segment: LocationSegment<'_>) -> Result<Location, OutOfMemory>
-        ensures joined { IfOk result (λ l. l ≡ self.now ++ segment_text (segment_of segment.entry)) }
+        ensures joined { Yields result (self.now ++ segment_text (segment_of segment.entry)) }
     {
         let mut location = self.with_room(room_for(segment))?;
         location.push(segment)?;
@@ -134,7 +135,7 @@ impl Location {
 
     // A copy with room for so many bytes more.
     fn with_room(&self, more: usize) -> Result<Location, OutOfMemory>
-        ensures same { IfOk result (λ l. l ≡ self.now) }
+        ensures same { Yields result self.now }
     {
         let bytes = self.text.len().saturating_add(more);
         let mut text = String::with_capacity(*self.text.allocator(), bytes)?;
@@ -144,7 +145,7 @@ impl Location {
 
     /// Appends one segment in place, as `join` writes it. On `Err` a part of the segment may have been written.
     pub fn push(&mut self, segment: LocationSegment<'_>) -> Result<(), OutOfMemory>
-        ensures pushed { IfOk result (λ _. self.new ≡ self.old ++ segment_text (segment_of segment.entry)) }
+        ensures pushed { OnOk result (self.new ≡ self.old ++ segment_text (segment_of segment.entry)) }
     {
         self.text.push('/')?;
         match segment {
@@ -155,14 +156,14 @@ impl Location {
 
     /// Appends a text in place, which must already be escaped: it is taken as it is. Fails only if memory cannot be allocated.
     pub fn push_escaped(&mut self, text: &str) -> Result<(), OutOfMemory>
-        ensures pushed { IfOk result (λ _. self.new ≡ self.old ++ text.now) }
+        ensures pushed { OnOk result (self.new ≡ self.old ++ text.now) }
     {
         self.text.push_str(text)
     }
 
     /// Returns the pointer followed by another one. Fails only if memory cannot be allocated.
     pub fn append(&self, rest: &Location) -> Result<Location, OutOfMemory>
-        ensures appended { IfOk result (λ l. l ≡ self.now ++ rest.now) }
+        ensures appended { Yields result (self.now ++ rest.now) }
     {
         let mut whole = self.with_room(rest.text.len())?;
         whole.push_escaped(rest.text.as_str())?;

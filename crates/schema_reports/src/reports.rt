@@ -1,5 +1,6 @@
 //! Errors: where the instance and the schema disagree.
-ghost use Rattle.std.specs.Prelude.{◌≡◌, List, Bool, true, false, IfOk, IfSome, length, option_map, Some, string_bytes};
+ghost use Rattle.std.specs.Prelude.{◌≡◌, List, Bool, true, false, IfOk, IfSome, length, Some, string_bytes};
+ghost use Rattle.schema_reports.specs.Showing.{Shows, Yields};
 ghost use Rattle.std.specs.Iterator.{UpTo, YieldsFirst, at_most, item_count};
 ghost use Rattle.std.specs.Iterator.SizeHint.{IsWithinCount};
 ghost use Rattle.schema_definitions.specs.Pointer.{pointer_to};
@@ -80,8 +81,7 @@ impl<'i> ValidationError<'i> {
         evaluation_path: Location,
         absolute: Option<String>,
     ) -> Result<ValidationError<'i>, OutOfMemory>
-        ensures error { IfOk result
-            (λ e. (texts : Bool) → (texts ≡ true → subject_has_float (subject_of instance.entry) ≡ false)
+        ensures error { IfOk result (λ e. (texts : Bool) → (texts ≡ true → subject_has_float (subject_of instance.entry) ≡ false)
             → error_of texts e
             ≡ false_error texts (where_of place.entry schema_path evaluation_path absolute) (subject_of instance.entry)) }
         ensures borrows { IfOk result (λ e. e.instance ≡ instance.entry) }
@@ -101,7 +101,7 @@ impl<'i> ValidationError<'i> {
 
     /// Returns the JSON Pointer of the instance. Fails only if memory cannot be allocated.
     pub fn instance_path(&self, alloc: Global) -> Result<Location, OutOfMemory>
-        ensures pointer { IfOk result (λ l. l ≡ pointer_to self.now.place) }
+        ensures pointer { Yields result (pointer_to self.now.place) }
     {
         self.place.pointer(alloc)
     }
@@ -115,7 +115,7 @@ impl<'i> ValidationError<'i> {
 
     /// Returns the error with an owned copy of its instance; a name becomes a string. Fails only if memory cannot be allocated.
     pub fn to_owned(&self, alloc: Global) -> Result<OwnedError, OutOfMemory>
-        ensures owned { IfOk result (λ o. owned_error_of o ≡ owned (subject_of self.now.instance) (error_of true self.now)) }
+        ensures owned { Shows owned_error_of result (owned (subject_of self.now.instance) (error_of true self.now)) }
     {
         Ok(OwnedError {
             instance: self.instance.to_value(alloc)?,
@@ -133,7 +133,7 @@ impl OwnedError {
     /// Puts a location before the instance path, as for an error that is seen from above; nothing else changes. Fails only if
     /// memory cannot be allocated.
     pub fn with_instance_path_prefix(self, location: &Location) -> Result<OwnedError, OutOfMemory>
-        ensures prefixed { IfOk result (λ o. owned_error_of o ≡ prefixed location.now (owned_error_of self)) }
+        ensures prefixed { Shows owned_error_of result (prefixed location.now (owned_error_of self)) }
     {
         let instance_path = location.append(&self.instance_path)?;
         Ok(OwnedError {

@@ -1,5 +1,6 @@
 //! Pointer texts that several owners share.
-ghost use Rattle.std.specs.Prelude.{◌≡◌, [], ◌∷◌, IfOk, true};
+ghost use Rattle.std.specs.Prelude.{◌≡◌, [], ◌∷◌, true};
+ghost use Rattle.schema_reports.specs.Showing.{Yields};
 ghost use Rattle.json.specs.Print.{escape, escape_byte};
 
 use crate::location::{Location, OutOfMemory};
@@ -83,7 +84,7 @@ impl Model for SharedLocation {
 impl SharedLocation {
     /// Returns the pointer, to be shared. Fails only if memory cannot be allocated.
     pub fn new(alloc: Global, location: Location) -> Result<SharedLocation, OutOfMemory>
-        ensures same { IfOk result (λ l. l ≡ location) }
+        ensures same { Yields result location }
     {
         Ok(SharedLocation {
             shared: Rc::new(alloc, MarkedLocation::new(location))?,
@@ -92,7 +93,7 @@ impl SharedLocation {
 
     /// Returns the pointer of the root, which is empty. Fails only if memory cannot be allocated.
     pub fn root(alloc: Global) -> Result<SharedLocation, OutOfMemory>
-        ensures empty { IfOk result (λ l. l ≡ []) }
+        ensures empty { Yields result [] }
     {
         SharedLocation::new(alloc, Location::new(alloc))
     }

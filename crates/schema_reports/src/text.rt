@@ -1,5 +1,6 @@
 //! A text that contracts see as its bytes.
-ghost use Rattle.std.specs.Prelude.{◌≡◌, IfOk, bytes_eq, string_bytes};
+ghost use Rattle.std.specs.Prelude.{◌≡◌, bytes_eq, string_bytes};
+ghost use Rattle.schema_reports.specs.Showing.{Yields};
 
 use crate::location::OutOfMemory;
 use std::alloc::{AllocError, Global};
@@ -22,7 +23,7 @@ impl Model for Text {
 impl Text {
     /// Returns an owned copy of the string slice. Fails only if memory cannot be allocated.
     pub fn new(alloc: Global, text: &str) -> Result<Text, OutOfMemory>
-        ensures same { IfOk result (λ t. t ≡ text.now) }
+        ensures same { Yields result text.now }
     {
         let string = String::from_str(alloc, text)?;
         Ok(Text { string })
