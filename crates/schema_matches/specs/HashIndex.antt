@@ -1,5 +1,5 @@
 -- A list whose elements are found by a hash: for each hash the first position that has it is known.
-use Rattle.std.specs.Prelude.{List, None, Option, Some, [], if◌then◌else◌, nat_eq, option_map, suc, zero, ℕ, ◌∷◌, ◌≡◌}
+use Rattle.std.specs.Prelude.{List, None, Option, Some, [], if◌then◌else◌, length, nat_eq, option_map, suc, zero, ℕ, ◌++◌, ◌∷◌, ◌≡◌}
 use Rattle.std.specs.Hash.FoldHasher.{finish, initial, write}
 use Rattle.schema_definitions.specs.Instance.{Text}
 use Rattle.schema_definitions.specs.Matching.{Pair}
@@ -11,6 +11,14 @@ first_of (x ∷ xs) h = if nat_eq x h then Some zero else option_map (λ n. suc 
 
 abbrev pub IsIndexed : List ℕ → (ℕ → Option ℕ) → Type 0
 IsIndexed hashes first = (h : ℕ) → first h ≡ first_of hashes h
+
+-- what is indexed stays so
+abbrev pub StaysIndexed : (ℕ → Option ℕ) → (ℕ → Option ℕ) → Type 0
+StaysIndexed old new = (hashes : List ℕ) → IsIndexed hashes old → IsIndexed hashes new
+
+-- so is what has this hash next, at this position
+abbrev pub IndexesNext : (ℕ → Option ℕ) → ℕ → ℕ → (ℕ → Option ℕ) → Type 0
+IndexesNext old hash position new = (hashes : List ℕ) → IsIndexed hashes old → length hashes ≡ position → IsIndexed (hashes ++ hash ∷ []) new
 
 -- the hash of a match: of its pattern, then its subject
 unfoldable pub hash_of_match : Text → Text → ℕ

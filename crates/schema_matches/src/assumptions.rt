@@ -1,12 +1,13 @@
 //! What a run assumes, and what it remembers of the unfinished matches that it meets.
-ghost use Rattle.std.specs.Prelude.{◌≡◌, ◌∷◌, [], IfOk, IfSome, IsTrue, OnErr, OnOk, is_some, map, nat_eq};
+ghost use Rattle.std.specs.Prelude.{◌≡◌, ◌∷◌, [], IfOk, IfSome, IsTrue, OnErr, OnOk, is_some, map, nat_eq, OnSome};
+ghost use Rattle.schema_reports.specs.Showing.{Yields};
 ghost use Rattle.std.specs.HashMap.{get};
 ghost use Rattle.schema_matches.specs.HashIndex.{IsIndexed, match_hash};
 ghost use Rattle.schema_definitions.specs.Matching.{assumed};
 ghost use Rattle.schema_definitions.specs.Matching as matching;
 ghost use Rattle.schema_definitions.specs.Runs.{Site};
-ghost use Rattle.schema_matches.specs.MatchViews.{reason_of};
-ghost use Rattle.schema_definitions.specs.Unfinished.{FirstIsNew, first_unassumed, is_known, meet, meet_known, or_no, starting};
+ghost use Rattle.schema_matches.specs.MatchViews.{failed_at, met_at, outcome_of, pair_of, reason_of};
+ghost use Rattle.schema_definitions.specs.Unfinished.{FirstIsNew, first_unassumed, is_known, meet, meet_known, starting};
 
 use crate::located::LocatedMatches;
 use crate::positions::{add_position, match_hash};
@@ -70,7 +71,7 @@ impl AssumedOutcomes {
 
     /// What a run starts from that assumes these outcomes.
     pub fn start<'i>(&self, alloc: Global) -> Result<MatchAssumptions<'i>, OutOfMemory>
-        ensures starts { IfOk result (λ m. m ≡ starting self.now) }
+        ensures starts { Yields result (starting self.now) }
     {
         let assumed = IndexedOutcomes::new(alloc, self.clone()?)?;
         Ok(MatchAssumptions::assuming(alloc, assumed))
@@ -82,7 +83,7 @@ impl AssumedOutcomes {
         unfinished: UnfinishedMatch,
         matches: bool,
     ) -> Result<AssumedOutcomes, OutOfMemory>
-        ensures { IfOk result (λ a. a ≡ record { pair = unfinished; outcome = matches } ∷ self) }
+        ensures { Yields result (record { pair = unfinished; outcome = matches } ∷ self) }
     {
         let mut list = self.matches;
         let first = AssumedMatch {
@@ -108,7 +109,7 @@ impl Clone for AssumedOutcomes {
 
 // The outcome that is assumed of a match.
 fn assumed_outcome(list: &[AssumedMatch], pattern: &str, subject: &str) -> Option<bool>
-    ensures { result ≡ assumed list.now (record { pattern = pattern.now; subject = subject.now }) }
+    ensures { result ≡ assumed list.now (pair_of pattern.now subject.now) }
 {
     for (i, one) in list.iter().enumerate() {
         if one.unfinished.is(pattern, subject) {
@@ -163,7 +164,7 @@ impl IndexedOutcomes {
 
     // These outcomes; it fails only if memory does.
     fn new(alloc: Global, outcomes: AssumedOutcomes) -> Result<IndexedOutcomes, OutOfMemory>
-        ensures same { IfOk result (λ o. o ≡ outcomes) }
+        ensures same { Yields result outcomes }
     {
         let matches = outcomes.matches;
         match indexed(alloc, &matches) {
@@ -177,7 +178,7 @@ impl IndexedOutcomes {
 
     // The outcome that is assumed of a match.
     fn outcome(&self, pattern: &str, subject: &str) -> Option<bool>
-        ensures assumed { result ≡ assumed self.now (record { pattern = pattern.now; subject = subject.now }) }
+        ensures assumed { result ≡ assumed self.now (pair_of pattern.now subject.now) }
     {
         if self.matches.is_empty() {
             return None;
@@ -285,7 +286,7 @@ impl<'i> MatchAssumptions<'i> {
     /// Returns `true` if the match is known to be unfinished: its outcome is assumed, or it was the first one without an
     /// assumed outcome, or a site of it is remembered.
     pub fn is_unfinished(&self, pattern: &str, subject: &str) -> bool
-        ensures known { result ≡ is_known self.now (record { pattern = pattern.now; subject = subject.now }) }
+        ensures known { result ≡ is_known self.now (pair_of pattern.now subject.now) }
     {
         if self.assumed.outcome(pattern, subject).is_some() {
             return true;
@@ -308,13 +309,9 @@ impl<'i> MatchAssumptions<'i> {
     /// Returns how a match that the matcher did not finish comes out, where nothing is left to remember of it; `None` where it has to
     /// be resolved with its site. `has_place` says whether that site has an instance path. It allocates nothing.
     pub fn known_outcome(&self, pattern: &str, subject: &str, has_place: bool) -> Option<bool>
-        ensures answer { IfSome result (λ b. b ≡ or_no
-            (assumed self.now.assumptions (record { pattern = pattern.now; subject = subject.now }))) }
-        ensures nothing_new { IfSome result (λ _. (site : Site) (reason : matching.Reason) → is_some site.located ≡ has_place
-            → meet self.now (record {
-              met = record { pair = record { pattern = pattern.now; subject = subject.now }; site = site };
-              reason = reason;
-            }) ≡ self.now) }
+        ensures answer { IfSome result (λ b. b ≡ outcome_of self.now.assumptions pattern.now subject.now) }
+        ensures nothing_new { OnSome result ((site : Site) (reason : matching.Reason) → is_some site.located ≡ has_place
+            → meet self.now (failed_at pattern.now subject.now site reason) ≡ self.now) }
     {
         let outcome = self.assumed.outcome(pattern, subject);
         if outcome.is_none() && self.unassumed.is_none() {
@@ -335,12 +332,8 @@ impl<'i> MatchAssumptions<'i> {
         reason: Reason,
         site: MatchSite<'i>,
     ) -> Result<bool, OutOfMemory>
-        ensures answer { IfOk result (λ b. b ≡ or_no
-            (assumed self.old.assumptions (record { pattern = pattern.now; subject = subject.now }))) }
-        ensures ok { OnOk result (self.new ≡ meet self.old (record {
-          met = record { pair = record { pattern = pattern.now; subject = subject.now }; site = site.entry };
-          reason = reason_of reason;
-        })) }
+        ensures answer { Yields result (outcome_of self.old.assumptions pattern.now subject.now) }
+        ensures ok { OnOk result (self.new ≡ meet self.old (failed_at pattern.now subject.now site.entry (reason_of reason))) }
         ensures err { OnErr result (self.new ≡ self.old) }
     {
         let failure = MatchFailure::met(self.alloc, pattern, subject, reason, site)?;
@@ -367,11 +360,9 @@ impl<'i> MatchAssumptions<'i> {
         subject: &str,
         site: MatchSite<'i>,
     ) -> Result<bool, OutOfMemory>
-        requires known { IsTrue (is_known self.old (record { pattern = pattern.now; subject = subject.now })) }
-        ensures answer { IfOk result (λ b. b ≡ or_no
-            (assumed self.old.assumptions (record { pattern = pattern.now; subject = subject.now }))) }
-        ensures ok { OnOk result (self.new ≡ meet_known self.old
-            (record { pair = record { pattern = pattern.now; subject = subject.now }; site = site.entry })) }
+        requires known { IsTrue (is_known self.old (pair_of pattern.now subject.now)) }
+        ensures answer { Yields result (outcome_of self.old.assumptions pattern.now subject.now) }
+        ensures ok { OnOk result (self.new ≡ meet_known self.old (met_at pattern.now subject.now site.entry)) }
         ensures err { OnErr result (self.new ≡ self.old) }
     {
         let noted = self.located.note(self.alloc, pattern, subject, &site);

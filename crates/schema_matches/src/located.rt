@@ -1,5 +1,6 @@
 //! The matches that a run met at sites with an instance path, found by hash.
 ghost use Rattle.std.specs.Prelude.{◌≡◌, ◌++◌, ◌∷◌, [], OnErr, OnOk, is_some, nat_eq};
+ghost use Rattle.schema_matches.specs.MatchViews.{met_at, pair_of};
 ghost use Rattle.schema_definitions.specs.Unfinished.{noted, site_of};
 
 use crate::positions::{match_hash, reserve_next};
@@ -50,7 +51,7 @@ impl<'i> LocatedMatches<'i> {
 
     /// Whether a site of this match is among these.
     pub fn contains(&self, pattern: &str, subject: &str) -> bool
-        ensures has { result ≡ is_some (site_of self.now (record { pattern = pattern.now; subject = subject.now })) }
+        ensures has { result ≡ is_some (site_of self.now (pair_of pattern.now subject.now)) }
     {
         if self.matches.is_empty() {
             return false;
@@ -73,8 +74,7 @@ impl<'i> LocatedMatches<'i> {
         subject: &str,
         site: &MatchSite<'i>,
     ) -> Result<(), OutOfMemory>
-        ensures ok { OnOk result (self.new ≡ noted self.old
-            (record { pair = record { pattern = pattern.now; subject = subject.now }; site = site.now })) }
+        ensures ok { OnOk result (self.new ≡ noted self.old (met_at pattern.now subject.now site.now)) }
         ensures err { OnErr result (self.new ≡ self.old) }
     {
         if !site.has_place() || self.contains(pattern, subject) {

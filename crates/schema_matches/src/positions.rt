@@ -1,7 +1,8 @@
 //! Positions in a list that are found by a hash: for each hash the first position that has it.
-ghost use Rattle.std.specs.Prelude.{◌≡◌, ◌≤◌, ◌+◌, ◌++◌, ◌∷◌, ℕ, [], List, OnErr, OnOk, length, nat_eq, vec_capacity, vec_len};
+ghost use Rattle.std.specs.Prelude.{◌≡◌, ◌≤◌, ◌+◌, OnErr, OnOk, length, nat_eq, vec_capacity, vec_len};
 ghost use Rattle.std.specs.HashMap.{get};
-ghost use Rattle.schema_matches.specs.HashIndex.{IsIndexed, match_hash};
+ghost use Rattle.schema_matches.specs.MatchViews.{pair_of};
+ghost use Rattle.schema_matches.specs.HashIndex.{IndexesNext, StaysIndexed, match_hash};
 
 use schema_reports::location::OutOfMemory;
 use std::collections::HashMap;
@@ -13,10 +14,8 @@ pub fn add_position(
     hash: u64,
     position: usize,
 ) -> Result<(), OutOfMemory>
-    ensures added { OnOk result ((hashes : List ℕ) → IsIndexed hashes (get nat_eq positions.old) → length hashes ≡ position
-        → IsIndexed (hashes ++ hash ∷ []) (get nat_eq positions.new)) }
-    ensures unchanged { OnErr result ((hashes : List ℕ) → IsIndexed hashes (get nat_eq positions.old)
-        → IsIndexed hashes (get nat_eq positions.new)) }
+    ensures added { OnOk result (IndexesNext (get nat_eq positions.old) hash position (get nat_eq positions.new)) }
+    ensures unchanged { OnErr result (StaysIndexed (get nat_eq positions.old) (get nat_eq positions.new)) }
 {
     if positions.get(&hash).is_none() {
         positions.insert(hash, position)?;
@@ -32,10 +31,8 @@ pub fn reserve_next<T>(
 ) -> Result<(), OutOfMemory>
     ensures elements { elements.new.items ≡ elements.old.items }
     ensures room { OnOk result (vec_len elements.new + 1 ≤ vec_capacity elements.new) }
-    ensures added { OnOk result ((hashes : List ℕ) → IsIndexed hashes (get nat_eq positions.old)
-        → length hashes ≡ length elements.old.items → IsIndexed (hashes ++ hash ∷ []) (get nat_eq positions.new)) }
-    ensures unchanged { OnErr result ((hashes : List ℕ) → IsIndexed hashes (get nat_eq positions.old)
-        → IsIndexed hashes (get nat_eq positions.new)) }
+    ensures added { OnOk result (IndexesNext (get nat_eq positions.old) hash (length elements.old.items) (get nat_eq positions.new)) }
+    ensures unchanged { OnErr result (StaysIndexed (get nat_eq positions.old) (get nat_eq positions.new)) }
 {
     elements.reserve(1)?;
     add_position(positions, hash, elements.len())
@@ -44,7 +41,7 @@ pub fn reserve_next<T>(
 /// The hash by which a match is found.
 #[tactic(auto, unfolding(crate::specs::HashIndex::hash_of_match))]
 pub fn match_hash(pattern: &str, subject: &str) -> u64
-    ensures hash { result ≡ match_hash (record { pattern = pattern.now; subject = subject.now }) }
+    ensures hash { result ≡ match_hash (pair_of pattern.now subject.now) }
 {
     let mut hasher = FoldHasher::default();
     hasher.write(pattern.as_bytes());

@@ -1,6 +1,7 @@
 //! Unfinished matches, and where they are met.
-ghost use Rattle.std.specs.Prelude.{[], IfOk, MatchOption, None, Some, is_some, length, option_copied, option_map, slice_index_or};
-ghost use Rattle.std.specs.Prelude.{string_bytes, true, unwrap_or, ◌<◌, ◌≡◌};
+ghost use Rattle.std.specs.Prelude.{[], IfOk, None, Some, is_some, option_copied, option_map};
+ghost use Rattle.std.specs.Prelude.{string_bytes, true, unwrap_or, ◌≡◌};
+ghost use Rattle.schema_reports.specs.Showing.{Shows, Yields};
 ghost use Rattle.schema_meaning.specs.Headline.{reason_text};
 ghost use Rattle.schema_definitions.specs.Instance.{a_value, subject_at};
 ghost use Rattle.schema_reports.specs.InstanceViews.{subject_of};
@@ -8,8 +9,8 @@ ghost use Rattle.schema_definitions.specs.Matching.{same_pair, unfinished};
 ghost use Rattle.schema_reports.specs.ReportViews.{error_of};
 ghost use Rattle.schema_meaning.specs.Searched.{failure_error, site_error};
 ghost use Rattle.serde_json.specs.View.{view};
-ghost use Rattle.schema_matches.specs.MatchViews.{reason_of};
-ghost use Rattle.schema_definitions.specs.Runs.{Met, Site};
+ghost use Rattle.schema_matches.specs.MatchViews.{IsPlaceOf, failed_at, met_at, pair_of, reason_of};
+ghost use Rattle.schema_definitions.specs.Runs.{Site};
 ghost use Rattle.schema_matches.specs.HashIndex.{match_hash};
 ghost use Rattle.schema_definitions.specs.Unfinished.{located_by, or_pattern, site_of};
 
@@ -54,7 +55,7 @@ impl Model for UnfinishedMatch {
 impl UnfinishedMatch {
     /// The match of this pattern and this subject.
     pub fn new(alloc: Global, pattern: &str, subject: &str) -> Result<UnfinishedMatch, OutOfMemory>
-        ensures pair { IfOk result (λ u. u ≡ record { pattern = pattern.now; subject = subject.now }) }
+        ensures pair { Yields result (pair_of pattern.now subject.now) }
     {
         let pattern = Text::new(alloc, pattern)?;
         let subject = Text::new(alloc, subject)?;
@@ -63,7 +64,7 @@ impl UnfinishedMatch {
 
     /// Whether it is the match of this pattern and this subject.
     pub fn is(&self, pattern: &str, subject: &str) -> bool
-        ensures same { result ≡ same_pair (record { pattern = pattern.now; subject = subject.now }) self.now }
+        ensures same { result ≡ same_pair (pair_of pattern.now subject.now) self.now }
     {
         self.pattern.is(pattern) && self.subject.is(subject)
     }
@@ -146,7 +147,7 @@ impl<'i> MatchSite<'i> {
 
     /// Adds the pattern as it is written in the schema. Fails only if memory cannot be allocated.
     pub fn pattern(self, alloc: Global, pattern: &str) -> Result<MatchSite<'i>, OutOfMemory>
-        ensures site { IfOk result (λ s. s ≡ record self.entry { pattern = Some pattern.now }) }
+        ensures site { Yields result (record self.entry { pattern = Some pattern.now }) }
     {
         let pattern = Text::new(alloc, pattern)?;
         Ok(MatchSite {
@@ -253,7 +254,7 @@ impl<'i> LocatedMatch<'i> {
         subject: &str,
         site: &MatchSite<'i>,
     ) -> Result<LocatedMatch<'i>, OutOfMemory>
-        ensures { IfOk result (λ l. l ≡ record { pair = record { pattern = pattern.now; subject = subject.now }; site = site.now }) }
+        ensures { Yields result (met_at pattern.now subject.now site.now) }
     {
         let unfinished = UnfinishedMatch::new(alloc, pattern, subject)?;
         let site = site.clone()?;
@@ -294,10 +295,7 @@ impl<'i> MatchFailure<'i> {
         reason: Reason,
         site: MatchSite<'i>,
     ) -> Result<MatchFailure<'i>, OutOfMemory>
-        ensures failure { IfOk result (λ f. f ≡ record {
-          met = record { pair = record { pattern = pattern.now; subject = subject.now }; site = site.entry };
-          reason = reason_of reason;
-        }) }
+        ensures failure { Yields result (failed_at pattern.now subject.now site.entry (reason_of reason)) }
     {
         let unfinished = UnfinishedMatch::new(alloc, pattern, subject)?;
         Ok(MatchFailure {
@@ -363,7 +361,7 @@ impl<'i> MatchFailure<'i> {
 
 // The text of a match that stays unfinished.
 fn reason_text(alloc: Global, reason: Reason, pattern: &str) -> Result<String, OutOfMemory>
-    ensures text { IfOk result (λ t. string_bytes t ≡ reason_text pattern.now (unfinished (reason_of reason))) }
+    ensures text { Shows string_bytes result (reason_text pattern.now (unfinished (reason_of reason))) }
 {
     match reason {
         Reason::Limit(text) => Ok(text.into_string()),
@@ -377,7 +375,7 @@ fn place_or_root<'i>(
     located: Option<(Location, Place<'i>)>,
     schema_path: &Location,
 ) -> Result<(Location, Place<'i>), OutOfMemory>
-    ensures at { IfOk result (λ l. l ≡ unwrap_or located.entry (schema_path.now, [])) }
+    ensures at { Yields result (unwrap_or located.entry (schema_path.now, [])) }
 {
     match located {
         Some(located) => Ok(located),
@@ -405,8 +403,7 @@ fn failure_text(
     met: &UnfinishedMatch,
     site: &MatchSite<'_>,
 ) -> Result<String, OutOfMemory>
-    ensures text { IfOk result (λ t. string_bytes t
-        ≡ reason_text (unwrap_or site.now.pattern met.now.pattern) (unfinished (reason_of reason))) }
+    ensures text { Shows string_bytes result (reason_text (unwrap_or site.now.pattern met.now.pattern) (unfinished (reason_of reason))) }
 {
     let shown = match &site.pattern {
         Some(pattern) => pattern.as_str(),
@@ -423,9 +420,8 @@ fn error_at<'i>(
     site: MatchSite<'i>,
     text: String,
 ) -> Result<ValidationError<'i>, OutOfMemory>
-    ensures error { IfOk result (λ e. error_of true e ≡ site_error site.entry (string_bytes text)) }
-    ensures instance { IfOk result (λ e. subject_of e.instance
-        ≡ unwrap_or (subject_at (view root.now) e.place) (a_value (view root.now))) }
+    ensures error { Shows (error_of true) result (site_error site.entry (string_bytes text)) }
+    ensures instance { IfOk result (λ e. subject_of e.instance ≡ unwrap_or (subject_at (view root.now) e.place) (a_value (view root.now))) }
 {
     let keyword = String::from_str(alloc, "pattern")?;
     let MatchSite {
@@ -455,7 +451,7 @@ impl<'i> MatchFailure<'i> {
         alloc: Global,
         root: &'i Value,
     ) -> Result<ValidationError<'i>, OutOfMemory>
-        ensures error { IfOk result (λ e. error_of true e ≡ failure_error self.entry) }
+        ensures error { Shows (error_of true) result (failure_error self.entry) }
         ensures instance { IfOk result (λ e. subject_of e.instance
             ≡ unwrap_or (subject_at (view root.now) e.place) (a_value (view root.now))) }
     {
@@ -478,11 +474,8 @@ impl<'i> MatchFailure<'i> {
 
 /// The position of the first of these sites that is of this match.
 pub fn place_of(sites: &[LocatedMatch<'_>], pattern: &str, subject: &str) -> Option<usize>
-    ensures variant { is_some result ≡ is_some (site_of sites.now (record { pattern = pattern.now; subject = subject.now })) }
-    ensures place { MatchOption result
-        (site_of sites.now (record { pattern = pattern.now; subject = subject.now }) ≡ None)
-        (λ i. (i < length sites.now) × ((d : Met)
-        → site_of sites.now (record { pattern = pattern.now; subject = subject.now }) ≡ Some (slice_index_or sites.now i d).site)) }
+    ensures variant { is_some result ≡ is_some (site_of sites.now (pair_of pattern.now subject.now)) }
+    ensures place { IsPlaceOf sites.now (pair_of pattern.now subject.now) result }
 {
     for (i, one) in sites.iter().enumerate() {
         if one.unfinished.is(pattern, subject) {
