@@ -23,29 +23,31 @@ unfolding IsStrictlySortedBy
 texts_ascend [] h = tt
 texts_ascend (k ∷ ks) h = (below_all k ks h.0, texts_ascend ks h.1)
 
-pub cloned_alike : (xs ys : Strings) → AllZip (λ x y. string_bytes y ≡ string_bytes x) xs ys → map string_bytes ys ≡ map string_bytes xs
-cloned_alike [] [] h = refl
-cloned_alike [] (y ∷ ys) h = absurd h
-cloned_alike (x ∷ xs) [] h = absurd h
-cloned_alike (x ∷ xs) (y ∷ ys) h = ap (λ k. k ∷ map string_bytes ys) h.0 ∙ ap (λ ks. string_bytes x ∷ ks) (cloned_alike xs ys h.1)
+-- names whose bytes are seen so
+module _ {A : Type 0} (bytes : A → Text) where
+  pub cloned_alike : (xs ys : List A) → AllZip (λ x y. bytes y ≡ bytes x) xs ys → map bytes ys ≡ map bytes xs
+  cloned_alike [] [] h = refl
+  cloned_alike [] (y ∷ ys) h = absurd h
+  cloned_alike (x ∷ xs) [] h = absurd h
+  cloned_alike (x ∷ xs) (y ∷ ys) h = ap (λ k. k ∷ map bytes ys) h.0 ∙ ap (λ ks. bytes x ∷ ks) (cloned_alike xs ys h.1)
 
 -- ---- the place of a name
 
-module _ (k : Text) (xs : Strings) (p : ℕ) (x : String Global) (below : p < length xs) (is : x ≡ get_or xs p x) where
-  at_place : place_from k p (drop p (map string_bytes xs)) ≡ place_from k p (string_bytes x ∷ drop (p + 1) (map string_bytes xs))
+module _ {A : Type 0} (bytes : A → Text) (k : Text) (xs : List A) (p : ℕ) (x : A) (below : p < length xs) (is : x ≡ get_or xs p x) where
+  at_place : place_from k p (drop p (map bytes xs)) ≡ place_from k p (bytes x ∷ drop (p + 1) (map bytes xs))
   at_place =
-      at_drop_more (λ ns. place_from k p ns) (map string_bytes xs) p (string_bytes x) (subst (λ n. p < n) (sym (length-map xs string_bytes)) below)
-      ∙ ap (λ t. place_from k p (t ∷ drop (p + 1) (map string_bytes xs))) (get_or-map string_bytes xs p x ∙ ap string_bytes (sym is))
+      at_drop_more (λ ns. place_from k p ns) (map bytes xs) p (bytes x) (subst (λ n. p < n) (sym (length-map xs bytes)) below)
+      ∙ ap (λ t. place_from k p (t ∷ drop (p + 1) (map bytes xs))) (get_or-map bytes xs p x ∙ ap bytes (sym is))
 
-  pub found_there : bytes_eq (string_bytes x) k ≡ true → place_from k p (drop p (map string_bytes xs)) ≡ (p, true)
-  found_there e = at_place ∙ ap (λ b. cond b (p, true) (cond (is_lt (slice_cmp nat_cmp k (string_bytes x))) (p, false) (place_from k (p + 1) (drop (p + 1) (map string_bytes xs))))) e
+  pub found_there : bytes_eq (bytes x) k ≡ true → place_from k p (drop p (map bytes xs)) ≡ (p, true)
+  found_there e = at_place ∙ ap (λ b. cond b (p, true) (cond (is_lt (slice_cmp nat_cmp k (bytes x))) (p, false) (place_from k (p + 1) (drop (p + 1) (map bytes xs))))) e
 
-  after_it : bytes_eq (string_bytes x) k ≡ false → place_from k p (drop p (map string_bytes xs)) ≡ cond (is_lt (slice_cmp nat_cmp k (string_bytes x))) (p, false) (place_from k (p + 1) (drop (p + 1) (map string_bytes xs)))
-  after_it e = at_place ∙ ap (λ b. cond b (p, true) (cond (is_lt (slice_cmp nat_cmp k (string_bytes x))) (p, false) (place_from k (p + 1) (drop (p + 1) (map string_bytes xs))))) e
+  after_it : bytes_eq (bytes x) k ≡ false → place_from k p (drop p (map bytes xs)) ≡ cond (is_lt (slice_cmp nat_cmp k (bytes x))) (p, false) (place_from k (p + 1) (drop (p + 1) (map bytes xs)))
+  after_it e = at_place ∙ ap (λ b. cond b (p, true) (cond (is_lt (slice_cmp nat_cmp k (bytes x))) (p, false) (place_from k (p + 1) (drop (p + 1) (map bytes xs))))) e
 
-  pub passed_there : bytes_eq (string_bytes x) k ≡ false → is_lt (slice_cmp nat_cmp k (string_bytes x)) ≡ true → place_from k p (drop p (map string_bytes xs)) ≡ (p, false)
-  passed_there e h = after_it e ∙ ap (λ b. cond b (p, false) (place_from k (p + 1) (drop (p + 1) (map string_bytes xs)))) h
+  pub passed_there : bytes_eq (bytes x) k ≡ false → is_lt (slice_cmp nat_cmp k (bytes x)) ≡ true → place_from k p (drop p (map bytes xs)) ≡ (p, false)
+  passed_there e h = after_it e ∙ ap (λ b. cond b (p, false) (place_from k (p + 1) (drop (p + 1) (map bytes xs)))) h
 
-  pub goes_on : bytes_eq (string_bytes x) k ≡ false → is_lt (slice_cmp nat_cmp k (string_bytes x)) ≡ false
-      → place_from k p (drop p (map string_bytes xs)) ≡ place_from k (p + 1) (drop (p + 1) (map string_bytes xs))
-  goes_on e h = after_it e ∙ ap (λ b. cond b (p, false) (place_from k (p + 1) (drop (p + 1) (map string_bytes xs)))) h
+  pub goes_on : bytes_eq (bytes x) k ≡ false → is_lt (slice_cmp nat_cmp k (bytes x)) ≡ false
+      → place_from k p (drop p (map bytes xs)) ≡ place_from k (p + 1) (drop (p + 1) (map bytes xs))
+  goes_on e h = after_it e ∙ ap (λ b. cond b (p, false) (place_from k (p + 1) (drop (p + 1) (map bytes xs)))) h

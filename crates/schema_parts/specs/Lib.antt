@@ -10,3 +10,4 @@ pub mod UnitQuestions
 pub mod FaultViews
 pub mod EdgeViews
 pub mod MatcherViews
+pub mod Readings

@@ -1,9 +1,11 @@
 -- What the code's resolver answers, as the definitions have it.
 use Rattle.std.specs.List.{AllByRecursion}
 use Rattle.std.specs.Prelude.{◌≡◌, ◌∷◌, ℕ, Option, Some, Result, Err, false, option_map, string_bytes, suc, unwrap_or, zero}
+use Rattle.std.proofs.Common.{Bor}
 use Rattle.serde_json.specs.Data.{Data, null}
 use Rattle.serde_json.specs.View.{view}
 use Rattle.serde_json.specs.Written.{has_float}
+use Rattle.serde_json.specs.declared.value.Value.{Value}
 use Rattle.schema_definitions.specs.Instance.{Text, Place, Step, subject_at, a_value}
 use Rattle.schema_definitions.specs.Drafts as spec
 use Rattle.schema_definitions.specs.Resolving.{Found, Entrance, Resolver}
@@ -16,6 +18,10 @@ use Rattle.schema_parts.specs.declared.resolver.LookupError.TheVariants.{Refused
 
 abbrev pub place_of : SchemaPlace → spec.SchemaPlace
 place_of p = record { document = p.document; path = p.path }
+
+-- this was read there, or nothing
+abbrev pub IsReadAt : {S : Type 0} → Resolver S → SchemaPlace → Option (Bor Value) → Type 0
+IsReadAt r place o = option_map (λ v. view v.now) o ≡ r.value (place_of place)
 
 -- a subschema's place, and what stands there
 pub record Placed : Type 0 where

@@ -1,5 +1,7 @@
 //! Names that ascend, as those of an object's members do.
-ghost use Rattle.std.specs.Prelude.{◌≡◌, IfOk, drop, map, string_bytes};
+ghost use Rattle.std.specs.Prelude.{◌≡◌, drop, map, string_bytes};
+ghost use Rattle.std.specs.Rc.{rc_str_bytes};
+ghost use Rattle.schema_parts.specs.Showing.{Yields};
 ghost use Rattle.std.specs.List.Sorted.{IsStrictlySortedBy};
 ghost use Rattle.std.specs.Cmp.Lexicographic.{slice_cmp};
 ghost use Rattle.std.specs.Ordering.{nat_cmp};
@@ -10,25 +12,27 @@ use schema_reports::location::OutOfMemory;
 use serde_json::{Map, Value};
 use std::alloc::{AllocError, Global};
 use std::marker::Model;
+use std::rc::RcStr;
 
-/// Names that ascend by their bytes, no two of them equal. Contracts see the list of the names.
+/// Names that ascend by their bytes, no two of them equal, each shared with whoever holds it too. Contracts see the list of the names.
 #[derive(Drop)]
 pub struct AscendingNames {
-    names: Vec<String>,
+    names: Vec<RcStr>,
 }
 
 impl Model for AscendingNames {
     ghost use Rattle.std.specs.Cmp.Lexicographic.{slice_cmp};
     ghost use Rattle.std.specs.List.Sorted.{IsStrictlySortedBy};
     ghost use Rattle.std.specs.Ordering.{nat_cmp};
-    ghost use Rattle.std.specs.Prelude.{List, map, string_bytes};
+    ghost use Rattle.std.specs.Prelude.{List, map};
+    ghost use Rattle.std.specs.Rc.{rc_str_bytes};
     ghost use Rattle.schema_definitions.specs.Instance.{Text};
 
     ghost Value = { List Text };
 
-    ghost view = { λ names. map string_bytes names.names.items };
+    ghost view = { λ names. map rc_str_bytes names.names.items };
 
-    ghost invariant = { λ names. IsStrictlySortedBy (slice_cmp nat_cmp) (map string_bytes names.names.items) };
+    ghost invariant = { λ names. IsStrictlySortedBy (slice_cmp nat_cmp) (map rc_str_bytes names.names.items) };
 }
 
 impl AscendingNames {
@@ -37,18 +41,18 @@ impl AscendingNames {
         alloc: Global,
         members: &Map<String, Value>,
     ) -> Result<AscendingNames, OutOfMemory>
-        ensures names { IfOk result (λ names. names ≡ map string_bytes (keys_of members.now.entries)) }
+        ensures names { Yields result (map string_bytes (keys_of members.now.entries)) }
     {
         let mut names = Vec::with_capacity(alloc, members.len())?;
         for (name, _) in members {
-            names.push(name.clone()?)?;
+            names.push(RcStr::from_str(alloc, name.as_str())?)?;
         }
         Ok(AscendingNames { names })
     }
 
     /// Returns the names as a slice. It allocates nothing.
-    pub fn as_slice(&self) -> &[String]
-        ensures names { map string_bytes result.now ≡ self.now }
+    pub fn as_slice(&self) -> &[RcStr]
+        ensures names { map rc_str_bytes result.now ≡ self.now }
     {
         self.names.as_slice()
     }

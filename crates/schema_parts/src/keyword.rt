@@ -1,5 +1,5 @@
 //! The keyword type, which puts questions to the engine by turns.
-ghost use Rattle.std.specs.Prelude.{◌≡◌, ℕ, All, Bool, List, IfOk, IfSome, true};
+ghost use Rattle.std.specs.Prelude.{◌≡◌, ℕ, All, Bool, List, IfOk, IfSome, true, OnOk};
 ghost use Rattle.serde_json.specs.Data.{Data};
 ghost use Rattle.schema_definitions.specs.Instance.{Text, Subject};
 ghost use Rattle.schema_reports.specs.InstanceViews.{subject_of};
@@ -202,13 +202,13 @@ pub trait Validate: Drop {
         reply: Reply<'i>,
         answer: &mut Answer<'i>,
     ) -> Result<Step<'s>, OutOfMemory>
-        ensures turns { IfOk result (λ _. (texts : Bool) → Tells texts (is_whole (shape self.now)) (subject_of instance.entry)
+        ensures turns { OnOk result ((texts : Bool) → Tells texts (is_whole (shape self.now)) (subject_of instance.entry)
             → (words texts).turn (shape self.now) (subject_of instance.entry) (run.old, answer_of texts answer.old)
             (reply_of texts reply.entry) ≡ (run.new, answer_of texts answer.new)) }
         ensures steps { IfOk result (λ step. (texts : Bool) → Tells texts (is_whole (shape self.now)) (subject_of instance.entry)
             → (words texts).step (shape self.now) (subject_of instance.entry) (run.old, answer_of texts answer.old)
             (reply_of texts reply.entry) ≡ turn_of step) }
-        ensures borrows { IfOk result (λ _. (root : Data) → All (BorrowsItsPlace root) (errors_in reply.entry)
+        ensures borrows { OnOk result ((root : Data) → All (BorrowsItsPlace root) (errors_in reply.entry)
             → All (PassesBorrowed root) (faults_in answer.old) → All (PassesBorrowed root) (faults_in answer.new)) };
 
     /// Returns whether the keyword holds of the instance, where its run for the verdict asks nothing. `None` leaves it to a run, and is

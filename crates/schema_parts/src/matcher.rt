@@ -1,5 +1,6 @@
 //! The matcher, which says whether a text matches a pattern.
-ghost use Rattle.std.specs.Prelude.{◌≡◌, Bool, IfOk, false, true};
+ghost use Rattle.std.specs.Prelude.{◌≡◌, Bool, false, true};
+ghost use Rattle.schema_parts.specs.Showing.{Shows, Yields};
 ghost use Rattle.schema_definitions.specs.Matching as spec;
 ghost use Rattle.schema_matches.specs.MatchViews.{match_of};
 ghost use Rattle.schema_parts.specs.MatcherViews.{FinishesEach};
@@ -17,11 +18,11 @@ pub trait Matcher: Clone + Drop {
 
     /// Whether the subject matches the pattern.
     fn is_match(&self, alloc: Global, pattern: &str, subject: &str) -> Result<Match, OutOfMemory>
-        ensures matches { IfOk result (λ m. match_of m ≡ (matching self.now).is_match pattern.now subject.now) };
+        ensures matches { Shows match_of result ((matching self.now).is_match pattern.now subject.now) };
 
     /// Whether the text is a pattern of ECMA-262.
     fn is_valid_ecma_regex(&self, alloc: Global, pattern: &str) -> Result<bool, OutOfMemory>
-        ensures valid { IfOk result (λ b. b ≡ (matching self.now).is_ecma pattern.now) };
+        ensures valid { Yields result ((matching self.now).is_ecma pattern.now) };
 
     /// Returns whether it finishes every match, as an engine that never goes back does. `false` says nothing, and is always right.
     /// Where it says so, a solver may find verdicts, and the calls that give errors ask for the verdict first, which costs less where

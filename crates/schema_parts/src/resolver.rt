@@ -1,14 +1,14 @@
 //! The resolver, which answers what references and identifiers lead to.
-ghost use Rattle.std.specs.Prelude.{◌≡◌, ◌↔◌, ℕ, false, true, Some, None, Ok, IfOk, MatchResult};
+ghost use Rattle.std.specs.Prelude.{◌≡◌, ◌↔◌, ℕ, false, true, Some, Ok, IfOk, MatchResult};
 ghost use Rattle.std.specs.Prelude.{is_some, map, option_map, string_bytes};
 ghost use Rattle.serde_json.specs.Data.{object};
 ghost use Rattle.serde_json.specs.View.{members_view, view};
 ghost use Rattle.schema_definitions.specs.Drafts as schemas;
 ghost use Rattle.schema_definitions.specs.Resolving as spec;
 ghost use Rattle.schema_keywords.specs.KeywordViews.{draft_of};
-ghost use Rattle.schema_parts.specs.ResolverViews.{place_of, entrance_of, found_of, RefusesValue, IsInside, SubschemasStandBelow};
+ghost use Rattle.schema_parts.specs.ResolverViews.{IsReadAt, place_of, entrance_of, found_of, RefusesValue, IsInside, SubschemasStandBelow};
 ghost use Rattle.schema_parts.specs.ResolverViews.{KeepsDraft, placed_in, placed_of};
-ghost use Rattle.schema_parts.specs.Showing.{Agrees};
+ghost use Rattle.schema_parts.specs.Showing.{Agrees, Shows, Yields};
 
 use crate::schema_place::{SchemaPath, SchemaPlace};
 use schema_keywords::keywords::{Draft, VocabularySet};
@@ -80,11 +80,11 @@ pub trait Resolver {
         alloc: Global,
         uri: &str,
     ) -> Result<Option<(Self::State, SchemaPlace)>, OutOfMemory>
-        ensures root { IfOk result (λ o. option_map (entrance_of point) o ≡ (resolving self.now).root uri.now) };
+        ensures root { Shows (option_map (entrance_of point)) result ((resolving self.now).root uri.now) };
 
     /// The value at a place.
     fn value(&self, place: &SchemaPlace) -> Option<&Value>
-        ensures value { option_map (λ v. view v.now) result ≡ (resolving self.now).value (place_of place.now) };
+        ensures value { IsReadAt (resolving self.now) place.now result };
 
     /// The value at a place that lies at a path below a schema's own, where the schema is an object with these members. It is
     /// asked for each subschema: a resolver that finds the value from the members gives its own body.
@@ -94,10 +94,9 @@ pub trait Resolver {
         _path: &SchemaPath,
         place: &SchemaPlace,
     ) -> Option<&'v Value>
-        ensures value { (outer : schemas.SchemaPlace) →
-            place_of place.now ≡ schemas.at_path outer _path.now →
+        ensures value { (outer : schemas.SchemaPlace) → place_of place.now ≡ schemas.at_path outer _path.now →
             (resolving self.now).value outer ≡ Some (object (members_view _members.now.entries)) →
-            option_map (λ v. view v.now) result ≡ (resolving self.now).value (place_of place.now) }
+            IsReadAt (resolving self.now) place.now result }
     {
         self.value(place)
     }
@@ -141,7 +140,7 @@ pub trait Resolver {
         place: &SchemaPlace,
         _value: Option<&Value>,
     ) -> Result<Self::State, LookupError>
-        ensures inside { option_map (λ v. view v.now) _value.entry ≡ (resolving self.now).value (place_of place.now) →
+        ensures inside { IsReadAt (resolving self.now) place.now _value.entry →
             Agrees point result ((resolving self.now).in_subresource (point state.now) (draft_of draft) (place_of place.now)) }
     {
         self.in_subresource(alloc, state, draft, place)
@@ -163,7 +162,7 @@ pub trait Resolver {
     /// Where the state's resource begins: the schema with the identifier that the state is read under, or the document's root.
     /// Locations inside a reference's target count from there, where the target lies in it.
     fn resource_root(&self, alloc: Global, state: &Self::State) -> Result<SchemaPlace, OutOfMemory>
-        ensures root { IfOk result (λ p. place_of p ≡ (resolving self.now).resource_root (point state.now)) };
+        ensures root { Shows place_of result ((resolving self.now).resource_root (point state.now)) };
 
     /// The vocabularies that are in force at a place.
     fn find_vocabularies(
@@ -173,8 +172,8 @@ pub trait Resolver {
         draft: Draft,
         place: &SchemaPlace,
     ) -> Result<VocabularySet, OutOfMemory>
-        ensures vocabularies { IfOk result (λ v. v
-            ≡ (resolving self.now).find_vocabularies (point state.now) (draft_of draft) (place_of place.now)) };
+        ensures vocabularies { Yields result
+            ((resolving self.now).find_vocabularies (point state.now) (draft_of draft) (place_of place.now)) };
 
     /// The draft of a value inside a schema of this draft.
     fn detect(&self, draft: Draft, value: &Value) -> Draft
@@ -183,7 +182,7 @@ pub trait Resolver {
     /// Whether a subschema below the schema at a place, whose value was read there, may be read in another draft than this one. It is
     /// asked before a schema is checked: a resolver that can tell that none is gives its own body, and spares a walk through them.
     fn may_change_draft(&self, _draft: Draft, _place: &SchemaPlace, _value: Option<&Value>) -> bool
-        ensures keeps { option_map (λ v. view v.now) _value.entry ≡ (resolving self.now).value (place_of _place.now) →
+        ensures keeps { IsReadAt (resolving self.now) _place.now _value.entry →
             result ≡ false → (n : ℕ) → KeepsDraft (resolving self.now) n (draft_of _draft) (place_of _place.now) }
     {
         true
@@ -191,8 +190,7 @@ pub trait Resolver {
 
     /// The draft that a root asks for. Where the root holds a fraction, a refusal may have any text.
     fn draft_for(&self, alloc: Global, value: &Value) -> Result<Draft, LookupError>
-        ensures draft { MatchResult result
-            (λ d. (resolving self.now).draft_for (view value.now) ≡ Ok (draft_of d))
+        ensures draft { MatchResult result (λ d. (resolving self.now).draft_for (view value.now) ≡ Ok (draft_of d))
             (RefusesValue (view value.now) ((resolving self.now).draft_for (view value.now))) };
 
     /// The identifier of a schema.
@@ -218,7 +216,7 @@ pub trait Resolver {
         place: &SchemaPlace,
         _value: Option<&'v Value>,
     ) -> Result<Vec<PlacedSchema<'v>>, OutOfMemory>
-        ensures subschemas { option_map (λ v. view v.now) _value.entry ≡ (resolving self.now).value (place_of place.now) →
+        ensures subschemas { IsReadAt (resolving self.now) place.now _value.entry →
             IfOk result (λ ps. map placed_of ps.items ≡ map (placed_in (resolving self.now))
             ((resolving self.now).subresources_of (draft_of draft) (place_of place.now))) }
     {

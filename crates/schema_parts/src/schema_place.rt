@@ -1,5 +1,6 @@
 //! Places in schemas.
-ghost use Rattle.std.specs.Prelude.{◌≡◌, List, [], ◌∷◌, ◌++◌, OnErr, OnOk, IfOk, length, take, drop, map};
+ghost use Rattle.std.specs.Prelude.{◌≡◌, List, [], ◌∷◌, ◌++◌, OnErr, OnOk, length, take, drop, map};
+ghost use Rattle.schema_parts.specs.Showing.{Shows, Yields};
 ghost use Rattle.std.specs.Cmp.{on_equiv, partial_equiv_from_equiv};
 ghost use Rattle.std.specs.Ordering.{on};
 ghost use Rattle.schema_definitions.specs.Instance.{same_place, same_step};
@@ -61,8 +62,7 @@ impl Clone for SchemaStep {
 
 // Adds copies of steps.
 fn push_steps(steps: &mut Vec<SchemaStep>, more: &[SchemaStep]) -> Result<(), OutOfMemory>
-    ensures added { IfOk result (λ _. map schema_step_of steps.new.items
-        ≡ map schema_step_of steps.old.items ++ map schema_step_of more.now) }
+    ensures added { OnOk result (map schema_step_of steps.new.items ≡ map schema_step_of steps.old.items ++ map schema_step_of more.now) }
 {
     for step in more {
         steps.push(step.clone()?)?;
@@ -96,7 +96,7 @@ fn later_steps<'s>(steps: &'s [SchemaStep], count: usize) -> &'s [SchemaStep]
 
 // Appends a step to a pointer. On `Err` a part of it may have been written.
 fn push_schema_step(pointer: &mut Location, step: &SchemaStep) -> Result<(), OutOfMemory>
-    ensures pushed { IfOk result (λ _. pointer.new ≡ pointer.old ++ step_text (schema_step_of step.now)) }
+    ensures pushed { OnOk result (pointer.new ≡ pointer.old ++ step_text (schema_step_of step.now)) }
 {
     match step {
         SchemaStep::Member(name) => pointer.push(LocationSegment::Property(name.as_str())),
@@ -119,7 +119,7 @@ fn pointer_room(steps: &[SchemaStep]) -> usize {
 
 // Appends the pointer of some steps to another one. On `Err` a part of it may have been written.
 fn push_pointer_of(pointer: &mut Location, steps: &[SchemaStep]) -> Result<(), OutOfMemory>
-    ensures pushed { IfOk result (λ _. pointer.new ≡ pointer.old ++ pointer_to (map schema_step_of steps.now)) }
+    ensures pushed { OnOk result (pointer.new ≡ pointer.old ++ pointer_to (map schema_step_of steps.now)) }
 {
     for step in steps {
         push_schema_step(pointer, step)?;
@@ -155,7 +155,7 @@ impl SchemaPath {
 
     /// Returns the path of the document's root, with room for so many steps. Fails only if memory cannot be allocated.
     pub fn with_capacity(alloc: Global, steps: usize) -> Result<SchemaPath, OutOfMemory>
-        ensures root { IfOk result (λ p. p ≡ []) }
+        ensures root { Yields result [] }
     {
         Ok(SchemaPath {
             steps: Vec::with_capacity(alloc, steps)?,
@@ -197,7 +197,7 @@ impl SchemaPath {
 
     /// Returns the first `count` steps, or all if there are fewer. Fails only if memory cannot be allocated.
     pub fn first(&self, alloc: Global, count: usize) -> Result<SchemaPath, OutOfMemory>
-        ensures first { IfOk result (λ p. p ≡ take count self.now) }
+        ensures first { Yields result (take count self.now) }
     {
         let kept = first_steps(self.steps.as_slice(), count);
         let mut steps = Vec::with_capacity(alloc, kept.len())?;
@@ -207,7 +207,7 @@ impl SchemaPath {
 
     /// Returns what is left after the first `count` steps. Fails only if memory cannot be allocated.
     pub fn after(&self, alloc: Global, count: usize) -> Result<SchemaPath, OutOfMemory>
-        ensures rest { IfOk result (λ p. p ≡ drop count self.now) }
+        ensures rest { Yields result (drop count self.now) }
     {
         let kept = later_steps(self.steps.as_slice(), count);
         let mut steps = Vec::with_capacity(alloc, kept.len())?;
@@ -217,7 +217,7 @@ impl SchemaPath {
 
     /// Returns the same path, with room for so many steps more. Fails only if memory cannot be allocated.
     pub fn with_room(&self, alloc: Global, more: usize) -> Result<SchemaPath, OutOfMemory>
-        ensures same { IfOk result (λ p. p ≡ self.now) }
+        ensures same { Yields result self.now }
     {
         let count = self.steps.len().saturating_add(more);
         let mut steps = Vec::with_capacity(alloc, count)?;
@@ -227,7 +227,7 @@ impl SchemaPath {
 
     /// Returns the path followed by another. Fails only if memory cannot be allocated.
     pub fn append(&self, alloc: Global, rest: &SchemaPath) -> Result<SchemaPath, OutOfMemory>
-        ensures appended { IfOk result (λ p. p ≡ self.now ++ rest.now) }
+        ensures appended { Yields result (self.now ++ rest.now) }
     {
         let count = self.steps.len().saturating_add(rest.steps.len());
         let mut steps = Vec::with_capacity(alloc, count)?;
@@ -238,7 +238,7 @@ impl SchemaPath {
 
     /// Returns the JSON Pointer of the path. Fails only if memory cannot be allocated.
     pub fn pointer(&self, alloc: Global) -> Result<Location, OutOfMemory>
-        ensures pointer { IfOk result (λ l. l ≡ pointer_to self.now) }
+        ensures pointer { Yields result (pointer_to self.now) }
     {
         let steps = self.steps.as_slice();
         let mut pointer = Location::with_capacity(alloc, pointer_room(steps))?;
@@ -283,7 +283,7 @@ pub struct SchemaPlace {
 impl SchemaPlace {
     /// Returns the place at a path below. Fails only if memory cannot be allocated.
     pub fn below(&self, alloc: Global, path: &SchemaPath) -> Result<SchemaPlace, OutOfMemory>
-        ensures below { IfOk result (λ p. place_of p ≡ at_path (place_of self.now) path.now) }
+        ensures below { Shows place_of result (at_path (place_of self.now) path.now) }
     {
         Ok(SchemaPlace {
             document: self.document,

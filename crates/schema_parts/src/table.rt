@@ -1,5 +1,6 @@
 //! The keyword table, which makes keywords by turns.
 ghost use Rattle.std.specs.Prelude.{◌≡◌, ◌<◌, Bool, IfOk};
+ghost use Rattle.schema_parts.specs.Showing.{Shows};
 ghost use Rattle.serde_json.specs.View.{members_view};
 ghost use Rattle.serde_json.specs.Data.{Members};
 ghost use Rattle.schema_definitions.specs.Instance.{Text};
@@ -86,9 +87,8 @@ pub trait KeywordTable<K: Validate> {
         vocabularies: &VocabularySet,
         formats: bool,
     ) -> Result<Self::Maker, OutOfMemory>
-        ensures begins { IfOk result (λ m. waiting m
-            ≡ begun (script self.now (is_own origin.entry) (name_of origin.entry) (members_view object.now.entries)
-            (draft_of draft) vocabularies.now formats)) };
+        ensures begins { Shows waiting result (begun (script self.now (is_own origin.entry) (name_of origin.entry)
+            (members_view object.now.entries) (draft_of draft) vocabularies.now formats)) };
 
     /// Takes a turn.
     fn turn(

@@ -1,5 +1,6 @@
 use Rattle.std.proofs.Common.{String, [], ap, arith, drop, false, length, string_bytes, subst, sym, true, ◌+◌, ◌<◌, ◌∙◌, ◌∷◌, ◌≡◌}
 use Rattle.std.proofs.lemmas.List.{length-map}
+use Rattle.std.specs.Rc.{rc_str_bytes}
 use Rattle.std.specs.declared.alloc.Global.{Global}
 use Rattle.serde_json.specs.declared.value.Value.{Value}
 use Rattle.schema_definitions.specs.Instance.{after_step, to_member}
@@ -27,7 +28,7 @@ overflow_add-next c =
     let name = c.as_str-name.result.now in
     let place : place_from name c.loop-next.next (drop c.loop-next.next names) ≡ (c.place_from-child.result.0, true) = sym c.place_from-child.ensures.place ∙ ap (λ b. (c.place_from-child.result.0, b)) c.if-found.true in
     let within : c.place_from-child.result.0 < length names = found_within names c.place_from-child.ensures.ascend c.loop-next.next c.place_from-child.result.0 name place in
-    let many : length names ≡ length c.as_slice-count.result.now = ap length (sym c.as_slice-count.ensures.names) ∙ length-map c.as_slice-count.result.now string_bytes in
+    let many : length names ≡ length c.as_slice-count.result.now = ap length (sym c.as_slice-count.ensures.names) ∙ length-map c.as_slice-count.result.now rc_str_bytes in
     omega arith
 
 pub returns-then-found-clause-way : goal.returns-then-found-clause-way
