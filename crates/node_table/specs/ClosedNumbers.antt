@@ -1,6 +1,6 @@
 -- Numbers from which no guarded edge is reached: what such a number says at a place is the same whatever is in progress there.
 use Rattle.std.specs.List.{list_all}
-use Rattle.std.specs.Prelude.{Bool, Contains, List, None, Option, Some, false, nat_le, not, slice_get, slice_index_or, true, ℕ, ◌&&◌, ◌≡◌}
+use Rattle.std.specs.Prelude.{Bool, Contains, List, None, Option, Some, false, length, nat_le, not, slice_get, slice_index_or, true, ℕ, ◌&&◌, ◌≡◌}
 use Rattle.schema_definitions.specs.Guarded.{NodeEdge, NodeForm, NodePlan, node_always, node_edges, node_keyword, node_never, node_reference, node_these}
 use Rattle.node_table.specs.NodeTable.{IsOrdered, NodeEntry, plan_in}
 
@@ -39,6 +39,11 @@ module _ (closed : ℕ → Bool) where
   plan_closes node_always = true
   plan_closes node_never = true
   plan_closes (node_these xs) = list_all (λ x. form_closes x.form) xs
+
+-- each number has a weight of these, and those are closed whose weight is not 0
+pub record AreWeighed {K : Type 0} (ns : List (NodeEntry K)) (weights : List ℕ) : Type 0 where
+  pub each : length weights ≡ length ns
+  pub closed : AreClosed (edges_in ns) (has_weight weights)
 
 -- ---- what is true of a table's fields: its nodes are ordered, and the numbers with a weight are closed
 

@@ -1,12 +1,13 @@
 -- The table of nodes as data: each number's form, none while it is reserved, and where it stands. The table is filled in
 -- rounds: a number that waits is begun in a later round than all that were begun before it.
-use Rattle.std.specs.Prelude.{◌≡◌, ℕ, suc, ◌<◌, ◌≤◌, ◌+◌, ◌-◌, ◌*◌, ◌==◌, max, ◌++◌, List, [], ◌∷◌, Bool, true, false, not, ◌&&◌, ◌⊎◌, Option, Some, None, map, option_map, option_and_then, unwrap_or, drop, length, slice_get, slice_set, All, if◌then◌else◌, is_some}
+use Rattle.std.specs.Prelude.{◌≡◌, ℕ, suc, ◌<◌, ◌≤◌, ◌+◌, ◌-◌, ◌*◌, ◌==◌, max, ◌++◌, List, [], ◌∷◌, Bool, true, false, not, ◌&&◌, ◌⊎◌, Option, Some, None, map, option_map, option_and_then, unwrap_or, drop, length, slice_get, slice_set, All, if◌then◌else◌, is_some, IfOk, OnErr, OnOk, Result}
 use Rattle.serde_json.specs.View.{view}
 use Rattle.serde_json.specs.declared.value.Value.{Value}
 use Rattle.schema_definitions.specs.Instance.{Text}
 use Rattle.schema_definitions.specs.Plan.{encoded}
 use Rattle.schema_definitions.specs.Pointer.{joined}
 use Rattle.schema_definitions.specs.Guarded.{NodeEdge, NodeForm, node_keyword, node_reference, NodePart, NodePlan, node_always, node_never, node_these, Nodes, node_edges}
+use Rattle.schema_parts.specs.declared.numbers.SchemaNode.{SchemaNode}
 
 -- a node as data: `round` is the number that the round began with in which it is compiled, none while it waits; `order` is
 -- how many had their form before it, once it has its own; `settled` is whether all that it led to was settled when it got
@@ -188,6 +189,16 @@ begun_in n round = record n { round = Some round }
 -- a node that has its form, and is not settled, has come at the end
 abbrev pub Adds : {K : Type 0} → List (NodeEntry K) → NodeEntry K → Option Value → NodePlan K → List (NodeEntry K) → Type 0
 Adds old n annotations plan new = new ≡ old ++ filled n (filled_count old) false annotations plan ∷ []
+
+-- a node has come at the end, and the answer is its number; or else nothing has changed
+pub record AddsNode {K E : Type 0} (old new : List (NodeEntry K)) (result : Result SchemaNode E) (n : NodeEntry K) : Type 0 where
+  pub number : IfOk result (λ i. i.0 ≡ length old)
+  pub added : OnOk result (new ≡ old ++ n ∷ [])
+  pub unchanged : OnErr result (new ≡ old)
+
+-- so has one that has its form, and is not settled
+abbrev pub AddsFilled : {K E : Type 0} → List (NodeEntry K) → List (NodeEntry K) → Result SchemaNode E → NodeEntry K → Option Value → NodePlan K → Type 0
+AddsFilled old new result n annotations plan = AddsNode old new result (filled n (filled_count old) false annotations plan)
 
 -- the node at a number has got its form, and nothing else has changed
 abbrev pub Fills : {K : Type 0} → List (NodeEntry K) → ℕ → Bool → Option Value → NodePlan K → List (NodeEntry K) → Type 0

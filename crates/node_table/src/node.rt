@@ -1,10 +1,11 @@
 //! Numbered nodes: what a schema is once it is compiled.
-ghost use Rattle.std.specs.Prelude.{◌≡◌, ◌++◌, ◌∷◌, ◌<◌, [], ℕ, OnOk, OnErr, IfOk, Some, true, false};
+ghost use Rattle.std.specs.Prelude.{◌≡◌, ◌<◌, [], ℕ, Some, true, false};
 ghost use Rattle.std.specs.Prelude.{length, map, option_map, slice_get, string_bytes};
 ghost use Rattle.node_table.specs.NodeViews.{boolean_plan, entry_of, plan_of, reserved_node, unfilled_node, waiting_node, node_of};
 ghost use Rattle.schema_definitions.specs.Guarded.{node_these};
 ghost use Rattle.node_table.specs.NodeTable.{NodeEntry, IsReserved, Waits, IsBegun, IsFilled, AreFilled, MayBeFilled};
-ghost use Rattle.node_table.specs.NodeTable.{Adds, Fills, Begins, ComesLast, IsOrdered, IsNewRound, guards_at, is_settled_entry};
+ghost use Rattle.node_table.specs.NodeTable.{AddsFilled, AddsNode, Fills, Begins, ComesLast, IsOrdered, IsNewRound, guards_at};
+ghost use Rattle.node_table.specs.NodeTable.{is_settled_entry};
 
 pub mod absolute;
 mod cloning;
@@ -124,9 +125,7 @@ impl<K: Drop> Nodes<K> {
         start: usize,
         round: Option<usize>,
     ) -> Result<SchemaNode, OutOfMemory>
-        ensures number { IfOk result (λ i. i.0 ≡ length self.old) }
-        ensures added { OnOk result (self.new ≡ self.old ++ unfilled_node location (option_map string_bytes base) start round ∷ []) }
-        ensures unchanged { OnErr result (self.new ≡ self.old) }
+        ensures { AddsNode self.old self.new result (unfilled_node location (option_map string_bytes base) start round) }
     {
         self.weights.clear();
         let number = self.nodes.len();
@@ -155,9 +154,7 @@ impl<K: Drop> Nodes<K> {
         start: usize,
         round: usize,
     ) -> Result<SchemaNode, OutOfMemory>
-        ensures number { IfOk result (λ i. i.0 ≡ length self.old) }
-        ensures added { OnOk result (self.new ≡ self.old ++ reserved_node location (option_map string_bytes base) start round ∷ []) }
-        ensures unchanged { OnErr result (self.new ≡ self.old) }
+        ensures { AddsNode self.old self.new result (reserved_node location (option_map string_bytes base) start round) }
     {
         self.next(location, base, start, Some(round))
     }
@@ -173,9 +170,7 @@ impl<K: Drop> Nodes<K> {
         base: Option<String>,
         start: usize,
     ) -> Result<SchemaNode, OutOfMemory>
-        ensures number { IfOk result (λ i. i.0 ≡ length self.old) }
-        ensures added { OnOk result (self.new ≡ self.old ++ waiting_node location (option_map string_bytes base) start ∷ []) }
-        ensures unchanged { OnErr result (self.new ≡ self.old) }
+        ensures { AddsNode self.old self.new result (waiting_node location (option_map string_bytes base) start) }
     {
         self.next(location, base, start, None)
     }
@@ -227,10 +222,8 @@ impl<K: Drop> Nodes<K> {
         annotations: Option<Value>,
     ) -> Result<SchemaNode, OutOfMemory>
         requires ready { AreFilled self.old (plan_of form) }
-        ensures number { IfOk result (λ i. i.0 ≡ length self.old) }
-        ensures added { OnOk result (Adds self.old (reserved_node location (option_map string_bytes base) start 0)
-            annotations (plan_of form) self.new) }
-        ensures unchanged { OnErr result (self.new ≡ self.old) }
+        ensures { AddsFilled self.old self.new result (reserved_node location (option_map string_bytes base) start 0)
+            annotations (plan_of form) }
     {
         let node = self.reserve(location, base, start, 0)?;
         // (the call says that the table is ordered)
@@ -252,10 +245,8 @@ impl<K: Drop> Nodes<K> {
         start: usize,
         accepts: bool,
     ) -> Result<SchemaNode, OutOfMemory>
-        ensures number { IfOk result (λ i. i.0 ≡ length self.old) }
-        ensures added { OnOk result (Adds self.old (reserved_node location (option_map string_bytes base) start 0)
-            None (boolean_plan accepts) self.new) }
-        ensures unchanged { OnErr result (self.new ≡ self.old) }
+        ensures { AddsFilled self.old self.new result (reserved_node location (option_map string_bytes base) start 0)
+            None (boolean_plan accepts) }
     {
         let form = if accepts {
             NodeForm::Always
@@ -279,10 +270,8 @@ impl<K: Drop> Nodes<K> {
         annotations: Option<Value>,
     ) -> Result<SchemaNode, OutOfMemory>
         requires ready { AreFilled self.old (node_these (map entry_of entries.items)) }
-        ensures number { IfOk result (λ i. i.0 ≡ length self.old) }
-        ensures added { OnOk result (Adds self.old (reserved_node location (option_map string_bytes base) start 0)
-            annotations (node_these (map entry_of entries.items)) self.new) }
-        ensures unchanged { OnErr result (self.new ≡ self.old) }
+        ensures { AddsFilled self.old self.new result (reserved_node location (option_map string_bytes base) start 0)
+            annotations (node_these (map entry_of entries.items)) }
     {
         self.add(
             location,
@@ -306,10 +295,8 @@ impl<K: Drop> Nodes<K> {
         entries: Vec<Entry<K>>,
     ) -> Result<SchemaNode, OutOfMemory>
         requires ready { AreFilled self.old (node_these (map entry_of entries.items)) }
-        ensures number { IfOk result (λ i. i.0 ≡ length self.old) }
-        ensures added { OnOk result (Adds self.old (reserved_node location (option_map string_bytes base) start 0)
-            None (node_these (map entry_of entries.items)) self.new) }
-        ensures unchanged { OnErr result (self.new ≡ self.old) }
+        ensures { AddsFilled self.old self.new result (reserved_node location (option_map string_bytes base) start 0)
+            None (node_these (map entry_of entries.items)) }
     {
         self.from_keywords(location, base, start, entries, None)
     }

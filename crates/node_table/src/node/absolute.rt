@@ -1,5 +1,6 @@
 //! Absolute locations: a URI, `#`, and a pointer as a URI's fragment.
-ghost use Rattle.std.specs.Prelude.{◌≡◌, ◌++◌, ◌∷◌, IfOk, option_map, string_bytes, drop};
+ghost use Rattle.std.specs.Prelude.{◌≡◌, ◌++◌, ◌∷◌, option_map, string_bytes, drop, OnOk};
+ghost use Rattle.schema_parts.specs.Showing.{Shows};
 ghost use Rattle.schema_definitions.specs.Plan.{encoded};
 ghost use Rattle.node_table.specs.NodeTable.{absolute_in};
 ghost use Rattle.node_table.specs.NodeViews.{node_of};
@@ -34,7 +35,7 @@ const ESCAPED: AsciiSet = ascii_set!(
 
 // Adds bytes, percent-encoded where they do not stand plainly in a URI's fragment.
 fn push_encoded(text: &mut String, bytes: &[u8]) -> Result<(), OutOfMemory>
-    ensures encoded { IfOk result (λ _. string_bytes text.new ≡ string_bytes text.old ++ encoded bytes.now) }
+    ensures encoded { OnOk result (string_bytes text.new ≡ string_bytes text.old ++ encoded bytes.now) }
 {
     percent_encode(bytes, ESCAPED).append_to(text)
 }
@@ -52,8 +53,7 @@ fn bytes_from(bytes: &[u8], start: usize) -> &[u8]
 
 /// Adds `#` and a pointer from its byte `start` on, as a URI's fragment. Fails only if memory cannot be allocated.
 pub fn push_fragment(text: &mut String, pointer: &str, start: usize) -> Result<(), OutOfMemory>
-    ensures added { IfOk result (λ _. string_bytes text.new ≡
-        string_bytes text.old ++ (35 ∷ encoded (drop start pointer.now))) }
+    ensures added { OnOk result (string_bytes text.new ≡ string_bytes text.old ++ (35 ∷ encoded (drop start pointer.now))) }
 {
     text.push('#')?;
     push_encoded(text, bytes_from(pointer.as_bytes(), start))
@@ -67,7 +67,7 @@ fn absolute_text(
     location: &str,
     start: usize,
 ) -> Result<String, OutOfMemory>
-    ensures text { IfOk result (λ t. string_bytes t ≡ base.now ++ (35 ∷ encoded (drop start location.now))) }
+    ensures text { Shows string_bytes result (base.now ++ (35 ∷ encoded (drop start location.now))) }
 {
     let mut text = String::from_str(alloc, base)?;
     push_fragment(&mut text, location, start)?;
@@ -81,7 +81,7 @@ pub fn absolute_location<K>(
     node: &Node<K>,
     location: &str,
 ) -> Result<Option<String>, OutOfMemory>
-    ensures absolute { IfOk result (λ t. option_map string_bytes t ≡ absolute_in (node_of node.now) location.now) }
+    ensures absolute { Shows (option_map string_bytes) result (absolute_in (node_of node.now) location.now) }
 {
     match &node.base {
         None => Ok(None),

@@ -1,5 +1,6 @@
 //! Clones of nodes: each keyword is a clone, and all else is the same.
 ghost use Rattle.std.specs.Prelude.{◌≡◌, IfOk, length, map, option_map, string_bytes};
+ghost use Rattle.schema_parts.specs.Showing.{Shows};
 ghost use Rattle.serde_json.specs.View.{view};
 ghost use Rattle.node_table.specs.Cloned.{shaped_node, shaped_nodes};
 ghost use Rattle.node_table.specs.NodeTable.{numbered, shaped, shaped_form, shaped_part};
@@ -14,7 +15,7 @@ use serde_json::Value;
 use std::alloc::Global;
 
 fn clone_edge(edge: &Edge) -> Result<Edge, OutOfMemory>
-    ensures same { IfOk result (λ copy. edge_of copy ≡ edge_of edge.now) }
+    ensures same { Shows edge_of result (edge_of edge.now) }
 {
     Ok(Edge {
         node: edge.node,
@@ -24,7 +25,7 @@ fn clone_edge(edge: &Edge) -> Result<Edge, OutOfMemory>
 }
 
 fn clone_child(child: &Option<Edge>) -> Result<Option<Edge>, OutOfMemory>
-    ensures same { IfOk result (λ copy. option_map edge_of copy ≡ option_map edge_of child.now) }
+    ensures same { Shows (option_map edge_of) result (option_map edge_of child.now) }
 {
     match child {
         Some(edge) => Ok(Some(clone_edge(edge)?)),
@@ -116,7 +117,7 @@ fn clone_any_form<K: CloneKeyword>(
 }
 
 fn clone_base(base: &Option<String>) -> Result<Option<String>, OutOfMemory>
-    ensures same { IfOk result (λ copy. option_map string_bytes copy ≡ option_map string_bytes base.now) }
+    ensures same { Shows (option_map string_bytes) result (option_map string_bytes base.now) }
 {
     match base {
         Some(uri) => Ok(Some(uri.clone()?)),
@@ -125,7 +126,7 @@ fn clone_base(base: &Option<String>) -> Result<Option<String>, OutOfMemory>
 }
 
 fn clone_annotations(annotations: &Option<Value>) -> Result<Option<Value>, OutOfMemory>
-    ensures same { IfOk result (λ copy. option_map view copy ≡ option_map view annotations.now) }
+    ensures same { Shows (option_map view) result (option_map view annotations.now) }
 {
     match annotations {
         Some(members) => Ok(Some(members.clone()?)),
@@ -152,8 +153,7 @@ fn clone_nodes<K: CloneKeyword>(
     alloc: Global,
     nodes: &[Node<K>],
 ) -> Result<Vec<Node<K>>, OutOfMemory>
-    ensures same { IfOk result (λ copies. shaped_nodes K.shape (map node_of copies.items)
-        ≡ shaped_nodes K.shape (map node_of nodes.now)) }
+    ensures same { IfOk result (λ copies. shaped_nodes K.shape (map node_of copies.items) ≡ shaped_nodes K.shape (map node_of nodes.now)) }
 {
     let mut copies = Vec::with_capacity(alloc, nodes.len())?;
     for node in nodes {
@@ -176,9 +176,9 @@ impl<K: CloneKeyword> Nodes<K> {
     ///
     /// Fails only if memory cannot be allocated.
     pub fn clone(&self, alloc: Global) -> Result<Nodes<K>, OutOfMemory>
-        ensures count { IfOk result (λ copy. length copy ≡ length self.now) }
-        ensures nodes { IfOk result (λ copy. shaped_nodes K.shape copy ≡ shaped_nodes K.shape self.now) }
-        ensures numbered { IfOk result (λ copy. numbered K.shape copy ≡ numbered K.shape self.now) }
+        ensures count { Shows length result (length self.now) }
+        ensures nodes { Shows (shaped_nodes K.shape) result (shaped_nodes K.shape self.now) }
+        ensures numbered { Shows (numbered K.shape) result (numbered K.shape self.now) }
     {
         let weights = clone_weights(&self.weights)?;
         Ok(Nodes {

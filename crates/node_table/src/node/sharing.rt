@@ -1,9 +1,9 @@
 //! Numbers that are shared: two edges or more lead to each, it takes many nodes to ask it, and no guarded edge is reached from it. What
 //! such a number says at a place is the same whatever is in progress there, so a run may ask it once a place.
 ghost use Rattle.std.specs.List.{list_all};
-ghost use Rattle.std.specs.Prelude.{◌≡◌, ◌≤◌, ℕ, IfOk, Option, Some, length, nat_le, option_map, slice_index_or, true};
+ghost use Rattle.std.specs.Prelude.{◌≡◌, ◌≤◌, ℕ, IfOk, Option, Some, nat_le, option_map, slice_index_or, true};
 ghost use Rattle.schema_parts.specs.EdgeViews.{edge_of};
-ghost use Rattle.node_table.specs.ClosedNumbers.{AreClosed, ReachesNoGuard, child_closes, edge_closes, edges_in};
+ghost use Rattle.node_table.specs.ClosedNumbers.{AreClosed, AreWeighed, ReachesNoGuard, child_closes, edge_closes, edges_in};
 ghost use Rattle.node_table.specs.ClosedNumbers.{form_closes, has_weight, plan_closes};
 ghost use Rattle.node_table.specs.NodeTable.{plan_in};
 ghost use Rattle.node_table.specs.NodeViews.{form_of, node_of};
@@ -146,10 +146,8 @@ fn next_weight<K: Drop>(node: &Node<K>, weights: &[u8], weight: u8) -> u8
 
 // Weighs a number, where it has no weight and can have one.
 fn weigh_number<K: Drop>(nodes: &Nodes<K>, number: usize, weights: &mut Vec<u8>)
-    requires each { length weights.old.items ≡ length nodes.now }
-    requires closed { AreClosed (edges_in nodes.now) (has_weight weights.old.items) }
-    ensures each { length weights.new.items ≡ length nodes.now }
-    ensures closed { AreClosed (edges_in nodes.now) (has_weight weights.new.items) }
+    requires { AreWeighed nodes.now weights.old.items }
+    ensures { AreWeighed nodes.now weights.new.items }
 {
     if nodes.len() <= number {
         return;
@@ -161,10 +159,8 @@ fn weigh_number<K: Drop>(nodes: &Nodes<K>, number: usize, weights: &mut Vec<u8>)
 
 // Weighs some numbers in turn.
 fn weigh_in_turn<K: Drop>(nodes: &Nodes<K>, numbers: &[usize], weights: &mut Vec<u8>)
-    requires each { length weights.old.items ≡ length nodes.now }
-    requires closed { AreClosed (edges_in nodes.now) (has_weight weights.old.items) }
-    ensures each { length weights.new.items ≡ length nodes.now }
-    ensures closed { AreClosed (edges_in nodes.now) (has_weight weights.new.items) }
+    requires { AreWeighed nodes.now weights.old.items }
+    ensures { AreWeighed nodes.now weights.new.items }
 {
     for number in numbers {
         weigh_number(nodes, *number, weights);
@@ -188,10 +184,8 @@ fn round_at<K: Drop>(nodes: &Nodes<K>, numbers: &[usize], at: usize) -> usize {
 
 // Weighs the numbers of each round in turn, the last round first.
 fn weigh_rounds<K: Drop>(nodes: &Nodes<K>, numbers: &[usize], weights: &mut Vec<u8>)
-    requires each { length weights.old.items ≡ length nodes.now }
-    requires closed { AreClosed (edges_in nodes.now) (has_weight weights.old.items) }
-    ensures each { length weights.new.items ≡ length nodes.now }
-    ensures closed { AreClosed (edges_in nodes.now) (has_weight weights.new.items) }
+    requires { AreWeighed nodes.now weights.old.items }
+    ensures { AreWeighed nodes.now weights.new.items }
 {
     let mut end = numbers.len();
     for start in (0..numbers.len()).rev() {
@@ -223,8 +217,7 @@ fn in_order<K: Drop>(alloc: Global, nodes: &Nodes<K>) -> Result<Vec<usize>, OutO
 
 // No number has a weight.
 fn unweighed<K: Drop>(alloc: Global, nodes: &Nodes<K>) -> Result<Vec<u8>, OutOfMemory>
-    ensures each { IfOk result (λ ws. length ws.items ≡ length nodes.now) }
-    ensures closed { IfOk result (λ ws. AreClosed (edges_in nodes.now) (has_weight ws.items)) }
+    ensures { IfOk result (λ ws. AreWeighed nodes.now ws.items) }
 {
     let count = nodes.len();
     let weights = Vec::from_elem(alloc, 0u8, count)?;
