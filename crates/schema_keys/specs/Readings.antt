@@ -4,9 +4,6 @@ use Rattle.std.proofs.Common.{Bor}
 use Rattle.serde_json.specs.Data.{Data, null}
 use Rattle.serde_json.specs.View.{view}
 use Rattle.serde_json.specs.declared.value.Value.{Value}
-use Rattle.schema_definitions.specs.Resolving.{Resolver}
-use Rattle.schema_parts.specs.ResolverViews.{place_of}
-use Rattle.schema_parts.specs.declared.schema_place.SchemaPlace.{SchemaPlace}
 use Rattle.schema_keys.specs.declared.values.Reading.{Reading}
 use Rattle.schema_keys.specs.declared.values.Reading.TheVariants.{Read, Unread}
 
@@ -18,7 +15,3 @@ IsReading value Unread = Unit {0}
 -- the value that was read; no value counts as null
 abbrev pub read_value : Option (Bor Value) → Data
 read_value o = unwrap_or (option_map (λ v. view v.now) o) null
-
--- it was read at this place
-abbrev pub IsReadAt : {S : Type 0} → Resolver S → SchemaPlace → Option (Bor Value) → Type 0
-IsReadAt r place o = option_map (λ v. view v.now) o ≡ r.value (place_of place)

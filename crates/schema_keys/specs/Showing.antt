@@ -1,4 +1,4 @@
--- What is answered, against what the definitions have.
+-- What follows in a text on its beginning.
 use Rattle.std.specs.Prelude.{MatchOption, Option, ◌++◌, ◌≡◌, ◌≢◌}
 use Rattle.std.proofs.Common.{Bor}
 use Rattle.schema_definitions.specs.Instance.{Text}

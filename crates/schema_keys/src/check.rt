@@ -2,7 +2,7 @@
 //!
 //! An embedded resource of another known draft counts as `{}` in the document around it, and is a document of its own: `embedded`
 //! finds where these resources lie, `masked` copies a document without them.
-ghost use Rattle.std.specs.Prelude.{◌≡◌, IfErr, IfOk};
+ghost use Rattle.std.specs.Prelude.{◌≡◌, IfErr, IfOk, OnOk};
 ghost use Rattle.serde_json.specs.View.{view};
 ghost use Rattle.schema_definitions.specs.Plan.{schema_at};
 ghost use Rattle.schema_meaning.specs.Documents as documents;
@@ -55,10 +55,8 @@ pub fn validate_schema<R: Resolver, V: MetaValidators>(
     draft: Draft,
     place: &SchemaPlace,
 ) -> Result<(), BuildError>
-    ensures accepted { IfOk result (λ _. AcceptsSchema (R.resolving resolver.now) (V.checked metas.now)
-        (draft_of draft) (place_of place.now)) }
-    ensures refused { IfErr result (RefusesSchema (R.resolving resolver.now) (V.checked metas.now)
-        (draft_of draft) (place_of place.now)) }
+    ensures accepted { OnOk result (AcceptsSchema (R.resolving resolver.now) (V.checked metas.now) (draft_of draft) (place_of place.now)) }
+    ensures refused { IfErr result (RefusesSchema (R.resolving resolver.now) (V.checked metas.now) (draft_of draft) (place_of place.now)) }
 {
     let check = SchemaCheck {
         alloc,
@@ -83,8 +81,7 @@ impl<'p, R: Resolver, V: MetaValidators> SchemaCheck<'p, R, V> {
 
     /// The error of a document; none where it is accepted.
     fn refusal(&self, draft: Draft, document: &Value) -> Result<Option<OwnedError>, OutOfMemory>
-        ensures refusal { IfOk result (IsVerdict (V.checked self.now.metas.now) (draft_of draft)
-            (view document.now)) }
+        ensures refusal { IfOk result (IsVerdict (V.checked self.now.metas.now) (draft_of draft) (view document.now)) }
     {
         match self.metas.check(self.alloc, draft, document)? {
             Some(error) => Ok(Some(error.to_owned(self.alloc)?)),
@@ -128,8 +125,7 @@ impl<'p, R: Resolver, V: MetaValidators> SchemaCheck<'p, R, V> {
         cuts: &[Cut],
     ) -> Result<(), BuildError>
         requires read { view schema.now ≡ schema_at (parts_asked R.Resolver self.now) (place_of place.now) }
-        ensures accepted { IfOk result (λ _. AcceptsOwn R.Resolver self.now V.MetaValidators draft place.now
-            cuts.now) }
+        ensures accepted { OnOk result (AcceptsOwn R.Resolver self.now V.MetaValidators draft place.now cuts.now) }
         ensures refused { IfErr result (RefusesOwn R.Resolver self.now V.MetaValidators draft place.now cuts.now) }
     {
         if self.passes_unseen(schema) {
@@ -148,8 +144,7 @@ impl<'p, R: Resolver, V: MetaValidators> SchemaCheck<'p, R, V> {
         place: &SchemaPlace,
         cuts: &[Cut],
     ) -> Result<(), BuildError>
-        ensures accepted { IfOk result (λ _. AcceptsOwn R.Resolver self.now V.MetaValidators draft place.now
-            cuts.now) }
+        ensures accepted { OnOk result (AcceptsOwn R.Resolver self.now V.MetaValidators draft place.now cuts.now) }
         ensures refused { IfErr result (RefusesOwn R.Resolver self.now V.MetaValidators draft place.now cuts.now) }
     {
         match self.resolver.value(place) {
@@ -160,7 +155,7 @@ impl<'p, R: Resolver, V: MetaValidators> SchemaCheck<'p, R, V> {
 
     /// Checks the document at a place, and then each of its embedded resources by its own draft.
     fn check_documents(&self, draft: Draft, place: &SchemaPlace) -> Result<(), BuildError>
-        ensures accepted { IfOk result (λ _. AcceptsAll R.Resolver self.now V.MetaValidators draft place.now) }
+        ensures accepted { OnOk result (AcceptsAll R.Resolver self.now V.MetaValidators draft place.now) }
         ensures refused { IfErr result (RefusesFirst R.Resolver self.now V.MetaValidators draft place.now) }
     {
         let cuts = self.cuts(draft, place)?;

@@ -46,8 +46,7 @@ impl DeferredAbsoluteLocation {
     /// Returns the absolute location of a location in the resource: the URI, `#`, and the location from where the resource
     /// starts, as a fragment. Fails only if memory cannot be allocated.
     pub fn resolve(self, location: &Location) -> Result<String, OutOfMemory>
-        ensures absolute { Shows string_bytes result (string_bytes self.base ++
-            (35 ∷ encoded (drop self.resource_start location.now))) }
+        ensures absolute { Shows string_bytes result (string_bytes self.base ++ (35 ∷ encoded (drop self.resource_start location.now))) }
     {
         let mut text = self.base;
         push_fragment(&mut text, location.as_str(), self.resource_start)?;
@@ -134,8 +133,7 @@ impl<'p, 'c, R: Resolver> Context<'p, 'c, R> {
     /// Returns whether a vocabulary is in force: always before draft 2019-09, always if it is the core vocabulary, and
     /// otherwise if it is in the schema's set.
     pub fn has_vocabulary(&self, vocabulary: &Vocabulary) -> bool
-        ensures in_force { result ≡ is_in_force (draft_here self.now) self.now.key.now.vocabularies
-            (vocabulary_of vocabulary.now) }
+        ensures in_force { result ≡ is_in_force (draft_here self.now) self.now.key.now.vocabularies (vocabulary_of vocabulary.now) }
     {
         has_vocabulary(self.key.draft, &self.key.vocabularies, vocabulary)
     }
@@ -143,8 +141,7 @@ impl<'p, 'c, R: Resolver> Context<'p, 'c, R> {
     /// What the standard's table says of a keyword's name.
     #[tactic(auto, unfolding(crate::specs::Builtins::builtin))]
     pub fn builtin_row(&self, name: &str) -> Option<BuiltinRow>
-        ensures row { option_map (row_of name.now) result ≡
-            builtin (draft_here self.now) self.now.key.now.vocabularies name.now }
+        ensures row { option_map (row_of name.now) result ≡ builtin (draft_here self.now) self.now.key.now.vocabularies name.now }
     {
         builtin_row(self.draft(), &self.key.vocabularies, name)
     }
@@ -158,8 +155,7 @@ impl<'p, 'c, R: Resolver> Context<'p, 'c, R> {
 
     /// The value of the `$ref` that is taken alone in an object.
     pub fn lone_reference<'v>(&self, members: &'v Map<String, Value>) -> Option<&'v Value>
-        ensures alone { option_map (λ v. view v.now) result ≡
-            (if ref_stands_alone (draft_here self.now) then
+        ensures alone { option_map (λ v. view v.now) result ≡ (if ref_stands_alone (draft_here self.now) then
             member_of (codes "$ref") (members_view members.now.entries) else None) }
     {
         if self.supports_adjacent_validation() {

@@ -90,10 +90,8 @@ fn link<S>(
     ensures room { OnOk result (vec_len keys.new + 1 ≤ vec_capacity keys.new) }
     ensures last { OnOk result ((q : ℕ) → get nat_eq last.new q ≡
         (if nat_eq hash q then Some (length keys.old.items) else get nat_eq last.old q)) }
-    ensures linked { OnOk result (earlier.new.items ≡
-        earlier.old.items ++ get nat_eq last.old hash ∷ []) }
-    ensures unchanged { OnErr result (IsUnchanged last.old last.new
-        × (earlier.new.items ≡ earlier.old.items)) }
+    ensures linked { OnOk result (earlier.new.items ≡ earlier.old.items ++ get nat_eq last.old hash ∷ []) }
+    ensures unchanged { OnErr result (IsUnchanged last.old last.new × (earlier.new.items ≡ earlier.old.items)) }
 {
     keys.reserve(1)?;
     earlier.reserve(1)?;

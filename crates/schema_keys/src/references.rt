@@ -142,8 +142,7 @@ impl<'p, 'c, R: Resolver> Context<'p, 'c, R> {
         kind: ReferenceKind,
         text: &str,
     ) -> Result<Sought<R::State>, BuildError>
-        ensures found { IfOk result (λ s. finds R.Resolver self.now (kind_of kind) text.now ≡
-            Ok (found_of R.point s.target)) }
+        ensures found { IfOk result (λ s. finds R.Resolver self.now (kind_of kind) text.now ≡ Ok (found_of R.point s.target)) }
         ensures uri { IfOk result (λ s. RefersBy R.Resolver self.now (kind_of kind) text.now s.uri) }
         ensures refused { IfErr result (RefusesReference R.Resolver self.now (kind_of kind) text.now) }
     {
@@ -209,8 +208,7 @@ impl<'p, 'c, R: Resolver> Context<'p, 'c, R> {
 
     /// Returns where a reference's target stands, by the URI that the reference stands for. Fails only if memory cannot be allocated.
     pub fn ref_target(&self, uri: &str, target: &Target<R::State>) -> Result<RefTarget, OutOfMemory>
-        ensures location { IfOk result (λ t. t.location ≡
-            target_location R.Resolver self.now target.now (fragment uri.now)) }
+        ensures location { IfOk result (λ t. t.location ≡ target_location R.Resolver self.now target.now (fragment uri.now)) }
         ensures start { IfOk result (λ t. t.start ≡ target_start R.Resolver self.now target.now (fragment uri.now)) }
     {
         let fragment = fragment_of(uri);
@@ -226,8 +224,7 @@ impl<'p, 'c, R: Resolver> Context<'p, 'c, R> {
         target: Target<R::State>,
         stands: RefTarget,
     ) -> Result<SchemaKey<R::State>, OutOfMemory>
-        ensures key { Shows (key_of R.point) result
-            (target_key_at R.Resolver self.now target stands.location stands.start) }
+        ensures key { Shows (key_of R.point) result (target_key_at R.Resolver self.now target stands.location stands.start) }
     {
         let vocabularies = self
             .resolver
@@ -245,8 +242,7 @@ impl<'p, 'c, R: Resolver> Context<'p, 'c, R> {
 
     // The key of a reference's target.
     fn referred_key(&self, sought: Sought<R::State>) -> Result<SchemaKey<R::State>, OutOfMemory>
-        ensures key { Shows (key_of R.point) result
-            (target_key R.Resolver self.now sought.target (string_bytes sought.uri)) }
+        ensures key { Shows (key_of R.point) result (target_key R.Resolver self.now sought.target (string_bytes sought.uri)) }
     {
         let stands = self.ref_target(sought.uri.as_str(), &sought.target)?;
         self.with_resolver_and_draft(sought.target, stands)

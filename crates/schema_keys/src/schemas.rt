@@ -1,5 +1,5 @@
 //! The places of a document's schemas: of its objects and booleans.
-ghost use Rattle.std.specs.Prelude.{◌≡◌, ◌++◌, ◌∷◌, [], IfOk};
+ghost use Rattle.std.specs.Prelude.{◌≡◌, ◌++◌, ◌∷◌, [], IfOk, OnOk};
 ghost use Rattle.serde_json.specs.View.{items_view, members_view, view};
 ghost use Rattle.schema_parts.specs.SchemaViews.{schema_step_of};
 ghost use Rattle.schema_keys.specs.Compiling.{Each};
@@ -41,8 +41,8 @@ fn push_schemas(
     value: &Value,
     paths: &mut Vec<SchemaPath>,
 ) -> Result<(), OutOfMemory>
-    ensures added { IfOk result (λ _. paths.new.items ≡ paths.old.items ++ schemas_in path.now (view value.now)) }
-    ensures fit { IfOk result (λ _. StaysFit path.now paths.old.items paths.new.items) }
+    ensures added { OnOk result (paths.new.items ≡ paths.old.items ++ schemas_in path.now (view value.now)) }
+    ensures fit { OnOk result (StaysFit path.now paths.old.items paths.new.items) }
 {
     match value {
         Value::Bool(_) => {
@@ -66,9 +66,8 @@ fn push_item_schemas(
     items: &Vec<Value>,
     paths: &mut Vec<SchemaPath>,
 ) -> Result<(), OutOfMemory>
-    ensures added { IfOk result (λ _. paths.new.items ≡
-        paths.old.items ++ schemas_in_items path.now 0 (items_view items.now.items)) }
-    ensures fit { IfOk result (λ _. StaysFit path.now paths.old.items paths.new.items) }
+    ensures added { OnOk result (paths.new.items ≡ paths.old.items ++ schemas_in_items path.now 0 (items_view items.now.items)) }
+    ensures fit { OnOk result (StaysFit path.now paths.old.items paths.new.items) }
 {
     for (index, item) in items.iter().enumerate() {
         let below = one_below(path, SchemaStep::Item(index))?;
@@ -85,9 +84,8 @@ fn push_member_schemas(
     members: &Map<String, Value>,
     paths: &mut Vec<SchemaPath>,
 ) -> Result<(), OutOfMemory>
-    ensures added { IfOk result (λ _. paths.new.items ≡
-        paths.old.items ++ schemas_in_members path.now (members_view members.now.entries)) }
-    ensures fit { IfOk result (λ _. StaysFit path.now paths.old.items paths.new.items) }
+    ensures added { OnOk result (paths.new.items ≡ paths.old.items ++ schemas_in_members path.now (members_view members.now.entries)) }
+    ensures fit { OnOk result (StaysFit path.now paths.old.items paths.new.items) }
 {
     for (name, member) in members.iter() {
         let step = SchemaStep::Member(RcStr::from_str(alloc, name.as_str())?);

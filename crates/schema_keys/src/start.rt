@@ -50,8 +50,7 @@ impl<'p, 'c, R: Resolver> Context<'p, 'c, R> {
         target: &Target<R::State>,
         segments: usize,
     ) -> Result<usize, OutOfMemory>
-        ensures depth { Yields result (resource_depth (parts_here R.Resolver self.now) (found_of R.point target.now)
-            segments) }
+        ensures depth { Yields result (resource_depth (parts_here R.Resolver self.now) (found_of R.point target.now) segments) }
     {
         let root = self.resolver.resource_root(self.alloc, &target.state)?;
         if !lies_in(&target.place, &root) {
@@ -67,8 +66,7 @@ impl<'p, 'c, R: Resolver> Context<'p, 'c, R> {
         target: &Target<R::State>,
         location: &Location,
     ) -> Result<usize, OutOfMemory>
-        ensures start { Yields result (start_of (parts_here R.Resolver self.now) (found_of R.point target.now)
-            location.now) }
+        ensures start { Yields result (start_of (parts_here R.Resolver self.now) (found_of R.point target.now) location.now) }
     {
         let depth = self.resource_depth(target, segment_count(location.as_str()))?;
         Ok(segments_length(depth, location.as_str()))

@@ -3,13 +3,13 @@ ghost use Rattle.std.specs.Prelude.{◌≡◌, IfOk, IfErr};
 ghost use Rattle.std.specs.Prelude.{Some, is_some};
 ghost use Rattle.schema_definitions.specs.Pointer.{pointer_to};
 ghost use Rattle.schema_keywords.specs.KeywordViews.{draft_of};
-ghost use Rattle.schema_parts.specs.ResolverViews.{place_of};
+ghost use Rattle.schema_parts.specs.ResolverViews.{IsReadAt, place_of};
 ghost use Rattle.schema_keys.specs.KeyViews.{key_of};
 ghost use Rattle.schema_keys.specs.Alone.{RefusesKeyAlone};
 ghost use Rattle.schema_keys.specs.Here.{LiesBelow, resolver_here, HasMembers, enters, vocabularies_at};
 ghost use Rattle.schema_keys.specs.Here.{is_identified_at, key_inside, IsSubschemaKey, key_by_itself, RefusesSubschema};
 ghost use Rattle.schema_parts.specs.Showing.{Yields, Agrees};
-ghost use Rattle.schema_keys.specs.Readings.{read_value, IsReadAt};
+ghost use Rattle.schema_keys.specs.Readings.{read_value};
 
 use crate::context::Context;
 use crate::error::BuildError;
@@ -31,8 +31,7 @@ pub struct Subschema<'p, S> {
 impl<'p, 'c, R: Resolver> Context<'p, 'c, R> {
     /// Whether a value that was read has an identifier.
     pub(crate) fn identifies(&self, draft: Draft, value: Option<&Value>) -> bool
-        ensures identified { result ≡ is_some ((resolver_here R.Resolver self.now).id (draft_of draft)
-            (read_value value.entry)) }
+        ensures identified { result ≡ is_some ((resolver_here R.Resolver self.now).id (draft_of draft) (read_value value.entry)) }
     {
         match value {
             Some(value) => self.resolver.id(draft, value).is_some(),
@@ -42,8 +41,7 @@ impl<'p, 'c, R: Resolver> Context<'p, 'c, R> {
 
     /// The draft of a value that was read, inside a schema of this draft; no value counts as null.
     pub(crate) fn detected(&self, draft: Draft, value: Option<&Value>) -> Draft
-        ensures detected { draft_of result ≡ (resolver_here R.Resolver self.now).detect (draft_of draft)
-            (read_value value.entry) }
+        ensures detected { draft_of result ≡ (resolver_here R.Resolver self.now).detect (draft_of draft) (read_value value.entry) }
     {
         match value {
             Some(value) => self.resolver.detect(draft, value),

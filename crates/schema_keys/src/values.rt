@@ -1,12 +1,12 @@
 //! The value at a key's place, and the text of a reference.
-ghost use Rattle.std.specs.Prelude.{◌≡◌, ◌∷◌, [], Bool, IfErr, IfOk, None, Some, option_map, string_bytes};
+ghost use Rattle.std.specs.Prelude.{◌≡◌, ◌∷◌, [], Bool, IfErr, IfOk, None, Some, option_map, string_bytes, OnErr};
 ghost use Rattle.serde_json.specs.Data.{string};
 ghost use Rattle.serde_json.specs.Find.{as_bool, as_object, as_str};
 ghost use Rattle.serde_json.specs.View.{view, members_view};
 ghost use Rattle.schema_meaning.specs.Refusals.{not_a_schema};
 ghost use Rattle.node_table.specs.NodeViews.{boolean_plan, plan_of};
-ghost use Rattle.schema_parts.specs.ResolverViews.{place_of};
-ghost use Rattle.schema_keys.specs.Readings.{IsReading, read_value, IsReadAt};
+ghost use Rattle.schema_parts.specs.ResolverViews.{IsReadAt, place_of};
+ghost use Rattle.schema_keys.specs.Readings.{IsReading, read_value};
 ghost use Rattle.schema_keys.specs.Refusing.{Names};
 ghost use Rattle.schema_keys.specs.Here.{RefusesText};
 
@@ -30,8 +30,7 @@ pub fn value_of<'p, R: Resolver>(
     key: &SchemaKey<R::State>,
     reading: Reading<'p>,
 ) -> Option<&'p Value>
-    requires reading { IsReading
-        ((R.resolving resolver.now).value (place_of key.now.place)) reading }
+    requires reading { IsReading ((R.resolving resolver.now).value (place_of key.now.place)) reading }
     ensures value { IsReadAt (R.resolving resolver.now) key.now.place result }
 {
     match reading {
@@ -53,10 +52,9 @@ pub fn object_of<'v>(value: Option<&'v Value>) -> Option<&'v Map<String, Value>>
 impl<'p, 'c, R: Resolver> Context<'p, 'c, R> {
     /// What a value that is no object asks of an instance; only a boolean is a schema.
     pub fn plain_form<K: Drop>(&self, value: Option<&Value>) -> Result<NodeForm<K>, BuildError>
-        ensures form { IfOk result (λ form. (b : Bool) × (as_bool (read_value value.entry) ≡ Some b) ×
-            (plan_of form ≡ boolean_plan b)) }
+        ensures form { IfOk result (λ form. (b : Bool) × (as_bool (read_value value.entry) ≡ Some b) × (plan_of form ≡ boolean_plan b)) }
         ensures refused { IfErr result (Names (not_a_schema self.now.key.now.location ∷ [])) }
-        ensures other { IfErr result (λ _. as_bool (read_value value.entry) ≡ None) }
+        ensures other { OnErr result (as_bool (read_value value.entry) ≡ None) }
     {
         match value.and_then(|value| value.as_bool()) {
             Some(accepts) => Ok(form_of_boolean(accepts)),
@@ -68,7 +66,7 @@ impl<'p, 'c, R: Resolver> Context<'p, 'c, R> {
     pub fn text_of<'v>(&self, name: &String, value: &'v Value) -> Result<&'v String, BuildError>
         ensures text { IfOk result (λ text. view value.now ≡ string (string_bytes text.now)) }
         ensures refused { IfErr result (RefusesText self.now name.now) }
-        ensures other { IfErr result (λ _. as_str (view value.now) ≡ None) }
+        ensures other { OnErr result (as_str (view value.now) ≡ None) }
     {
         match value {
             Value::String(text) => Ok(text),

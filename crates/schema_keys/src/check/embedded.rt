@@ -1,11 +1,12 @@
 //! The embedded resources of a document.
-ghost use Rattle.std.specs.Prelude.{◌≡◌, ◌<◌, ◌++◌, ℕ, IfOk, is_some, map, suc};
+ghost use Rattle.std.specs.Prelude.{◌≡◌, ◌<◌, ◌++◌, ℕ, is_some, map, suc, OnOk};
 ghost use Rattle.schema_meaning.specs.Documents.{embedded};
 ghost use Rattle.schema_keywords.specs.KeywordViews.{draft_of};
 ghost use Rattle.schema_keys.specs.CutViews.{cut_of};
 ghost use Rattle.schema_keys.specs.CheckHere.{parts_asked, depth_at, cuts_at};
 ghost use Rattle.schema_parts.specs.Showing.{Shows};
-ghost use Rattle.schema_keys.specs.Readings.{read_value, IsReadAt};
+ghost use Rattle.schema_parts.specs.ResolverViews.{IsReadAt};
+ghost use Rattle.schema_keys.specs.Readings.{read_value};
 
 use crate::check::SchemaCheck;
 use schema_keywords::keywords::Draft;
@@ -25,8 +26,7 @@ pub(crate) struct Cut {
 impl<'p, R: Resolver, V: MetaValidators> SchemaCheck<'p, R, V> {
     /// The draft of a schema inside a schema of this draft; no value counts as null.
     fn own_draft(&self, draft: Draft, schema: Option<&Value>) -> Draft
-        ensures own { draft_of result ≡ (R.resolving self.now.resolver.now).detect (draft_of draft)
-            (read_value schema.entry) }
+        ensures own { draft_of result ≡ (R.resolving self.now.resolver.now).detect (draft_of draft) (read_value schema.entry) }
     {
         match schema {
             Some(schema) => self.resolver.detect(draft, schema),
@@ -36,8 +36,7 @@ impl<'p, R: Resolver, V: MetaValidators> SchemaCheck<'p, R, V> {
 
     /// Whether a schema has an identifier in this draft; no value counts as null.
     fn has_identifier(&self, draft: Draft, schema: Option<&Value>) -> bool
-        ensures identified { result ≡ is_some ((R.resolving self.now.resolver.now).id (draft_of draft)
-            (read_value schema.entry)) }
+        ensures identified { result ≡ is_some ((R.resolving self.now.resolver.now).id (draft_of draft) (read_value schema.entry)) }
     {
         match schema {
             Some(schema) => self.resolver.id(draft, schema).is_some(),
@@ -72,9 +71,8 @@ impl<'p, R: Resolver, V: MetaValidators> SchemaCheck<'p, R, V> {
         cuts: &mut Vec<Cut>,
     ) -> Result<(), OutOfMemory>
         requires read { IsReadAt (R.resolving self.now.resolver.now) place.now schema }
-        ensures found { IfOk result (λ _. (n : ℕ) → depth_at R.Resolver self.now place.now < n →
-            map cut_of cuts.new.items ≡ map cut_of cuts.old.items ++
-            cuts_at R.Resolver self.now n document draft place.now) }
+        ensures found { OnOk result ((n : ℕ) → depth_at R.Resolver self.now place.now < n →
+            map cut_of cuts.new.items ≡ map cut_of cuts.old.items ++ cuts_at R.Resolver self.now n document draft place.now) }
     {
         for below in &self
             .resolver

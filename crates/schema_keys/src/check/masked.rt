@@ -62,8 +62,7 @@ impl<'p, R: Resolver, V: MetaValidators> SchemaCheck<'p, R, V> {
         place: &SchemaPlace,
         items: &Vec<Value>,
     ) -> Result<Vec<Value>, OutOfMemory>
-        ensures masked { IfOk result (λ v. items_view v.items ≡
-            masked_items_at R.Resolver self.now cuts.now place.now items.now.items) }
+        ensures masked { IfOk result (λ v. items_view v.items ≡ masked_items_at R.Resolver self.now cuts.now place.now items.now.items) }
     {
         let mut copies = Vec::new(self.alloc);
         for (index, item) in items.iter().enumerate() {
