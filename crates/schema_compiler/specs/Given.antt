@@ -1,17 +1,23 @@
 -- What a compiler is given, in one word: by all that the types of its resolver, its table and its keywords say of themselves.
-use Rattle.std.specs.Prelude.{Option, map, string_bytes, ℕ}
+use Rattle.std.specs.Prelude.{Option, [], flat_map, map, string_bytes, ℕ, ◌≡◌}
 use Rattle.schema_definitions.specs.Instance.{Text}
 use Rattle.schema_definitions.specs.Drafts.{Draft}
 use Rattle.schema_definitions.specs.Matching.{Matcher}
 use Rattle.schema_definitions.specs.Keywords.{Answer, Keywords}
 use Rattle.schema_definitions.specs.Parts.{Parts}
+use Rattle.schema_definitions.specs.Plan.{Key}
+use Rattle.schema_meaning.specs.Refusals.{undeclared}
 use Rattle.schema_parts.specs.declared.keyword.Validate.{Ghosts as KeywordMembers}
 use Rattle.schema_parts.specs.declared.resolver.Resolver.{Ghosts as ResolverMembers}
 use Rattle.schema_parts.specs.declared.table.KeywordTable.{Ghosts as TableMembers}
 use Rattle.schema_keys.specs.Builtins.{builtin}
+use Rattle.schema_keys.specs.KeyViews.{key_of}
+use Rattle.schema_keys.specs.declared.error.BuildError.{BuildError}
+use Rattle.schema_keys.specs.declared.key.SchemaKey.{SchemaKey}
 use Rattle.schema_keys.specs.declared.options.CompileOptions.{CompileOptions}
 use Rattle.schema_compiler.specs.Carried.{Task, task, task_of}
-use Rattle.schema_compiler.specs.Compilation.{all_parts}
+use Rattle.schema_compiler.specs.Compilation.{IsCompilation, IsCompilationAlone, all_parts}
+use Rattle.schema_compiler.specs.declared.compiler.compilation.Compilation.{Compilation}
 use Rattle.schema_compiler.specs.declared.compiler.setup.Compiler.{Compiler}
 
 -- the task, and the sense of the resolver's states
@@ -35,3 +41,18 @@ module _ {A P S T C Maker Run K : Type 0} (r : ResolverMembers A P S) (t : Table
   abbrev pub InAllParts : (Parts S K (Run × Answer) → Type 0) → Type 0
   InAllParts Holds = (matcher : Matcher) (keywords : Keywords K (Run × Answer)) (draft : Option Draft) (base : Option Text) →
       Holds (all_parts (r.resolving resolver) (record { owns = t.owned table; builtin = builtin; script = t.script table }) options.formats (map string_bytes options.declared.items) matcher keywords draft base)
+
+  -- so are the vocabularies of a root declared
+  abbrev pub DeclaresAll : SchemaKey P → Type 0
+  DeclaresAll root = InAllParts (λ w. flat_map (undeclared w) root.vocabularies ≡ [])
+
+  -- so it is refused, by what a refusal of the root's key says
+  abbrev pub RefusedAs : (Parts S K (Run × Answer) → ℕ → Key S → BuildError → Type 0) → SchemaKey P → BuildError → Type 0
+  RefusedAs Says root e = InAllParts (λ w. Says w options.node_limit (key_of r.point root) e)
+
+  -- so is the compilation of a schema's root, and of a subschema by itself
+  abbrev pub CompilesAll : ℕ → SchemaKey P → Compilation P C → Type 0
+  CompilesAll nested root m = InAllParts (λ w. IsCompilation w k.shape options.node_limit nested (key_of r.point root) (map (key_of r.point) m.keys) m.nodes)
+
+  abbrev pub CompilesSub : ℕ → SchemaKey P → Compilation P C → Type 0
+  CompilesSub nested root m = InAllParts (λ w. IsCompilationAlone w k.shape options.node_limit nested (key_of r.point root) (map (key_of r.point) m.keys) m.nodes)

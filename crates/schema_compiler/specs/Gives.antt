@@ -4,9 +4,14 @@ use Rattle.std.specs.declared.alloc.Global.{Global}
 use Rattle.serde_json.specs.View.{members_view, view}
 use Rattle.serde_json.specs.declared.value.Value.{Value}
 use Rattle.schema_definitions.specs.Instance.{Place, Text}
-use Rattle.schema_definitions.specs.Plan.{Key, Reference}
+use Rattle.schema_definitions.specs.Making.{Script}
+use Rattle.schema_definitions.specs.Plan.{Key, Reference, checks_formats}
+use Rattle.schema_keywords.specs.KeywordViews.{draft_of}
 use Rattle.schema_parts.specs.EdgeViews.{edge_of}
 use Rattle.schema_parts.specs.ResolverViews.{place_of}
+use Rattle.schema_parts.specs.declared.keyword.Validate.{Ghosts as KeywordMembers}
+use Rattle.schema_parts.specs.declared.resolver.Resolver.{Ghosts as ResolverMembers}
+use Rattle.schema_parts.specs.declared.table.KeywordTable.{Ghosts as TableMembers}
 use Rattle.schema_parts.specs.declared.numbers.Edge.{Edge}
 use Rattle.schema_parts.specs.declared.numbers.SchemaNode.{SchemaNode}
 use Rattle.node_table.specs.NodeViews.{entry_of, plan_of}
@@ -18,7 +23,7 @@ use Rattle.schema_keys.specs.declared.references.ReferenceKind.{ReferenceKind}
 use Rattle.schema_compiler.specs.Carried.{AnswersChild, AnswersReference, LeadsToKey, MakesKeyword, MakesMember, MakesMembers, MakesReference, Numbers, PlansNode, PlansObject}
 use Rattle.schema_compiler.specs.Carried.{RefusesChild, RefusesEdge, RefusesKey, RefusesMaker, RefusesMember, RefusesMembers, RefusesNode, RefusesObject, RefusesReference}
 use Rattle.schema_compiler.specs.Carried.{Table, filled, keyword_absorbs, member_absorbs}
-use Rattle.schema_compiler.specs.Given.{Given}
+use Rattle.schema_compiler.specs.Given.{Given, given_by}
 use Rattle.schema_compiler.specs.Numbering.{BeginsNext, TakesNext}
 use Rattle.schema_compiler.specs.Reserving.{Ends, node_made}
 use Rattle.schema_compiler.specs.UnderWay.{GoesChild, GoesMaker, GoesMember, GoesMembers, GoesNode, GoesObject, GoesRefer, GoesReference, GoesTo, Reaches}
@@ -26,6 +31,7 @@ use Rattle.schema_compiler.specs.Working.{IsAtNumber, IsWorkedOff, RefusesRootKe
 use Rattle.schema_compiler.specs.declared.compiler.ObjectKeywords.{ObjectKeywords}
 use Rattle.schema_compiler.specs.declared.compiler.compilation.Compilation.{Compilation}
 use Rattle.schema_compiler.specs.declared.compiler.compilation.PlannedNode.{PlannedNode}
+use Rattle.schema_compiler.specs.declared.compiler.setup.Compiler.{Compiler}
 
 -- the members of an object of the program
 abbrev pub Entries : Type 0
@@ -35,7 +41,15 @@ Entries = List (String Global × Value)
 abbrev pub Absorbs : List (String Global) → List (String Global) → List Text → Type 0
 Absorbs old new names = map string_bytes new ≡ map string_bytes old ++ names
 
-module _ {P S K C : Type 0} (g : Given P S K C) where
+module _ {A P S T C Maker Run K : Type 0} (r : ResolverMembers A P S) (t : TableMembers T C Maker Run K) (k : KeywordMembers C Run K) (compiler : Compiler A T) where
+  -- what the compiler is given
+  abbrev pub g : Given P S K C
+  g = given_by r t k compiler
+
+  -- the script of a member of a key's object with these members, by its own keyword or a built-in one
+  abbrev pub script_of : SchemaKey P → Entries → Bool → String Global → Script K
+  script_of key members own name = t.script compiler.table.now own (string_bytes name) (members_view members) (draft_of key.draft) key.vocabularies (checks_formats g.task.parts (key_of g.point key))
+
   module _ (old : Compilation P C) (key : SchemaKey P) where
     -- why a key gets no number, with what was numbered before
     abbrev pub KeyRefused : BuildError → Type 0
@@ -178,3 +192,11 @@ module _ {P S K C : Type 0} (g : Given P S K C) where
     -- it is worked off in this compilation
     abbrev pub IsWorked : Compilation P C → Type 0
     IsWorked c = IsWorkedOff g.task (key_of g.point root) (filled g.point c)
+
+    -- so it is after all steps, or the root is refused
+    abbrev pub ComesToEnd : {A : Type 0} → Compilation P C → Result A BuildError → Type 0
+    ComesToEnd c result = MatchResult result (λ _. IsWorked c) RootRefused
+
+    -- so is the compilation that is given
+    abbrev pub GivesWorked : Result (Compilation P C) BuildError → Type 0
+    GivesWorked result = MatchResult result IsWorked RootRefused

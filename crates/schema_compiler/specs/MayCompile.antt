@@ -5,14 +5,18 @@ use Rattle.serde_json.specs.Data.{Data, object}
 use Rattle.serde_json.specs.View.{members_view}
 use Rattle.serde_json.specs.declared.value.Value.{Value}
 use Rattle.schema_parts.specs.ResolverViews.{place_of}
+use Rattle.schema_parts.specs.declared.keyword.Validate.{Ghosts as KeywordMembers}
+use Rattle.schema_parts.specs.declared.resolver.Resolver.{Ghosts as ResolverMembers}
+use Rattle.schema_parts.specs.declared.table.KeywordTable.{Ghosts as TableMembers}
 use Rattle.schema_keys.specs.KeyViews.{key_of}
 use Rattle.schema_keys.specs.Readings.{IsReading}
 use Rattle.schema_keys.specs.declared.key.SchemaKey.{SchemaKey}
 use Rattle.schema_keys.specs.declared.values.Reading.{Reading}
 use Rattle.schema_compiler.specs.Carried.{IsWell, filled}
-use Rattle.schema_compiler.specs.Given.{Given}
+use Rattle.schema_compiler.specs.Given.{Given, given_by}
 use Rattle.schema_compiler.specs.UnderWay.{IsUnderWay}
 use Rattle.schema_compiler.specs.declared.compiler.compilation.Compilation.{Compilation}
+use Rattle.schema_compiler.specs.declared.compiler.setup.Compiler.{Compiler}
 
 module _ {P S K C : Type 0} (g : Given P S K C) where
   -- the keys and nodes of a compilation are as the parts have them
@@ -22,6 +26,16 @@ module _ {P S K C : Type 0} (g : Given P S K C) where
   -- what holds of rounds and guards while keys are found holds of it
   abbrev pub TableIsUnderWay : Compilation P C → Type 0
   TableIsUnderWay c = IsUnderWay g.task (filled g.point c)
+
+  -- so may be gone on with
+  pub record IsReady (c : Compilation P C) : Type 0 where
+    pub table : TableIsWell c
+    pub under_way : TableIsUnderWay c
+
+module _ {A P S T C Maker Run K : Type 0} (r : ResolverMembers A P S) (t : TableMembers T C Maker Run K) (w : KeywordMembers C Run K) (compiler : Compiler A T) where
+  -- what the compiler is given
+  abbrev pub g : Given P S K C
+  g = given_by r t w compiler
 
   -- what stands at the place of a key
   abbrev pub value_at : SchemaKey P → Option Data
@@ -36,38 +50,37 @@ module _ {P S K C : Type 0} (g : Given P S K C) where
   HasRoom c nests = nests ≡ true → c.progress.depth < g.task.nested
 
   -- a reference may be followed
-  pub record MayRefer (c : Compilation P C) : Type 0 where
-    pub table : TableIsWell c
-    pub under_way : TableIsUnderWay c
+  abbrev pub MayRefer : Compilation P C → Type 0
+  MayRefer c = IsReady g c
 
   -- a key may be led to, of whose value this was read
   pub record MayReach (c : Compilation P C) (k : SchemaKey P) (known : Reading) : Type 0 where
-    pub table : TableIsWell c
-    pub under_way : TableIsUnderWay c
+    pub table : TableIsWell g c
+    pub under_way : TableIsUnderWay g c
     pub reading : IsReading (value_at k) known
 
   -- keywords may be made of a key's object with these members
   pub record MayMake (c : Compilation P C) (k : SchemaKey P) (members : List (String Global × Value)) : Type 0 where
-    pub table : TableIsWell c
-    pub under_way : TableIsUnderWay c
+    pub table : TableIsWell g c
+    pub under_way : TableIsUnderWay g c
     pub object : value_at k ≡ Some (object (members_view members))
 
   -- a key may get the next number
   pub record MayNumber (c : Compilation P C) (k : SchemaKey P) : Type 0 where
-    pub table : TableIsWell c
+    pub table : TableIsWell g c
     pub absent : HasNoNumber c k
 
   -- a key may get the next number and be open, as the target of an edge that nests or does not
   pub record MayOpen (c : Compilation P C) (k : SchemaKey P) (nests : Bool) : Type 0 where
-    pub table : TableIsWell c
-    pub under_way : TableIsUnderWay c
+    pub table : TableIsWell g c
+    pub under_way : TableIsUnderWay g c
     pub absent : HasNoNumber c k
     pub room : HasRoom c nests
 
   -- the same of a key that is compiled at once, of whose value this was read
   pub record MayCompile (c : Compilation P C) (k : SchemaKey P) (nests : Bool) (known : Reading) : Type 0 where
-    pub table : TableIsWell c
-    pub under_way : TableIsUnderWay c
+    pub table : TableIsWell g c
+    pub under_way : TableIsUnderWay g c
     pub absent : HasNoNumber c k
     pub room : HasRoom c nests
     pub reading : IsReading (value_at k) known

@@ -1,11 +1,29 @@
 -- What is so when a key that had no number has the next one.
-use Rattle.std.specs.Prelude.{Bool, Option, Some, [], false, if◌then◌else◌, length, map, suc, ℕ, ◌++◌, ◌∷◌, ◌≡◌}
+use Rattle.std.specs.Prelude.{Bool, None, Option, Some, [], false, if◌then◌else◌, length, map, suc, ℕ, ◌++◌, ◌∷◌, ◌≡◌}
 use Rattle.schema_definitions.specs.Plan.{Key}
+use Rattle.schema_definitions.specs.Resolving.{Resolver}
+use Rattle.node_table.specs.NodeTable.{NodeEntry}
+use Rattle.schema_keys.specs.Compiling.{resolving_parts}
 use Rattle.schema_keys.specs.KeyViews.{key_of}
+use Rattle.schema_keys.specs.ShownBases.{shown_base}
+use Rattle.schema_keys.specs.declared.key.SchemaKey.{SchemaKey}
 use Rattle.schema_compiler.specs.Carried.{IsWell, Task, filled}
 use Rattle.schema_compiler.specs.Passing.{Numbered}
 use Rattle.schema_compiler.specs.UnderWay.{IsUnderWay}
 use Rattle.schema_compiler.specs.declared.compiler.compilation.Compilation.{Compilation}
+
+-- the node of a key that had none: in progress in this round, or waiting
+abbrev pub node_begun : {S P C : Type 0} → Resolver P → (S → P) → SchemaKey S → Option ℕ → NodeEntry C
+node_begun resolving point key round = record {
+  location = key.location;
+  base = shown_base (resolving_parts resolving) (key_of point key);
+  start = key.resource_start;
+  round = round;
+  order = 0;
+  settled = false;
+  annotations = None;
+  plan = None;
+}
 
 module _ {S P K C : Type 0} (g : Task P K C) (point : S → P) (old new : Compilation S C) (k : Key P) where
   -- the key has this number, with a node in progress in this round, or waiting; all else is as it was

@@ -1,9 +1,13 @@
 -- Reserved numbers as data.
-use Rattle.std.specs.Prelude.{List, None, Some, string_bytes, ℕ, ◌≡◌}
+use Rattle.std.specs.Prelude.{List, MatchOption, None, Option, Some, String, string_bytes, ℕ, ◌≡◌}
+use Rattle.std.specs.declared.alloc.Global.{Global}
 use Rattle.schema_definitions.specs.Drafts.{SchemaPlace}
 use Rattle.schema_definitions.specs.Making.{Purpose}
+use Rattle.schema_parts.specs.declared.numbers.PendingSchemaNode.{PendingSchemaNode}
+use Rattle.schema_parts.specs.declared.schema_place.SchemaPlace as code
 use Rattle.schema_parts.specs.declared.table.MakerReply.{MakerReply}
 use Rattle.schema_parts.specs.declared.table.MakerReply.TheVariants as reply
+use Rattle.schema_parts.specs.declared.table.PendingKind.{PendingKind}
 use Rattle.schema_parts.specs.MakerViews.{purpose_of}
 use Rattle.schema_parts.specs.ResolverViews.{place_of}
 use Rattle.schema_compiler.specs.Reserving as spec
@@ -18,6 +22,14 @@ node_of node.OfNoEntry = spec.of_no_entry
 
 abbrev pub reserved_of : Reservation → spec.Reserved
 reserved_of r = record { purpose = purpose_of r.kind; object = place_of r.object; keyword = string_bytes r.keyword; node = node_of r.node }
+
+-- the reservation that a maker begins
+abbrev pub reserved_by : PendingKind → code.SchemaPlace → String Global → spec.Reserved
+reserved_by kind object keyword = record { purpose = purpose_of kind; object = place_of object; keyword = string_bytes keyword; node = spec.in_force }
+
+-- the number that is pending is found, or there is none
+abbrev pub FindsPending : List spec.Reserved → Purpose → SchemaPlace → Option PendingSchemaNode → Type 0
+FindsPending rs purpose object o = MatchOption o (spec.NonePending rs purpose object) (λ n. spec.IsPending rs purpose object n.0)
 
 -- a maker is told the number that is pending, or that there is none
 abbrev pub TellsPending : List spec.Reserved → Purpose → SchemaPlace → MakerReply → Type 0

@@ -4,15 +4,13 @@
 //! What it is given is in `setup`, what it fills in `compilation`. Keys, the contexts where they stand, subschemas, the targets of
 //! references and the check by meta validators are of `schema_keys`, and handed on. The steps are in `vocabularies`, `makers`,
 //! `targets`, `entries` and `annotations`, references are in `ref_`.
-ghost use Rattle.std.specs.Prelude.{◌≡◌, [], IfErr, IfOk, flat_map, map};
-ghost use Rattle.schema_keys.specs.KeyViews.{key_of};
-ghost use Rattle.schema_meaning.specs.Refusals.{undeclared};
+ghost use Rattle.std.specs.Prelude.{IfErr, IfOk, OnOk};
 ghost use Rattle.schema_keys.specs.Alone.{RefusesVocabularies};
-ghost use Rattle.schema_compiler.specs.Compilation.{IsCompilation, IsCompilationAlone, RefusesAlone, RefusesInOrder, RefusesRoot};
+ghost use Rattle.schema_compiler.specs.Compilation.{RefusesAlone, RefusesInOrder, RefusesRoot};
 ghost use Rattle.schema_keys.specs.Compiling.{Each};
 ghost use Rattle.schema_compiler.specs.Reserving.{IsGivenUp};
-ghost use Rattle.schema_compiler.specs.Given.{InAllParts, given_by, given_of};
-ghost use Rattle.schema_compiler.specs.MayCompile.{MayCompile, MayMake, MayReach, MayRefer, TableIsUnderWay, TableIsWell};
+ghost use Rattle.schema_compiler.specs.Given.{CompilesAll, CompilesSub, DeclaresAll, RefusedAs, given_of};
+ghost use Rattle.schema_compiler.specs.MayCompile.{IsReady, MayCompile, MayMake, MayReach, MayRefer};
 ghost use Rattle.schema_compiler.specs.Gives.{GivesChild, GivesEdge, GivesKeywords, GivesMade, GivesMember, GivesNumber};
 ghost use Rattle.schema_compiler.specs.Gives.{GivesObject, GivesPlan, GivesTarget};
 
@@ -74,18 +72,11 @@ pub fn compile<R: Resolver, K: Validate, T: KeywordTable<K>>(
     nested_limit: usize,
     root: SchemaKey<R::State>,
 ) -> Result<Compilation<R::State, K>, BuildError>
-    ensures compiled { IfOk result (λ m. InAllParts R.Resolver T.KeywordTable K.Validate resolver.now table.now options.now
-        (λ w. IsCompilation w K.shape options.now.node_limit nested_limit (key_of R.point root)
-        (map (key_of R.point) m.keys) m.nodes)) }
+    ensures compiled { IfOk result (CompilesAll R.Resolver T.KeywordTable K.Validate resolver.now table.now options.now nested_limit root) }
     ensures reserved { IfOk result (λ m. Each IsGivenUp m.reservations) }
-    ensures table { IfOk result (TableIsWell
-        (given_of R.Resolver T.KeywordTable K.Validate resolver.now table.now options.now nested_limit)) }
-    ensures under_way { IfOk result (TableIsUnderWay
-        (given_of R.Resolver T.KeywordTable K.Validate resolver.now table.now options.now nested_limit)) }
-    ensures refused { IfErr result (λ e. InAllParts R.Resolver T.KeywordTable K.Validate resolver.now table.now options.now
-        (λ w. RefusesRoot w options.now.node_limit (key_of R.point root) e)) }
-    ensures first { IfErr result (λ e. InAllParts R.Resolver T.KeywordTable K.Validate resolver.now table.now options.now
-        (λ w. RefusesInOrder w options.now.node_limit (key_of R.point root) e)) }
+    ensures ready { IfOk result (IsReady (given_of R.Resolver T.KeywordTable K.Validate resolver.now table.now options.now nested_limit)) }
+    ensures refused { IfErr result (RefusedAs R.Resolver T.KeywordTable K.Validate resolver.now table.now options.now RefusesRoot root) }
+    ensures first { IfErr result (RefusedAs R.Resolver T.KeywordTable K.Validate resolver.now table.now options.now RefusesInOrder root) }
 {
     check_vocabularies::<R, K, T>(alloc, resolver, table, options, &root)?;
     Ok(compile_subschema(alloc, resolver, table, options, nested_limit, root)?)
@@ -103,10 +94,9 @@ pub fn check_vocabularies<R: Resolver, K: Validate, T: KeywordTable<K>>(
     options: &CompileOptions,
     root: &SchemaKey<R::State>,
 ) -> Result<(), BuildError>
-    ensures declared { IfOk result (λ _. InAllParts R.Resolver T.KeywordTable K.Validate resolver.now table.now options.now
-        (λ w. flat_map (undeclared w) root.now.vocabularies ≡ [])) }
-    ensures refused { IfErr result (λ e. InAllParts R.Resolver T.KeywordTable K.Validate resolver.now table.now options.now
-        (λ w. RefusesVocabularies w (key_of R.point root.now) e)) }
+    ensures declared { OnOk result (DeclaresAll R.Resolver T.KeywordTable K.Validate resolver.now table.now options.now root.now) }
+    ensures refused { IfErr result (RefusedAs R.Resolver T.KeywordTable K.Validate resolver.now table.now options.now
+        (λ w _. RefusesVocabularies w) root.now) }
 {
     let compiler = Compiler {
         alloc,
@@ -133,16 +123,10 @@ pub fn compile_subschema<R: Resolver, K: Validate, T: KeywordTable<K>>(
     nested_limit: usize,
     root: SchemaKey<R::State>,
 ) -> Result<Compilation<R::State, K>, BuildError>
-    ensures compiled { IfOk result (λ m. InAllParts R.Resolver T.KeywordTable K.Validate resolver.now table.now options.now
-        (λ w. IsCompilationAlone w K.shape options.now.node_limit nested_limit (key_of R.point root)
-        (map (key_of R.point) m.keys) m.nodes)) }
+    ensures compiled { IfOk result (CompilesSub R.Resolver T.KeywordTable K.Validate resolver.now table.now options.now nested_limit root) }
     ensures reserved { IfOk result (λ m. Each IsGivenUp m.reservations) }
-    ensures table { IfOk result (TableIsWell
-        (given_of R.Resolver T.KeywordTable K.Validate resolver.now table.now options.now nested_limit)) }
-    ensures under_way { IfOk result (TableIsUnderWay
-        (given_of R.Resolver T.KeywordTable K.Validate resolver.now table.now options.now nested_limit)) }
-    ensures refused { IfErr result (λ e. InAllParts R.Resolver T.KeywordTable K.Validate resolver.now table.now options.now
-        (λ w. RefusesAlone w options.now.node_limit (key_of R.point root) e)) }
+    ensures ready { IfOk result (IsReady (given_of R.Resolver T.KeywordTable K.Validate resolver.now table.now options.now nested_limit)) }
+    ensures refused { IfErr result (RefusedAs R.Resolver T.KeywordTable K.Validate resolver.now table.now options.now RefusesAlone root) }
 {
     let compiler = Compiler {
         alloc,
@@ -181,9 +165,8 @@ impl<'p, R: Resolver, T> Compiler<'p, R, T> {
     ) -> Result<Edge, BuildError>
     where
         T: KeywordTable<K>,
-        requires { MayReach (given_by R.Resolver T.KeywordTable K.Validate self.now) compiled.old key reading }
-        ensures { GivesEdge (given_by R.Resolver T.KeywordTable K.Validate self.now)
-            compiled.old compiled.new key nests path result }
+        requires { MayReach R.Resolver T.KeywordTable K.Validate self.now compiled.old key reading }
+        ensures { GivesEdge R.Resolver T.KeywordTable K.Validate self.now compiled.old compiled.new key nests path result }
     {
         let number = self.number_of(compiled, key, reading, nests)?;
         Ok(compiled.edge_at(number, path))
@@ -200,9 +183,8 @@ impl<'p, R: Resolver, T> Compiler<'p, R, T> {
     ) -> Result<usize, BuildError>
     where
         T: KeywordTable<K>,
-        requires { MayReach (given_by R.Resolver T.KeywordTable K.Validate self.now) compiled.old key reading }
-        ensures { GivesNumber (given_by R.Resolver T.KeywordTable K.Validate self.now)
-            compiled.old compiled.new key nests result }
+        requires { MayReach R.Resolver T.KeywordTable K.Validate self.now compiled.old key reading }
+        ensures { GivesNumber R.Resolver T.KeywordTable K.Validate self.now compiled.old compiled.new key nests result }
     {
         if let Some(number) = find::<R>(&compiled.keys, &key) {
             return Ok(number);
@@ -226,10 +208,8 @@ impl<'p, R: Resolver, T> Compiler<'p, R, T> {
     ) -> Result<usize, BuildError>
     where
         T: KeywordTable<K>,
-        requires { MayCompile (given_by R.Resolver T.KeywordTable K.Validate self.now)
-            compiled.old key.now.value nests reading }
-        ensures { GivesNumber (given_by R.Resolver T.KeywordTable K.Validate self.now)
-            compiled.old compiled.new key.now.value nests result }
+        requires { MayCompile R.Resolver T.KeywordTable K.Validate self.now compiled.old key.now.value nests reading }
+        ensures { GivesNumber R.Resolver T.KeywordTable K.Validate self.now compiled.old compiled.new key.now.value nests result }
     {
         let outer = compiled.progress;
         let number = self.begin_number(compiled, key, nests)?;
@@ -252,10 +232,8 @@ impl<'p, R: Resolver, T> Compiler<'p, R, T> {
     ) -> Result<PlannedNode<K>, BuildError>
     where
         T: KeywordTable<K>,
-        requires { MayReach (given_by R.Resolver T.KeywordTable K.Validate self.now)
-            compiled.old key.now reading }
-        ensures { GivesPlan (given_by R.Resolver T.KeywordTable K.Validate self.now)
-            compiled.old compiled.new key.now result }
+        requires { MayReach R.Resolver T.KeywordTable K.Validate self.now compiled.old key.now reading }
+        ensures { GivesPlan R.Resolver T.KeywordTable K.Validate self.now compiled.old compiled.new key.now result }
     {
         let context = Context {
             alloc: self.alloc,
@@ -283,10 +261,8 @@ impl<'p, R: Resolver, T> Compiler<'p, R, T> {
     ) -> Result<PlannedNode<K>, BuildError>
     where
         T: KeywordTable<K>,
-        requires { MayMake (given_by R.Resolver T.KeywordTable K.Validate self.now)
-            compiled.old key.now members.now.entries }
-        ensures { GivesObject (given_by R.Resolver T.KeywordTable K.Validate self.now)
-            compiled.old compiled.new key.now members.now.entries result }
+        requires { MayMake R.Resolver T.KeywordTable K.Validate self.now compiled.old key.now members.now.entries }
+        ensures { GivesObject R.Resolver T.KeywordTable K.Validate self.now compiled.old compiled.new key.now members.now.entries result }
     {
         let context = Context {
             alloc: self.alloc,
@@ -327,10 +303,8 @@ impl<'p, R: Resolver, T> Compiler<'p, R, T> {
     ) -> Result<ObjectKeywords<K>, BuildError>
     where
         T: KeywordTable<K>,
-        requires { MayMake (given_by R.Resolver T.KeywordTable K.Validate self.now)
-            compiled.old key.now members.now.entries }
-        ensures { GivesKeywords (given_by R.Resolver T.KeywordTable K.Validate self.now)
-            compiled.old compiled.new key.now members.now.entries result }
+        requires { MayMake R.Resolver T.KeywordTable K.Validate self.now compiled.old key.now members.now.entries }
+        ensures { GivesKeywords R.Resolver T.KeywordTable K.Validate self.now compiled.old compiled.new key.now members.now.entries result }
     {
         let mut entries = Vec::new(self.alloc);
         let mut unknown = Map::new(self.alloc);
@@ -362,11 +336,9 @@ impl<'p, R: Resolver, T> Compiler<'p, R, T> {
     ) -> Result<Option<Entry<K>>, BuildError>
     where
         T: KeywordTable<K>,
-        requires { MayMake (given_by R.Resolver T.KeywordTable K.Validate self.now)
-            compiled.old key.now members.now.entries }
-        ensures { GivesMember (given_by R.Resolver T.KeywordTable K.Validate self.now)
-            compiled.old compiled.new key.now members.now.entries name.now value.now
-            absorbed.old.items absorbed.new.items result }
+        requires { MayMake R.Resolver T.KeywordTable K.Validate self.now compiled.old key.now members.now.entries }
+        ensures { GivesMember R.Resolver T.KeywordTable K.Validate self.now
+            compiled.old compiled.new key.now members.now.entries name.now value.now absorbed.old.items absorbed.new.items result }
     {
         let text = name.as_str();
         if self.table.owns(text) {
@@ -420,9 +392,8 @@ impl<'p, R: Resolver, T> Compiler<'p, R, T> {
     ) -> Result<Option<Entry<K>>, BuildError>
     where
         T: KeywordTable<K>,
-        requires { MayMake (given_by R.Resolver T.KeywordTable K.Validate self.now)
-            compiled.old key.now members.now.entries }
-        ensures { GivesMade (given_by R.Resolver T.KeywordTable K.Validate self.now)
+        requires { MayMake R.Resolver T.KeywordTable K.Validate self.now compiled.old key.now members.now.entries }
+        ensures { GivesMade R.Resolver T.KeywordTable K.Validate self.now
             compiled.old compiled.new key.now members.now.entries own name.now priority is_leaf
             absorbed.old.items absorbed.new.items result }
     {
@@ -476,10 +447,8 @@ impl<'p, R: Resolver, T> Compiler<'p, R, T> {
     ) -> Result<Edge, BuildError>
     where
         T: KeywordTable<K>,
-        requires { MayMake (given_by R.Resolver T.KeywordTable K.Validate self.now)
-            compiled.old key.now members.now.entries }
-        ensures { GivesChild (given_by R.Resolver T.KeywordTable K.Validate self.now)
-            compiled.old compiled.new key.now path.now result }
+        requires { MayMake R.Resolver T.KeywordTable K.Validate self.now compiled.old key.now members.now.entries }
+        ensures { GivesChild R.Resolver T.KeywordTable K.Validate self.now compiled.old compiled.new key.now path.now result }
     {
         let context = Context {
             alloc: self.alloc,
@@ -504,8 +473,8 @@ impl<'p, R: Resolver, T> Compiler<'p, R, T> {
     ) -> Result<Option<Edge>, BuildError>
     where
         T: KeywordTable<K>,
-        requires { MayRefer (given_by R.Resolver T.KeywordTable K.Validate self.now) compiled.old }
-        ensures { GivesTarget (given_by R.Resolver T.KeywordTable K.Validate self.now)
+        requires { MayRefer R.Resolver T.KeywordTable K.Validate self.now compiled.old }
+        ensures { GivesTarget R.Resolver T.KeywordTable K.Validate self.now
             compiled.old compiled.new key.now name.now kind text.now result }
     {
         let path = Location::new(self.alloc).join(LocationSegment::Property(name.as_str()))?;

@@ -1,9 +1,7 @@
 //! The keywords that references are.
-ghost use Rattle.std.specs.Prelude.{IfErr, IfOk};
-ghost use Rattle.schema_definitions.specs.Plan.{to_dynamic, to_recursive, to_ref};
-ghost use Rattle.schema_compiler.specs.Given.{given_by};
-ghost use Rattle.schema_compiler.specs.MayCompile.{MayRefer, TableIsUnderWay, TableIsWell};
-ghost use Rattle.schema_compiler.specs.Gives.{GivesReference, ReferenceFound, ReferenceMade, ReferenceRefused};
+ghost use Rattle.schema_keys.specs.declared.references.ReferenceKind.TheVariants.{Dynamic, Recursive, Ref};
+ghost use Rattle.schema_compiler.specs.MayCompile.{MayRefer};
+ghost use Rattle.schema_compiler.specs.Gives.{GivesReference};
 
 use crate::compiler::compilation::Compilation;
 use crate::compiler::entries::entry_named;
@@ -36,14 +34,9 @@ impl<'p, R: Resolver, T> Compiler<'p, R, T> {
     ) -> Result<Option<Entry<K>>, BuildError>
     where
         T: KeywordTable<K>,
-        requires table { TableIsWell (given_by R.Resolver T.KeywordTable K.Validate self.now) compiled.old }
-        requires under_way { TableIsUnderWay (given_by R.Resolver T.KeywordTable K.Validate self.now) compiled.old }
-        ensures part { IfOk result (ReferenceMade (given_by R.Resolver T.KeywordTable K.Validate self.now)
-            compiled.old compiled.new key.now name.now priority to_ref value.now) }
-        ensures order { IfOk result (ReferenceFound (given_by R.Resolver T.KeywordTable K.Validate self.now)
-            compiled.old compiled.new key.now name.now to_ref value.now) }
-        ensures refused { IfErr result (ReferenceRefused (given_by R.Resolver T.KeywordTable K.Validate self.now)
-            compiled.old key.now name.now to_ref value.now) }
+        requires { MayRefer R.Resolver T.KeywordTable K.Validate self.now compiled.old }
+        ensures { GivesReference R.Resolver T.KeywordTable K.Validate self.now compiled.old compiled.new key.now
+            name.now priority Ref value.now result }
     {
         self.reference_by(compiled, key, name, priority, ReferenceKind::Ref, value)
     }
@@ -65,14 +58,9 @@ impl<'p, R: Resolver, T> Compiler<'p, R, T> {
     ) -> Result<Option<Entry<K>>, BuildError>
     where
         T: KeywordTable<K>,
-        requires table { TableIsWell (given_by R.Resolver T.KeywordTable K.Validate self.now) compiled.old }
-        requires under_way { TableIsUnderWay (given_by R.Resolver T.KeywordTable K.Validate self.now) compiled.old }
-        ensures part { IfOk result (ReferenceMade (given_by R.Resolver T.KeywordTable K.Validate self.now)
-            compiled.old compiled.new key.now name.now priority to_dynamic value.now) }
-        ensures order { IfOk result (ReferenceFound (given_by R.Resolver T.KeywordTable K.Validate self.now)
-            compiled.old compiled.new key.now name.now to_dynamic value.now) }
-        ensures refused { IfErr result (ReferenceRefused (given_by R.Resolver T.KeywordTable K.Validate self.now)
-            compiled.old key.now name.now to_dynamic value.now) }
+        requires { MayRefer R.Resolver T.KeywordTable K.Validate self.now compiled.old }
+        ensures { GivesReference R.Resolver T.KeywordTable K.Validate self.now compiled.old compiled.new key.now
+            name.now priority Dynamic value.now result }
     {
         self.reference_by(compiled, key, name, priority, ReferenceKind::Dynamic, value)
     }
@@ -94,14 +82,9 @@ impl<'p, R: Resolver, T> Compiler<'p, R, T> {
     ) -> Result<Option<Entry<K>>, BuildError>
     where
         T: KeywordTable<K>,
-        requires table { TableIsWell (given_by R.Resolver T.KeywordTable K.Validate self.now) compiled.old }
-        requires under_way { TableIsUnderWay (given_by R.Resolver T.KeywordTable K.Validate self.now) compiled.old }
-        ensures part { IfOk result (ReferenceMade (given_by R.Resolver T.KeywordTable K.Validate self.now)
-            compiled.old compiled.new key.now name.now priority to_recursive value.now) }
-        ensures order { IfOk result (ReferenceFound (given_by R.Resolver T.KeywordTable K.Validate self.now)
-            compiled.old compiled.new key.now name.now to_recursive value.now) }
-        ensures refused { IfErr result (ReferenceRefused (given_by R.Resolver T.KeywordTable K.Validate self.now)
-            compiled.old key.now name.now to_recursive value.now) }
+        requires { MayRefer R.Resolver T.KeywordTable K.Validate self.now compiled.old }
+        ensures { GivesReference R.Resolver T.KeywordTable K.Validate self.now compiled.old compiled.new key.now
+            name.now priority Recursive value.now result }
     {
         self.reference_by(
             compiled,
@@ -126,8 +109,8 @@ impl<'p, R: Resolver, T> Compiler<'p, R, T> {
     ) -> Result<Option<Entry<K>>, BuildError>
     where
         T: KeywordTable<K>,
-        requires { MayRefer (given_by R.Resolver T.KeywordTable K.Validate self.now) compiled.old }
-        ensures { GivesReference (given_by R.Resolver T.KeywordTable K.Validate self.now)
+        requires { MayRefer R.Resolver T.KeywordTable K.Validate self.now compiled.old }
+        ensures { GivesReference R.Resolver T.KeywordTable K.Validate self.now
             compiled.old compiled.new key.now name.now priority kind value.now result }
     {
         let context = Context {

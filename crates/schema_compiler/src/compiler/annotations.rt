@@ -1,5 +1,5 @@
 //! Annotations: the members that no keyword is made of, that no keyword absorbs, and whose names the draft does not know.
-ghost use Rattle.std.specs.Prelude.{◌≡◌, ◌++◌, IfOk, map, option_map, string_bytes, if◌then◌else◌};
+ghost use Rattle.std.specs.Prelude.{◌≡◌, ◌++◌, OnOk, map, option_map, string_bytes, if◌then◌else◌};
 ghost use Rattle.serde_json.specs.Data.{put};
 ghost use Rattle.serde_json.specs.View.{view, members_view};
 ghost use Rattle.schema_definitions.specs.Units.{object_of, without};
@@ -20,11 +20,9 @@ impl<'p, R: Resolver, T> Compiler<'p, R, T> {
         name: &String,
         value: &Value,
     ) -> Result<(), OutOfMemory>
-        ensures kept { IfOk result (λ _. members_view unknown.new.entries ≡
-            (if (R.resolving self.now.resolver.now).is_known_keyword (draft_of key.now.draft)
-            (string_bytes name.now)
-            then members_view unknown.old.entries
-            else put (string_bytes name.now) (view value.now) (members_view unknown.old.entries))) }
+        ensures kept { OnOk result (members_view unknown.new.entries ≡
+            (if (R.resolving self.now.resolver.now).is_known_keyword (draft_of key.now.draft) (string_bytes name.now)
+            then members_view unknown.old.entries else put (string_bytes name.now) (view value.now) (members_view unknown.old.entries))) }
     {
         if !self.resolver.is_known_keyword(key.draft, name.as_str()) {
             let own = name.clone()?;
@@ -36,7 +34,7 @@ impl<'p, R: Resolver, T> Compiler<'p, R, T> {
 
 /// Adds the names that a keyword absorbs to those of the keywords before it.
 pub(crate) fn absorb(absorbed: &mut Vec<String>, names: Vec<String>) -> Result<(), OutOfMemory>
-    ensures added { IfOk result (λ _. map string_bytes absorbed.new.items ≡
+    ensures added { OnOk result (map string_bytes absorbed.new.items ≡
         map string_bytes absorbed.old.items ++ map string_bytes names.items) }
 {
     let mut more = names;
@@ -46,8 +44,7 @@ pub(crate) fn absorb(absorbed: &mut Vec<String>, names: Vec<String>) -> Result<(
 
 /// The members without those of these names.
 pub(crate) fn without(members: Map<String, Value>, names: &[String]) -> Map<String, Value>
-    ensures left { members_view result.entries ≡
-        without (map string_bytes names.now) (members_view members.entries) }
+    ensures left { members_view result.entries ≡ without (map string_bytes names.now) (members_view members.entries) }
 {
     let mut left = members;
     for name in names {

@@ -1,11 +1,8 @@
 //! The keys that were reached and their nodes, while they are filled.
 ghost use Rattle.std.specs.Prelude.{◌≡◌, ◌<◌, ◌≤◌, ◌++◌, ◌∷◌, [], true, false, suc, IfOk, OnOk};
-ghost use Rattle.std.specs.Prelude.{MatchResult, None, length, if◌then◌else◌};
-ghost use Rattle.schema_keys.specs.KeyViews.{key_of};
-ghost use Rattle.schema_keys.specs.Compiling.{resolving_parts};
-ghost use Rattle.schema_keys.specs.ShownBases.{shown_base};
+ghost use Rattle.std.specs.Prelude.{MatchResult, length, if◌then◌else◌};
+ghost use Rattle.schema_compiler.specs.Numbering.{node_begun};
 ghost use Rattle.schema_compiler.specs.Passing.{PassesTo};
-ghost use Rattle.schema_compiler.specs.Given.{given_by};
 ghost use Rattle.schema_compiler.specs.MayCompile.{MayNumber, MayOpen};
 ghost use Rattle.schema_compiler.specs.Gives.{GivesNext, GivesOpened, NextTaken};
 ghost use Rattle.schema_keys.specs.declared.error.BuildError.TheVariants as build;
@@ -141,16 +138,7 @@ impl<'p, R: Resolver, T> Compiler<'p, R, T> {
         key: &SchemaKey<R::State>,
         round: Option<usize>,
     ) -> Result<SchemaNode, OutOfMemory>
-        ensures added { OnOk result (nodes.new ≡ nodes.old ++ record {
-          location = key.now.location;
-          base = shown_base (resolving_parts (R.resolving self.now.resolver.now)) (key_of R.point key.now);
-          start = key.now.resource_start;
-          round = round;
-          order = 0;
-          settled = false;
-          annotations = None;
-          plan = None;
-        } ∷ []) }
+        ensures added { OnOk result (nodes.new ≡ nodes.old ++ node_begun (R.resolving self.now.resolver.now) R.point key.now round ∷ []) }
         ensures number { IfOk result (λ n. n.0 ≡ length nodes.old) }
     {
         let location = key.location.clone()?;
@@ -176,10 +164,9 @@ impl<'p, R: Resolver, T> Compiler<'p, R, T> {
     ) -> Result<SchemaNode, BuildError>
     where
         T: KeywordTable<K>,
-        requires may { MayNumber (given_by R.Resolver T.KeywordTable K.Validate self.now)
-            compiled.old key.now.value }
+        requires may { MayNumber R.Resolver T.KeywordTable K.Validate self.now compiled.old key.now.value }
         requires room { length compiled.old.keys < self.now.options.now.node_limit }
-        ensures { MatchResult result (NextTaken (given_by R.Resolver T.KeywordTable K.Validate self.now)
+        ensures { MatchResult result (NextTaken R.Resolver T.KeywordTable K.Validate self.now
             compiled.old compiled.new key.now.value round) (λ e. e ≡ build.OutOfMemory) }
     {
         let number = self.add_node(&mut compiled.nodes, key, round)?;
@@ -197,10 +184,8 @@ impl<'p, R: Resolver, T> Compiler<'p, R, T> {
     ) -> Result<SchemaNode, BuildError>
     where
         T: KeywordTable<K>,
-        requires { MayNumber (given_by R.Resolver T.KeywordTable K.Validate self.now)
-            compiled.old key.now.value }
-        ensures { GivesNext (given_by R.Resolver T.KeywordTable K.Validate self.now)
-            compiled.old compiled.new key.now.value round result }
+        requires { MayNumber R.Resolver T.KeywordTable K.Validate self.now compiled.old key.now.value }
+        ensures { GivesNext R.Resolver T.KeywordTable K.Validate self.now compiled.old compiled.new key.now.value round result }
     {
         if compiled.keys.len() >= self.options.node_limit {
             return Err(BuildError::NodeLimit(self.options.node_limit));
@@ -218,10 +203,8 @@ impl<'p, R: Resolver, T> Compiler<'p, R, T> {
     ) -> Result<SchemaNode, BuildError>
     where
         T: KeywordTable<K>,
-        requires { MayOpen (given_by R.Resolver T.KeywordTable K.Validate self.now)
-            compiled.old key.now.value nests }
-        ensures { GivesOpened (given_by R.Resolver T.KeywordTable K.Validate self.now)
-            compiled.old compiled.new key.now.value nests result }
+        requires { MayOpen R.Resolver T.KeywordTable K.Validate self.now compiled.old key.now.value nests }
+        ensures { GivesOpened R.Resolver T.KeywordTable K.Validate self.now compiled.old compiled.new key.now.value nests result }
     {
         let outer = compiled.progress;
         let number = self.number_within(compiled, key, Some(outer.round))?;

@@ -1,5 +1,6 @@
 //! Keywords in the order of their priorities; those of one priority stay in the order in which they came.
-ghost use Rattle.std.specs.Prelude.{◌≡◌, ◌≤◌, IfOk, None, map, length, insert, option_map, string_bytes};
+ghost use Rattle.std.specs.Prelude.{◌≡◌, ◌≤◌, IfOk, None, map, length, insert, option_map, string_bytes, OnOk};
+ghost use Rattle.schema_parts.specs.Showing.{Shows};
 ghost use Rattle.schema_definitions.specs.Guarded.{NodePart};
 ghost use Rattle.node_table.specs.NodeViews.{entry_of, form_of, plan_of};
 ghost use Rattle.schema_compiler.specs.Ordering.{placed_after};
@@ -27,8 +28,7 @@ pub(crate) fn insert_by_priority<K: Drop>(
     entries: &mut Vec<Entry<K>>,
     entry: Entry<K>,
 ) -> Result<(), OutOfMemory>
-    ensures placed { IfOk result (λ _. map entry_of entries.new.items ≡
-        placed_after (entry_of entry) (map entry_of entries.old.items)) }
+    ensures placed { OnOk result (map entry_of entries.new.items ≡ placed_after (entry_of entry) (map entry_of entries.old.items)) }
 {
     let place = place_for(entries.as_slice(), entry.priority);
     entries.insert(place, entry)?;
@@ -42,7 +42,7 @@ pub(crate) fn entry_named<K: Drop>(
     is_leaf: bool,
     form: EntryForm<K>,
 ) -> Result<Entry<K>, OutOfMemory>
-    ensures entry { IfOk result (λ e. entry_of e ≡ record {
+    ensures entry { Shows entry_of result (record {
       name = string_bytes name.now;
       priority = priority;
       is_leaf = is_leaf;

@@ -1,13 +1,10 @@
 //! The maker of one keyword: how it begins, and what it is told of what it asked for.
-ghost use Rattle.std.specs.Prelude.{◌≡◌, ◌++◌, ◌∷◌, [], IfOk, OnOk, length, map, option_map, string_bytes};
-ghost use Rattle.serde_json.specs.View.{members_view};
-ghost use Rattle.schema_definitions.specs.Plan.{checks_formats};
-ghost use Rattle.schema_keywords.specs.KeywordViews.{draft_of};
+ghost use Rattle.std.specs.Prelude.{◌≡◌, ◌++◌, ◌∷◌, [], OnOk, length, map, option_map};
+ghost use Rattle.schema_parts.specs.Showing.{Shows};
 ghost use Rattle.schema_parts.specs.MakerViews.{begun, is_own, maker_reply_of, name_of};
 ghost use Rattle.schema_parts.specs.EdgeViews.{edge_of};
 ghost use Rattle.schema_keys.specs.Compiling.{answers};
-ghost use Rattle.schema_compiler.specs.Carried.{task};
-ghost use Rattle.schema_keys.specs.KeyViews.{key_of};
+ghost use Rattle.schema_compiler.specs.Gives.{script_of};
 
 use crate::compiler::setup::Compiler;
 use schema_keys::context::Context;
@@ -30,11 +27,8 @@ impl<'p, R: Resolver, T> Compiler<'p, R, T> {
     ) -> Result<T::Maker, OutOfMemory>
     where
         T: KeywordTable<K>,
-        ensures begins { IfOk result (λ m. T.waiting m ≡ begun (T.script self.now.table.now own
-            (string_bytes name.now) (members_view members.now.entries) (draft_of key.now.draft)
-            key.now.vocabularies
-            (checks_formats (task R.resolving T.owned T.script K.shape self.now).parts
-            (key_of R.point key.now)))) }
+        ensures begins { Shows T.waiting result (begun
+            (script_of R.Resolver T.KeywordTable K.Validate self.now key.now members.now.entries own name.now)) }
     {
         let context = Context {
             alloc: self.alloc,
@@ -83,8 +77,7 @@ pub(crate) fn keep_edge(
 ) -> Result<MakerReply, OutOfMemory>
     ensures kept { OnOk result (map (option_map edge_of) edges.new.items ≡
         map (option_map edge_of) edges.old.items ++ option_map edge_of edge ∷ []) }
-    ensures told { IfOk result (λ reply. maker_reply_of reply ≡
-        answers (option_map edge_of edge) (length edges.old.items)) }
+    ensures told { Shows maker_reply_of result (answers (option_map edge_of edge) (length edges.old.items)) }
 {
     let reply = reply_for(&edge, edges.len());
     edges.push(edge)?;

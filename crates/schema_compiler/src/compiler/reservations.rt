@@ -1,10 +1,10 @@
 //! The numbers that makers reserve: each is in force until its maker ends, and stands for a node of the keyword that was made
 //! alone, or of no entry. They are only ever marked, and counted apart from the numbers of nodes.
-ghost use Rattle.std.specs.Prelude.{◌≡◌, ◌++◌, ◌∷◌, [], IfOk, MatchOption, OnErr, OnOk, length, map, string_bytes};
+ghost use Rattle.std.specs.Prelude.{◌≡◌, ◌++◌, ◌∷◌, [], IfOk, OnErr, OnOk, length, map};
 ghost use Rattle.schema_parts.specs.MakerViews.{purpose_of};
 ghost use Rattle.schema_parts.specs.ResolverViews.{place_of};
-ghost use Rattle.schema_compiler.specs.Reserving.{IsPending, NonePending, in_force, is_for, with_node, with_nodes_from};
-ghost use Rattle.schema_compiler.specs.ReservedViews.{TellsPending, TellsReserved, node_of, reserved_of};
+ghost use Rattle.schema_compiler.specs.Reserving.{is_for, with_node, with_nodes_from};
+ghost use Rattle.schema_compiler.specs.ReservedViews.{FindsPending, TellsPending, TellsReserved, node_of, reserved_by, reserved_of};
 
 use schema_parts::numbers::PendingSchemaNode;
 use schema_parts::schema_place::SchemaPlace;
@@ -71,8 +71,7 @@ fn last_pending(
     kind: PendingKind,
     object: &SchemaPlace,
 ) -> Option<PendingSchemaNode>
-    ensures pending { MatchOption result (NonePending (map reserved_of items.now) (purpose_of kind) (place_of object.now))
-        (λ n. IsPending (map reserved_of items.now) (purpose_of kind) (place_of object.now) n.0) }
+    ensures pending { FindsPending (map reserved_of items.now) (purpose_of kind) (place_of object.now) result }
 {
     let mut number = items.len();
     while number > 0 {
@@ -118,8 +117,7 @@ impl Reservations {
         kind: PendingKind,
         object: &SchemaPlace,
     ) -> Option<PendingSchemaNode>
-        ensures pending { MatchOption result (NonePending self.now (purpose_of kind) (place_of object.now))
-            (λ n. IsPending self.now (purpose_of kind) (place_of object.now) n.0) }
+        ensures pending { FindsPending self.now (purpose_of kind) (place_of object.now) result }
     {
         last_pending(self.items.as_slice(), kind, object)
     }
@@ -138,12 +136,7 @@ impl Reservations {
         object: &SchemaPlace,
         keyword: &String,
     ) -> Result<MakerReply, OutOfMemory>
-        ensures reserved { OnOk result (self.new ≡ self.old ++ record {
-          purpose = purpose_of kind;
-          object = place_of object.now;
-          keyword = string_bytes keyword.now;
-          node = in_force;
-        } ∷ []) }
+        ensures reserved { OnOk result (self.new ≡ self.old ++ reserved_by kind object.now keyword.now ∷ []) }
         ensures told { IfOk result (λ reply. TellsReserved (length self.old) reply) }
         ensures unchanged { OnErr result (self.new ≡ self.old) }
     {

@@ -1,5 +1,5 @@
 //! What a reference leads to, where that requires no vocabulary that is not declared.
-ghost use Rattle.std.specs.Prelude.{◌≡◌, [], IfOk, IfErr, IfSome, MatchOption};
+ghost use Rattle.std.specs.Prelude.{◌≡◌, [], IfOk, IfErr, IfSome, MatchOption, OnOk};
 ghost use Rattle.schema_keys.specs.KeyViews.{key_of, kind_of};
 ghost use Rattle.schema_compiler.specs.Carried.{RefusesTarget, Targets, lacking, task};
 ghost use Rattle.schema_keys.specs.Refusing.{Names};
@@ -21,7 +21,7 @@ impl<'p, R: Resolver, T> Compiler<'p, R, T> {
     ) -> Result<(), BuildError>
     where
         T: KeywordTable<K>,
-        ensures declared { IfOk result (λ _. IfSome target.now (λ t. lacking
+        ensures declared { OnOk result (IfSome target.now (λ t. lacking
             (task R.resolving T.owned T.script K.shape self.now) t.vocabularies ≡ [])) }
         ensures refused { IfErr result (λ e. MatchOption target.now ⊥ (λ t. Names (lacking
             (task R.resolving T.owned T.script K.shape self.now) t.vocabularies) e)) }
@@ -43,8 +43,7 @@ impl<'p, R: Resolver, T> Compiler<'p, R, T> {
         T: KeywordTable<K>,
         ensures target { IfOk result (Targets (task R.resolving T.owned T.script K.shape self.now)
             R.point (key_of R.point key.now) (kind_of kind) text.now) }
-        ensures refused { IfErr result (RefusesTarget
-            (task R.resolving T.owned T.script K.shape self.now) (key_of R.point key.now)
+        ensures refused { IfErr result (RefusesTarget (task R.resolving T.owned T.script K.shape self.now) (key_of R.point key.now)
             (kind_of kind) text.now) }
     {
         let context = Context {

@@ -1,5 +1,5 @@
 //! Whether the custom vocabularies that a schema requires are declared.
-ghost use Rattle.std.specs.Prelude.{◌≡◌, [], IfOk, IfErr, map, string_bytes, bytes_eq};
+ghost use Rattle.std.specs.Prelude.{◌≡◌, [], OnOk, IfErr, map, string_bytes, bytes_eq};
 ghost use Rattle.std.specs.List.{list_any};
 ghost use Rattle.schema_definitions.specs.Drafts.{custom_vocabulary};
 ghost use Rattle.schema_compiler.specs.Carried.{lacking, task};
@@ -25,14 +25,11 @@ impl<'p, R: Resolver, T> Compiler<'p, R, T> {
     fn check_each<K: Validate>(&self, uris: &[String]) -> Result<(), BuildError>
     where
         T: KeywordTable<K>,
-        ensures declared { IfOk result (λ _. lacking
-            (task R.resolving T.owned T.script K.shape self.now)
+        ensures declared { OnOk result (lacking (task R.resolving T.owned T.script K.shape self.now)
             (map custom_vocabulary (map string_bytes uris.now)) ≡ []) }
-        ensures refused { IfErr result (Names (lacking
-            (task R.resolving T.owned T.script K.shape self.now)
+        ensures refused { IfErr result (Names (lacking (task R.resolving T.owned T.script K.shape self.now)
             (map custom_vocabulary (map string_bytes uris.now)))) }
-        ensures first { IfErr result (NamesFirst (lacking
-            (task R.resolving T.owned T.script K.shape self.now)
+        ensures first { IfErr result (NamesFirst (lacking (task R.resolving T.owned T.script K.shape self.now)
             (map custom_vocabulary (map string_bytes uris.now)))) }
     {
         for uri in uris {
@@ -50,12 +47,9 @@ impl<'p, R: Resolver, T> Compiler<'p, R, T> {
     ) -> Result<(), BuildError>
     where
         T: KeywordTable<K>,
-        ensures declared { IfOk result (λ _. lacking
-            (task R.resolving T.owned T.script K.shape self.now) vocabularies.now ≡ []) }
-        ensures refused { IfErr result (Names (lacking
-            (task R.resolving T.owned T.script K.shape self.now) vocabularies.now)) }
-        ensures first { IfErr result (NamesFirst (lacking
-            (task R.resolving T.owned T.script K.shape self.now) vocabularies.now)) }
+        ensures declared { OnOk result (lacking (task R.resolving T.owned T.script K.shape self.now) vocabularies.now ≡ []) }
+        ensures refused { IfErr result (Names (lacking (task R.resolving T.owned T.script K.shape self.now) vocabularies.now)) }
+        ensures first { IfErr result (NamesFirst (lacking (task R.resolving T.owned T.script K.shape self.now) vocabularies.now)) }
     {
         self.check_each(vocabularies.custom())
     }

@@ -1,9 +1,8 @@
 //! The worklist: keys that were found while as many targets of references as may nest were open. Each is compiled in a round
 //! of its own, in the order of finding, which is that of the numbers.
-ghost use Rattle.std.specs.Prelude.{◌<◌, MatchResult, length, suc};
+ghost use Rattle.std.specs.Prelude.{◌<◌, length, suc};
 ghost use Rattle.node_table.specs.NodeTable.{Waits};
-ghost use Rattle.schema_compiler.specs.Given.{given_by};
-ghost use Rattle.schema_compiler.specs.Gives.{ComesTo, IsAt, IsWorked, RootRefused};
+ghost use Rattle.schema_compiler.specs.Gives.{ComesTo, ComesToEnd, GivesWorked, IsAt};
 
 use crate::compiler::compilation::{Compilation, Progress};
 use crate::compiler::setup::Compiler;
@@ -26,11 +25,9 @@ impl<'p, R: Resolver, T> Compiler<'p, R, T> {
     ) -> Result<(), BuildError>
     where
         T: KeywordTable<K>,
-        requires at { IsAt (given_by R.Resolver T.KeywordTable K.Validate self.now)
-            root.now.value compiled.old number }
+        requires at { IsAt R.Resolver T.KeywordTable K.Validate self.now root.now.value compiled.old number }
         requires waits { Waits compiled.old.nodes number }
-        ensures { ComesTo (given_by R.Resolver T.KeywordTable K.Validate self.now)
-            root.now.value compiled.new (suc number) result }
+        ensures { ComesTo R.Resolver T.KeywordTable K.Validate self.now root.now.value compiled.new (suc number) result }
     {
         let key = compiled.keys.shared(number)?;
         compiled.nodes.begin(SchemaNode(number), number);
@@ -55,11 +52,9 @@ impl<'p, R: Resolver, T> Compiler<'p, R, T> {
     ) -> Result<(), BuildError>
     where
         T: KeywordTable<K>,
-        requires at { IsAt (given_by R.Resolver T.KeywordTable K.Validate self.now)
-            root.now.value compiled.old number }
+        requires at { IsAt R.Resolver T.KeywordTable K.Validate self.now root.now.value compiled.old number }
         requires within { number < length compiled.old.keys }
-        ensures { ComesTo (given_by R.Resolver T.KeywordTable K.Validate self.now)
-            root.now.value compiled.new (suc number) result }
+        ensures { ComesTo R.Resolver T.KeywordTable K.Validate self.now root.now.value compiled.new (suc number) result }
     {
         if compiled.nodes.waits(SchemaNode(number)) {
             return self.compile_waiting(compiled, root, number);
@@ -75,10 +70,8 @@ impl<'p, R: Resolver, T> Compiler<'p, R, T> {
     ) -> Result<(), BuildError>
     where
         T: KeywordTable<K>,
-        requires first { IsAt (given_by R.Resolver T.KeywordTable K.Validate self.now) root.now.value compiled.old 0 }
-        ensures { MatchResult result (λ _. IsWorked (given_by R.Resolver T.KeywordTable K.Validate self.now)
-            root.now.value compiled.new)
-            (RootRefused (given_by R.Resolver T.KeywordTable K.Validate self.now) root.now.value) }
+        requires first { IsAt R.Resolver T.KeywordTable K.Validate self.now root.now.value compiled.old 0 }
+        ensures { ComesToEnd R.Resolver T.KeywordTable K.Validate self.now root.now.value compiled.new result }
     {
         let mut next = 0;
         while next < compiled.keys.len() {
@@ -95,8 +88,7 @@ impl<'p, R: Resolver, T> Compiler<'p, R, T> {
     ) -> Result<Compilation<R::State, K>, BuildError>
     where
         T: KeywordTable<K>,
-        ensures { MatchResult result (IsWorked (given_by R.Resolver T.KeywordTable K.Validate self.now) root)
-            (RootRefused (given_by R.Resolver T.KeywordTable K.Validate self.now) root) }
+        ensures { GivesWorked R.Resolver T.KeywordTable K.Validate self.now root result }
     {
         let mut compiled = Compilation::new(self.alloc);
         let shared = Rc::new(self.alloc, root)?;

@@ -22,11 +22,8 @@ returns-clause-compiled g c =
 pub returns-clause-reserved : goal.returns-clause-reserved
 returns-clause-reserved g c = c.in_ok-compiled.ensures.2.given_up
 
-pub returns-clause-table : goal.returns-clause-table
-returns-clause-table g c = rw c.share.ensures.same c.in_ok-compiled.ensures.2.table
-
-pub returns-clause-under_way : goal.returns-clause-under_way
-returns-clause-under_way g c = rw c.share.ensures.same c.in_ok-compiled.ensures.2.under_way
+pub returns-clause-ready : goal.returns-clause-ready
+returns-clause-ready g c = rw c.share.ensures.same (record { table = c.in_ok-compiled.ensures.2.table; under_way = c.in_ok-compiled.ensures.2.under_way })
 
 pub returns-in_err-compiled-clause-refused : goal.returns-in_err-compiled-clause-refused
 returns-in_err-compiled-clause-refused g c =
