@@ -111,3 +111,37 @@ guard_words c = length c.entered * row_words (length (places_in c))
 -- each row has a bit for each place, and no word more than these take
 abbrev pub IsWide : Context → Type 0
 IsWide c = c.words ≡ rows c * row_words (length (places_in c))
+
+-- nothing changes but the pairs in progress, the numbers that were entered, and how many words the rows take
+pub record OnlyPairs (old new : Context) : Type 0 where
+  pub remembered : new.remembered ≡ old.remembered
+  pub marking : new.marking ≡ old.marking
+  pub verdicts : new.verdicts ≡ old.verdicts
+  pub visits : new.visits ≡ old.visits
+  pub root : new.root ≡ old.root
+  pub kept : new.kept ≡ old.kept
+  pub work : new.work ≡ old.work
+
+-- nothing changes but the marks
+pub record OnlyMarks (old new : Context) : Type 0 where
+  pub in_progress : new.in_progress ≡ old.in_progress
+  pub remembered : new.remembered ≡ old.remembered
+  pub verdicts : new.verdicts ≡ old.verdicts
+  pub visits : new.visits ≡ old.visits
+  pub root : new.root ≡ old.root
+  pub entered : new.entered ≡ old.entered
+  pub kept : new.kept ≡ old.kept
+  pub words : new.words ≡ old.words
+  pub work : new.work ≡ old.work
+
+-- nothing changes but what is remembered of unfinished matches
+pub record OnlyMatches (old new : Context) : Type 0 where
+  pub in_progress : new.in_progress ≡ old.in_progress
+  pub marking : new.marking ≡ old.marking
+  pub verdicts : new.verdicts ≡ old.verdicts
+  pub visits : new.visits ≡ old.visits
+  pub root : new.root ≡ old.root
+  pub entered : new.entered ≡ old.entered
+  pub kept : new.kept ≡ old.kept
+  pub words : new.words ≡ old.words
+  pub work : new.work ≡ old.work

@@ -1,5 +1,6 @@
 //! The path that led to a node, which allocates nothing until it is asked for.
-ghost use Rattle.std.specs.Prelude.{◌≡◌, ◌++◌, Bool, IfOk, IfSome, string_bytes, true};
+ghost use Rattle.std.specs.Prelude.{◌≡◌, ◌++◌, IfSome, OnOk, true};
+ghost use Rattle.schema_parts.specs.Showing.{Yields};
 ghost use Rattle.schema_definitions.specs.Pointer.{joined};
 ghost use Rattle.schema_contexts.specs.EvaluationPaths.{GivesPath, is_under_reference, path_of};
 
@@ -19,7 +20,7 @@ pub enum EvaluationPath<'p> {
 
 // Writes the path at the end of another one.
 fn push_path(whole: &mut Location, path: &EvaluationPath<'_>) -> Result<(), OutOfMemory>
-    ensures pushed { IfOk result (λ _. whole.new ≡ whole.old ++ path_of path.now) }
+    ensures pushed { OnOk result (whole.new ≡ whole.old ++ path_of path.now) }
 {
     match path {
         EvaluationPath::Given(first) => whole.push_escaped(first.as_str()),
@@ -39,7 +40,7 @@ fn room_for(name: &str, rest: &str) -> usize {
 
 // Writes a keyword's name and what follows at the end of a path.
 fn push_keyword(whole: &mut Location, name: &str, rest: &str) -> Result<(), OutOfMemory>
-    ensures pushed { IfOk result (λ _. whole.new ≡ joined whole.old name.now ++ rest.now) }
+    ensures pushed { OnOk result (whole.new ≡ joined whole.old name.now ++ rest.now) }
 {
     whole.push(LocationSegment::Property(name))?;
     whole.push_escaped(rest)
@@ -114,7 +115,7 @@ impl<'p> EvaluationPath<'p> {
 
     // The path, with room for so many bytes more.
     fn with_room(&self, alloc: Global, more: usize) -> Result<Location, OutOfMemory>
-        ensures same { IfOk result (λ l. l ≡ path_of self.now) }
+        ensures same { Yields result (path_of self.now) }
     {
         let mut whole = Location::with_capacity(alloc, self.len().saturating_add(more))?;
         push_path(&mut whole, self)?;
@@ -123,7 +124,7 @@ impl<'p> EvaluationPath<'p> {
 
     /// Returns the path as an owned location. Fails only if memory cannot be allocated.
     pub fn made(&self, alloc: Global) -> Result<Location, OutOfMemory>
-        ensures same { IfOk result (λ l. l ≡ path_of self.now) }
+        ensures same { Yields result (path_of self.now) }
     {
         self.with_room(alloc, 0)
     }
@@ -145,7 +146,7 @@ pub fn path_from(
     name: &str,
     rest: &str,
 ) -> Result<Location, OutOfMemory>
-    ensures path { IfOk result (λ l. l ≡ joined location.now name.now ++ rest.now) }
+    ensures path { Yields result (joined location.now name.now ++ rest.now) }
 {
     EvaluationPath::Given(location).of_keyword(alloc, name, rest)
 }

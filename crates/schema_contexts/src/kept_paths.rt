@@ -1,5 +1,5 @@
 //! Evaluation paths under a reference, which are kept once many of them were asked for.
-ghost use Rattle.std.specs.Prelude.{◌≡◌, ◌≢◌, ◌<◌, ◌≤◌, ◌++◌, ℕ, [], List, false, length, take, true};
+ghost use Rattle.std.specs.Prelude.{◌≡◌, ◌≢◌, ◌<◌, ◌≤◌, ◌++◌, ℕ, [], List, false, length, take, true, OnSome};
 ghost use Rattle.std.specs.Prelude.{IfNone, IfOk, IfSome, OnErr, OnOk};
 ghost use Rattle.schema_definitions.specs.Pointer.{joined};
 ghost use Rattle.schema_contexts.specs.EvaluationPaths.{GivesPath, IsPathTo, is_under_reference, path_of};
@@ -13,7 +13,7 @@ use std::hash::{FoldHasher, Hasher};
 use std::marker::Model;
 
 /// From this call for a path under a reference on, the paths are kept.
-const EVALUATION_PATH_CACHE_THRESHOLD: u32 = 4096;
+const KEPT_FROM: u32 = 4096;
 
 /// A path, and what it was made of: its first bytes are the path before the keyword, and then come the keyword's name and the
 /// rest. Contracts see what it was made of; it is always the right path for that.
@@ -90,8 +90,7 @@ impl KeptPath {
     ) -> Result<KeptPath, OutOfMemory>
         requires within { before ≤ length path.now }
         requires right { path.now ≡ joined (take before path.now) name.now ++ rest.now }
-        ensures key { IfOk result (λ k. k
-            ≡ record { before = take before path.now; name = name.now; rest = rest.now }) }
+        ensures key { IfOk result (λ k. k ≡ record { before = take before path.now; name = name.now; rest = rest.now }) }
     {
         let path = path.clone()?;
         let name = String::from_str(alloc, name)?;
@@ -166,15 +165,15 @@ impl KeptPaths {
 
     // Counts a call for a path under a reference, and says whether paths are kept from it on.
     fn counts(&mut self) -> bool
-        ensures calls { self.new.calls ≡ counted EVALUATION_PATH_CACHE_THRESHOLD true self.old.calls }
-        ensures keeps { result ≡ true → self.new.calls ≡ EVALUATION_PATH_CACHE_THRESHOLD }
-        ensures early { result ≡ false → self.new.calls < EVALUATION_PATH_CACHE_THRESHOLD }
+        ensures calls { self.new.calls ≡ counted KEPT_FROM true self.old.calls }
+        ensures keeps { result ≡ true → self.new.calls ≡ KEPT_FROM }
+        ensures early { result ≡ false → self.new.calls < KEPT_FROM }
         ensures kept { self.new.kept ≡ self.old.kept }
     {
-        if self.calls < EVALUATION_PATH_CACHE_THRESHOLD {
+        if self.calls < KEPT_FROM {
             self.calls += 1;
         }
-        self.calls == EVALUATION_PATH_CACHE_THRESHOLD
+        self.calls == KEPT_FROM
     }
 
     // The path that is kept at a hash, where it was made of this path, this name and this rest.
@@ -186,7 +185,7 @@ impl KeptPaths {
         rest: &str,
     ) -> Option<&Location>
         ensures right { IfSome result (λ l. IsPathTo path.now name.now rest.now l.now) }
-        ensures found { IfSome result (λ _. IsKeptAt self.now.kept hash path.now name.now rest.now) }
+        ensures found { OnSome result (IsKeptAt self.now.kept hash path.now name.now rest.now) }
         ensures none { IfNone result (¬ IsKeptAt self.now.kept hash path.now name.now rest.now) }
     {
         let kept = self.paths.get(&hash)?;
@@ -230,11 +229,10 @@ impl KeptPaths {
         rest: &str,
     ) -> Result<Location, OutOfMemory>
         ensures path { GivesPath path.now name.now rest.now result }
-        ensures calls { self.new.calls
-            ≡ counted EVALUATION_PATH_CACHE_THRESHOLD (is_under_reference path.now) self.old.calls }
+        ensures calls { self.new.calls ≡ counted KEPT_FROM (is_under_reference path.now) self.old.calls }
         ensures plain { is_under_reference path.now ≡ false → self.new.kept ≡ self.old.kept }
-        ensures early { self.new.calls < EVALUATION_PATH_CACHE_THRESHOLD → self.new.kept ≡ self.old.kept }
-        ensures keeps { OnOk result (is_under_reference path.now ≡ true → self.new.calls ≡ EVALUATION_PATH_CACHE_THRESHOLD
+        ensures early { self.new.calls < KEPT_FROM → self.new.kept ≡ self.old.kept }
+        ensures keeps { OnOk result (is_under_reference path.now ≡ true → self.new.calls ≡ KEPT_FROM
             → IsKept self.new.kept path.now name.now rest.now) }
         ensures reads { IsKept self.old.kept path.now name.now rest.now → self.new.kept ≡ self.old.kept }
         ensures unchanged { OnErr result (self.new.kept ≡ self.old.kept) }

@@ -1,6 +1,6 @@
 //! What a keyword's run has marked, and which marks are one.
 ghost use Rattle.std.specs.List.{list_any};
-ghost use Rattle.std.specs.Prelude.{◌≡◌, [], IfOk, IfErr, OnOk, Some, option_map};
+ghost use Rattle.std.specs.Prelude.{◌≡◌, [], IfOk, OnOk, Some, option_map, OnErr};
 ghost use Rattle.schema_definitions.specs.Guarded.{node_child, same_edge, same_node};
 ghost use Rattle.schema_definitions.specs.Runs.{without_last};
 ghost use Rattle.schema_parts.specs.KeywordViews.{marked_of};
@@ -68,8 +68,7 @@ fn are_one(children: &[Option<Edge>], mark: Marked, other: Marked) -> bool
 
 // Whether one of these marks is the same as this one.
 fn is_among(children: &[Option<Edge>], mark: Marked, marks: &[Marked]) -> bool
-    ensures found { result ≡ list_any (λ other. same_edge (edges_of children.now) (marked_of mark) (marked_of other))
-        marks.now }
+    ensures found { result ≡ list_any (λ other. same_edge (edges_of children.now) (marked_of mark) (marked_of other)) marks.now }
 {
     marks.iter().any(|other| are_one(children, mark, *other))
 }
@@ -105,7 +104,7 @@ impl Marks {
     pub fn enter(&mut self, children: &[Option<Edge>], mark: Marked) -> Result<bool, OutOfMemory>
         ensures held { IfOk result (λ b. b ≡ is_marked children.now mark self.old) }
         ensures marks { OnOk result (self.new ≡ marks_with children.now mark self.old) }
-        ensures unchanged { IfErr result (λ _. self.new ≡ self.old) }
+        ensures unchanged { OnErr result (self.new ≡ self.old) }
     {
         if is_among(children, mark, self.marks.as_slice()) {
             return Ok(true);

@@ -1,6 +1,7 @@
 //! What a run has in progress, what it assumes and remembers of unfinished matches, and what it marks.
-ghost use Rattle.std.specs.Prelude.{◌≡◌, ◌≤◌, [], IfOk, IfErr, IfSome, OnErr, OnOk, is_some, true};
+ghost use Rattle.std.specs.Prelude.{◌≡◌, ◌≤◌, [], IfOk, IfSome, OnErr, OnOk, is_some, true, OnSome};
 ghost use Rattle.std.specs.Borrow.{sem};
+ghost use Rattle.schema_parts.specs.Showing.{Yields};
 ghost use Rattle.schema_definitions.specs.Matching as matching;
 ghost use Rattle.schema_matches.specs.MatchViews.{reason_of};
 ghost use Rattle.schema_definitions.specs.Pointer.{joined};
@@ -12,7 +13,7 @@ ghost use Rattle.schema_contexts.specs.RunMatches.{a_pair, asked_in, assumed_in,
 ghost use Rattle.serde_json.specs.View.{view};
 ghost use Rattle.schema_places.specs.Numbers.{NumbersAll};
 ghost use Rattle.schema_contexts.specs.Progress.{Adds, Distinct, EndsWith, Enters, FewRows, GoesLast, IsPlaceIn, IsWide};
-ghost use Rattle.schema_contexts.specs.Progress.{begun, guard_words, is_busy, place_in, places_in};
+ghost use Rattle.schema_contexts.specs.Progress.{OnlyMarks, OnlyMatches, OnlyPairs, begun, guard_words, is_busy, place_in, places_in};
 ghost use Rattle.schema_contexts.specs.Verdicts.{MayKeepAt, OnlyVerdicts, RemembersAt};
 ghost use Rattle.schema_contexts.specs.Verdicts.{is_alone, is_container, one_more, read_verdict, verdict_of};
 ghost use Rattle.schema_contexts.specs.Works.{Asks, IsSpent};
@@ -213,18 +214,12 @@ impl<'i> ValidationContext<'i> {
     pub fn enter(&mut self, node: SchemaNode, place: usize) -> Result<bool, OutOfMemory>
         requires known { IsPlaceIn self.old place }
         ensures enters { IfOk result (λ b. Enters node.0 (place_in self.old place) self.old.in_progress b self.new.in_progress) }
-        ensures unchanged { IfErr result (λ _. self.new ≡ self.old) }
+        ensures unchanged { OnErr result (self.new ≡ self.old) }
         ensures distinct { Distinct self.new.in_progress }
         ensures entered { OnOk result (Adds node.0 self.old.entered self.new.entered) }
         ensures few { OnOk result (FewRows self.new) }
         ensures wide { OnOk result (IsWide self.new) }
-        ensures remembered { self.new.remembered ≡ self.old.remembered }
-        ensures marking { self.new.marking ≡ self.old.marking }
-        ensures verdicts { self.new.verdicts ≡ self.old.verdicts }
-        ensures visits { self.new.visits ≡ self.old.visits }
-        ensures root { self.new.root ≡ self.old.root }
-        ensures kept { self.new.kept ≡ self.old.kept }
-        ensures work { self.new.work ≡ self.old.work }
+        ensures frame { OnlyPairs self.old self.new }
     {
         if self.guard.has_bit(node.0, place) {
             return Ok(true);
@@ -245,15 +240,9 @@ impl<'i> ValidationContext<'i> {
         requires known { IsPlaceIn self.old place }
         requires last { EndsWith node.0 (place_in self.old place) self.old.in_progress }
         ensures left { GoesLast node.0 (place_in self.old place) self.new.in_progress self.old.in_progress }
-        ensures remembered { self.new.remembered ≡ self.old.remembered }
-        ensures marking { self.new.marking ≡ self.old.marking }
-        ensures verdicts { self.new.verdicts ≡ self.old.verdicts }
-        ensures visits { self.new.visits ≡ self.old.visits }
-        ensures root { self.new.root ≡ self.old.root }
+        ensures frame { OnlyPairs self.old self.new }
         ensures entered { self.new.entered ≡ self.old.entered }
-        ensures kept { self.new.kept ≡ self.old.kept }
         ensures words { self.new.words ≡ self.old.words }
-        ensures work { self.new.work ≡ self.old.work }
     {
         self.pairs.pop();
         self.guard.put_bit(node.0, 0, place, false);
@@ -269,18 +258,10 @@ impl<'i> ValidationContext<'i> {
         children: &[Option<Edge>],
         marked: Marked,
     ) -> Result<bool, OutOfMemory>
-        ensures held { IfOk result (λ b. b ≡ is_marked children.now marked self.old.marking) }
+        ensures held { Yields result (is_marked children.now marked self.old.marking) }
         ensures marks { OnOk result (self.new.marking ≡ marks_with children.now marked self.old.marking) }
-        ensures unchanged { IfErr result (λ _. self.new ≡ self.old) }
-        ensures in_progress { self.new.in_progress ≡ self.old.in_progress }
-        ensures remembered { self.new.remembered ≡ self.old.remembered }
-        ensures verdicts { self.new.verdicts ≡ self.old.verdicts }
-        ensures visits { self.new.visits ≡ self.old.visits }
-        ensures root { self.new.root ≡ self.old.root }
-        ensures entered { self.new.entered ≡ self.old.entered }
-        ensures kept { self.new.kept ≡ self.old.kept }
-        ensures words { self.new.words ≡ self.old.words }
-        ensures work { self.new.work ≡ self.old.work }
+        ensures unchanged { OnErr result (self.new ≡ self.old) }
+        ensures frame { OnlyMarks self.old self.new }
     {
         self.marking.enter(children, marked)
     }
@@ -288,15 +269,7 @@ impl<'i> ValidationContext<'i> {
     /// Takes away the last mark of the keyword's run that is at work, where it has marked anything. It allocates nothing.
     pub fn exit_marking(&mut self)
         ensures left { self.new.marking ≡ without_last self.old.marking }
-        ensures in_progress { self.new.in_progress ≡ self.old.in_progress }
-        ensures remembered { self.new.remembered ≡ self.old.remembered }
-        ensures verdicts { self.new.verdicts ≡ self.old.verdicts }
-        ensures visits { self.new.visits ≡ self.old.visits }
-        ensures root { self.new.root ≡ self.old.root }
-        ensures entered { self.new.entered ≡ self.old.entered }
-        ensures kept { self.new.kept ≡ self.old.kept }
-        ensures words { self.new.words ≡ self.old.words }
-        ensures work { self.new.work ≡ self.old.work }
+        ensures frame { OnlyMarks self.old self.new }
     {
         self.marking.exit();
     }
@@ -305,15 +278,7 @@ impl<'i> ValidationContext<'i> {
     pub fn set_aside(&mut self, alloc: Global) -> Marks
         ensures aside { result ≡ self.old.marking }
         ensures none { self.new.marking ≡ [] }
-        ensures in_progress { self.new.in_progress ≡ self.old.in_progress }
-        ensures remembered { self.new.remembered ≡ self.old.remembered }
-        ensures verdicts { self.new.verdicts ≡ self.old.verdicts }
-        ensures visits { self.new.visits ≡ self.old.visits }
-        ensures root { self.new.root ≡ self.old.root }
-        ensures entered { self.new.entered ≡ self.old.entered }
-        ensures kept { self.new.kept ≡ self.old.kept }
-        ensures words { self.new.words ≡ self.old.words }
-        ensures work { self.new.work ≡ self.old.work }
+        ensures frame { OnlyMarks self.old self.new }
     {
         mem::replace(&mut self.marking, Marks::new(alloc))
     }
@@ -321,15 +286,7 @@ impl<'i> ValidationContext<'i> {
     /// Puts marks back that were set aside, in the place of those of the run that has ended. It allocates nothing.
     pub fn put_back(&mut self, aside: Marks)
         ensures back { self.new.marking ≡ aside }
-        ensures in_progress { self.new.in_progress ≡ self.old.in_progress }
-        ensures remembered { self.new.remembered ≡ self.old.remembered }
-        ensures verdicts { self.new.verdicts ≡ self.old.verdicts }
-        ensures visits { self.new.visits ≡ self.old.visits }
-        ensures root { self.new.root ≡ self.old.root }
-        ensures entered { self.new.entered ≡ self.old.entered }
-        ensures kept { self.new.kept ≡ self.old.kept }
-        ensures words { self.new.words ≡ self.old.words }
-        ensures work { self.new.work ≡ self.old.work }
+        ensures frame { OnlyMarks self.old self.new }
     {
         self.marking = aside;
     }
@@ -344,18 +301,10 @@ impl<'i> ValidationContext<'i> {
         subject: &str,
         site: MatchSite<'i>,
     ) -> Result<bool, OutOfMemory>
-        ensures answer { IfOk result (λ b. b ≡ matches_in self.old (M.matching matcher.now) (a_pair pattern.now subject.now)) }
+        ensures answer { Yields result (matches_in self.old (M.matching matcher.now) (a_pair pattern.now subject.now)) }
         ensures met { OnOk result (self.new.remembered
             ≡ asked_in self.old (M.matching matcher.now) (a_pair pattern.now subject.now) site.entry) }
-        ensures in_progress { self.new.in_progress ≡ self.old.in_progress }
-        ensures marking { self.new.marking ≡ self.old.marking }
-        ensures verdicts { self.new.verdicts ≡ self.old.verdicts }
-        ensures visits { self.new.visits ≡ self.old.visits }
-        ensures root { self.new.root ≡ self.old.root }
-        ensures entered { self.new.entered ≡ self.old.entered }
-        ensures kept { self.new.kept ≡ self.old.kept }
-        ensures words { self.new.words ≡ self.old.words }
-        ensures work { self.new.work ≡ self.old.work }
+        ensures frame { OnlyMatches self.old self.new }
         ensures unchanged { OnErr result (self.new ≡ self.old) }
     {
         match matcher.is_match(alloc, pattern, subject)? {
@@ -368,7 +317,7 @@ impl<'i> ValidationContext<'i> {
     /// resolved with its site. `has_place` says whether that site has an instance path.
     pub fn known_outcome(&self, pattern: &str, subject: &str, has_place: bool) -> Option<bool>
         ensures answer { IfSome result (λ b. b ≡ assumed_in self.now (a_pair pattern.now subject.now)) }
-        ensures nothing_new { IfSome result (λ _. (site : Site) (reason : matching.Reason) → is_some site.located ≡ has_place
+        ensures nothing_new { OnSome result ((site : Site) (reason : matching.Reason) → is_some site.located ≡ has_place
             → met_in self.now (a_pair pattern.now subject.now) site reason ≡ self.now.remembered) }
     {
         self.matches.known_outcome(pattern, subject, has_place)
@@ -383,18 +332,9 @@ impl<'i> ValidationContext<'i> {
         reason: Reason,
         site: MatchSite<'i>,
     ) -> Result<bool, OutOfMemory>
-        ensures answer { IfOk result (λ b. b ≡ assumed_in self.old (a_pair pattern.now subject.now)) }
-        ensures met { OnOk result (self.new.remembered
-            ≡ met_in self.old (a_pair pattern.now subject.now) site.entry (reason_of reason)) }
-        ensures in_progress { self.new.in_progress ≡ self.old.in_progress }
-        ensures marking { self.new.marking ≡ self.old.marking }
-        ensures verdicts { self.new.verdicts ≡ self.old.verdicts }
-        ensures visits { self.new.visits ≡ self.old.visits }
-        ensures root { self.new.root ≡ self.old.root }
-        ensures entered { self.new.entered ≡ self.old.entered }
-        ensures kept { self.new.kept ≡ self.old.kept }
-        ensures words { self.new.words ≡ self.old.words }
-        ensures work { self.new.work ≡ self.old.work }
+        ensures answer { Yields result (assumed_in self.old (a_pair pattern.now subject.now)) }
+        ensures met { OnOk result (self.new.remembered ≡ met_in self.old (a_pair pattern.now subject.now) site.entry (reason_of reason)) }
+        ensures frame { OnlyMatches self.old self.new }
         ensures unchanged { OnErr result (self.new ≡ self.old) }
     {
         Ok(self.matches.resolve(pattern, subject, reason, site)?)
@@ -474,8 +414,7 @@ impl<'i> ValidationContext<'i> {
         ensures kept { OnOk result (MayKeepAt node.0 place instance.entry mark self.old
             → RemembersAt node.0 place verdict self.old self.new) }
         ensures others { OnOk result (¬ MayKeepAt node.0 place instance.entry mark self.old → self.new ≡ self.old) }
-        ensures numbers { OnOk result (MayKeepAt node.0 place instance.entry mark self.old
-            → Adds node.0 self.old.kept self.new.kept) }
+        ensures numbers { OnOk result (MayKeepAt node.0 place instance.entry mark self.old → Adds node.0 self.old.kept self.new.kept) }
         ensures few { OnOk result (FewRows self.new) }
         ensures wide { OnOk result (IsWide self.new) }
         ensures frame { OnlyVerdicts self.old self.new }
@@ -522,12 +461,7 @@ impl<'i> ValidationContext<'i> {
 
     /// Forgets all verdicts and visits, for a run that begins. It allocates nothing.
     pub fn forget_verdicts(&mut self)
-        ensures forgotten { self.new ≡ record self.old {
-          verdicts = [];
-          visits = 0;
-          kept = [];
-          words = guard_words self.old;
-        } }
+        ensures forgotten { self.new ≡ record self.old { verdicts = []; visits = 0; kept = []; words = guard_words self.old } }
         ensures wide { IsWide self.new }
     {
         self.known.clear();
@@ -590,7 +524,7 @@ impl<'i> ValidationContext<'i> {
         path: &EvaluationPath<'_>,
         name: &str,
     ) -> Result<SharedLocation, OutOfMemory>
-        ensures path { IfOk result (λ l. l ≡ joined (path_of path.now) name.now) }
+        ensures path { Yields result (joined (path_of path.now) name.now) }
         ensures stays { self.new ≡ self.old }
     {
         self.unit_paths.path_of_keyword(alloc, path, name)
@@ -603,7 +537,7 @@ impl<'i> ValidationContext<'i> {
         matcher: &M,
         pattern: &str,
     ) -> Result<bool, OutOfMemory>
-        ensures valid { IfOk result (λ b. b ≡ (M.matching matcher.now).is_ecma pattern.now) }
+        ensures valid { Yields result ((M.matching matcher.now).is_ecma pattern.now) }
     {
         matcher.is_valid_ecma_regex(alloc, pattern)
     }

@@ -1,5 +1,6 @@
 //! Rows are laid out: one for each place of a value, in the order of their numbers.
-ghost use Rattle.std.specs.Prelude.{◌≡◌, ◌++◌, IfOk, OnOk, length};
+ghost use Rattle.std.specs.Prelude.{◌≡◌, ◌++◌, OnOk, length};
+ghost use Rattle.schema_reports.specs.Showing.{Yields};
 ghost use Rattle.serde_json.specs.Data.{array, object};
 ghost use Rattle.serde_json.specs.View.{items_view, members_view, view};
 ghost use Rattle.schema_places.specs.Rows.{NamesAscend, NamesAscendInItems, NamesAscendInMembers, member_rows, rows_at};
@@ -17,7 +18,7 @@ const FIRST_NUMBERS: usize = 32;
 
 /// Lays out the rows of a value. Fails only if memory cannot be allocated.
 pub(crate) fn lay_out<'i>(alloc: Global, value: &'i Value) -> Result<Table<'i>, OutOfMemory>
-    ensures rows { IfOk result (λ t. t ≡ rows_at 0 (view value.now)) }
+    ensures rows { Yields result (rows_at 0 (view value.now)) }
     ensures ascend { OnOk result (NamesAscend (view value.now)) }
 {
     let mut table = Table::with_room(alloc, FIRST_ROWS, FIRST_NUMBERS)?;

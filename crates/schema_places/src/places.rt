@@ -1,5 +1,6 @@
 //! The places of an instance, each with its number.
 ghost use Rattle.std.specs.Prelude.{◌≡◌, ◌<◌, ◌≤◌, ◌&&◌, ◌++◌, ◌∷◌, [], ℕ, IfOk, length, map, nat_le};
+ghost use Rattle.schema_reports.specs.Showing.{Yields};
 ghost use Rattle.schema_definitions.specs.Instance.{places};
 ghost use Rattle.schema_places.specs.Numbers.{Ascends, Closed, NumbersAll, OwnNumbers, is_under, number_of, place_at};
 ghost use Rattle.schema_reports.specs.InstanceViews.{step_of};
@@ -37,7 +38,7 @@ impl<'i> Places<'i> {
     /// Numbers the places of an instance: each place at which something stands gets a number, and no two get the same. Fails only if
     /// memory cannot be allocated.
     pub fn number(alloc: Global, value: &'i Value) -> Result<Places<'i>, OutOfMemory>
-        ensures places { IfOk result (λ ps. ps ≡ places (view value.now)) }
+        ensures places { Yields result (places (view value.now)) }
         ensures there { IfOk result (λ ps. NumbersAll (view value.now) ps) }
         ensures own { IfOk result (λ ps. OwnNumbers ps) }
         ensures ascend { IfOk result (λ ps. Ascends ps) }
@@ -62,8 +63,7 @@ impl<'i> Places<'i> {
         requires known { place < length self.now }
         ensures from { place ≤ result }
         ensures known { result < length self.now }
-        ensures under { (k : ℕ) → k < length self.now
-            → is_under (place_at self.now place) (place_at self.now k)
+        ensures under { (k : ℕ) → k < length self.now → is_under (place_at self.now place) (place_at self.now k)
             ≡ (nat_le place k && nat_le k result) }
     {
         self.table.last(place)
@@ -73,8 +73,7 @@ impl<'i> Places<'i> {
     #[inline(always)]
     pub fn child(&self, place: usize, step: InstanceStep<'_>) -> Option<usize>
         requires known { place < length self.now }
-        ensures child { result
-            ≡ number_of (place_at self.now place ++ step_of step.entry ∷ []) self.now }
+        ensures child { result ≡ number_of (place_at self.now place ++ step_of step.entry ∷ []) self.now }
     {
         self.table.child(place, step)
     }
@@ -83,8 +82,7 @@ impl<'i> Places<'i> {
     /// allocates nothing.
     pub fn find_from(&self, place: usize, steps: &[InstanceStep<'_>]) -> Option<usize>
         requires known { place < length self.now }
-        ensures number { result
-            ≡ number_of (place_at self.now place ++ map step_of steps.now) self.now }
+        ensures number { result ≡ number_of (place_at self.now place ++ map step_of steps.now) self.now }
     {
         // Opens the value, so that what its rows say is known below.
         let _ = &self.table;

@@ -1,6 +1,7 @@
 //! A row for each place: the number of the last place at or below it, and the places one step below it.
-ghost use Rattle.std.specs.Prelude.{◌≡◌, ◌<◌, ◌≤◌, ◌-◌, ◌+◌, ◌++◌, ◌∷◌, [], IfOk, OnErr, OnOk};
+ghost use Rattle.std.specs.Prelude.{◌≡◌, ◌<◌, ◌≤◌, ◌-◌, ◌+◌, ◌++◌, ◌∷◌, [], OnErr, OnOk};
 ghost use Rattle.std.specs.Prelude.{bytes_eq, length, slice_range, slice_set};
+ghost use Rattle.schema_reports.specs.Showing.{Yields};
 ghost use Rattle.std.specs.Cmp.Lexicographic.{slice_cmp};
 ghost use Rattle.std.specs.Ordering.{nat_cmp};
 ghost use Rattle.schema_reports.specs.InstanceViews.{step_of};
@@ -209,7 +210,7 @@ impl<'i> Table<'i> {
         rows: usize,
         numbers: usize,
     ) -> Result<Table<'i>, OutOfMemory>
-        ensures empty { IfOk result (λ t. t ≡ []) }
+        ensures empty { Yields result [] }
     {
         let numbers = Vec::with_capacity(alloc, numbers)?;
         let rows = Vec::with_capacity(alloc, rows)?;
