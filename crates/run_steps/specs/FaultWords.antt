@@ -1,5 +1,5 @@
 -- What errors say of a keyword's faults, and a reply of its answer; and where the places that they borrow lie.
-use Rattle.std.specs.Prelude.{All, Bool, IfOk, Result, String, map, string_bytes, ◌++◌, ◌≡◌}
+use Rattle.std.specs.Prelude.{All, Bool, IfOk, Result, String, map, option_map, string_bytes, ◌++◌, ◌≡◌}
 use Rattle.std.specs.declared.alloc.Global.{Global}
 use Rattle.std.specs.declared.vec.Vec.{Vec}
 use Rattle.serde_json.specs.Data.{Data}
@@ -16,9 +16,12 @@ use Rattle.schema_parts.specs.declared.keyword.Answer.{Answer}
 use Rattle.schema_parts.specs.declared.keyword.Fault.{Fault}
 use Rattle.schema_parts.specs.declared.keyword.OwnError.{OwnError}
 use Rattle.schema_parts.specs.declared.keyword.Reply.{Reply}
+use Rattle.node_table.specs.NodeTable.{keyword_absolute}
+use Rattle.node_table.specs.NodeViews.{node_of}
 use Rattle.node_table.specs.declared.node.Node.{Node}
 use Rattle.run_steps.specs.Askings.{IsAskedOf, asking, at_work}
-use Rattle.run_steps.specs.PlaceWords.{name_from}
+use Rattle.run_steps.specs.PlaceWords.{name_from, path_here, place_under}
+use Rattle.run_steps.specs.declared.faults.ErrorPlaces.{ErrorPlaces}
 use Rattle.run_steps.specs.declared.question.Question.{Question}
 
 -- an answer of this mode is given that has found nothing yet
@@ -32,6 +35,13 @@ IsVerdictOf a b = (texts : Bool) → b ≡ (answer_of texts a).verdict
 -- the path of an error of a keyword's own, by that of the keyword's schema
 abbrev pub error_path : OwnError → String Global → Text → Text
 error_path e name before = joined before (name_from e.absorbed name) ++ string_bytes e.path
+
+-- an error of the keyword's own stands at this place and these paths
+pub record ErrorStandsAt {K : Type 0} (n : Node K) (name : String Global) (q : Question) (e : OwnError) (p : ErrorPlaces) : Type 0 where
+  pub place : p.place ≡ place_under q.place.now e.below.items
+  pub schema_path : p.schema_path ≡ error_path e name n.location
+  pub evaluation_path : p.evaluation_path ≡ error_path e name (path_here q)
+  pub absolute : option_map string_bytes p.absolute_keyword_location ≡ keyword_absolute (node_of n) (name_from e.absorbed name)
 
 module _ {K : Type 0} (n : Node K) (name : String Global) (q : Question) where
   -- an error is given that says a fault of the node's keyword of this name

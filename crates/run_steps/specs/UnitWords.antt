@@ -1,6 +1,6 @@
 -- What the units of a node say, and where they stand.
 use Rattle.std.specs.List.{list_all}
-use Rattle.std.specs.Prelude.{Bool, IfOk, List, Option, Result, [], map, option_map, string_bytes, ◌≡◌}
+use Rattle.std.specs.Prelude.{Bool, List, Option, [], map, option_map, string_bytes, ◌≡◌}
 use Rattle.serde_json.specs.View.{view}
 use Rattle.serde_json.specs.declared.value.Value.{Value}
 use Rattle.schema_definitions.specs.Instance.{Text}
@@ -31,9 +31,12 @@ report_at texts p valid annotations errors = record {
   errors = map (described_of texts) errors;
 }
 
--- the places that are given have this location's absolute one, as the node has it
-abbrev pub HasAbsolute : {K E : Type 0} → Node K → Text → Result UnitPlaces E → Type 0
-HasAbsolute n location result = IfOk result (λ p. option_map string_bytes p.absolute_keyword_location ≡ absolute_in (node_of n) location)
+-- a unit stands at this pointer, path and place in the schema, and has the absolute location of that, as the node has it
+pub record UnitStandsAt {K : Type 0} (n : Node K) (pointer way location : Text) (p : UnitPlaces) : Type 0 where
+  pub instance : p.instance_location ≡ pointer
+  pub path : p.evaluation_path ≡ way
+  pub schema : p.schema_location ≡ location
+  pub absolute : option_map string_bytes p.absolute_keyword_location ≡ absolute_in (node_of n) location
 
 -- the unit of a node around these: valid exactly if each of them is, with the node's annotations
 abbrev pub unit_around : {K : Type 0} → Node K → Asking → List Unit_ → Unit_

@@ -1,6 +1,6 @@
 //! The units of a schema's entries, in their order: that of an absorbed `type` first, those of absorbed counts before the first
 //! entry that looks inside the instance.
-ghost use Rattle.std.specs.Prelude.{◌≡◌, Bool, IfOk, map};
+ghost use Rattle.std.specs.Prelude.{◌≡◌, Bool, IfOk, map, OnOk};
 ghost use Rattle.schema_reports.specs.UnitViews.{unit_of};
 ghost use Rattle.schema_definitions.specs.UnitOrder.{all_placed, nothing_placed, placed, with_absorbed};
 ghost use Rattle.run_steps.specs.EntryUnits.{absorbed_of, entry_units_of, placed_of};
@@ -51,7 +51,7 @@ impl UnitsInOrder {
 
     // Adds the units of absorbed keywords.
     fn place_absorbed(&mut self, absorbed: Vec<AbsorbedUnit>) -> Result<(), OutOfMemory>
-        ensures placed { IfOk result (λ _. (texts : Bool) → placed_of texts self.new
+        ensures placed { OnOk result ((texts : Bool) → placed_of texts self.new
             ≡ with_absorbed (placed_of texts self.old) (map (absorbed_of texts) absorbed.items)) }
     {
         for one in absorbed {
@@ -66,7 +66,7 @@ impl UnitsInOrder {
 
     /// Adds the units of the next entry, by its priority. Fails only if memory cannot be allocated.
     pub fn place(&mut self, priority: u8, units: EntryUnits) -> Result<(), OutOfMemory>
-        ensures placed { IfOk result (λ _. (texts : Bool) → placed_of texts self.new
+        ensures placed { OnOk result ((texts : Bool) → placed_of texts self.new
             ≡ placed (placed_of texts self.old) (record { priority = priority; units = entry_units_of texts units })) }
     {
         self.place_absorbed(units.absorbed)?;

@@ -1,5 +1,6 @@
 //! The place at which a node is asked, which allocates nothing until it is asked for.
-ghost use Rattle.std.specs.Prelude.{◌≡◌, ◌++◌, ◌∷◌, [], IfOk, List, Some};
+ghost use Rattle.std.specs.Prelude.{◌≡◌, ◌++◌, ◌∷◌, [], List, Some, OnOk};
+ghost use Rattle.schema_parts.specs.Showing.{Yields};
 ghost use Rattle.schema_reports.specs.InstanceViews.{step_of};
 ghost use Rattle.schema_definitions.specs.Instance as instance;
 ghost use Rattle.schema_definitions.specs.Pointer.{pointer_to};
@@ -93,7 +94,7 @@ impl<'p, 'i> EvaluationPlace<'p, 'i> {
 
     /// Returns the place as an owned one, with room for so many steps more. Fails only if memory cannot be allocated.
     pub fn with_room(&self, more: usize) -> Result<Place<'i>, OutOfMemory>
-        ensures same { IfOk result (λ p. p ≡ steps_to self.now) }
+        ensures same { Yields result (steps_to self.now) }
     {
         match self {
             EvaluationPlace::Given(place) => place.with_room(more),
@@ -108,7 +109,7 @@ impl<'p, 'i> EvaluationPlace<'p, 'i> {
 
     // Appends the JSON Pointer of the place to a pointer.
     fn push_pointer(&self, pointer: &mut Location) -> Result<(), OutOfMemory>
-        ensures pushed { IfOk result (λ _. pointer.new ≡ pointer.old ++ pointer_to (steps_to self.now)) }
+        ensures pushed { OnOk result (pointer.new ≡ pointer.old ++ pointer_to (steps_to self.now)) }
     {
         match self {
             EvaluationPlace::Given(place) => place.push_pointer(pointer),
@@ -133,7 +134,7 @@ impl<'p, 'i> EvaluationPlace<'p, 'i> {
 
     /// Returns the JSON Pointer of the place. Fails only if memory cannot be allocated.
     pub fn pointer(&self, alloc: Global) -> Result<Location, OutOfMemory>
-        ensures pointer { IfOk result (λ l. l ≡ pointer_to (steps_to self.now)) }
+        ensures pointer { Yields result (pointer_to (steps_to self.now)) }
     {
         let mut pointer = Location::with_capacity(alloc, self.pointer_room())?;
         self.push_pointer(&mut pointer)?;
@@ -142,7 +143,7 @@ impl<'p, 'i> EvaluationPlace<'p, 'i> {
 
     /// Returns the place as an owned one. Fails only if memory cannot be allocated.
     pub fn made(&self) -> Result<Place<'i>, OutOfMemory>
-        ensures same { IfOk result (λ p. p ≡ steps_to self.now) }
+        ensures same { Yields result (steps_to self.now) }
     {
         self.with_room(0)
     }

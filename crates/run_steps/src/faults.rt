@@ -1,5 +1,6 @@
 //! What a keyword has found, as errors at its place.
-ghost use Rattle.std.specs.Prelude.{◌≡◌, IfOk, Some, [], map, option_map, slice_get, string_bytes};
+ghost use Rattle.std.specs.Prelude.{◌≡◌, IfOk, Some, [], map, slice_get};
+ghost use Rattle.schema_parts.specs.Showing.{Shows};
 ghost use Rattle.schema_definitions.specs.Instance.{subject_from};
 ghost use Rattle.schema_reports.specs.InstanceViews.{step_of, subject_of};
 ghost use Rattle.run_steps.specs.AnswerModes.{mode_in};
@@ -7,11 +8,9 @@ ghost use Rattle.schema_parts.specs.FaultViews.{faults_in};
 ghost use Rattle.schema_parts.specs.KeywordViews.{mode_of};
 ghost use Rattle.schema_parts.specs.declared.keyword.Fault.TheVariants as variant;
 ghost use Rattle.schema_definitions.specs.Keywords.{for_all, for_first, for_units};
-ghost use Rattle.run_steps.specs.PlaceWords.{HasSteps, name_from, path_here, place_under};
+ghost use Rattle.run_steps.specs.PlaceWords.{HasSteps, name_from};
 ghost use Rattle.run_steps.specs.FaultWords.{BorrowsAnswer, BorrowsFault, BorrowsFaults, GivesFresh, IsVerdictOf};
-ghost use Rattle.run_steps.specs.FaultWords.{SaysAnswer, SaysFault, SaysFaults, error_path};
-ghost use Rattle.node_table.specs.NodeTable.{keyword_absolute};
-ghost use Rattle.node_table.specs.NodeViews.{node_of};
+ghost use Rattle.run_steps.specs.FaultWords.{ErrorStandsAt, SaysAnswer, SaysFault, SaysFaults};
 
 use crate::question::Question;
 use crate::replies::{keyword_location, stamped_error};
@@ -29,8 +28,8 @@ use std::alloc::Global;
 /// An answer that has found nothing yet. Only an evaluation's takes memory.
 pub fn begun<'i>(alloc: Global, mode: Mode) -> Result<Answer<'i>, OutOfMemory>
     ensures fresh { GivesFresh (mode_of mode) result }
-    ensures no_faults { IfOk result (λ a. faults_in a ≡ []) }
-    ensures form { IfOk result (λ a. mode_in a ≡ mode_of mode) }
+    ensures no_faults { Shows faults_in result [] }
+    ensures form { Shows mode_in result (mode_of mode) }
 {
     match mode {
         Mode::Verdict => Ok(Answer::Verdict(true)),
@@ -44,8 +43,8 @@ pub fn begun<'i>(alloc: Global, mode: Mode) -> Result<Answer<'i>, OutOfMemory>
 #[inline(never)]
 fn begun_evaluation<'i>(alloc: Global) -> Result<Answer<'i>, OutOfMemory>
     ensures fresh { GivesFresh for_units result }
-    ensures no_faults { IfOk result (λ a. faults_in a ≡ []) }
-    ensures form { IfOk result (λ a. mode_in a ≡ for_units) }
+    ensures no_faults { Shows faults_in result [] }
+    ensures form { Shows mode_in result for_units }
 {
     let own = EvaluationResult::valid_empty(alloc);
     let absorbed = Vec::new(alloc);
@@ -96,11 +95,7 @@ fn error_places<'i, K>(
     found: &OwnError<'i>,
     context: &mut ValidationContext<'i>,
 ) -> Result<ErrorPlaces<'i>, OutOfMemory>
-    ensures place { IfOk result (λ p. p.place ≡ place_under question.now.place.now found.now.below.items) }
-    ensures schema_path { IfOk result (λ p. p.schema_path ≡ error_path found.now name.now node.now.location) }
-    ensures evaluation_path { IfOk result (λ p. p.evaluation_path ≡ error_path found.now name.now (path_here question.now)) }
-    ensures absolute { IfOk result (λ p. option_map string_bytes p.absolute_keyword_location
-        ≡ keyword_absolute (node_of node.now) (name_from found.now.absorbed name.now)) }
+    ensures places { IfOk result (λ p. ErrorStandsAt node.now name.now question.now found.now p) }
     ensures stays { context.new ≡ context.old }
 {
     let first = spot_name(&found.absorbed, name);

@@ -1,8 +1,8 @@
 //! The pair of a guarded question, or of one that asks a shared node: the node that it asks, and the place, with the place's number.
-ghost use Rattle.std.specs.Prelude.{◌≡◌, IfErr, IfOk, OnErr, OnOk, Some, false, is_some, true};
+ghost use Rattle.std.specs.Prelude.{◌≡◌, IfOk, OnErr, OnOk, Some, false, is_some, true};
 ghost use Rattle.serde_json.specs.View.{view};
 ghost use Rattle.schema_definitions.specs.Instance.{subject_at};
-ghost use Rattle.schema_contexts.specs.Progress.{Context, places_in};
+ghost use Rattle.schema_contexts.specs.Progress.{Context, OnlyPairs, places_in};
 ghost use Rattle.schema_contexts.specs.Verdicts.{OnlyVerdicts};
 ghost use Rattle.run_steps.specs.EvaluationPlaces.{CarriesItsNumber, steps_to};
 ghost use Rattle.run_steps.specs.GuardedPairs.{ComesLast, HasNumberIn, IsLastIn, MayKeepIn, RemembersPair, is_busy_in, place_of};
@@ -69,13 +69,8 @@ impl<'q, 'i> GuardedPair<'q, 'i> {
         requires numbered { HasNumberIn self.now context.old }
         requires is_new { is_busy_in self.now context.old ≡ false }
         ensures entered { OnOk result (ComesLast self.now context.old context.new) }
-        ensures unchanged { IfErr result (λ _. context.new ≡ context.old) }
-        ensures root { context.new.root ≡ context.old.root }
-        ensures remembered { context.new.remembered ≡ context.old.remembered }
-        ensures marking { context.new.marking ≡ context.old.marking }
-        ensures verdicts { context.new.verdicts ≡ context.old.verdicts }
-        ensures visits { context.new.visits ≡ context.old.visits }
-        ensures work { context.new.work ≡ context.old.work }
+        ensures unchanged { OnErr result (context.new ≡ context.old) }
+        ensures frame { OnlyPairs context.old context.new }
     {
         let _was_there = context.enter(self.node, self.number)?;
         Ok(())
@@ -86,12 +81,7 @@ impl<'q, 'i> GuardedPair<'q, 'i> {
         requires numbered { HasNumberIn self.now context.old }
         requires last { IsLastIn self.now context.old }
         ensures left { ComesLast self.now context.new context.old }
-        ensures root { context.new.root ≡ context.old.root }
-        ensures remembered { context.new.remembered ≡ context.old.remembered }
-        ensures marking { context.new.marking ≡ context.old.marking }
-        ensures verdicts { context.new.verdicts ≡ context.old.verdicts }
-        ensures visits { context.new.visits ≡ context.old.visits }
-        ensures work { context.new.work ≡ context.old.work }
+        ensures frame { OnlyPairs context.old context.new }
     {
         context.exit(self.node, self.number);
     }
@@ -152,8 +142,7 @@ impl<'q, 'i> GuardedPair<'q, 'i> {
         requires numbered { HasNumberIn self.now context.old }
         ensures kept { OnOk result (MayKeepIn self.now context.old instance.entry mark
             → RemembersPair self.now context.old context.new verdict) }
-        ensures others { OnOk result (¬ MayKeepIn self.now context.old instance.entry mark
-            → context.new ≡ context.old) }
+        ensures others { OnOk result (¬ MayKeepIn self.now context.old instance.entry mark → context.new ≡ context.old) }
         ensures frame { OnlyVerdicts context.old context.new }
         ensures unchanged { OnErr result (context.new ≡ context.old) }
     {

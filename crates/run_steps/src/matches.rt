@@ -4,6 +4,7 @@ ghost use Rattle.schema_definitions.specs.Instance.{Text};
 ghost use Rattle.schema_definitions.specs.Matching.{finished};
 ghost use Rattle.schema_parts.specs.KeywordViews.{point_of};
 ghost use Rattle.schema_parts.specs.MatcherViews.{FinishesEach};
+ghost use Rattle.schema_contexts.specs.Progress.{OnlyMatches};
 ghost use Rattle.schema_contexts.specs.RunMatches.{a_pair, matches_in};
 ghost use Rattle.run_steps.specs.MatchWords.{AsksInside, AsksMatch, OfMatch};
 
@@ -62,12 +63,7 @@ fn asked_match<'i, K, M: Matcher>(
     ensures answer { IfOk result (λ b. b ≡ matches_in context.old (M.matching engine.now.matcher.now) (a_pair pattern.now subject.now)) }
     ensures met { OnOk result (AsksMatch node.now name.now question.now (M.matching engine.now.matcher.now) context.old context.new
         (a_pair pattern.now subject.now) (point_of pattern.now point.entry)) }
-    ensures in_progress { context.new.in_progress ≡ context.old.in_progress }
-    ensures marking { context.new.marking ≡ context.old.marking }
-    ensures verdicts { context.new.verdicts ≡ context.old.verdicts }
-    ensures visits { context.new.visits ≡ context.old.visits }
-    ensures work { context.new.work ≡ context.old.work }
-    ensures root { context.new.root ≡ context.old.root }
+    ensures frame { OnlyMatches context.old context.new }
 {
     match engine.matcher.is_match(engine.alloc, pattern, subject)? {
         Match::Finished(matches) => Ok(matches),
@@ -97,12 +93,7 @@ pub fn step_match<'i, K, M: Matcher>(
     ensures answer { IfOk result (λ b. OfMatch step.entry (λ a _. b ≡ matches_in context.old (M.matching engine.now.matcher.now) a)) }
     ensures met { OnOk result (OfMatch step.entry (AsksMatch node.now name.now question.now (M.matching engine.now.matcher.now)
         context.old context.new)) }
-    ensures in_progress { context.new.in_progress ≡ context.old.in_progress }
-    ensures marking { context.new.marking ≡ context.old.marking }
-    ensures verdicts { context.new.verdicts ≡ context.old.verdicts }
-    ensures visits { context.new.visits ≡ context.old.visits }
-    ensures work { context.new.work ≡ context.old.work }
-    ensures root { context.new.root ≡ context.old.root }
+    ensures frame { OnlyMatches context.old context.new }
 {
     match step {
         Step::Match(pattern, subject, located) => {

@@ -1,5 +1,5 @@
 //! Replies of runs, by the mode.
-ghost use Rattle.std.specs.Prelude.{◌≡◌, IfOk, Bool, [], map, option_map, string_bytes};
+ghost use Rattle.std.specs.Prelude.{◌≡◌, IfOk, Bool, [], map, option_map, string_bytes, OnOk};
 ghost use Rattle.schema_definitions.specs.Reports.{accepted};
 ghost use Rattle.schema_definitions.specs.Meaning.{false_outcome, false_error, stamped};
 ghost use Rattle.schema_reports.specs.ReportViews.{error_of};
@@ -130,9 +130,9 @@ fn stamp<'i, K>(
     name: &String,
     error: &mut ValidationError<'i>,
 ) -> Result<(), OutOfMemory>
-    ensures stamped { IfOk result (λ _. StampsError node.now name.now error.old error.new) }
-    ensures place { IfOk result (λ _. error.new.place ≡ error.old.place) }
-    ensures instance { IfOk result (λ _. error.new.instance ≡ error.old.instance) }
+    ensures stamped { OnOk result (StampsError node.now name.now error.old error.new) }
+    ensures place { OnOk result (error.new.place ≡ error.old.place) }
+    ensures instance { OnOk result (error.new.instance ≡ error.old.instance) }
 {
     if error.absolute_keyword_location.is_none() {
         let absolute = keyword_location(alloc, node, name.as_str())?;

@@ -1,5 +1,6 @@
 //! Where a match is asked for.
 ghost use Rattle.std.specs.Prelude.{◌≡◌, ◌++◌, IfOk, map, string_bytes};
+ghost use Rattle.schema_parts.specs.Showing.{Yields};
 ghost use Rattle.schema_reports.specs.InstanceViews.{step_of};
 ghost use Rattle.schema_definitions.specs.Pointer.{joined};
 ghost use Rattle.schema_parts.specs.KeywordViews.{below_of, point_of, spot_below, spot_of, spot_point};
@@ -39,7 +40,7 @@ fn place_inside<'i>(
     below: &[InstanceStep<'_>],
 ) -> Result<Place<'i>, OutOfMemory>
     requires present { HasSteps question.now.instance below.now }
-    ensures place { IfOk result (λ p. p ≡ place_under question.now.place.now below.now) }
+    ensures place { Yields result (place_under question.now.place.now below.now) }
 {
     let own = own_steps(alloc, question.instance, below)?;
     place_below(question.place, own.as_slice())
@@ -56,7 +57,7 @@ fn bare_site<'i, K>(
     below: &[InstanceStep<'_>],
 ) -> Result<MatchSite<'i>, OutOfMemory>
     requires present { HasSteps question.now.instance below.now }
-    ensures site { IfOk result (λ s. s ≡ site_here node.now name.now question.now (plain_point located path.now below.now)) }
+    ensures site { Yields result (site_here node.now name.now question.now (plain_point located path.now below.now)) }
 {
     let schema_path = path_from(alloc, &node.location, name, path)?;
     if !located {
@@ -118,7 +119,7 @@ pub fn match_site<'i, K>(
     point: MatchPoint<'_>,
 ) -> Result<MatchSite<'i>, OutOfMemory>
     requires present { AsksInside question.now.instance (point_of pattern.now point) }
-    ensures site { IfOk result (λ s. s ≡ site_here node.now (string_bytes name.now) question.now (point_of pattern.now point.entry)) }
+    ensures site { Yields result (site_here node.now (string_bytes name.now) question.now (point_of pattern.now point.entry)) }
 {
     match point {
         MatchPoint::AtKeyword(located) => {

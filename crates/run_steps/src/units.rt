@@ -12,7 +12,7 @@ ghost use Rattle.run_steps.specs.NodeUnits.{named_gives};
 ghost use Rattle.run_steps.specs.Askings.{Asking, at_work};
 ghost use Rattle.run_steps.specs.PlaceWords.{path_here, pointer_here};
 ghost use Rattle.run_steps.specs.ReplyWords.{SaysFalse};
-ghost use Rattle.run_steps.specs.UnitWords.{HasAbsolute, IsUnit, report_at, unit_around};
+ghost use Rattle.run_steps.specs.UnitWords.{IsUnit, UnitStandsAt, report_at, unit_around};
 
 use crate::evaluation_order::{AbsorbedUnit, EntryUnits};
 use crate::question::Question;
@@ -75,10 +75,7 @@ fn places_by<K>(
     kept: UnitTexts,
     pointer: SharedLocation,
 ) -> Result<UnitPlaces, OutOfMemory>
-    ensures instance { IfOk result (λ p. p.instance_location ≡ pointer) }
-    ensures path { IfOk result (λ p. p.evaluation_path ≡ kept.path) }
-    ensures schema { IfOk result (λ p. p.schema_location ≡ kept.schema) }
-    ensures absolute { HasAbsolute node.now kept.schema result }
+    ensures { IfOk result (λ p. UnitStandsAt node.now pointer kept.path kept.schema p) }
 {
     let absolute_keyword_location = absolute_location(alloc, node, kept.schema.as_str())?;
     Ok(UnitPlaces {
@@ -96,10 +93,7 @@ fn node_places<K>(
     question: &Question<'_, '_>,
     context: &mut ValidationContext<'_>,
 ) -> Result<UnitPlaces, OutOfMemory>
-    ensures instance { IfOk result (λ p. p.instance_location ≡ pointer_here question.now) }
-    ensures path { IfOk result (λ p. p.evaluation_path ≡ path_here question.now) }
-    ensures schema { IfOk result (λ p. p.schema_location ≡ node.now.location) }
-    ensures absolute { HasAbsolute node.now node.now.location result }
+    ensures places { IfOk result (λ p. UnitStandsAt node.now (pointer_here question.now) (path_here question.now) node.now.location p) }
     ensures stays { context.new ≡ context.old }
 {
     let kept = context.node_texts(alloc, question.path, &node.location)?;
@@ -190,10 +184,8 @@ fn keyword_places<K>(
     context: &mut ValidationContext<'_>,
 ) -> Result<UnitPlaces, OutOfMemory>
     requires pointed { pointer.now ≡ pointer_here question.now }
-    ensures instance { IfOk result (λ p. p.instance_location ≡ pointer_here question.now) }
-    ensures path { IfOk result (λ p. p.evaluation_path ≡ joined (path_here question.now) name.now) }
-    ensures schema { IfOk result (λ p. p.schema_location ≡ joined node.now.location name.now) }
-    ensures absolute { HasAbsolute node.now (joined node.now.location name.now) result }
+    ensures places { IfOk result (λ p. UnitStandsAt node.now (pointer_here question.now) (joined (path_here question.now) name.now)
+        (joined node.now.location name.now) p) }
     ensures stays { context.new ≡ context.old }
 {
     let kept = context.keyword_texts(alloc, question.path, name, &node.location)?;

@@ -7,4 +7,4 @@ use Rattle.run_steps.proofs.faults.own_error.Goals as goal
 pub returns-clause-borrows : goal.returns-clause-borrows
 returns-clause-borrows g c = λ root at_place inside.
     let found = (rw c.as_slice.ensures.value at c.instance_below-instance.ensures.below) inside in
-    stands_below root (steps_to c.args.question.now.place.now) (map step_of c.args.found.below.items) _ (subject_of c.args.question.now.instance) _ c.in_ok-places.ensures.place at_place found
+    stands_below root (steps_to c.args.question.now.place.now) (map step_of c.args.found.below.items) _ (subject_of c.args.question.now.instance) _ c.in_ok-places.ensures.places.place at_place found
