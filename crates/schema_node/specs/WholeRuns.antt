@@ -8,7 +8,8 @@ use Rattle.schema_parts.specs.declared.keyword.Reply as code
 use Rattle.schema_contexts.specs.Progress.{Context}
 use Rattle.node_table.specs.NodeTable.{NodeEntry, numbered}
 use Rattle.run_steps.specs.Askings.{Asking, IsAskedOf}
-use Rattle.schema_runs.specs.RunStates.{NodeRemembers, RunBorrows, RunMeets, RunRemembers, RunReplies, RunSpeaks, StaysRight, setting_over}
+use Rattle.schema_node.specs.RunAnswers.{AsksNode, CountsOn, KeepsAssumed, KeepsMarks, KeepsPairs}
+use Rattle.schema_runs.specs.RunStates.{NodeRemembers, RunBorrows, RunMeets, RunRemembers, RunReplies, RunSpeaks, StaysRight, forgotten, setting_over}
 use Rattle.schema_runs.specs.UnitStates.{RunGives}
 use Rattle.schema_runs.specs.Visits.{NodeCounts}
 
@@ -51,3 +52,41 @@ module _ {K R C M : Type 0} (words : Bool → Keywords K R) (is_whole : K → Bo
   -- those that this context remembers are right after a run
   abbrev pub RightAfterRun : {T E : Type 0} → Result T E → Type 0
   RightAfterRun result = IfOk result (λ _. RunRemembers (setting_over words is_whole shape ns (matching matcher)) q c)
+
+-- ---- what comes of a node that is run, with verdicts forgotten; that is run further; and that is evaluated
+
+pub record NodeIsRun {K R C M E : Type 0} (words : Bool → Keywords K R) (is_whole : K → Bool) (shape : C → K) (matching : M → Matcher) (ns : List (NodeEntry C)) (matcher : M) (q : Asking) (i : ℕ) (c c' : Context) (result : Result code.Reply E) : Type 0 where
+  pub kept : KeepsPairs c c' result
+  pub assumes : KeepsAssumed c c' result
+  pub marking : KeepsMarks c c' result
+  pub works : AsksNode c c' result
+  pub replies : RepliesByRun words is_whole shape matching ns matcher q c i result
+  pub meets : MeetsByRun words is_whole shape matching ns matcher q c i c' result
+  pub speaks : SpeaksInMode q result
+  pub borrows : BorrowsThere q result
+  pub right : RightAfterRun words is_whole shape matching ns matcher q c' result
+  pub remembers : RemembersNode shape ns q (forgotten c) c' i result
+  pub visits : CountsNode shape ns q (forgotten c) c' i result
+
+pub record NodeIsRunFurther {K R C M E : Type 0} (words : Bool → Keywords K R) (is_whole : K → Bool) (shape : C → K) (matching : M → Matcher) (ns : List (NodeEntry C)) (matcher : M) (q : Asking) (i : ℕ) (c c' : Context) (result : Result code.Reply E) : Type 0 where
+  pub kept : KeepsPairs c c' result
+  pub assumes : KeepsAssumed c c' result
+  pub marking : KeepsMarks c c' result
+  pub works : AsksNode c c' result
+  pub counts : CountsOn c c' result
+  pub replies : RepliesByRun words is_whole shape matching ns matcher q c i result
+  pub meets : MeetsByRun words is_whole shape matching ns matcher q c i c' result
+  pub speaks : SpeaksInMode q result
+  pub borrows : BorrowsThere q result
+  pub stays : StaysRightInRun words is_whole shape matching ns matcher q c c' result
+  pub remembers : RemembersNode shape ns q c c' i result
+  pub visits : CountsNode shape ns q c c' i result
+
+pub record NodeIsEvaluated {K R C M E : Type 0} (words : Bool → Keywords K R) (is_whole : K → Bool) (shape : C → K) (matching : M → Matcher) (ns : List (NodeEntry C)) (matcher : M) (q : Asking) (i : ℕ) (c c' : Context) (result : Result EvaluationNode E) : Type 0 where
+  pub kept : KeepsPairs c c' result
+  pub assumes : KeepsAssumed c c' result
+  pub marking : KeepsMarks c c' result
+  pub works : AsksNode c c' result
+  pub gives : GivesByRun words is_whole shape matching ns matcher q c i result
+  pub meets : MeetsByRun words is_whole shape matching ns matcher q c i c' result
+  pub right : RightAfterRun words is_whole shape matching ns matcher q c' result

@@ -5,11 +5,8 @@ ghost use Rattle.schema_parts.specs.KeywordViews.{mode_of};
 ghost use Rattle.node_table.specs.NodeTable.{NodeEntry};
 ghost use Rattle.schema_contexts.specs.Progress.{NoDeeper};
 ghost use Rattle.schema_node.specs.FirstQuestions.{asking_first, asking_unit};
-ghost use Rattle.schema_node.specs.RunAnswers.{AsksNode, CountsOn, KeepsAssumed, KeepsMarks, KeepsPairs};
-ghost use Rattle.schema_node.specs.WholeRuns.{BorrowsThere, CountsNode, GivesByRun, MeetsByRun, RemembersNode, RepliesByRun};
-ghost use Rattle.schema_node.specs.WholeRuns.{RightAfterRun, SpeaksInMode, StaysRightInRun, SubjectStandsIn};
-ghost use Rattle.schema_runs.specs.RunStates.{setting_over};
-ghost use Rattle.schema_runs.specs.RunStates.{GoesOn, forgotten};
+ghost use Rattle.schema_node.specs.WholeRuns.{NodeIsEvaluated, NodeIsRun, NodeIsRunFurther, SubjectStandsIn};
+ghost use Rattle.schema_runs.specs.RunStates.{GoesOn, setting_over};
 
 use crate::node::evaluate::evaluate_node;
 use crate::node::run::node_reply;
@@ -58,22 +55,8 @@ pub trait RunNodes<K: Validate> {
         requires above { NoDeeper question.now.place.now context.old.in_progress }
         requires stands { SubjectStandsIn context.old (asking_first question.now) }
         requires wanted { ¬ (mode_of question.now.mode ≡ for_units) }
-        ensures kept { KeepsPairs context.old context.new result }
-        ensures assumes { KeepsAssumed context.old context.new result }
-        ensures marking { KeepsMarks context.old context.new result }
-        ensures works { AsksNode context.old context.new result }
-        ensures replies { RepliesByRun K.words K.is_whole K.shape M.matching (table self.now) matcher.now (asking_first question.now)
-            context.old node.0 result }
-        ensures meets { MeetsByRun K.words K.is_whole K.shape M.matching (table self.now) matcher.now (asking_first question.now)
-            context.old node.0 context.new result }
-        ensures speaks { SpeaksInMode (asking_first question.now) result }
-        ensures borrows { BorrowsThere (asking_first question.now) result }
-        ensures right { RightAfterRun K.words K.is_whole K.shape M.matching (table self.now) matcher.now (asking_first question.now)
-            context.new result }
-        ensures remembers { RemembersNode K.shape (table self.now) (asking_first question.now) (forgotten context.old) context.new node.0
-            result }
-        ensures visits { CountsNode K.shape (table self.now) (asking_first question.now) (forgotten context.old) context.new node.0
-            result };
+        ensures { NodeIsRun K.words K.is_whole K.shape M.matching (table self.now) matcher.now
+            (asking_first question.now) node.0 context.old context.new result };
 
     /// Runs a node as a part of a run that has begun: as `run` does, but verdicts that the run remembers are read, and stay
     /// remembered. For the verdict a node whose one entry is a guarded reference, its target's pair not in progress, gives the
@@ -95,21 +78,8 @@ pub trait RunNodes<K: Validate> {
         requires wanted { ¬ (mode_of question.now.mode ≡ for_units) }
         requires goes_on { GoesOn (setting_over K.words K.is_whole K.shape (table self.now) (M.matching matcher.now))
             (asking_first question.now) context.old }
-        ensures kept { KeepsPairs context.old context.new result }
-        ensures assumes { KeepsAssumed context.old context.new result }
-        ensures marking { KeepsMarks context.old context.new result }
-        ensures works { AsksNode context.old context.new result }
-        ensures counts { CountsOn context.old context.new result }
-        ensures replies { RepliesByRun K.words K.is_whole K.shape M.matching (table self.now) matcher.now (asking_first question.now)
-            context.old node.0 result }
-        ensures meets { MeetsByRun K.words K.is_whole K.shape M.matching (table self.now) matcher.now (asking_first question.now)
-            context.old node.0 context.new result }
-        ensures speaks { SpeaksInMode (asking_first question.now) result }
-        ensures borrows { BorrowsThere (asking_first question.now) result }
-        ensures stays { StaysRightInRun K.words K.is_whole K.shape M.matching (table self.now) matcher.now (asking_first question.now)
-            context.old context.new result }
-        ensures remembers { RemembersNode K.shape (table self.now) (asking_first question.now) context.old context.new node.0 result }
-        ensures visits { CountsNode K.shape (table self.now) (asking_first question.now) context.old context.new node.0 result };
+        ensures { NodeIsRunFurther K.words K.is_whole K.shape M.matching (table self.now) matcher.now
+            (asking_first question.now) node.0 context.old context.new result };
 
     /// Evaluates a node over the instance at a place, with the path that led to it: returns the node's unit, with one child for each
     /// of its entries in their order. A match that the matcher leaves unfinished comes out as the context assumes it to, or else
@@ -129,16 +99,8 @@ pub trait RunNodes<K: Validate> {
         requires known { node.0 < length (table self.now) }
         requires above { NoDeeper place.now context.old.in_progress }
         requires stands { SubjectStandsIn context.old (asking_unit instance place.now path.now) }
-        ensures kept { KeepsPairs context.old context.new result }
-        ensures assumes { KeepsAssumed context.old context.new result }
-        ensures marking { KeepsMarks context.old context.new result }
-        ensures works { AsksNode context.old context.new result }
-        ensures gives { GivesByRun K.words K.is_whole K.shape M.matching (table self.now) matcher.now
-            (asking_unit instance.entry place.now path.now) context.old node.0 result }
-        ensures meets { MeetsByRun K.words K.is_whole K.shape M.matching (table self.now) matcher.now
-            (asking_unit instance.entry place.now path.now) context.old node.0 context.new result }
-        ensures right { RightAfterRun K.words K.is_whole K.shape M.matching (table self.now) matcher.now
-            (asking_unit instance.entry place.now path.now) context.new result };
+        ensures { NodeIsEvaluated K.words K.is_whole K.shape M.matching (table self.now) matcher.now
+            (asking_unit instance.entry place.now path.now) node.0 context.old context.new result };
 }
 
 impl<K: Validate> RunNodes<K> for Nodes<K> {

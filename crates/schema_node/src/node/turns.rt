@@ -57,8 +57,7 @@ fn run_turns<'i, K: Validate, M: Matcher>(
     context: &mut ValidationContext<'i>,
 ) -> Result<(), OutOfMemory>
     requires { TurnsMayAsk K.Validate M.Matcher.own engine.now question.now context.old node.0 keyword.now run.old answer.old }
-    ensures { TurnsOfKeyword K.Validate M.Matcher.own engine.now question.now node.0 keyword.now context.old context.new result
-        answer.new }
+    ensures { TurnsOfKeyword K.Validate M.Matcher.own engine.now question.now node.0 keyword.now context.old context.new result answer.new }
 {
     let children = keyword.children;
     let mut reply = Reply::Nothing;

@@ -268,8 +268,7 @@ fn guarded_verdict<'i, K: Validate, M: Matcher>(
     context: &mut ValidationContext<'i>,
 ) -> Result<bool, OutOfMemory>
     requires { VerdictIsAsked K.Validate M.Matcher.own engine.now question.now (a_guarded (edge_of edge.now)) context.old }
-    ensures { VerdictIsTold K.Validate M.Matcher.own engine.now question.now (a_guarded (edge_of edge.now)) context.old context.new
-        result }
+    ensures { VerdictIsTold K.Validate M.Matcher.own engine.now question.now (a_guarded (edge_of edge.now)) context.old context.new result }
 {
     let pair = GuardedPair::new(context, edge.node, question.place)?;
     if let Some(valid) = pair.known_verdict(context) {

@@ -448,27 +448,27 @@ turns::keyword_answer-run_turns-requires g t c =
     let ns = numbered g.K.Validate.shape c.args.engine.now.nodes.now in
     let p = steps_to c.args.question.now.place.now in
     let s = subject_of c.args.question.now.instance in
-    let kept = c.set_aside-aside.ensures.in_progress in
+    let kept = c.set_aside-aside.ensures.frame.in_progress in
     let l = ap (λ es. left ns (length c.args.engine.now.nodes.now) c.args.node.0 s (busy_at p es)) kept in
-    λ κs h. (lower_same _ _ t 4 0 l c.decreases, (h.0, (h.1.0, (h.1.1.0, (h.1.1.1, record { may = record { known = c.requires.may.known; ranked = c.requires.may.ranked; above = subst (NoDeeper p) (sym kept) c.requires.may.above; stands = stands_on c.args.context.now.root _ (asking c.args.question.now) c.set_aside-aside.ensures.root c.requires.may.stands; goes_on = (c.requires.may.goes_on.0, c.requires.may.goes_on.1, right_same (setting g.K.Validate.words g.K.Validate.is_whole g.K.Validate.shape g.M.Matcher.matching c.args.engine.now) c.requires.may.goes_on.0 c.args.context.now c.set_aside-aside.new.self c.set_aside-aside.ensures.remembered c.set_aside-aside.ensures.verdicts c.requires.may.goes_on.2) }; carries = carries_on c.args.context.now.root _ c.args.question.now.place.now c.set_aside-aside.ensures.root c.requires.carries; form = c.requires.form; begun = begun; no_faults = c.in_ok-answer.ensures.no_faults; no_marks = c.set_aside-aside.ensures.none })))))
+    λ κs h. (lower_same _ _ t 4 0 l c.decreases, (h.0, (h.1.0, (h.1.1.0, (h.1.1.1, record { may = record { known = c.requires.may.known; ranked = c.requires.may.ranked; above = subst (NoDeeper p) (sym kept) c.requires.may.above; stands = stands_on c.args.context.now.root _ (asking c.args.question.now) c.set_aside-aside.ensures.frame.root c.requires.may.stands; goes_on = (c.requires.may.goes_on.0, c.requires.may.goes_on.1, right_same (setting g.K.Validate.words g.K.Validate.is_whole g.K.Validate.shape g.M.Matcher.matching c.args.engine.now) c.requires.may.goes_on.0 c.args.context.now c.set_aside-aside.new.self c.set_aside-aside.ensures.frame.remembered c.set_aside-aside.ensures.frame.verdicts c.requires.may.goes_on.2) }; carries = carries_on c.args.context.now.root _ c.args.question.now.place.now c.set_aside-aside.ensures.frame.root c.requires.carries; form = c.requires.form; begun = begun; no_faults = c.in_ok-answer.ensures.no_faults; no_marks = c.set_aside-aside.ensures.none })))))
 
 pub turns::keyword_answer-returns : goal.turns::keyword_answer-returns
 turns::keyword_answer-returns g t c = record {
   keeps = first_of (search rules, grind (arith, common_steps));
-  counts = rw (c.set_aside-aside.ensures.visits, ← c.put_back.ensures.visits) at c.in_ok-run_turns.ensures.counts;
-  works = rw (c.set_aside-aside.ensures.work, ← c.put_back.ensures.work) at c.in_ok-run_turns.ensures.works;
-  quiet = λ none. c.put_back.ensures.visits ∙ c.in_ok-run_turns.ensures.quiet none ∙ c.set_aside-aside.ensures.visits;
+  counts = rw (c.set_aside-aside.ensures.frame.visits, ← c.put_back.ensures.frame.visits) at c.in_ok-run_turns.ensures.counts;
+  works = rw (c.set_aside-aside.ensures.frame.work, ← c.put_back.ensures.frame.work) at c.in_ok-run_turns.ensures.works;
+  quiet = λ none. c.put_back.ensures.frame.visits ∙ c.in_ok-run_turns.ensures.quiet none ∙ c.set_aside-aside.ensures.frame.visits;
   right =
       let set = setting g.K.Validate.words g.K.Validate.is_whole g.K.Validate.shape g.M.Matcher.matching c.args.engine.now in
       let m = g.K.Validate.shape c.args.keyword.now.keyword.now in
       let es = map (option_map edge_of) c.args.keyword.now.children.now in
-      finds_moved set (asking c.args.question.now) c.args.context.now c.set_aside-aside.new.self c.set_aside-aside.ensures.in_progress (ap (λ (r : Remembered). r.assumptions) c.set_aside-aside.ensures.remembered) c.args.node.0 es m c.run_turns.new.answer c.in_ok-run_turns.ensures.right;
+      finds_moved set (asking c.args.question.now) c.args.context.now c.set_aside-aside.new.self c.set_aside-aside.ensures.frame.in_progress (ap (λ (r : Remembered). r.assumptions) c.set_aside-aside.ensures.frame.remembered) c.args.node.0 es m c.run_turns.new.answer c.in_ok-run_turns.ensures.right;
   passes = first_of (search rules, grind (arith, common_steps));
-  meets = rw (c.set_aside-aside.ensures.in_progress, c.set_aside-aside.ensures.remembered, ← c.put_back.ensures.remembered) at c.in_ok-run_turns.ensures.meets;
+  meets = rw (c.set_aside-aside.ensures.frame.in_progress, c.set_aside-aside.ensures.frame.remembered, ← c.put_back.ensures.frame.remembered) at c.in_ok-run_turns.ensures.meets;
   stays = λ layout laid right.
       let set = setting g.K.Validate.words g.K.Validate.is_whole g.K.Validate.shape g.M.Matcher.matching c.args.engine.now in
-      let right1 = right_same set layout c.args.context.now c.set_aside-aside.new.self c.set_aside-aside.ensures.remembered c.set_aside-aside.ensures.verdicts right in
-      right_same set layout c.run_turns.new.context c.put_back.new.self c.put_back.ensures.remembered c.put_back.ensures.verdicts (c.in_ok-run_turns.ensures.stays layout laid right1);
+      let right1 = right_same set layout c.args.context.now c.set_aside-aside.new.self c.set_aside-aside.ensures.frame.remembered c.set_aside-aside.ensures.frame.verdicts right in
+      right_same set layout c.run_turns.new.context c.put_back.new.self c.put_back.ensures.frame.remembered c.put_back.ensures.frame.verdicts (c.in_ok-run_turns.ensures.stays layout laid right1);
 }
 
 pub run::run_keyword-returns : goal.run::run_keyword-returns
@@ -741,14 +741,14 @@ turns::run_turns-turns-preserved-in-Match g t c =
     let out = rw c.turns.invariant.assumes at (c.in_ok-matches-in-Match.ensures.answer a point asked.2) in
     let met = c.in_ok-matches-in-Match.ensures.met a point asked.2 in
     record {
-      root = c.step_match.ensures.root ∙ c.turns.invariant.root;
-      kept = c.step_match.ensures.in_progress ∙ c.turns.invariant.kept;
+      root = c.step_match.ensures.frame.root ∙ c.turns.invariant.root;
+      kept = c.step_match.ensures.frame.in_progress ∙ c.turns.invariant.kept;
       assumes = ap (λ (r : Remembered). r.assumptions) met ∙ after_assumes _ _ answer ∙ c.turns.invariant.assumes;
-      stays = λ layout laid right. right_matched (setting g.K.Validate.words g.K.Validate.is_whole g.K.Validate.shape g.M.Matcher.matching c.args.engine.now) layout c.turns.context c.step_match.new.context _ answer refl c.step_match.ensures.verdicts met (c.turns.invariant.stays layout laid right);
+      stays = λ layout laid right. right_matched (setting g.K.Validate.words g.K.Validate.is_whole g.K.Validate.shape g.M.Matcher.matching c.args.engine.now) layout c.turns.context c.step_match.new.context _ answer refl c.step_match.ensures.frame.verdicts met (c.turns.invariant.stays layout laid right);
       can = can_after (g.K.Validate.words false) m (g.K.Validate.absorbed m) (g.K.Validate.remaining m) (g.K.Validate.can_be false m) (g.K.Validate.ends false m) (g.K.Validate.fits false m) (g.met.K.Validate.turn_laws false m) s (c.turns.run, answer_of false c.turns.answer) (c.turn.new.run, answer_of false c.turn.new.answer) told c.turns.invariant.can turn;
-      counted = no_fewer c.args.context.now.visits c.turns.context.visits c.step_match.new.context.visits c.turns.invariant.counted (as_many _ _ c.step_match.ensures.visits);
-      worked = subst (Spends c.args.context.now.work) (sym c.step_match.ensures.work) c.turns.invariant.worked;
-      quiet = λ none. c.step_match.ensures.visits ∙ c.turns.invariant.quiet none;
+      counted = no_fewer c.args.context.now.visits c.turns.context.visits c.step_match.new.context.visits c.turns.invariant.counted (as_many _ _ c.step_match.ensures.frame.visits);
+      worked = subst (Spends c.args.context.now.work) (sym c.step_match.ensures.frame.work) c.turns.invariant.worked;
+      quiet = λ none. c.step_match.ensures.frame.visits ∙ c.turns.invariant.quiet none;
       borrows = λ root at_place.
           let i = c.turns.invariant.borrows root at_place in
           (All-nil (BorrowsItsPlace root), c.in_ok-step.ensures.borrows root i.0 i.1);
@@ -756,7 +756,7 @@ turns::run_turns-turns-preserved-in-Match g t c =
           let tells = tells_keyword g.K.Validate.is_whole ns (length c.args.engine.now.nodes.now) w p s x c.args.node.0 m es c.requires.may.known reads c.requires.form in
           let is = ap truth (out ∙ ap (λ b. settled b answer) (sym (reads.completes a)) ∙ ap (λ (o : Matcher). settled (completed x.completion a) (o.is_match a.pattern a.subject)) (sym reads.matcher)) in
           matched_on (g.K.Validate.words x.texts) m (g.K.Validate.absorbed m) (g.K.Validate.remaining m) (g.K.Validate.can_be x.texts m) (g.K.Validate.ends x.texts m) (g.K.Validate.fits x.texts m) (g.met.K.Validate.turn_laws x.texts m) s x (mode_of c.args.question.now.mode) (child_says g.K.Validate.words ns x (path_of c.args.question.now.path.now) p busy es) (child_unit g.K.Validate.words ns x (path_of c.args.question.now.path.now) p busy es) (same_edge es) c.turns.context.marking c.step_match.new.context.marking (c.turns.run, answer_of x.texts c.turns.answer) (c.turn.new.run, answer_of x.texts c.turn.new.answer)
-          (reply_of x.texts c.turns.reply) (truth c.in_ok-matches-in-Match.matches) a point c.step_match.ensures.marking (c.turns.invariant.leads x reads l) (c.in_ok-step.ensures.turns x.texts tells) (c.in_ok-step.ensures.steps x.texts tells ∙ asked.2) is;
+          (reply_of x.texts c.turns.reply) (truth c.in_ok-matches-in-Match.matches) a point c.step_match.ensures.frame.marking (c.turns.invariant.leads x reads l) (c.in_ok-step.ensures.turns x.texts tells) (c.in_ok-step.ensures.steps x.texts tells ∙ asked.2) is;
       met = λ texts root depth reads l.
           let tells = tells_keyword g.K.Validate.is_whole ns (length c.args.engine.now.nodes.now) w p s (reading w texts root depth) c.args.node.0 m es c.requires.may.known reads c.requires.form in
           let step' = c.in_ok-step.ensures.steps texts tells ∙ asked.2 in
@@ -765,7 +765,7 @@ turns::run_turns-turns-preserved-in-Match g t c =
           let is = ap truth (out ∙ ap (λ b. settled b answer) (sym (reads.completes a))) in
           let there = where_is g.K.Validate.shape c.args.engine.now.nodes.now (g.K.Validate.words texts) w.matcher (subject_in root) c.args.node.0 n (path_of c.args.question.now.path.now) p c.node-node.ensures.found in
           let new = met ∙ ap (λ (v : Where). after_match c.turns.context.remembered (record { pair = a; site = site_at v name point }) answer) (sym there) in
-          meets_matched (g.K.Validate.words texts) w.matcher w.assumptions (node_at (g.K.Validate.words texts) w.matcher ns (subject_in root) c.args.node.0 (path_of c.args.question.now.path.now) p) s (child_run g.K.Validate.words ns w texts root depth (path_of c.args.question.now.path.now) p busy es) (same_edge es) name m (g.K.Validate.remaining m s) _ _ _ _ _ _ _ _ _ _ a point c.step_match.ensures.marking turn' step' falls is new (c.turns.invariant.met texts root depth reads l);
+          meets_matched (g.K.Validate.words texts) w.matcher w.assumptions (node_at (g.K.Validate.words texts) w.matcher ns (subject_in root) c.args.node.0 (path_of c.args.question.now.path.now) p) s (child_run g.K.Validate.words ns w texts root depth (path_of c.args.question.now.path.now) p busy es) (same_edge es) name m (g.K.Validate.remaining m s) _ _ _ _ _ _ _ _ _ _ a point c.step_match.ensures.frame.marking turn' step' falls is new (c.turns.invariant.met texts root depth reads l);
     }
 
 pub turns::run_turns-turns-preserved-in-Ecma : goal.turns::run_turns-turns-preserved-in-Ecma
@@ -830,14 +830,14 @@ turns::run_turns-turns-preserved-in-Mark g t c =
     let turn = c.in_ok-step.ensures.turns false (tells_nothing (g.K.Validate.is_whole m) s) in
     let step = rw c.in-Mark.is at (c.in_ok-step.ensures.steps false (tells_nothing (g.K.Validate.is_whole m) s)) in
     record {
-      root = c.enter_marking.ensures.root ∙ c.turns.invariant.root;
-      kept = c.enter_marking.ensures.in_progress ∙ c.turns.invariant.kept;
-      assumes = ap (λ (r : Remembered). r.assumptions) c.enter_marking.ensures.remembered ∙ c.turns.invariant.assumes;
-      stays = λ layout laid right. right_same (setting g.K.Validate.words g.K.Validate.is_whole g.K.Validate.shape g.M.Matcher.matching c.args.engine.now) layout c.turns.context c.enter_marking.new.self c.enter_marking.ensures.remembered c.enter_marking.ensures.verdicts (c.turns.invariant.stays layout laid right);
+      root = c.enter_marking.ensures.frame.root ∙ c.turns.invariant.root;
+      kept = c.enter_marking.ensures.frame.in_progress ∙ c.turns.invariant.kept;
+      assumes = ap (λ (r : Remembered). r.assumptions) c.enter_marking.ensures.frame.remembered ∙ c.turns.invariant.assumes;
+      stays = λ layout laid right. right_same (setting g.K.Validate.words g.K.Validate.is_whole g.K.Validate.shape g.M.Matcher.matching c.args.engine.now) layout c.turns.context c.enter_marking.new.self c.enter_marking.ensures.frame.remembered c.enter_marking.ensures.frame.verdicts (c.turns.invariant.stays layout laid right);
       can = can_after (g.K.Validate.words false) m (g.K.Validate.absorbed m) (g.K.Validate.remaining m) (g.K.Validate.can_be false m) (g.K.Validate.ends false m) (g.K.Validate.fits false m) (g.met.K.Validate.turn_laws false m) s (c.turns.run, answer_of false c.turns.answer) (c.turn.new.run, answer_of false c.turn.new.answer) told c.turns.invariant.can turn;
-      counted = no_fewer c.args.context.now.visits c.turns.context.visits c.enter_marking.new.self.visits c.turns.invariant.counted (as_many _ _ c.enter_marking.ensures.visits);
-      worked = subst (Spends c.args.context.now.work) (sym c.enter_marking.ensures.work) c.turns.invariant.worked;
-      quiet = λ none. c.enter_marking.ensures.visits ∙ c.turns.invariant.quiet none;
+      counted = no_fewer c.args.context.now.visits c.turns.context.visits c.enter_marking.new.self.visits c.turns.invariant.counted (as_many _ _ c.enter_marking.ensures.frame.visits);
+      worked = subst (Spends c.args.context.now.work) (sym c.enter_marking.ensures.frame.work) c.turns.invariant.worked;
+      quiet = λ none. c.enter_marking.ensures.frame.visits ∙ c.turns.invariant.quiet none;
       borrows = λ root at_place.
           let i = c.turns.invariant.borrows root at_place in
           (All-nil (BorrowsItsPlace root), c.in_ok-step.ensures.borrows root i.0 i.1);
@@ -850,7 +850,7 @@ turns::run_turns-turns-preserved-in-Mark g t c =
           let step' = rw c.in-Mark.is at (c.in_ok-step.ensures.steps texts tells) in
           let turn' = c.in_ok-step.ensures.turns texts tells in
           let falls = falls_turned (g.K.Validate.words texts) m (g.K.Validate.absorbed m) (g.K.Validate.remaining m) (g.K.Validate.can_be texts m) (g.K.Validate.ends texts m) (g.K.Validate.fits texts m) (g.met.K.Validate.turn_laws texts m) s (c.turns.run, answer_of texts c.turns.answer) (c.turn.new.run, answer_of texts c.turn.new.answer) (reply_of texts c.turns.reply) (mark (marked_of c.in-Mark.marked)) (c.turns.invariant.leads (reading w texts root depth) reads l).can turn' step' (mark_goes_on (marked_of c.in-Mark.marked)) in
-          meets_marked (g.K.Validate.words texts) w.matcher w.assumptions (node_at (g.K.Validate.words texts) w.matcher ns (subject_in root) c.args.node.0 (path_of c.args.question.now.path.now) p) s (child_run g.K.Validate.words ns w texts root depth (path_of c.args.question.now.path.now) p busy es) (same_edge es) name m (g.K.Validate.remaining m s) _ _ _ _ _ _ _ _ _ _ (marked_of c.in-Mark.marked) c.in_ok-held-in-Mark.ensures.marks turn' step' falls (ap truth c.in_ok-held-in-Mark.ensures.held) c.enter_marking.ensures.remembered (c.turns.invariant.met texts root depth reads l);
+          meets_marked (g.K.Validate.words texts) w.matcher w.assumptions (node_at (g.K.Validate.words texts) w.matcher ns (subject_in root) c.args.node.0 (path_of c.args.question.now.path.now) p) s (child_run g.K.Validate.words ns w texts root depth (path_of c.args.question.now.path.now) p busy es) (same_edge es) name m (g.K.Validate.remaining m s) _ _ _ _ _ _ _ _ _ _ (marked_of c.in-Mark.marked) c.in_ok-held-in-Mark.ensures.marks turn' step' falls (ap truth c.in_ok-held-in-Mark.ensures.held) c.enter_marking.ensures.frame.remembered (c.turns.invariant.met texts root depth reads l);
     }
 
 pub turns::run_turns-turns-smaller : goal.turns::run_turns-turns-smaller
@@ -876,14 +876,14 @@ turns::run_turns-turns-preserved g t c =
     let turn = c.in_ok-step.ensures.turns false (tells_nothing (g.K.Validate.is_whole m) s) in
     let step = rw c.in-Unmark.is at (c.in_ok-step.ensures.steps false (tells_nothing (g.K.Validate.is_whole m) s)) in
     record {
-      root = c.exit_marking.ensures.root ∙ c.turns.invariant.root;
-      kept = c.exit_marking.ensures.in_progress ∙ c.turns.invariant.kept;
-      assumes = ap (λ (r : Remembered). r.assumptions) c.exit_marking.ensures.remembered ∙ c.turns.invariant.assumes;
-      stays = λ layout laid right. right_same (setting g.K.Validate.words g.K.Validate.is_whole g.K.Validate.shape g.M.Matcher.matching c.args.engine.now) layout c.turns.context c.exit_marking.new.self c.exit_marking.ensures.remembered c.exit_marking.ensures.verdicts (c.turns.invariant.stays layout laid right);
+      root = c.exit_marking.ensures.frame.root ∙ c.turns.invariant.root;
+      kept = c.exit_marking.ensures.frame.in_progress ∙ c.turns.invariant.kept;
+      assumes = ap (λ (r : Remembered). r.assumptions) c.exit_marking.ensures.frame.remembered ∙ c.turns.invariant.assumes;
+      stays = λ layout laid right. right_same (setting g.K.Validate.words g.K.Validate.is_whole g.K.Validate.shape g.M.Matcher.matching c.args.engine.now) layout c.turns.context c.exit_marking.new.self c.exit_marking.ensures.frame.remembered c.exit_marking.ensures.frame.verdicts (c.turns.invariant.stays layout laid right);
       can = can_after (g.K.Validate.words false) m (g.K.Validate.absorbed m) (g.K.Validate.remaining m) (g.K.Validate.can_be false m) (g.K.Validate.ends false m) (g.K.Validate.fits false m) (g.met.K.Validate.turn_laws false m) s (c.turns.run, answer_of false c.turns.answer) (c.turn.new.run, answer_of false c.turn.new.answer) told c.turns.invariant.can turn;
-      counted = no_fewer c.args.context.now.visits c.turns.context.visits c.exit_marking.new.self.visits c.turns.invariant.counted (as_many _ _ c.exit_marking.ensures.visits);
-      worked = subst (Spends c.args.context.now.work) (sym c.exit_marking.ensures.work) c.turns.invariant.worked;
-      quiet = λ none. c.exit_marking.ensures.visits ∙ c.turns.invariant.quiet none;
+      counted = no_fewer c.args.context.now.visits c.turns.context.visits c.exit_marking.new.self.visits c.turns.invariant.counted (as_many _ _ c.exit_marking.ensures.frame.visits);
+      worked = subst (Spends c.args.context.now.work) (sym c.exit_marking.ensures.frame.work) c.turns.invariant.worked;
+      quiet = λ none. c.exit_marking.ensures.frame.visits ∙ c.turns.invariant.quiet none;
       borrows = λ root at_place.
           let i = c.turns.invariant.borrows root at_place in
           (All-nil (BorrowsItsPlace root), c.in_ok-step.ensures.borrows root i.0 i.1);
@@ -896,7 +896,7 @@ turns::run_turns-turns-preserved g t c =
           let step' = rw c.in-Unmark.is at (c.in_ok-step.ensures.steps texts tells) in
           let turn' = c.in_ok-step.ensures.turns texts tells in
           let falls = falls_turned (g.K.Validate.words texts) m (g.K.Validate.absorbed m) (g.K.Validate.remaining m) (g.K.Validate.can_be texts m) (g.K.Validate.ends texts m) (g.K.Validate.fits texts m) (g.met.K.Validate.turn_laws texts m) s (c.turns.run, answer_of texts c.turns.answer) (c.turn.new.run, answer_of texts c.turn.new.answer) (reply_of texts c.turns.reply) unmark (c.turns.invariant.leads (reading w texts root depth) reads l).can turn' step' unmark_goes_on in
-          meets_mark_taken (g.K.Validate.words texts) w.matcher w.assumptions (node_at (g.K.Validate.words texts) w.matcher ns (subject_in root) c.args.node.0 (path_of c.args.question.now.path.now) p) s (child_run g.K.Validate.words ns w texts root depth (path_of c.args.question.now.path.now) p busy es) (same_edge es) name m (g.K.Validate.remaining m s) _ _ _ _ _ _ _ _ _ _ c.exit_marking.ensures.left turn' step' falls refl c.exit_marking.ensures.remembered (c.turns.invariant.met texts root depth reads l);
+          meets_mark_taken (g.K.Validate.words texts) w.matcher w.assumptions (node_at (g.K.Validate.words texts) w.matcher ns (subject_in root) c.args.node.0 (path_of c.args.question.now.path.now) p) s (child_run g.K.Validate.words ns w texts root depth (path_of c.args.question.now.path.now) p busy es) (same_edge es) name m (g.K.Validate.remaining m s) _ _ _ _ _ _ _ _ _ _ c.exit_marking.ensures.left turn' step' falls refl c.exit_marking.ensures.frame.remembered (c.turns.invariant.met texts root depth reads l);
     }
 
 pub turns::ask_child-returns-in-First : goal.turns::ask_child-returns-in-First
@@ -1407,16 +1407,16 @@ run::run_edge-run_node-requires-2 g t c =
     let deeper = subst (λ q. NoDeeper q c.enter.new.context.in_progress) (sym there) (subst (NoDeeper p) (sym entered.1) (deeper-pushed p e.node c.args.context.now.in_progress c.requires.may.above)) in
     let (layout, laid, right) = c.requires.may.goes_on in
     let laid' = subst (λ q. LaysOut layout q s) (sym there) laid in
-    let right' = right_same set layout c.args.context.now c.enter.new.context (c.enter.ensures.remembered ∙ ap (λ (z : Context). z.remembered) c.in_ok-pair.ensures.unchanged) (c.enter.ensures.verdicts ∙ ap (λ (z : Context). z.verdicts) c.in_ok-pair.ensures.unchanged) right in
-    let root = c.enter.ensures.root ∙ ap (λ (z : Context). z.root) c.in_ok-pair.ensures.unchanged in
+    let right' = right_same set layout c.args.context.now c.enter.new.context (c.enter.ensures.frame.remembered ∙ ap (λ (z : Context). z.remembered) c.in_ok-pair.ensures.unchanged) (c.enter.ensures.frame.verdicts ∙ ap (λ (z : Context). z.verdicts) c.in_ok-pair.ensures.unchanged) right in
+    let root = c.enter.ensures.frame.root ∙ ap (λ (z : Context). z.root) c.in_ok-pair.ensures.unchanged in
     let carries = carries_on c.args.context.now.root c.enter.new.context.root c.numbered_place-place.result root (c.numbered_place-place.ensures.carries c.args.context.now c.in_ok-pair.ensures.numbered) in
     λ κs h. (lower_entered _ _ _ t l needs c.decreases, (h.0, (h.1.0, (h.1.1.0, (h.1.1.1, record { may = record { known = c.requires.may.known; ranked = c.requires.may.ranked; above = deeper; wanted = c.requires.may.wanted; stands = stands_at c.args.context.now.root _ (asking c.args.question.now) _ root there c.requires.may.stands; goes_on = (layout, laid', right') }; carries = carries; more = c.requires.more })))))
 
 pub run::run_edge-returns : goal.run::run_edge-returns
 run::run_edge-returns g t c = record {
   keeps = first_of (search rules, grind (arith, common_steps));
-  counts = rw ((c.enter.ensures.visits ∙ ap (λ (z : Context). z.visits) c.in_ok-pair.ensures.unchanged), ← c.exit.ensures.visits) at c.in_ok-reply.ensures.counts;
-  works = spends_between c.args.context.now.work c.enter.new.context.work c.run_node-2.new.context.work c.exit.new.context.work (c.enter.ensures.work ∙ ap (λ (z : Context). z.work) c.in_ok-pair.ensures.unchanged) c.exit.ensures.work (asks_spends _ _ c.in_ok-reply.ensures.works);
+  counts = rw ((c.enter.ensures.frame.visits ∙ ap (λ (z : Context). z.visits) c.in_ok-pair.ensures.unchanged), ← c.exit.ensures.frame.visits) at c.in_ok-reply.ensures.counts;
+  works = spends_between c.args.context.now.work c.enter.new.context.work c.run_node-2.new.context.work c.exit.new.context.work (c.enter.ensures.frame.work ∙ ap (λ (z : Context). z.work) c.in_ok-pair.ensures.unchanged) c.exit.ensures.frame.work (asks_spends _ _ c.in_ok-reply.ensures.works);
   says =
       let set = setting g.K.Validate.words g.K.Validate.is_whole g.K.Validate.shape g.M.Matcher.matching c.args.engine.now in
       let q = asking c.args.question.now in
@@ -1430,7 +1430,7 @@ run::run_edge-returns g t c = record {
       let there : steps_to c.numbered_place-place.result ≡ p = c.numbered_place-place.ensures.same ∙ c.in_ok-pair.ensures.place in
       let at_asked : (record { subject = q.subject; place = steps_to c.numbered_place-place.result; path = path_of c.across-whole.result; mode = q.mode }) ≡ asked_across set q e c.args.context.now c.if-not-edge.false entered.0
       = λ i. record { subject = q.subject; place = there i; path = c.across-whole.ensures.appended i; mode = q.mode } in
-      computed_says set q e c.args.context.now c.if-not-edge.false entered.0 c1 entered.1 (c.enter.ensures.remembered ∙ ap (λ (z : Context). z.remembered) c.in_ok-pair.ensures.unchanged) c.in_ok-reply.reply (subst (λ z. NodeSays set z c1 e.node c.in_ok-reply.reply) at_asked c.in_ok-reply.ensures.says);
+      computed_says set q e c.args.context.now c.if-not-edge.false entered.0 c1 entered.1 (c.enter.ensures.frame.remembered ∙ ap (λ (z : Context). z.remembered) c.in_ok-pair.ensures.unchanged) c.in_ok-reply.reply (subst (λ z. NodeSays set z c1 e.node c.in_ok-reply.reply) at_asked c.in_ok-reply.ensures.says);
   meets =
       let set = setting g.K.Validate.words g.K.Validate.is_whole g.K.Validate.shape g.M.Matcher.matching c.args.engine.now in
       let q = asking c.args.question.now in
@@ -1445,7 +1445,7 @@ run::run_edge-returns g t c = record {
       let there : steps_to c.numbered_place-place.result ≡ p = c.numbered_place-place.ensures.same ∙ c.in_ok-pair.ensures.place in
       let at_asked : (record { subject = q.subject; place = steps_to c.numbered_place-place.result; path = path_of c.across-whole.result; mode = q.mode }) ≡ asked_across set q e c.args.context.now c.if-not-edge.false entered.0
       = λ i. record { subject = q.subject; place = there i; path = c.across-whole.ensures.appended i; mode = q.mode } in
-      computed_meets set q e c.args.context.now c.if-not-edge.false entered.0 c1 entered.1 (c.enter.ensures.remembered ∙ ap (λ (z : Context). z.remembered) c.in_ok-pair.ensures.unchanged) c3 c.exit.new.context (subst (λ z. MeetsNode set z c1 c3 e.node) at_asked c.in_ok-reply.ensures.meets) c.exit.ensures.remembered;
+      computed_meets set q e c.args.context.now c.if-not-edge.false entered.0 c1 entered.1 (c.enter.ensures.frame.remembered ∙ ap (λ (z : Context). z.remembered) c.in_ok-pair.ensures.unchanged) c3 c.exit.new.context (subst (λ z. MeetsNode set z c1 c3 e.node) at_asked c.in_ok-reply.ensures.meets) c.exit.ensures.frame.remembered;
   stays =
       let set = setting g.K.Validate.words g.K.Validate.is_whole g.K.Validate.shape g.M.Matcher.matching c.args.engine.now in
       let q = asking c.args.question.now in
@@ -1460,7 +1460,7 @@ run::run_edge-returns g t c = record {
       let there : steps_to c.numbered_place-place.result ≡ p = c.numbered_place-place.ensures.same ∙ c.in_ok-pair.ensures.place in
       let at_asked : (record { subject = q.subject; place = steps_to c.numbered_place-place.result; path = path_of c.across-whole.result; mode = q.mode }) ≡ asked_across set q e c.args.context.now c.if-not-edge.false entered.0
       = λ i. record { subject = q.subject; place = there i; path = c.across-whole.ensures.appended i; mode = q.mode } in
-      computed_stays set q e c.args.context.now c.if-not-edge.false entered.0 c1 entered.1 (c.enter.ensures.remembered ∙ ap (λ (z : Context). z.remembered) c.in_ok-pair.ensures.unchanged) c3 c.exit.new.context (c.enter.ensures.verdicts ∙ ap (λ (z : Context). z.verdicts) c.in_ok-pair.ensures.unchanged) (subst (λ z. StaysRight set z c1 c3) at_asked c.in_ok-reply.ensures.stays) c.exit.ensures.remembered c.exit.ensures.verdicts;
+      computed_stays set q e c.args.context.now c.if-not-edge.false entered.0 c1 entered.1 (c.enter.ensures.frame.remembered ∙ ap (λ (z : Context). z.remembered) c.in_ok-pair.ensures.unchanged) c3 c.exit.new.context (c.enter.ensures.frame.verdicts ∙ ap (λ (z : Context). z.verdicts) c.in_ok-pair.ensures.unchanged) (subst (λ z. StaysRight set z c1 c3) at_asked c.in_ok-reply.ensures.stays) c.exit.ensures.frame.remembered c.exit.ensures.frame.verdicts;
 }
 
 pub evaluate::evaluate_edge-returns-then-not-edge : goal.evaluate::evaluate_edge-returns-then-not-edge
@@ -1529,16 +1529,16 @@ evaluate::evaluate_edge-evaluate_node-requires-2 g t c =
     let deeper = subst (λ q. NoDeeper q c.enter.new.context.in_progress) (sym there) (subst (NoDeeper p) (sym entered.1) (deeper-pushed p e.node c.args.context.now.in_progress c.requires.may.above)) in
     let (layout, laid, right) = c.requires.may.goes_on in
     let laid' = subst (λ q. LaysOut layout q s) (sym there) laid in
-    let right' = right_same set layout c.args.context.now c.enter.new.context (c.enter.ensures.remembered ∙ ap (λ (z : Context). z.remembered) c.in_ok-pair.ensures.unchanged) (c.enter.ensures.verdicts ∙ ap (λ (z : Context). z.verdicts) c.in_ok-pair.ensures.unchanged) right in
-    let root = c.enter.ensures.root ∙ ap (λ (z : Context). z.root) c.in_ok-pair.ensures.unchanged in
+    let right' = right_same set layout c.args.context.now c.enter.new.context (c.enter.ensures.frame.remembered ∙ ap (λ (z : Context). z.remembered) c.in_ok-pair.ensures.unchanged) (c.enter.ensures.frame.verdicts ∙ ap (λ (z : Context). z.verdicts) c.in_ok-pair.ensures.unchanged) right in
+    let root = c.enter.ensures.frame.root ∙ ap (λ (z : Context). z.root) c.in_ok-pair.ensures.unchanged in
     let carries = carries_on c.args.context.now.root c.enter.new.context.root c.numbered_place-place.result root (c.numbered_place-place.ensures.carries c.args.context.now c.in_ok-pair.ensures.numbered) in
     λ κs h. (lower_entered _ _ _ t l needs c.decreases, (h.0, (h.1.0, (h.1.1.0, (h.1.1.1, record { may = record { known = c.requires.may.known; ranked = c.requires.may.ranked; above = deeper; wanted = c.requires.may.wanted; stands = stands_at c.args.context.now.root _ (asking c.args.question.now) _ root there c.requires.may.stands; goes_on = (layout, laid', right') }; carries = carries })))))
 
 pub evaluate::evaluate_edge-returns : goal.evaluate::evaluate_edge-returns
 evaluate::evaluate_edge-returns g t c = record {
   keeps = first_of (search rules, grind (arith, common_steps));
-  counts = rw ((c.enter.ensures.visits ∙ ap (λ (z : Context). z.visits) c.in_ok-pair.ensures.unchanged), ← c.exit.ensures.visits) at c.in_ok-unit.ensures.counts;
-  works = spends_between c.args.context.now.work c.enter.new.context.work c.evaluate_node-2.new.context.work c.exit.new.context.work (c.enter.ensures.work ∙ ap (λ (z : Context). z.work) c.in_ok-pair.ensures.unchanged) c.exit.ensures.work (asks_spends _ _ c.in_ok-unit.ensures.works);
+  counts = rw ((c.enter.ensures.frame.visits ∙ ap (λ (z : Context). z.visits) c.in_ok-pair.ensures.unchanged), ← c.exit.ensures.frame.visits) at c.in_ok-unit.ensures.counts;
+  works = spends_between c.args.context.now.work c.enter.new.context.work c.evaluate_node-2.new.context.work c.exit.new.context.work (c.enter.ensures.frame.work ∙ ap (λ (z : Context). z.work) c.in_ok-pair.ensures.unchanged) c.exit.ensures.frame.work (asks_spends _ _ c.in_ok-unit.ensures.works);
   says =
       let set = setting g.K.Validate.words g.K.Validate.is_whole g.K.Validate.shape g.M.Matcher.matching c.args.engine.now in
       let q = asking c.args.question.now in
@@ -1552,7 +1552,7 @@ evaluate::evaluate_edge-returns g t c = record {
       let there : steps_to c.numbered_place-place.result ≡ p = c.numbered_place-place.ensures.same ∙ c.in_ok-pair.ensures.place in
       let asked : Asking = record { subject = q.subject; place = steps_to c.numbered_place-place.result; path = path_of c.across-whole.result; mode = q.mode } in
       let is : asked ≡ record q { path = q.path ++ e.path } = λ i. record { subject = q.subject; place = there i; path = c.across-whole.ensures.appended i; mode = q.mode } in
-      gives_entered set q c.args.context.now e c.in_ok-unit.unit c.if-not-edge.false entered.0 asked c.enter.new.context is pushed (c.enter.ensures.remembered ∙ ap (λ (z : Context). z.remembered) c.in_ok-pair.ensures.unchanged) c.in_ok-unit.ensures.says;
+      gives_entered set q c.args.context.now e c.in_ok-unit.unit c.if-not-edge.false entered.0 asked c.enter.new.context is pushed (c.enter.ensures.frame.remembered ∙ ap (λ (z : Context). z.remembered) c.in_ok-pair.ensures.unchanged) c.in_ok-unit.ensures.says;
   meets =
       let ns = numbered g.K.Validate.shape c.args.engine.now.nodes.now in
       let set = setting g.K.Validate.words g.K.Validate.is_whole g.K.Validate.shape g.M.Matcher.matching c.args.engine.now in
@@ -1570,15 +1570,15 @@ evaluate::evaluate_edge-returns g t c = record {
       let there : steps_to c.numbered_place-place.result ≡ p = c.numbered_place-place.ensures.same ∙ c.in_ok-pair.ensures.place in
       let asked : Asking = record { subject = q.subject; place = steps_to c.numbered_place-place.result; path = path_of c.across-whole.result; mode = q.mode } in
       let is : asked ≡ record q { path = q.path ++ e.path } = λ i. record { subject = q.subject; place = there i; path = c.across-whole.ensures.appended i; mode = q.mode } in
-      let met = entered_meets set q c.args.context.now e c.in_ok-unit.unit c.if-not-edge.false entered.0 asked c.enter.new.context c.evaluate_node-2.new.context is pushed (c.enter.ensures.remembered ∙ ap (λ (z : Context). z.remembered) c.in_ok-pair.ensures.unchanged) c.in_ok-unit.ensures.meets in
-      subst (λ r. EdgeMeets g.K.Validate.words g.K.Validate.is_whole ns (length c.args.engine.now.nodes.now) w (mode_of c.args.question.now.mode) (path_of c.args.question.now.path.now) p busy s c.args.context.now.remembered r e) (sym c.exit.ensures.remembered) met;
+      let met = entered_meets set q c.args.context.now e c.in_ok-unit.unit c.if-not-edge.false entered.0 asked c.enter.new.context c.evaluate_node-2.new.context is pushed (c.enter.ensures.frame.remembered ∙ ap (λ (z : Context). z.remembered) c.in_ok-pair.ensures.unchanged) c.in_ok-unit.ensures.meets in
+      subst (λ r. EdgeMeets g.K.Validate.words g.K.Validate.is_whole ns (length c.args.engine.now.nodes.now) w (mode_of c.args.question.now.mode) (path_of c.args.question.now.path.now) p busy s c.args.context.now.remembered r e) (sym c.exit.ensures.frame.remembered) met;
   stays =
       let set = setting g.K.Validate.words g.K.Validate.is_whole g.K.Validate.shape g.M.Matcher.matching c.args.engine.now in
       let p = steps_to c.args.question.now.place.now in
       let s = subject_of c.args.question.now.instance in
       let there : steps_to c.numbered_place-place.result ≡ p = c.numbered_place-place.ensures.same ∙ c.in_ok-pair.ensures.place in
       λ layout laid right.
-      let right1 = right_same set layout c.args.context.now c.enter.new.context (c.enter.ensures.remembered ∙ ap (λ (z : Context). z.remembered) c.in_ok-pair.ensures.unchanged) (c.enter.ensures.verdicts ∙ ap (λ (z : Context). z.verdicts) c.in_ok-pair.ensures.unchanged) right in
+      let right1 = right_same set layout c.args.context.now c.enter.new.context (c.enter.ensures.frame.remembered ∙ ap (λ (z : Context). z.remembered) c.in_ok-pair.ensures.unchanged) (c.enter.ensures.frame.verdicts ∙ ap (λ (z : Context). z.verdicts) c.in_ok-pair.ensures.unchanged) right in
       let laid' = subst (λ q. LaysOut layout q s) (sym there) laid in
-      right_same set layout c.evaluate_node-2.new.context c.exit.new.context c.exit.ensures.remembered c.exit.ensures.verdicts (c.in_ok-unit.ensures.stays layout laid' right1);
+      right_same set layout c.evaluate_node-2.new.context c.exit.new.context c.exit.ensures.frame.remembered c.exit.ensures.frame.verdicts (c.in_ok-unit.ensures.stays layout laid' right1);
 }

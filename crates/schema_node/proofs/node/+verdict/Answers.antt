@@ -1216,13 +1216,13 @@ pub verdict::guarded_verdict-returns : goal.verdict::guarded_verdict-returns
 verdict::guarded_verdict-returns g t c = record {
   keeps = grind (arith, common_steps);
   counts =
-      let visits = c.exit.ensures.visits ∙ ap (λ (z : Context). z.visits) c.keep_verdict.ensures.frame in
-      let before = subst (λ z. z ≤ c.start_ref_visit-mark.new.self.visits) (c.enter.ensures.visits ∙ ap (λ (z : Context). z.visits) c.in_ok-pair.ensures.unchanged) c.start_ref_visit-mark.ensures.more in
+      let visits = c.exit.ensures.frame.visits ∙ ap (λ (z : Context). z.visits) c.keep_verdict.ensures.frame in
+      let before = subst (λ z. z ≤ c.start_ref_visit-mark.new.self.visits) (c.enter.ensures.frame.visits ∙ ap (λ (z : Context). z.visits) c.in_ok-pair.ensures.unchanged) c.start_ref_visit-mark.ensures.more in
       let after = subst (λ z. c.start_ref_visit-mark.new.self.visits ≤ z) (sym visits) c.in_ok-valid.ensures.counts in
       no_fewer c.args.context.now.visits c.start_ref_visit-mark.new.self.visits c.exit.new.context.visits before after;
   works =
-      let before = ap (λ (z : Context). z.work) c.start_ref_visit-mark.ensures.counted ∙ (c.enter.ensures.work ∙ ap (λ (z : Context). z.work) c.in_ok-pair.ensures.unchanged) in
-      let after = c.exit.ensures.work ∙ ap (λ (z : Context). z.work) c.keep_verdict.ensures.frame in
+      let before = ap (λ (z : Context). z.work) c.start_ref_visit-mark.ensures.counted ∙ (c.enter.ensures.frame.work ∙ ap (λ (z : Context). z.work) c.in_ok-pair.ensures.unchanged) in
+      let after = c.exit.ensures.frame.work ∙ ap (λ (z : Context). z.work) c.keep_verdict.ensures.frame in
       spends_between c.args.context.now.work c.start_ref_visit-mark.new.self.work c.verdict_node.new.context.work c.exit.new.context.work before after (asks_spends _ _ c.in_ok-valid.ensures.works);
   visits =
       let ns = (numbered g.K.Validate.shape c.args.engine.now.nodes.now) in
@@ -1238,14 +1238,14 @@ verdict::guarded_verdict-returns g t c = record {
         pair_entered e.node c.in_ok-pair.pair.node.0 p (place_of c.in_ok-pair.pair) c.args.context.now c.new.new.context c.enter.new.context.in_progress (ap (λ (n : SchemaNode). n.0) c.in_ok-pair.ensures.node) c.in_ok-pair.ensures.place c.in_ok-pair.ensures.unchanged c.in_ok-enter.ensures.entered,
       ) in
       let pairs : c2.in_progress ≡ c.args.context.now.in_progress ++ (e.node, p) ∷ [] = ap (λ (z : Context). z.in_progress) c.start_ref_visit-mark.ensures.counted ∙ entered.1 in
-      let read = ap (λ (z : Context). z.verdicts) c.start_ref_visit-mark.ensures.counted ∙ (c.enter.ensures.verdicts ∙ ap (λ (z : Context). z.verdicts) c.in_ok-pair.ensures.unchanged) in
-      let counted = ap (λ (z : Context). z.visits) c.start_ref_visit-mark.ensures.counted ∙ ap one_more (c.enter.ensures.visits ∙ ap (λ (z : Context). z.visits) c.in_ok-pair.ensures.unchanged) in
+      let read = ap (λ (z : Context). z.verdicts) c.start_ref_visit-mark.ensures.counted ∙ (c.enter.ensures.frame.verdicts ∙ ap (λ (z : Context). z.verdicts) c.in_ok-pair.ensures.unchanged) in
+      let counted = ap (λ (z : Context). z.visits) c.start_ref_visit-mark.ensures.counted ∙ ap one_more (c.enter.ensures.frame.visits ∙ ap (λ (z : Context). z.visits) c.in_ok-pair.ensures.unchanged) in
       let there : steps_to c.numbered_place-place.result ≡ p = c.numbered_place-place.ensures.same ∙ c.in_ok-pair.ensures.place in
-      let none = read_entered e.node p c.args.context.now c.enter.new.context entered.1 (c.enter.ensures.verdicts ∙ ap (λ (z : Context). z.verdicts) c.in_ok-pair.ensures.unchanged) ∙ unknown.1 in
+      let none = read_entered e.node p c.args.context.now c.enter.new.context entered.1 (c.enter.ensures.frame.verdicts ∙ ap (λ (z : Context). z.verdicts) c.in_ok-pair.ensures.unchanged) ∙ unknown.1 in
       let node_counts = subst (λ z. NodeCounts ns (record { subject = q.subject; place = z; path = path_of c.across-whole.result; mode = q.mode }) c2 c3 e.node) there c.in_ok-valid.ensures.visits in
-      let visits = c.exit.ensures.visits ∙ ap (λ (z : Context). z.visits) c.keep_verdict.ensures.frame in
+      let visits = c.exit.ensures.frame.visits ∙ ap (λ (z : Context). z.visits) c.keep_verdict.ensures.frame in
       computed_counts ns q c.args.context.now e c2 c3 c.exit.new.context c.requires.stands entered.0
-      (sym (read_entered e.node p c.args.context.now c1 entered.1 (c.enter.ensures.verdicts ∙ ap (λ (z : Context). z.verdicts) c.in_ok-pair.ensures.unchanged)) ∙ none) pairs read counted node_counts visits;
+      (sym (read_entered e.node p c.args.context.now c1 entered.1 (c.enter.ensures.frame.verdicts ∙ ap (λ (z : Context). z.verdicts) c.in_ok-pair.ensures.unchanged)) ∙ none) pairs read counted node_counts visits;
   says =
       let set = setting g.K.Validate.words g.K.Validate.is_whole g.K.Validate.shape g.M.Matcher.matching c.args.engine.now in
       let q = asking c.args.question.now in
@@ -1258,7 +1258,7 @@ verdict::guarded_verdict-returns g t c = record {
       ) in
       let c2 = c.start_ref_visit-mark.new.self in
       let pairs : c2.in_progress ≡ c.args.context.now.in_progress ++ (e.node, p) ∷ [] = ap (λ (z : Context). z.in_progress) c.start_ref_visit-mark.ensures.counted ∙ entered.1 in
-      let met : c2.remembered ≡ c.args.context.now.remembered = ap (λ (z : Context). z.remembered) c.start_ref_visit-mark.ensures.counted ∙ (c.enter.ensures.remembered ∙ ap (λ (z : Context). z.remembered) c.in_ok-pair.ensures.unchanged) in
+      let met : c2.remembered ≡ c.args.context.now.remembered = ap (λ (z : Context). z.remembered) c.start_ref_visit-mark.ensures.counted ∙ (c.enter.ensures.frame.remembered ∙ ap (λ (z : Context). z.remembered) c.in_ok-pair.ensures.unchanged) in
       let there : steps_to c.numbered_place-place.result ≡ p = c.numbered_place-place.ensures.same ∙ c.in_ok-pair.ensures.place in
       let at_asked : (record { subject = q.subject; place = steps_to c.numbered_place-place.result; path = path_of c.across-whole.result; mode = q.mode }) ≡ asked_across set q e c.args.context.now c.requires.stands entered.0
       = λ i. record { subject = q.subject; place = there i; path = c.across-whole.ensures.appended i; mode = q.mode } in
@@ -1277,12 +1277,12 @@ verdict::guarded_verdict-returns g t c = record {
       let c2 = c.start_ref_visit-mark.new.self in
       let c3 = c.verdict_node.new.context in
       let pairs : c2.in_progress ≡ c.args.context.now.in_progress ++ (e.node, p) ∷ [] = ap (λ (z : Context). z.in_progress) c.start_ref_visit-mark.ensures.counted ∙ entered.1 in
-      let met : c2.remembered ≡ c.args.context.now.remembered = ap (λ (z : Context). z.remembered) c.start_ref_visit-mark.ensures.counted ∙ (c.enter.ensures.remembered ∙ ap (λ (z : Context). z.remembered) c.in_ok-pair.ensures.unchanged) in
+      let met : c2.remembered ≡ c.args.context.now.remembered = ap (λ (z : Context). z.remembered) c.start_ref_visit-mark.ensures.counted ∙ (c.enter.ensures.frame.remembered ∙ ap (λ (z : Context). z.remembered) c.in_ok-pair.ensures.unchanged) in
       let there : steps_to c.numbered_place-place.result ≡ p = c.numbered_place-place.ensures.same ∙ c.in_ok-pair.ensures.place in
       let at_asked : (record { subject = q.subject; place = steps_to c.numbered_place-place.result; path = path_of c.across-whole.result; mode = q.mode }) ≡ asked_across set q e c.args.context.now c.requires.stands entered.0
       = λ i. record { subject = q.subject; place = there i; path = c.across-whole.ensures.appended i; mode = q.mode } in
       let meets = subst (λ z. MeetsNode set z c2 c3 e.node) at_asked c.in_ok-valid.ensures.meets in
-      let met5 = c.exit.ensures.remembered ∙ ap (λ (z : Context). z.remembered) c.keep_verdict.ensures.frame in
+      let met5 = c.exit.ensures.frame.remembered ∙ ap (λ (z : Context). z.remembered) c.keep_verdict.ensures.frame in
       computed_meets set q e c.args.context.now c.requires.stands entered.0 c2 pairs met c3 c.exit.new.context meets met5;
   stays =
       let set = setting g.K.Validate.words g.K.Validate.is_whole g.K.Validate.shape g.M.Matcher.matching c.args.engine.now in
@@ -1297,19 +1297,19 @@ verdict::guarded_verdict-returns g t c = record {
       let c2 = c.start_ref_visit-mark.new.self in
       let c3 = c.verdict_node.new.context in
       let pairs : c2.in_progress ≡ c.args.context.now.in_progress ++ (e.node, p) ∷ [] = ap (λ (z : Context). z.in_progress) c.start_ref_visit-mark.ensures.counted ∙ entered.1 in
-      let met : c2.remembered ≡ c.args.context.now.remembered = ap (λ (z : Context). z.remembered) c.start_ref_visit-mark.ensures.counted ∙ (c.enter.ensures.remembered ∙ ap (λ (z : Context). z.remembered) c.in_ok-pair.ensures.unchanged) in
+      let met : c2.remembered ≡ c.args.context.now.remembered = ap (λ (z : Context). z.remembered) c.start_ref_visit-mark.ensures.counted ∙ (c.enter.ensures.frame.remembered ∙ ap (λ (z : Context). z.remembered) c.in_ok-pair.ensures.unchanged) in
       let there : steps_to c.numbered_place-place.result ≡ p = c.numbered_place-place.ensures.same ∙ c.in_ok-pair.ensures.place in
       let at_asked : (record { subject = q.subject; place = steps_to c.numbered_place-place.result; path = path_of c.across-whole.result; mode = q.mode }) ≡ asked_across set q e c.args.context.now c.requires.stands entered.0
       = λ i. record { subject = q.subject; place = there i; path = c.across-whole.ensures.appended i; mode = q.mode } in
       let says = subst (λ z. NodeSays set z c2 e.node (told.Truth c.in_ok-valid.valid)) at_asked c.in_ok-valid.ensures.says in
       let meets = subst (λ z. MeetsNode set z c2 c3 e.node) at_asked c.in_ok-valid.ensures.meets in
       let keeps = c.in_ok-valid.ensures.keeps in
-      let read = ap (λ (z : Context). z.verdicts) c.start_ref_visit-mark.ensures.counted ∙ (c.enter.ensures.verdicts ∙ ap (λ (z : Context). z.verdicts) c.in_ok-pair.ensures.unchanged) in
+      let read = ap (λ (z : Context). z.verdicts) c.start_ref_visit-mark.ensures.counted ∙ (c.enter.ensures.frame.verdicts ∙ ap (λ (z : Context). z.verdicts) c.in_ok-pair.ensures.unchanged) in
       let stays = subst (λ z. StaysRight set z c2 c3) at_asked c.in_ok-valid.ensures.stays in
       let kept = rw (ap (λ (n : SchemaNode). n.0) c.in_ok-pair.ensures.node, c.in_ok-pair.ensures.place) at c.in_ok-keep_verdict.ensures.kept in
       let few = rw (ap (λ (n : SchemaNode). n.0) c.in_ok-pair.ensures.node, c.in_ok-pair.ensures.place) at c.in_ok-keep_verdict.ensures.others in
       kept_stays set q e c.args.context.now c.requires.stands entered.0 c.requires.verdict c.enter.new.context c2 c3 c.keep_verdict.new.context c.exit.new.context c.start_ref_visit-mark.result c.in_ok-valid.valid pairs met says meets keeps
-      g.met.K.Validate.asks_verdicts kept read stays few (ap (λ (z : Context). z.remembered) c.keep_verdict.ensures.frame) c.exit.ensures.remembered c.exit.ensures.verdicts;
+      g.met.K.Validate.asks_verdicts kept read stays few (ap (λ (z : Context). z.remembered) c.keep_verdict.ensures.frame) c.exit.ensures.frame.remembered c.exit.ensures.frame.verdicts;
   remembers =
       let set = setting g.K.Validate.words g.K.Validate.is_whole g.K.Validate.shape g.M.Matcher.matching c.args.engine.now in
       let q = asking c.args.question.now in
@@ -1323,7 +1323,7 @@ verdict::guarded_verdict-returns g t c = record {
       let c2 = c.start_ref_visit-mark.new.self in
       let c3 = c.verdict_node.new.context in
       let pairs : c2.in_progress ≡ c.args.context.now.in_progress ++ (e.node, p) ∷ [] = ap (λ (z : Context). z.in_progress) c.start_ref_visit-mark.ensures.counted ∙ entered.1 in
-      let met : c2.remembered ≡ c.args.context.now.remembered = ap (λ (z : Context). z.remembered) c.start_ref_visit-mark.ensures.counted ∙ (c.enter.ensures.remembered ∙ ap (λ (z : Context). z.remembered) c.in_ok-pair.ensures.unchanged) in
+      let met : c2.remembered ≡ c.args.context.now.remembered = ap (λ (z : Context). z.remembered) c.start_ref_visit-mark.ensures.counted ∙ (c.enter.ensures.frame.remembered ∙ ap (λ (z : Context). z.remembered) c.in_ok-pair.ensures.unchanged) in
       let there : steps_to c.numbered_place-place.result ≡ p = c.numbered_place-place.ensures.same ∙ c.in_ok-pair.ensures.place in
       let at_asked : (record { subject = q.subject; place = steps_to c.numbered_place-place.result; path = path_of c.across-whole.result; mode = q.mode }) ≡ asked_across set q e c.args.context.now c.requires.stands entered.0
       = λ i. record { subject = q.subject; place = there i; path = c.across-whole.ensures.appended i; mode = q.mode } in
@@ -1331,14 +1331,14 @@ verdict::guarded_verdict-returns g t c = record {
       let meets = subst (λ z. MeetsNode set z c2 c3 e.node) at_asked c.in_ok-valid.ensures.meets in
       let keeps = c.in_ok-valid.ensures.keeps in
       let kept = rw (ap (λ (n : SchemaNode). n.0) c.in_ok-pair.ensures.node, c.in_ok-pair.ensures.place) at c.in_ok-keep_verdict.ensures.kept in
-      let none = read_entered e.node p c.args.context.now c.enter.new.context entered.1 (c.enter.ensures.verdicts ∙ ap (λ (z : Context). z.verdicts) c.in_ok-pair.ensures.unchanged) ∙ unknown.1 in
+      let none = read_entered e.node p c.args.context.now c.enter.new.context entered.1 (c.enter.ensures.frame.verdicts ∙ ap (λ (z : Context). z.verdicts) c.in_ok-pair.ensures.unchanged) ∙ unknown.1 in
       let left = ap (λ (z : Context). z.in_progress) c.keep_verdict.ensures.frame ∙ keeps.in_progress in
       let back = pairs_back set q e c.args.context.now c.requires.stands entered.0 c2 c.exit.new.context pairs (sym left ∙ rw (ap (λ (n : SchemaNode). n.0) c.in_ok-pair.ensures.node, c.in_ok-pair.ensures.place) at c.exit.ensures.left) in
-      let visits = c.exit.ensures.visits ∙ ap (λ (z : Context). z.visits) c.keep_verdict.ensures.frame in
-      let counted = ap (λ (z : Context). z.visits) c.start_ref_visit-mark.ensures.counted ∙ ap one_more (c.enter.ensures.visits ∙ ap (λ (z : Context). z.visits) c.in_ok-pair.ensures.unchanged) in
+      let visits = c.exit.ensures.frame.visits ∙ ap (λ (z : Context). z.visits) c.keep_verdict.ensures.frame in
+      let counted = ap (λ (z : Context). z.visits) c.start_ref_visit-mark.ensures.counted ∙ ap one_more (c.enter.ensures.frame.visits ∙ ap (λ (z : Context). z.visits) c.in_ok-pair.ensures.unchanged) in
       let more = subst (λ z. z ≤ c3.visits) counted c.in_ok-valid.ensures.counts in
       kept_remembers set q e c.args.context.now c.requires.stands entered.0 c.requires.verdict c.enter.new.context c2 c3 c.keep_verdict.new.context c.exit.new.context c.start_ref_visit-mark.result c.in_ok-valid.valid pairs met says meets keeps
-      g.met.K.Validate.asks_verdicts kept entered.1 (c.enter.ensures.verdicts ∙ ap (λ (z : Context). z.verdicts) c.in_ok-pair.ensures.unchanged) none (c.start_ref_visit-mark.ensures.mark ∙ (c.enter.ensures.visits ∙ ap (λ (z : Context). z.visits) c.in_ok-pair.ensures.unchanged)) back visits more c.exit.ensures.verdicts;
+      g.met.K.Validate.asks_verdicts kept entered.1 (c.enter.ensures.frame.verdicts ∙ ap (λ (z : Context). z.verdicts) c.in_ok-pair.ensures.unchanged) none (c.start_ref_visit-mark.ensures.mark ∙ (c.enter.ensures.frame.visits ∙ ap (λ (z : Context). z.visits) c.in_ok-pair.ensures.unchanged)) back visits more c.exit.ensures.frame.verdicts;
 }
 
 pub verdict::guarded_verdict-verdict_node-requires : goal.verdict::guarded_verdict-verdict_node-requires
@@ -1361,11 +1361,11 @@ verdict::guarded_verdict-verdict_node-requires g t c =
     let deeper = subst (λ q. NoDeeper q c.start_ref_visit-mark.new.self.in_progress) (sym there) (subst (NoDeeper p) (sym new) (deeper-pushed p e.node c.args.context.now.in_progress c.requires.may.above)) in
     let (layout, laid, right) = c.requires.may.goes_on in
     let set = setting g.K.Validate.words g.K.Validate.is_whole g.K.Validate.shape g.M.Matcher.matching c.args.engine.now in
-    let met = ap (λ (z : Context). z.remembered) c.start_ref_visit-mark.ensures.counted ∙ (c.enter.ensures.remembered ∙ ap (λ (z : Context). z.remembered) c.in_ok-pair.ensures.unchanged) in
-    let read = ap (λ (z : Context). z.verdicts) c.start_ref_visit-mark.ensures.counted ∙ (c.enter.ensures.verdicts ∙ ap (λ (z : Context). z.verdicts) c.in_ok-pair.ensures.unchanged) in
+    let met = ap (λ (z : Context). z.remembered) c.start_ref_visit-mark.ensures.counted ∙ (c.enter.ensures.frame.remembered ∙ ap (λ (z : Context). z.remembered) c.in_ok-pair.ensures.unchanged) in
+    let read = ap (λ (z : Context). z.verdicts) c.start_ref_visit-mark.ensures.counted ∙ (c.enter.ensures.frame.verdicts ∙ ap (λ (z : Context). z.verdicts) c.in_ok-pair.ensures.unchanged) in
     let laid' = subst (λ q. LaysOut layout q s) (sym there) laid in
     let right' = right_same set layout c.args.context.now c.start_ref_visit-mark.new.self met read right in
-    let root = ap (λ (z : Context). z.root) c.start_ref_visit-mark.ensures.counted ∙ c.enter.ensures.root ∙ ap (λ (z : Context). z.root) c.in_ok-pair.ensures.unchanged in
+    let root = ap (λ (z : Context). z.root) c.start_ref_visit-mark.ensures.counted ∙ c.enter.ensures.frame.root ∙ ap (λ (z : Context). z.root) c.in_ok-pair.ensures.unchanged in
     let carries = carries_on c.args.context.now.root c.start_ref_visit-mark.new.self.root c.numbered_place-place.result root (c.numbered_place-place.ensures.carries c.args.context.now c.in_ok-pair.ensures.numbered) in
     λ κs h. (lower_entered _ _ _ t l needs c.decreases, (h.0, (h.1.0, (h.1.1.0, (h.1.1.1, record { may = record { known = c.requires.may.known; ranked = c.requires.may.ranked; above = deeper; wanted = c.requires.may.wanted; stands = stands_at c.args.context.now.root _ (asking c.args.question.now) _ root there c.requires.may.stands; goes_on = (layout, laid', right') }; carries = carries; verdict = c.requires.verdict; stands = tt })))))
 
@@ -1377,18 +1377,18 @@ verdict_turns::keyword_verdict-take_turns-turned-requires g t c =
     let m = g.K.Validate.shape c.args.keyword.now.keyword.now in
     let begun : (texts : Bool) → (g.K.Validate.words texts).begin m s (mode_of c.args.question.now.mode) ≡ (c.in_ok-run.run', answer_of texts c.in_ok-answer.answer)
     = λ texts. ap ((g.K.Validate.words texts).begin m s) c.requires.verdict ∙ c.in_ok-run.ensures.begins texts ∙ ap (λ a. (c.in_ok-run.run', a)) (sym (c.in_ok-answer.ensures.fresh texts)) in
-    let kept = c.set_aside-aside.ensures.in_progress in
+    let kept = c.set_aside-aside.ensures.frame.in_progress in
     let l = ap (λ es. left ns (length c.args.engine.now.nodes.now) c.args.node.0 s (busy_at p es)) kept in
-    λ κs h. (lower_same _ _ t 4 0 l c.decreases, (h.0, (h.1.0, (h.1.1.0, (h.1.1.1, (record { may = record { known = c.requires.may.known; ranked = c.requires.may.ranked; above = subst (NoDeeper p) (sym kept) c.requires.may.above; wanted = c.requires.may.wanted; stands = stands_on c.args.context.now.root _ (asking c.args.question.now) c.set_aside-aside.ensures.root c.requires.may.stands; goes_on = (c.requires.may.goes_on.0, c.requires.may.goes_on.1, right_same (setting g.K.Validate.words g.K.Validate.is_whole g.K.Validate.shape g.M.Matcher.matching c.args.engine.now) c.requires.may.goes_on.0 c.args.context.now c.set_aside-aside.new.self c.set_aside-aside.ensures.remembered c.set_aside-aside.ensures.verdicts c.requires.may.goes_on.2) }; carries = carries_on c.args.context.now.root _ c.args.question.now.place.now c.set_aside-aside.ensures.root c.requires.carries; verdict = c.requires.verdict; stands = c.requires.stands }, (begun, c.set_aside-aside.ensures.none)))))))
+    λ κs h. (lower_same _ _ t 4 0 l c.decreases, (h.0, (h.1.0, (h.1.1.0, (h.1.1.1, (record { may = record { known = c.requires.may.known; ranked = c.requires.may.ranked; above = subst (NoDeeper p) (sym kept) c.requires.may.above; wanted = c.requires.may.wanted; stands = stands_on c.args.context.now.root _ (asking c.args.question.now) c.set_aside-aside.ensures.frame.root c.requires.may.stands; goes_on = (c.requires.may.goes_on.0, c.requires.may.goes_on.1, right_same (setting g.K.Validate.words g.K.Validate.is_whole g.K.Validate.shape g.M.Matcher.matching c.args.engine.now) c.requires.may.goes_on.0 c.args.context.now c.set_aside-aside.new.self c.set_aside-aside.ensures.frame.remembered c.set_aside-aside.ensures.frame.verdicts c.requires.may.goes_on.2) }; carries = carries_on c.args.context.now.root _ c.args.question.now.place.now c.set_aside-aside.ensures.frame.root c.requires.carries; verdict = c.requires.verdict; stands = c.requires.stands }, (begun, c.set_aside-aside.ensures.none)))))))
 
 pub verdict_turns::keyword_verdict-returns-in-Ok : goal.verdict_turns::keyword_verdict-returns-in-Ok
 verdict_turns::keyword_verdict-returns-in-Ok g t c = record {
   keeps = search rules;
-  counts = rw (c.set_aside-aside.ensures.visits, ← c.put_back.ensures.visits) at (rw c.in-Ok.is at c.take_turns-turned.ensures.counts);
-  works = rw (c.set_aside-aside.ensures.work, ← c.put_back.ensures.work) at (rw c.in-Ok.is at c.take_turns-turned.ensures.works);
+  counts = rw (c.set_aside-aside.ensures.frame.visits, ← c.put_back.ensures.frame.visits) at (rw c.in-Ok.is at c.take_turns-turned.ensures.counts);
+  works = rw (c.set_aside-aside.ensures.frame.work, ← c.put_back.ensures.frame.work) at (rw c.in-Ok.is at c.take_turns-turned.ensures.works);
   visits = keyword_counts (numbered g.K.Validate.shape c.args.engine.now.nodes.now) (asking c.args.question.now) c.args.context.now c.put_back.new.self (g.K.Validate.shape c.args.keyword.now.keyword.now) (map (option_map edge_of) c.args.keyword.now.children.now) (λ none.
       let quiet = rw c.in-Ok.is at c.take_turns-turned.ensures.quiet in
-      c.put_back.ensures.visits ∙ quiet none ∙ c.set_aside-aside.ensures.visits);
+      c.put_back.ensures.frame.visits ∙ quiet none ∙ c.set_aside-aside.ensures.frame.visits);
   says =
       let set = setting g.K.Validate.words g.K.Validate.is_whole g.K.Validate.shape g.M.Matcher.matching c.args.engine.now in
       let ns = numbered g.K.Validate.shape c.args.engine.now.nodes.now in
@@ -1401,17 +1401,17 @@ verdict_turns::keyword_verdict-returns-in-Ok g t c = record {
       let m = g.K.Validate.shape c.args.keyword.now.keyword.now in
       let es = map (option_map edge_of) c.args.keyword.now.children.now in
       let answer = c.take_turns-turned.new.answer in
-      let right = finds_moved set (asking c.args.question.now) c.args.context.now c.set_aside-aside.new.self c.set_aside-aside.ensures.in_progress (ap (λ (r : Remembered). r.assumptions) c.set_aside-aside.ensures.remembered) c.args.node.0 es m answer (rw c.in-Ok.is at c.take_turns-turned.ensures.right) in
+      let right = finds_moved set (asking c.args.question.now) c.args.context.now c.set_aside-aside.new.self c.set_aside-aside.ensures.frame.in_progress (ap (λ (r : Remembered). r.assumptions) c.set_aside-aside.ensures.frame.remembered) c.args.node.0 es m answer (rw c.in-Ok.is at c.take_turns-turned.ensures.right) in
       keyword_replies mode c.requires.verdict g.K.Validate.words g.K.Validate.is_whole ns (length c.args.engine.now.nodes.now) w path p busy s c.args.node.0 (string_bytes c.args.keyword.now.name.now) m es c.verdict_of.result (λ x reads l.
       let answers = child_says g.K.Validate.words ns x path p busy es in
       let units = child_unit g.K.Validate.words ns x path p busy es in
       c.verdict_of.ensures.verdict x.texts ∙ subst (λ z. IsRight (g.K.Validate.words x.texts) m s (matching x.matcher x.completion) answers units (same_edge es) z (answer_of x.texts answer)) c.requires.verdict (right x reads l));
-  meets = rw (c.set_aside-aside.ensures.in_progress, c.set_aside-aside.ensures.remembered, ← c.put_back.ensures.remembered) at (rw c.in-Ok.is at c.take_turns-turned.ensures.meets);
+  meets = rw (c.set_aside-aside.ensures.frame.in_progress, c.set_aside-aside.ensures.frame.remembered, ← c.put_back.ensures.frame.remembered) at (rw c.in-Ok.is at c.take_turns-turned.ensures.meets);
   stays = λ layout laid right.
       let set = setting g.K.Validate.words g.K.Validate.is_whole g.K.Validate.shape g.M.Matcher.matching c.args.engine.now in
-      let right1 = right_same set layout c.args.context.now c.set_aside-aside.new.self c.set_aside-aside.ensures.remembered c.set_aside-aside.ensures.verdicts right in
+      let right1 = right_same set layout c.args.context.now c.set_aside-aside.new.self c.set_aside-aside.ensures.frame.remembered c.set_aside-aside.ensures.frame.verdicts right in
       let stays = rw c.in-Ok.is at c.take_turns-turned.ensures.stays in
-      right_same set layout c.take_turns-turned.new.context c.put_back.new.self c.put_back.ensures.remembered c.put_back.ensures.verdicts (stays layout laid right1);
+      right_same set layout c.take_turns-turned.new.context c.put_back.new.self c.put_back.ensures.frame.remembered c.put_back.ensures.frame.verdicts (stays layout laid right1);
   remembers = λ e is. cc;
 }
 
@@ -1658,20 +1658,20 @@ verdict_turns::take_turns-turns-preserved-in-Match g t c =
     let out = rw c.turns.invariant.assumes at (c.in_ok-matches-in-Match.ensures.answer a point asked.2) in
     let met = c.in_ok-matches-in-Match.ensures.met a point asked.2 in
     record {
-      root = c.step_match.ensures.root ∙ c.turns.invariant.root;
-      kept = c.step_match.ensures.in_progress ∙ c.turns.invariant.kept;
+      root = c.step_match.ensures.frame.root ∙ c.turns.invariant.root;
+      kept = c.step_match.ensures.frame.in_progress ∙ c.turns.invariant.kept;
       assumes = ap (λ (r : Remembered). r.assumptions) met ∙ after_assumes _ _ answer ∙ c.turns.invariant.assumes;
-      stays = λ layout laid right. right_matched (setting g.K.Validate.words g.K.Validate.is_whole g.K.Validate.shape g.M.Matcher.matching c.args.engine.now) layout c.turns.context c.step_match.new.context _ answer refl c.step_match.ensures.verdicts met (c.turns.invariant.stays layout laid right);
+      stays = λ layout laid right. right_matched (setting g.K.Validate.words g.K.Validate.is_whole g.K.Validate.shape g.M.Matcher.matching c.args.engine.now) layout c.turns.context c.step_match.new.context _ answer refl c.step_match.ensures.frame.verdicts met (c.turns.invariant.stays layout laid right);
       can = can_after (g.K.Validate.words false) m (g.K.Validate.absorbed m) (g.K.Validate.remaining m) (g.K.Validate.can_be false m) (g.K.Validate.ends false m) (g.K.Validate.fits false m) (g.met.K.Validate.turn_laws false m) s (c.turns.run, answer_of false c.turns.answer) (c.turn.new.run, answer_of false c.turn.new.answer) told c.turns.invariant.can turn;
       asks = asks_on (g.K.Validate.words false) m (g.K.Validate.absorbed m) (g.K.Validate.remaining m) (g.K.Validate.can_be false m) (g.K.Validate.ends false m) (g.K.Validate.fits false m) (g.met.K.Validate.turn_laws false m) s (c.turns.run, answer_of false c.turns.answer) (c.turn.new.run, answer_of false c.turn.new.answer) told (truth c.in_ok-matches-in-Match.matches) (match_text a point) c.turns.invariant.can turn step (match_goes_on a point) c.turns.invariant.asks;
-      counted = no_fewer c.args.context.now.visits c.turns.context.visits c.step_match.new.context.visits c.turns.invariant.counted (as_many _ _ c.step_match.ensures.visits);
-      worked = subst (Spends c.args.context.now.work) (sym c.step_match.ensures.work) c.turns.invariant.worked;
-      quiet = λ none. c.step_match.ensures.visits ∙ c.turns.invariant.quiet none;
+      counted = no_fewer c.args.context.now.visits c.turns.context.visits c.step_match.new.context.visits c.turns.invariant.counted (as_many _ _ c.step_match.ensures.frame.visits);
+      worked = subst (Spends c.args.context.now.work) (sym c.step_match.ensures.frame.work) c.turns.invariant.worked;
+      quiet = λ none. c.step_match.ensures.frame.visits ∙ c.turns.invariant.quiet none;
       leads = λ x reads l.
           let tells = tells_keyword g.K.Validate.is_whole ns (length c.args.engine.now.nodes.now) w p s x c.args.node.0 m es c.requires.asked.may.known reads c.requires.asked.stands in
           let is = ap truth (out ∙ ap (λ b. settled b answer) (sym (reads.completes a)) ∙ ap (λ (o : Matcher). settled (completed x.completion a) (o.is_match a.pattern a.subject)) (sym reads.matcher)) in
           matched_on (g.K.Validate.words x.texts) m (g.K.Validate.absorbed m) (g.K.Validate.remaining m) (g.K.Validate.can_be x.texts m) (g.K.Validate.ends x.texts m) (g.K.Validate.fits x.texts m) (g.met.K.Validate.turn_laws x.texts m) s x (mode_of c.args.question.now.mode) (child_says g.K.Validate.words ns x (path_of c.args.question.now.path.now) p busy es) (child_unit g.K.Validate.words ns x (path_of c.args.question.now.path.now) p busy es) (same_edge es) c.turns.context.marking c.step_match.new.context.marking (c.turns.run, answer_of x.texts c.turns.answer) (c.turn.new.run, answer_of x.texts c.turn.new.answer)
-          (told_reply c.turns.told) (truth c.in_ok-matches-in-Match.matches) a point c.step_match.ensures.marking (c.turns.invariant.leads x reads l) (turned x.texts tells) (stepped x.texts tells ∙ asked.2) is;
+          (told_reply c.turns.told) (truth c.in_ok-matches-in-Match.matches) a point c.step_match.ensures.frame.marking (c.turns.invariant.leads x reads l) (turned x.texts tells) (stepped x.texts tells ∙ asked.2) is;
       met = λ texts root depth reads l.
           let tells = tells_keyword g.K.Validate.is_whole ns (length c.args.engine.now.nodes.now) w p s (reading w texts root depth) c.args.node.0 m es c.requires.asked.may.known reads c.requires.asked.stands in
           let step' = stepped texts tells ∙ asked.2 in
@@ -1680,7 +1680,7 @@ verdict_turns::take_turns-turns-preserved-in-Match g t c =
           let is = ap truth (out ∙ ap (λ b. settled b answer) (sym (reads.completes a))) in
           let there = where_is g.K.Validate.shape c.args.engine.now.nodes.now (g.K.Validate.words texts) w.matcher (subject_in root) c.args.node.0 n (path_of c.args.question.now.path.now) p c.node-node.ensures.found in
           let new = met ∙ ap (λ (v : Where). after_match c.turns.context.remembered (record { pair = a; site = site_at v name point }) answer) (sym there) in
-          meets_matched (g.K.Validate.words texts) w.matcher w.assumptions (node_at (g.K.Validate.words texts) w.matcher ns (subject_in root) c.args.node.0 (path_of c.args.question.now.path.now) p) s (child_run g.K.Validate.words ns w texts root depth (path_of c.args.question.now.path.now) p busy es) (same_edge es) name m (g.K.Validate.remaining m s) _ _ _ _ _ _ _ _ _ _ a point c.step_match.ensures.marking turn' step' falls is new (c.turns.invariant.met texts root depth reads l);
+          meets_matched (g.K.Validate.words texts) w.matcher w.assumptions (node_at (g.K.Validate.words texts) w.matcher ns (subject_in root) c.args.node.0 (path_of c.args.question.now.path.now) p) s (child_run g.K.Validate.words ns w texts root depth (path_of c.args.question.now.path.now) p busy es) (same_edge es) name m (g.K.Validate.remaining m s) _ _ _ _ _ _ _ _ _ _ a point c.step_match.ensures.frame.marking turn' step' falls is new (c.turns.invariant.met texts root depth reads l);
     }
 
 pub verdict_turns::take_turns-turns-preserved-in-Ecma : goal.verdict_turns::take_turns-turns-preserved-in-Ecma
@@ -1755,15 +1755,15 @@ verdict_turns::take_turns-turns-preserved-in-Mark g t c =
     let turn = turned false (tells_nothing (g.K.Validate.is_whole m) s) in
     let step = rw c.in-Mark.is at (stepped false (tells_nothing (g.K.Validate.is_whole m) s)) in
     record {
-      root = c.enter_marking.ensures.root ∙ c.turns.invariant.root;
-      kept = c.enter_marking.ensures.in_progress ∙ c.turns.invariant.kept;
-      assumes = ap (λ (r : Remembered). r.assumptions) c.enter_marking.ensures.remembered ∙ c.turns.invariant.assumes;
-      stays = λ layout laid right. right_same (setting g.K.Validate.words g.K.Validate.is_whole g.K.Validate.shape g.M.Matcher.matching c.args.engine.now) layout c.turns.context c.enter_marking.new.self c.enter_marking.ensures.remembered c.enter_marking.ensures.verdicts (c.turns.invariant.stays layout laid right);
+      root = c.enter_marking.ensures.frame.root ∙ c.turns.invariant.root;
+      kept = c.enter_marking.ensures.frame.in_progress ∙ c.turns.invariant.kept;
+      assumes = ap (λ (r : Remembered). r.assumptions) c.enter_marking.ensures.frame.remembered ∙ c.turns.invariant.assumes;
+      stays = λ layout laid right. right_same (setting g.K.Validate.words g.K.Validate.is_whole g.K.Validate.shape g.M.Matcher.matching c.args.engine.now) layout c.turns.context c.enter_marking.new.self c.enter_marking.ensures.frame.remembered c.enter_marking.ensures.frame.verdicts (c.turns.invariant.stays layout laid right);
       can = can_after (g.K.Validate.words false) m (g.K.Validate.absorbed m) (g.K.Validate.remaining m) (g.K.Validate.can_be false m) (g.K.Validate.ends false m) (g.K.Validate.fits false m) (g.met.K.Validate.turn_laws false m) s (c.turns.run, answer_of false c.turns.answer) (c.turn.new.run, answer_of false c.turn.new.answer) told c.turns.invariant.can turn;
       asks = asks_on (g.K.Validate.words false) m (g.K.Validate.absorbed m) (g.K.Validate.remaining m) (g.K.Validate.can_be false m) (g.K.Validate.ends false m) (g.K.Validate.fits false m) (g.met.K.Validate.turn_laws false m) s (c.turns.run, answer_of false c.turns.answer) (c.turn.new.run, answer_of false c.turn.new.answer) told (truth c.in_ok-held-in-Mark.held) (mark (marked_of c.in-Mark.marked)) c.turns.invariant.can turn step (mark_goes_on (marked_of c.in-Mark.marked)) c.turns.invariant.asks;
-      counted = no_fewer c.args.context.now.visits c.turns.context.visits c.enter_marking.new.self.visits c.turns.invariant.counted (as_many _ _ c.enter_marking.ensures.visits);
-      worked = subst (Spends c.args.context.now.work) (sym c.enter_marking.ensures.work) c.turns.invariant.worked;
-      quiet = λ none. c.enter_marking.ensures.visits ∙ c.turns.invariant.quiet none;
+      counted = no_fewer c.args.context.now.visits c.turns.context.visits c.enter_marking.new.self.visits c.turns.invariant.counted (as_many _ _ c.enter_marking.ensures.frame.visits);
+      worked = subst (Spends c.args.context.now.work) (sym c.enter_marking.ensures.frame.work) c.turns.invariant.worked;
+      quiet = λ none. c.enter_marking.ensures.frame.visits ∙ c.turns.invariant.quiet none;
       leads = λ x reads l.
           let tells = tells_keyword g.K.Validate.is_whole ns (length c.args.engine.now.nodes.now) w p s x c.args.node.0 m es c.requires.asked.may.known reads c.requires.asked.stands in
           marked_on (g.K.Validate.words x.texts) m (g.K.Validate.absorbed m) (g.K.Validate.remaining m) (g.K.Validate.can_be x.texts m) (g.K.Validate.ends x.texts m) (g.K.Validate.fits x.texts m) (g.met.K.Validate.turn_laws x.texts m) s x (mode_of c.args.question.now.mode) (child_says g.K.Validate.words ns x (path_of c.args.question.now.path.now) p busy es) (child_unit g.K.Validate.words ns x (path_of c.args.question.now.path.now) p busy es) (same_edge es) c.turns.context.marking c.enter_marking.new.self.marking (c.turns.run, answer_of x.texts c.turns.answer) (c.turn.new.run, answer_of x.texts c.turn.new.answer)
@@ -1773,7 +1773,7 @@ verdict_turns::take_turns-turns-preserved-in-Mark g t c =
           let step' = rw c.in-Mark.is at (stepped texts tells) in
           let turn' = turned texts tells in
           let falls = falls_turned (g.K.Validate.words texts) m (g.K.Validate.absorbed m) (g.K.Validate.remaining m) (g.K.Validate.can_be texts m) (g.K.Validate.ends texts m) (g.K.Validate.fits texts m) (g.met.K.Validate.turn_laws texts m) s (c.turns.run, answer_of texts c.turns.answer) (c.turn.new.run, answer_of texts c.turn.new.answer) (told_reply c.turns.told) (mark (marked_of c.in-Mark.marked)) (c.turns.invariant.leads (reading w texts root depth) reads l).can turn' step' (mark_goes_on (marked_of c.in-Mark.marked)) in
-          meets_marked (g.K.Validate.words texts) w.matcher w.assumptions (node_at (g.K.Validate.words texts) w.matcher ns (subject_in root) c.args.node.0 (path_of c.args.question.now.path.now) p) s (child_run g.K.Validate.words ns w texts root depth (path_of c.args.question.now.path.now) p busy es) (same_edge es) name m (g.K.Validate.remaining m s) _ _ _ _ _ _ _ _ _ _ (marked_of c.in-Mark.marked) c.in_ok-held-in-Mark.ensures.marks turn' step' falls (ap truth c.in_ok-held-in-Mark.ensures.held) c.enter_marking.ensures.remembered (c.turns.invariant.met texts root depth reads l);
+          meets_marked (g.K.Validate.words texts) w.matcher w.assumptions (node_at (g.K.Validate.words texts) w.matcher ns (subject_in root) c.args.node.0 (path_of c.args.question.now.path.now) p) s (child_run g.K.Validate.words ns w texts root depth (path_of c.args.question.now.path.now) p busy es) (same_edge es) name m (g.K.Validate.remaining m s) _ _ _ _ _ _ _ _ _ _ (marked_of c.in-Mark.marked) c.in_ok-held-in-Mark.ensures.marks turn' step' falls (ap truth c.in_ok-held-in-Mark.ensures.held) c.enter_marking.ensures.frame.remembered (c.turns.invariant.met texts root depth reads l);
     }
 
 pub verdict_turns::take_turns-turns-smaller : goal.verdict_turns::take_turns-turns-smaller
@@ -1807,15 +1807,15 @@ verdict_turns::take_turns-turns-preserved g t c =
     let turn = turned false (tells_nothing (g.K.Validate.is_whole m) s) in
     let step = rw c.in-Unmark.is at (stepped false (tells_nothing (g.K.Validate.is_whole m) s)) in
     record {
-      root = c.exit_marking.ensures.root ∙ c.turns.invariant.root;
-      kept = c.exit_marking.ensures.in_progress ∙ c.turns.invariant.kept;
-      assumes = ap (λ (r : Remembered). r.assumptions) c.exit_marking.ensures.remembered ∙ c.turns.invariant.assumes;
-      stays = λ layout laid right. right_same (setting g.K.Validate.words g.K.Validate.is_whole g.K.Validate.shape g.M.Matcher.matching c.args.engine.now) layout c.turns.context c.exit_marking.new.self c.exit_marking.ensures.remembered c.exit_marking.ensures.verdicts (c.turns.invariant.stays layout laid right);
+      root = c.exit_marking.ensures.frame.root ∙ c.turns.invariant.root;
+      kept = c.exit_marking.ensures.frame.in_progress ∙ c.turns.invariant.kept;
+      assumes = ap (λ (r : Remembered). r.assumptions) c.exit_marking.ensures.frame.remembered ∙ c.turns.invariant.assumes;
+      stays = λ layout laid right. right_same (setting g.K.Validate.words g.K.Validate.is_whole g.K.Validate.shape g.M.Matcher.matching c.args.engine.now) layout c.turns.context c.exit_marking.new.self c.exit_marking.ensures.frame.remembered c.exit_marking.ensures.frame.verdicts (c.turns.invariant.stays layout laid right);
       can = can_after (g.K.Validate.words false) m (g.K.Validate.absorbed m) (g.K.Validate.remaining m) (g.K.Validate.can_be false m) (g.K.Validate.ends false m) (g.K.Validate.fits false m) (g.met.K.Validate.turn_laws false m) s (c.turns.run, answer_of false c.turns.answer) (c.turn.new.run, answer_of false c.turn.new.answer) told c.turns.invariant.can turn;
       asks = asks_on (g.K.Validate.words false) m (g.K.Validate.absorbed m) (g.K.Validate.remaining m) (g.K.Validate.can_be false m) (g.K.Validate.ends false m) (g.K.Validate.fits false m) (g.met.K.Validate.turn_laws false m) s (c.turns.run, answer_of false c.turns.answer) (c.turn.new.run, answer_of false c.turn.new.answer) told no_reply unmark c.turns.invariant.can turn step unmark_goes_on c.turns.invariant.asks;
-      counted = no_fewer c.args.context.now.visits c.turns.context.visits c.exit_marking.new.self.visits c.turns.invariant.counted (as_many _ _ c.exit_marking.ensures.visits);
-      worked = subst (Spends c.args.context.now.work) (sym c.exit_marking.ensures.work) c.turns.invariant.worked;
-      quiet = λ none. c.exit_marking.ensures.visits ∙ c.turns.invariant.quiet none;
+      counted = no_fewer c.args.context.now.visits c.turns.context.visits c.exit_marking.new.self.visits c.turns.invariant.counted (as_many _ _ c.exit_marking.ensures.frame.visits);
+      worked = subst (Spends c.args.context.now.work) (sym c.exit_marking.ensures.frame.work) c.turns.invariant.worked;
+      quiet = λ none. c.exit_marking.ensures.frame.visits ∙ c.turns.invariant.quiet none;
       leads = λ x reads l.
           let tells = tells_keyword g.K.Validate.is_whole ns (length c.args.engine.now.nodes.now) w p s x c.args.node.0 m es c.requires.asked.may.known reads c.requires.asked.stands in
           mark_taken_on (g.K.Validate.words x.texts) m (g.K.Validate.absorbed m) (g.K.Validate.remaining m) (g.K.Validate.can_be x.texts m) (g.K.Validate.ends x.texts m) (g.K.Validate.fits x.texts m) (g.met.K.Validate.turn_laws x.texts m) s x (mode_of c.args.question.now.mode) (child_says g.K.Validate.words ns x (path_of c.args.question.now.path.now) p busy es) (child_unit g.K.Validate.words ns x (path_of c.args.question.now.path.now) p busy es) (same_edge es) c.turns.context.marking c.exit_marking.new.self.marking (c.turns.run, answer_of x.texts c.turns.answer) (c.turn.new.run, answer_of x.texts c.turn.new.answer)
@@ -1825,5 +1825,5 @@ verdict_turns::take_turns-turns-preserved g t c =
           let step' = rw c.in-Unmark.is at (stepped texts tells) in
           let turn' = turned texts tells in
           let falls = falls_turned (g.K.Validate.words texts) m (g.K.Validate.absorbed m) (g.K.Validate.remaining m) (g.K.Validate.can_be texts m) (g.K.Validate.ends texts m) (g.K.Validate.fits texts m) (g.met.K.Validate.turn_laws texts m) s (c.turns.run, answer_of texts c.turns.answer) (c.turn.new.run, answer_of texts c.turn.new.answer) (told_reply c.turns.told) unmark (c.turns.invariant.leads (reading w texts root depth) reads l).can turn' step' unmark_goes_on in
-          meets_mark_taken (g.K.Validate.words texts) w.matcher w.assumptions (node_at (g.K.Validate.words texts) w.matcher ns (subject_in root) c.args.node.0 (path_of c.args.question.now.path.now) p) s (child_run g.K.Validate.words ns w texts root depth (path_of c.args.question.now.path.now) p busy es) (same_edge es) name m (g.K.Validate.remaining m s) _ _ _ _ _ _ _ _ _ _ c.exit_marking.ensures.left turn' step' falls refl c.exit_marking.ensures.remembered (c.turns.invariant.met texts root depth reads l);
+          meets_mark_taken (g.K.Validate.words texts) w.matcher w.assumptions (node_at (g.K.Validate.words texts) w.matcher ns (subject_in root) c.args.node.0 (path_of c.args.question.now.path.now) p) s (child_run g.K.Validate.words ns w texts root depth (path_of c.args.question.now.path.now) p busy es) (same_edge es) name m (g.K.Validate.remaining m s) _ _ _ _ _ _ _ _ _ _ c.exit_marking.ensures.left turn' step' falls refl c.exit_marking.ensures.frame.remembered (c.turns.invariant.met texts root depth reads l);
     }

@@ -23,35 +23,23 @@ run_further-requires g c =
       goes_on = (layout_from p s, lays_out_from p s, none_right g.K.Validate.words g.K.Validate.is_whole ns (length c.args.self.now) (g.M.Matcher.matching c.args.matcher.now) c1.remembered.assumptions c1.remembered (layout_from p s) c1.verdicts (ap (λ (z : Context). z.verdicts) c.forget_verdicts.ensures.forgotten));
     }
 
-pub returns-clause-kept : goal.returns-clause-kept
-returns-clause-kept g c = if_ok_mono c.run_further.result _ _ (λ r e. e ∙ ap (λ (z : Context). z.in_progress) c.forget_verdicts.ensures.forgotten) c.run_further.ensures.kept
-
-pub returns-clause-assumes : goal.returns-clause-assumes
-returns-clause-assumes g c = if_ok_mono c.run_further.result _ _ (λ r e. e ∙ ap (λ (z : Context). z.remembered.assumptions) c.forget_verdicts.ensures.forgotten) c.run_further.ensures.assumes
-
-pub returns-clause-marking : goal.returns-clause-marking
-returns-clause-marking g c = if_ok_mono c.run_further.result _ _ (λ r e. e ∙ ap (λ (z : Context). z.marking) c.forget_verdicts.ensures.forgotten) c.run_further.ensures.marking
-
-pub returns-clause-works : goal.returns-clause-works
-returns-clause-works g c = rw (ap (λ (z : Context). z.work) c.forget_verdicts.ensures.forgotten) at c.run_further.ensures.works
-
-pub returns-clause-replies : goal.returns-clause-replies
-returns-clause-replies g c = rw c.forget_verdicts.ensures.forgotten at c.run_further.ensures.replies
-
-pub returns-clause-meets : goal.returns-clause-meets
-returns-clause-meets g c = rw c.forget_verdicts.ensures.forgotten at c.run_further.ensures.meets
-
-pub returns-clause-remembers : goal.returns-clause-remembers
-returns-clause-remembers g c = rw c.forget_verdicts.ensures.forgotten at c.run_further.ensures.remembers
-
-pub returns-clause-right : goal.returns-clause-right
-returns-clause-right g c = if_ok_mono c.run_further.result _ _ (λ r stays root at_place.
-    let p = c.args.question.now.place.now in
-    let ns = numbered g.K.Validate.shape c.args.self.now in
-    let c1 = c.forget_verdicts.new.self in
-    stays (subject_in root) (root_lays_out root p (subject_of c.args.question.now.instance) at_place)
-    (none_right g.K.Validate.words g.K.Validate.is_whole ns (length c.args.self.now) (g.M.Matcher.matching c.args.matcher.now) c1.remembered.assumptions c1.remembered (subject_in root) c1.verdicts (ap (λ (z : Context). z.verdicts) c.forget_verdicts.ensures.forgotten)))
-    c.run_further.ensures.stays
-
-pub returns-clause-visits : goal.returns-clause-visits
-returns-clause-visits g c = rw c.forget_verdicts.ensures.forgotten at c.run_further.ensures.visits
+pub returns : goal.returns
+returns g c = record {
+  speaks = c.run_further.ensures.speaks;
+  borrows = c.run_further.ensures.borrows;
+  kept = if_ok_mono c.run_further.result _ _ (λ r e. e ∙ ap (λ (z : Context). z.in_progress) c.forget_verdicts.ensures.forgotten) c.run_further.ensures.kept;
+  assumes = if_ok_mono c.run_further.result _ _ (λ r e. e ∙ ap (λ (z : Context). z.remembered.assumptions) c.forget_verdicts.ensures.forgotten) c.run_further.ensures.assumes;
+  marking = if_ok_mono c.run_further.result _ _ (λ r e. e ∙ ap (λ (z : Context). z.marking) c.forget_verdicts.ensures.forgotten) c.run_further.ensures.marking;
+  works = rw (ap (λ (z : Context). z.work) c.forget_verdicts.ensures.forgotten) at c.run_further.ensures.works;
+  replies = rw c.forget_verdicts.ensures.forgotten at c.run_further.ensures.replies;
+  meets = rw c.forget_verdicts.ensures.forgotten at c.run_further.ensures.meets;
+  remembers = rw c.forget_verdicts.ensures.forgotten at c.run_further.ensures.remembers;
+  right = if_ok_mono c.run_further.result _ _ (λ r stays root at_place.
+      let p = c.args.question.now.place.now in
+      let ns = numbered g.K.Validate.shape c.args.self.now in
+      let c1 = c.forget_verdicts.new.self in
+      stays (subject_in root) (root_lays_out root p (subject_of c.args.question.now.instance) at_place)
+      (none_right g.K.Validate.words g.K.Validate.is_whole ns (length c.args.self.now) (g.M.Matcher.matching c.args.matcher.now) c1.remembered.assumptions c1.remembered (subject_in root) c1.verdicts (ap (λ (z : Context). z.verdicts) c.forget_verdicts.ensures.forgotten)))
+      c.run_further.ensures.stays;
+  visits = rw c.forget_verdicts.ensures.forgotten at c.run_further.ensures.visits;
+}

@@ -26,41 +26,36 @@ node_reply-requires g c = record {
   carries = c.given-place.ensures.carries (places_in c.args.context.now);
 }
 
-pub returns-clause-replies : goal.returns-clause-replies
-returns-clause-replies g c =
-    let as' = c.args.context.now.remembered.assumptions in
-    let w = settling (g.M.Matcher.matching c.args.matcher.now) as' in
-    if_ok_mono c.node_reply.result _ _ (λ r says root texts at_place tells once n enough.
-    (says (reading w texts root n) (record { stands = at_place; tells = tells; matcher = refl; completes = completes_once as' once }) enough).same
-    ∙ reply_is (g.K.Validate.words texts) w.matcher (numbered g.K.Validate.shape c.args.self.now) (subject_in root) as' (mode_of c.args.question.now.mode) c.requires.wanted n c.args.node.0 c.args.question.now.path.now c.args.question.now.place.now (busy_at c.args.question.now.place.now c.args.context.now.in_progress))
-    (rw (c.given-path.ensures.same, c.given-place.ensures.same) at c.node_reply.ensures.says)
-
-pub returns-clause-meets : goal.returns-clause-meets
-returns-clause-meets g c =
-    let as' = c.args.context.now.remembered.assumptions in
-    if_ok_mono c.node_reply.result _ _ (λ r meets root texts at_place tells once n enough.
-    meets texts root n (record { stands = at_place; tells = tells; matcher = refl; completes = completes_once as' once }) enough)
-    (rw (c.given-path.ensures.same, c.given-place.ensures.same) at c.node_reply.ensures.meets)
-
-pub returns-clause-borrows : goal.returns-clause-borrows
-returns-clause-borrows g c =
-    let ns = numbered g.K.Validate.shape c.args.self.now in
-    let w = settling (g.M.Matcher.matching c.args.matcher.now) c.args.context.now.remembered.assumptions in
-    let d = left ns (length c.args.self.now) c.args.node.0 (subject_of c.args.question.now.instance) (busy_at c.args.question.now.place.now c.args.context.now.in_progress) in
-    if_ok_mono c.node_reply.result _ _ (λ r says root at_place. (says (silent w root (suc d)) (silent_reads g.K.Validate.is_whole ns (length c.args.self.now) w c.args.question.now.place.now (subject_of c.args.question.now.instance) root (suc d) at_place) (omega arith)).borrows) (rw (c.given-path.ensures.same, c.given-place.ensures.same) at c.node_reply.ensures.says)
-
-pub returns-clause-speaks : goal.returns-clause-speaks
-returns-clause-speaks g c =
-    let ns = numbered g.K.Validate.shape c.args.self.now in
-    let w = settling (g.M.Matcher.matching c.args.matcher.now) c.args.context.now.remembered.assumptions in
-    let d = left ns (length c.args.self.now) c.args.node.0 (subject_of c.args.question.now.instance) (busy_at c.args.question.now.place.now c.args.context.now.in_progress) in
-    if_ok_mono c.node_reply.result _ _ (λ r says root at_place. (_, (says (silent w root (suc d)) (silent_reads g.K.Validate.is_whole ns (length c.args.self.now) w c.args.question.now.place.now (subject_of c.args.question.now.instance) root (suc d) at_place) (omega arith)).same)) (rw (c.given-path.ensures.same, c.given-place.ensures.same) at c.node_reply.ensures.says)
-
-pub returns-clause-stays : goal.returns-clause-stays
-returns-clause-stays g c = rw c.given-place.ensures.same at c.node_reply.ensures.stays
-
-pub returns-clause-remembers : goal.returns-clause-remembers
-returns-clause-remembers g c = rw (c.given-path.ensures.same, c.given-place.ensures.same) at c.node_reply.ensures.remembers
-
-pub returns-clause-visits : goal.returns-clause-visits
-returns-clause-visits g c = rw c.given-place.ensures.same at c.node_reply.ensures.visits
+pub returns : goal.returns
+returns g c = record {
+  kept = if_ok_mono c.node_reply.result _ _ (λ r keeps. keeps.in_progress) c.node_reply.ensures.keeps;
+  assumes = if_ok_mono c.node_reply.result _ _ (λ r keeps. keeps.assumptions) c.node_reply.ensures.keeps;
+  marking = if_ok_mono c.node_reply.result _ _ (λ r keeps. keeps.marking) c.node_reply.ensures.keeps;
+  works = c.node_reply.ensures.works;
+  counts = c.node_reply.ensures.counts;
+  replies =
+      let as' = c.args.context.now.remembered.assumptions in
+      let w = settling (g.M.Matcher.matching c.args.matcher.now) as' in
+      if_ok_mono c.node_reply.result _ _ (λ r says root texts at_place tells once n enough.
+      (says (reading w texts root n) (record { stands = at_place; tells = tells; matcher = refl; completes = completes_once as' once }) enough).same
+      ∙ reply_is (g.K.Validate.words texts) w.matcher (numbered g.K.Validate.shape c.args.self.now) (subject_in root) as' (mode_of c.args.question.now.mode) c.requires.wanted n c.args.node.0 c.args.question.now.path.now c.args.question.now.place.now (busy_at c.args.question.now.place.now c.args.context.now.in_progress))
+      (rw (c.given-path.ensures.same, c.given-place.ensures.same) at c.node_reply.ensures.says);
+  meets =
+      let as' = c.args.context.now.remembered.assumptions in
+      if_ok_mono c.node_reply.result _ _ (λ r meets root texts at_place tells once n enough.
+      meets texts root n (record { stands = at_place; tells = tells; matcher = refl; completes = completes_once as' once }) enough)
+      (rw (c.given-path.ensures.same, c.given-place.ensures.same) at c.node_reply.ensures.meets);
+  borrows =
+      let ns = numbered g.K.Validate.shape c.args.self.now in
+      let w = settling (g.M.Matcher.matching c.args.matcher.now) c.args.context.now.remembered.assumptions in
+      let d = left ns (length c.args.self.now) c.args.node.0 (subject_of c.args.question.now.instance) (busy_at c.args.question.now.place.now c.args.context.now.in_progress) in
+      if_ok_mono c.node_reply.result _ _ (λ r says root at_place. (says (silent w root (suc d)) (silent_reads g.K.Validate.is_whole ns (length c.args.self.now) w c.args.question.now.place.now (subject_of c.args.question.now.instance) root (suc d) at_place) (omega arith)).borrows) (rw (c.given-path.ensures.same, c.given-place.ensures.same) at c.node_reply.ensures.says);
+  speaks =
+      let ns = numbered g.K.Validate.shape c.args.self.now in
+      let w = settling (g.M.Matcher.matching c.args.matcher.now) c.args.context.now.remembered.assumptions in
+      let d = left ns (length c.args.self.now) c.args.node.0 (subject_of c.args.question.now.instance) (busy_at c.args.question.now.place.now c.args.context.now.in_progress) in
+      if_ok_mono c.node_reply.result _ _ (λ r says root at_place. (_, (says (silent w root (suc d)) (silent_reads g.K.Validate.is_whole ns (length c.args.self.now) w c.args.question.now.place.now (subject_of c.args.question.now.instance) root (suc d) at_place) (omega arith)).same)) (rw (c.given-path.ensures.same, c.given-place.ensures.same) at c.node_reply.ensures.says);
+  stays = rw c.given-place.ensures.same at c.node_reply.ensures.stays;
+  remembers = rw (c.given-path.ensures.same, c.given-place.ensures.same) at c.node_reply.ensures.remembers;
+  visits = rw c.given-place.ensures.same at c.node_reply.ensures.visits;
+}
