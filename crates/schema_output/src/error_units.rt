@@ -66,8 +66,7 @@ pub fn unit_of_errors(
     alloc: Global,
     errors: Vec<ValidationError<'_>>,
 ) -> Result<EvaluationNode, OutOfMemory>
-    ensures unit { IfOk result
-        (λ n. (texts : Bool) → unit_of texts n ≡ errors_unit (map (error_of texts) errors.entry.items)) }
+    ensures unit { IfOk result (λ n. (texts : Bool) → unit_of texts n ≡ errors_unit (map (error_of texts) errors.entry.items)) }
 {
     let valid = errors.is_empty();
     let mut children = Vec::new(alloc);

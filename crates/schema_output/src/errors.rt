@@ -1,9 +1,9 @@
 //! The errors of an evaluation, one by one, each with its unit.
-ghost use Rattle.std.specs.Prelude.{◌≡◌, ◌++◌, Bool, IfOk, IfSome, Some, length, map};
+ghost use Rattle.std.specs.Prelude.{◌≡◌, IfSome, Some, length};
 ghost use Rattle.std.specs.Iterator.{UpTo, YieldsFirst, at_most, item_count};
 ghost use Rattle.std.specs.Iterator.SizeHint.{IsWithinCount};
 ghost use Rattle.schema_reports.specs.UnitViews.{report_in, unit_of};
-ghost use Rattle.schema_output.specs.EntryViews.{shown_of};
+ghost use Rattle.schema_output.specs.EntryViews.{AddsShown};
 ghost use Rattle.schema_output.specs.Output.{shown_by, shown_in};
 
 use schema_reports::evaluation::{ErrorDescription, EvaluationNode, UnitReport};
@@ -78,8 +78,7 @@ fn push_own_errors<'e>(
     report: &'e UnitReport,
     entries: &mut Vec<ErrorEntry<'e>>,
 ) -> Result<(), OutOfMemory>
-    ensures pushed { IfOk result (λ _. (texts : Bool) → map (shown_of texts) entries.new.items
-        ≡ map (shown_of texts) entries.old.items ++ shown_by (report_in texts report.now)) }
+    ensures pushed { AddsShown result entries.old.items entries.new.items (λ texts. shown_by (report_in texts report.now)) }
 {
     for error in &report.errors {
         entries.push(ErrorEntry {
@@ -95,8 +94,7 @@ pub(crate) fn push_errors<'e>(
     node: &'e EvaluationNode,
     entries: &mut Vec<ErrorEntry<'e>>,
 ) -> Result<(), OutOfMemory>
-    ensures pushed { IfOk result (λ _. (texts : Bool) → map (shown_of texts) entries.new.items
-        ≡ map (shown_of texts) entries.old.items ++ shown_in (unit_of texts node.now)) }
+    ensures pushed { AddsShown result entries.old.items entries.new.items (λ texts. shown_in (unit_of texts node.now)) }
 {
     push_own_errors(&node.report, entries)?;
     for child in &node.children {

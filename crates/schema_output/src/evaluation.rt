@@ -1,5 +1,6 @@
 //! An evaluation of an instance: its units, and what is shown of them. (Core 2020-12, 12.4)
-ghost use Rattle.std.specs.Prelude.{◌≡◌, ◌≤◌, Bool, IfOk, Some, false, map, string_bytes, true};
+ghost use Rattle.std.specs.Prelude.{◌≡◌, ◌≤◌, Bool, IfOk, Some, false, map, string_bytes};
+ghost use Rattle.schema_reports.specs.Showing.{Shows};
 ghost use Rattle.json.specs.Lex.{tokens};
 ghost use Rattle.json.specs.Print.{print};
 ghost use Rattle.serde_json.specs.Data.{depth};
@@ -8,8 +9,8 @@ ghost use Rattle.serde_json.specs.View.{view};
 ghost use Rattle.serde_json.specs.Written.{IsInOrder, compact_text, has_float};
 ghost use Rattle.schema_definitions.specs.Reports.{report_of};
 ghost use Rattle.schema_reports.specs.UnitViews.{unit_of};
-ghost use Rattle.schema_output.specs.EntryViews.{shown_of};
-ghost use Rattle.schema_output.specs.Output.{output_list, shown_in};
+ghost use Rattle.schema_output.specs.EntryViews.{list_by, shown_of};
+ghost use Rattle.schema_output.specs.Output.{shown_in};
 
 use crate::errors::{EvaluationErrors, push_errors};
 use crate::list::output_list;
@@ -58,7 +59,7 @@ impl Evaluation {
     /// keyword; and `annotations`, where there are any, which are `droppedAnnotations` in an invalid unit. Fails only if memory
     /// cannot be allocated.
     pub fn list(&self, alloc: Global) -> Result<Value, OutOfMemory>
-        ensures list { IfOk result (λ v. view v ≡ output_list (unit_of true self.now)) }
+        ensures list { Shows view result (list_by self.now) }
     {
         output_list(alloc, &self.root)
     }
@@ -66,12 +67,10 @@ impl Evaluation {
     /// Returns the text of `list` as JSON with no space. It makes no value of the whole list, so it is cheaper than the text of
     /// that value. Fails only if memory cannot be allocated.
     pub fn list_text(&self, alloc: Global) -> Result<String, OutOfMemory>
-        ensures text { IfOk result (λ s. has_float (output_list (unit_of true self.now)) ≡ false
-            → string_bytes s ≡ compact_text (output_list (unit_of true self.now))) }
+        ensures text { IfOk result (λ s. has_float (list_by self.now) ≡ false → string_bytes s ≡ compact_text (list_by self.now)) }
         ensures compact { IfOk result (λ s. string_bytes s ≡ print (tokens (string_bytes s))) }
-        ensures order { IfOk result (λ s. IsInOrder (string_bytes s) (output_list (unit_of true self.now))) }
-        ensures reads_back { IfOk result (λ s. depth (output_list (unit_of true self.now)) ≤ max_depth
-            → read (string_bytes s) ≡ Some (output_list (unit_of true self.now))) }
+        ensures order { IfOk result (λ s. IsInOrder (string_bytes s) (list_by self.now)) }
+        ensures reads_back { IfOk result (λ s. depth (list_by self.now) ≤ max_depth → read (string_bytes s) ≡ Some (list_by self.now)) }
     {
         output_text(alloc, &self.root)
     }

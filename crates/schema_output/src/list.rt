@@ -1,9 +1,11 @@
 //! The output of an evaluation in the list format. (Core 2020-12, 12.4.2)
-ghost use Rattle.std.specs.Prelude.{◌≡◌, ◌++◌, IfOk, map, true, unwrap_or, option_map, string_bytes};
+ghost use Rattle.std.specs.Prelude.{◌≡◌, ◌++◌, IfOk, map, true, option_map, OnOk};
+ghost use Rattle.schema_reports.specs.Showing.{Shows};
 ghost use Rattle.serde_json.specs.Data.{put, string};
 ghost use Rattle.serde_json.specs.View.{members_view, view};
 ghost use Rattle.schema_reports.specs.UnitViews.{described_of, report_in, unit_of};
-ghost use Rattle.schema_output.specs.Output.{errors_by_name, output_list, reports_in, schema_location, unit_object};
+ghost use Rattle.schema_output.specs.EntryViews.{Makes, list_by, object_by};
+ghost use Rattle.schema_output.specs.Output.{errors_by_name, reports_in, schema_location, unit_object};
 ghost use Rattle.schema_output.specs.Output.{with_annotations, with_errors};
 
 use schema_reports::evaluation::{Annotations, ErrorDescription, EvaluationNode, UnitReport};
@@ -18,8 +20,7 @@ fn put_value(
     name: &str,
     value: Value,
 ) -> Result<(), OutOfMemory>
-    ensures put { IfOk result (λ _. members_view object.new.entries
-        ≡ put name.now (view value) (members_view object.old.entries)) }
+    ensures put { Makes result object.old.entries object.new.entries (put name.now (view value)) }
 {
     let name = String::from_str(alloc, name)?;
     drop(object.insert(name, value)?);
@@ -33,8 +34,7 @@ fn put_text(
     name: &str,
     text: &str,
 ) -> Result<(), OutOfMemory>
-    ensures put { IfOk result (λ _. members_view object.new.entries
-        ≡ put name.now (string text.now) (members_view object.old.entries)) }
+    ensures put { Makes result object.old.entries object.new.entries (put name.now (string text.now)) }
 {
     let text = String::from_str(alloc, text)?;
     put_value(alloc, object, name, Value::String(text))
@@ -65,8 +65,7 @@ fn put_errors(
     object: &mut Map<String, Value>,
     errors: &[ErrorDescription],
 ) -> Result<(), OutOfMemory>
-    ensures put { IfOk result (λ _. members_view object.new.entries
-        ≡ with_errors (map (described_of true) errors.now) (members_view object.old.entries)) }
+    ensures put { Makes result object.old.entries object.new.entries (with_errors (map (described_of true) errors.now)) }
 {
     if errors.is_empty() {
         return Ok(());
@@ -82,8 +81,7 @@ fn put_annotations(
     valid: bool,
     annotations: &Option<Annotations>,
 ) -> Result<(), OutOfMemory>
-    ensures put { IfOk result (λ _. members_view object.new.entries
-        ≡ with_annotations valid (option_map view annotations.now) (members_view object.old.entries)) }
+    ensures put { Makes result object.old.entries object.new.entries (with_annotations valid (option_map view annotations.now)) }
 {
     match annotations {
         None => Ok(()),
@@ -110,7 +108,7 @@ pub(crate) fn schema_location(report: &UnitReport) -> &str
 
 /// What a unit says of itself, as an object.
 pub(crate) fn unit_object(alloc: Global, report: &UnitReport) -> Result<Value, OutOfMemory>
-    ensures object { IfOk result (λ v. view v ≡ unit_object (report_in true report.now)) }
+    ensures object { Shows view result (object_by report.now) }
 {
     let mut object = Map::new(alloc);
     put_value(alloc, &mut object, "valid", Value::Bool(report.valid))?;
@@ -143,7 +141,7 @@ fn push_objects(
     node: &EvaluationNode,
     objects: &mut Vec<Value>,
 ) -> Result<(), OutOfMemory>
-    ensures pushed { IfOk result (λ _. map view objects.new.items
+    ensures pushed { OnOk result (map view objects.new.items
         ≡ map view objects.old.items ++ map unit_object (reports_in (unit_of true node.now))) }
 {
     objects.push(unit_object(alloc, &node.report)?)?;
@@ -155,7 +153,7 @@ fn push_objects(
 
 /// The output of an evaluation with this unit outermost.
 pub(crate) fn output_list(alloc: Global, root: &EvaluationNode) -> Result<Value, OutOfMemory>
-    ensures list { IfOk result (λ v. view v ≡ output_list (unit_of true root.now)) }
+    ensures list { Shows view result (list_by root.now) }
 {
     let mut objects = Vec::new(alloc);
     push_objects(alloc, root, &mut objects)?;

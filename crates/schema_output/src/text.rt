@@ -1,10 +1,12 @@
 //! The text of the list format, written unit by unit. (Core 2020-12, 12.4.2)
-ghost use Rattle.std.specs.Prelude.{◌≡◌, ◌++◌, ◌∷◌, ◌≤◌, IfOk, None, length, string_bytes, true};
+ghost use Rattle.std.specs.Prelude.{◌≡◌, ◌++◌, ◌∷◌, ◌≤◌, IfOk, None, length, string_bytes, true, OnOk};
+ghost use Rattle.schema_reports.specs.Showing.{Adds};
 ghost use Rattle.json.specs.Print.{escape, quoted};
 ghost use Rattle.serde_json.specs.Written.{compact_text};
 ghost use Rattle.schema_definitions.specs.Instance.{Text};
 ghost use Rattle.schema_reports.specs.UnitViews.{described_of, report_in, unit_of};
-ghost use Rattle.schema_output.specs.Output.{output_list, schema_location, unit_object};
+ghost use Rattle.schema_output.specs.EntryViews.{list_by, object_by};
+ghost use Rattle.schema_output.specs.Output.{schema_location};
 ghost use Rattle.schema_output.specs.Texts.{Follow, IsJsonText, Prints};
 ghost use Rattle.schema_output.specs.Texts.{closing, error_text, objects_below, places_text, plain_places_text, valid_text};
 
@@ -17,7 +19,7 @@ use std::alloc::Global;
 
 // Adds a text in quotes.
 fn push_quoted(alloc: Global, out: &mut String, text: &str) -> Result<(), OutOfMemory>
-    ensures quoted { IfOk result (λ _. string_bytes out.new ≡ string_bytes out.old ++ quoted text.now) }
+    ensures quoted { Adds result out.old out.new (quoted text.now) }
 {
     if is_plain(text.as_bytes()) {
         out.push_str("\"")?;
@@ -58,8 +60,7 @@ fn push_plain_places(
     schema: &str,
     valid: bool,
 ) -> Result<(), OutOfMemory>
-    ensures places { IfOk result (λ _. string_bytes out.new ≡ string_bytes out.old
-        ++ plain_places_text path.now place.now schema.now valid) }
+    ensures places { Adds result out.old out.new (plain_places_text path.now place.now schema.now valid) }
 {
     out.push_str("\"evaluationPath\":\"")?;
     out.push_str(path)?;
@@ -82,7 +83,7 @@ fn is_plain_schema(report: &UnitReport) -> bool
 
 // Adds the members that every unit has, and closes its object.
 fn push_places(alloc: Global, out: &mut String, report: &UnitReport) -> Result<(), OutOfMemory>
-    ensures places { IfOk result (λ _. string_bytes out.new ≡ string_bytes out.old ++ places_text (report_in true report.now)) }
+    ensures places { Adds result out.old out.new (places_text (report_in true report.now)) }
 {
     let path = report.evaluation_path.as_str();
     let place = report.instance_location.as_str();
@@ -104,7 +105,7 @@ fn push_places(alloc: Global, out: &mut String, report: &UnitReport) -> Result<(
 
 // Adds the member of a unit's one error.
 fn push_error(alloc: Global, out: &mut String, error: &ErrorDescription) -> Result<(), OutOfMemory>
-    ensures error { IfOk result (λ _. string_bytes out.new ≡ string_bytes out.old ++ error_text (described_of true error.now)) }
+    ensures error { Adds result out.old out.new (error_text (described_of true error.now)) }
 {
     out.push_str("\"errors\":{")?;
     push_quoted(alloc, out, error.keyword.as_str())?;
@@ -116,8 +117,7 @@ fn push_error(alloc: Global, out: &mut String, error: &ErrorDescription) -> Resu
 // Adds the object of a unit that has no annotations and one error at most.
 fn push_short(alloc: Global, out: &mut String, report: &UnitReport) -> Result<(), OutOfMemory>
     requires short { (report.now.annotations ≡ None) × (length report.now.errors.items ≤ 1) }
-    ensures pushed { IfOk result (λ _. string_bytes out.new
-        ≡ string_bytes out.old ++ compact_text (unit_object (report_in true report.now))) }
+    ensures pushed { Adds result out.old out.new (compact_text (object_by report.now)) }
 {
     out.push_str("{")?;
     if let Some(error) = report.errors.first() {
@@ -128,7 +128,7 @@ fn push_short(alloc: Global, out: &mut String, report: &UnitReport) -> Result<()
 
 // Adds the object of a unit, by way of a value.
 fn push_value(alloc: Global, out: &mut String, report: &UnitReport) -> Result<(), OutOfMemory>
-    ensures pushed { IfOk result (λ _. (text : Text) × Prints (unit_object (report_in true report.now)) text
+    ensures pushed { OnOk result ((text : Text) × Prints (object_by report.now) text
         × (string_bytes out.new ≡ string_bytes out.old ++ text)) }
 {
     let text = unit_object(alloc, report)?.to_string(alloc)?;
@@ -137,7 +137,7 @@ fn push_value(alloc: Global, out: &mut String, report: &UnitReport) -> Result<()
 
 // Adds the object of a unit.
 fn push_unit(alloc: Global, out: &mut String, report: &UnitReport) -> Result<(), OutOfMemory>
-    ensures pushed { IfOk result (λ _. (text : Text) × Prints (unit_object (report_in true report.now)) text
+    ensures pushed { OnOk result ((text : Text) × Prints (object_by report.now) text
         × (string_bytes out.new ≡ string_bytes out.old ++ text)) }
 {
     if report.annotations.is_none() && report.errors.len() <= 1 {
@@ -149,7 +149,7 @@ fn push_unit(alloc: Global, out: &mut String, report: &UnitReport) -> Result<(),
 
 // Adds the objects of the units inside a unit, each after a comma.
 fn push_below(alloc: Global, out: &mut String, node: &EvaluationNode) -> Result<(), OutOfMemory>
-    ensures pushed { IfOk result (λ _. Follow (objects_below (unit_of true node.now)) (string_bytes out.old) (string_bytes out.new)) }
+    ensures pushed { OnOk result (Follow (objects_below (unit_of true node.now)) (string_bytes out.old) (string_bytes out.new)) }
 {
     for child in &node.children {
         out.push_str(",")?;
@@ -172,7 +172,7 @@ fn closing(valid: bool) -> &'static str
 
 /// The text of the output of an evaluation with this unit outermost.
 pub(crate) fn output_text(alloc: Global, root: &EvaluationNode) -> Result<String, OutOfMemory>
-    ensures text { IfOk result (λ text. IsJsonText (output_list (unit_of true root.now)) (string_bytes text)) }
+    ensures text { IfOk result (λ text. IsJsonText (list_by root.now) (string_bytes text)) }
 {
     let mut out = String::from_str(alloc, "{\"details\":[")?;
     push_unit(alloc, &mut out, &root.report)?;

@@ -3,3 +3,4 @@ pub mod SearchGives
 pub mod Outcomes
 pub mod KeyHashes
 pub mod RunCounts
+pub mod RunsOf

@@ -1,5 +1,6 @@
 //! The errors of a result, found by hash. An error's key is its three paths and its text.
 ghost use Rattle.std.specs.Prelude.{◌≡◌, IfOk, bytes_eq, map, nat_eq};
+ghost use Rattle.schema_reports.specs.Showing.{Yields};
 ghost use Rattle.std.specs.HashMap.{get};
 ghost use Rattle.schema_matches.specs.HashIndex.{IsIndexed};
 ghost use Rattle.schema_search.specs.KeyHashes.{key_hash};
@@ -44,7 +45,7 @@ impl<'i> Model for KeyedErrors<'i> {
 // The hash of an error's key.
 #[tactic(auto, unfolding(crate::specs::KeyHashes::hash_of_key))]
 fn key_hash(alloc: Global, error: &ValidationError<'_>) -> Result<u64, OutOfMemory>
-    ensures hash { IfOk result (λ h. h ≡ key_hash error.now) }
+    ensures hash { Yields result (key_hash error.now) }
 {
     let instance_path = error.instance_path(alloc)?;
     let mut hasher = FoldHasher::default();
@@ -72,7 +73,7 @@ fn positions(
 
 // Whether two places have one pointer: two that differ may, since a name's place is shown by its object's pointer.
 fn have_one_pointer(alloc: Global, one: &Place<'_>, other: &Place<'_>) -> Result<bool, OutOfMemory>
-    ensures same { IfOk result (λ b. b ≡ bytes_eq (pointer_to one.now) (pointer_to other.now)) }
+    ensures same { Yields result (bytes_eq (pointer_to one.now) (pointer_to other.now)) }
 {
     if one == other {
         return Ok(true);
@@ -90,7 +91,7 @@ fn is_same_key(
     one: &ValidationError<'_>,
     other: &ValidationError<'_>,
 ) -> Result<bool, OutOfMemory>
-    ensures same { IfOk result (λ b. b ≡ same_key one.now other.now) }
+    ensures same { Yields result (same_key one.now other.now) }
 {
     if one.text.as_str() != other.text.as_str()
         || one.schema_path.as_str() != other.schema_path.as_str()
@@ -107,7 +108,7 @@ fn has_key_of(
     errors: &[ValidationError<'_>],
     error: &ValidationError<'_>,
 ) -> Result<bool, OutOfMemory>
-    ensures has { IfOk result (λ b. b ≡ has_key errors.now error.now) }
+    ensures has { Yields result (has_key errors.now error.now) }
 {
     for (i, one) in errors.iter().enumerate() {
         if is_same_key(alloc, error, one)? {
@@ -120,7 +121,7 @@ fn has_key_of(
 impl<'i> KeyedErrors<'i> {
     // These errors; it fails only if memory does.
     fn new(alloc: Global, errors: Vec<ValidationError<'i>>) -> Result<KeyedErrors<'i>, OutOfMemory>
-        ensures same { IfOk result (λ k. k ≡ errors.entry.items) }
+        ensures same { Yields result errors.entry.items }
     {
         match positions(alloc, &errors) {
             Ok(positions) => Ok(KeyedErrors { errors, positions }),
@@ -139,7 +140,7 @@ impl<'i> KeyedErrors<'i> {
         hash: u64,
     ) -> Result<bool, OutOfMemory>
         requires hash { hash ≡ key_hash error.now }
-        ensures has { IfOk result (λ b. b ≡ has_key self.now error.now) }
+        ensures has { Yields result (has_key self.now error.now) }
     {
         match self.positions.get(&hash) {
             Some(position) => {
@@ -174,7 +175,7 @@ pub(super) fn is_in_each(
     results: &[KeyedErrors<'_>],
     error: &ValidationError<'_>,
 ) -> Result<bool, OutOfMemory>
-    ensures each { IfOk result (λ b. b ≡ in_each_of results.now error.now) }
+    ensures each { Yields result (in_each_of results.now error.now) }
 {
     let hash = key_hash(alloc, error)?;
     for (i, errors) in results.iter().enumerate() {

@@ -1,5 +1,5 @@
 //! The search over what unfinished matches may come out as.
-ghost use Rattle.std.specs.Prelude.{[], IfOk, IsSome, None, Ok, Some, false, true, ◌++◌, ◌∷◌, ◌≡◌, ◌≤◌};
+ghost use Rattle.std.specs.Prelude.{[], IfOk, IsSome, None, Ok, Some, false, true, ◌++◌, ◌∷◌, ◌≡◌, ◌≤◌, OnOk};
 ghost use Rattle.schema_definitions.specs.Cover.{assuming};
 ghost use Rattle.schema_meaning.specs.Search.{UsesBelow};
 ghost use Rattle.schema_definitions.specs.Unfinished.{Failure, FirstIsNew, located_by, starting};
@@ -34,7 +34,7 @@ fn push_one(
     unfinished: &UnfinishedMatch,
     matches: bool,
 ) -> Result<(), OutOfMemory>
-    ensures { IfOk result (λ _. pending.new.items
+    ensures { OnOk result (pending.new.items
         ≡ pending.old.items ++ (record { pair = unfinished.now; outcome = matches } ∷ assumed.now) ∷ []) }
 {
     let unfinished = unfinished.clone()?;
@@ -49,8 +49,7 @@ fn push_both(
     assumed: &AssumedOutcomes,
     unfinished: &UnfinishedMatch,
 ) -> Result<(), OutOfMemory>
-    ensures { IfOk result (λ _. pending.new.items
-        ≡ pending.old.items ++ (record { pair = unfinished.now; outcome = true } ∷ assumed.now) ∷ []
+    ensures { OnOk result (pending.new.items ≡ pending.old.items ++ (record { pair = unfinished.now; outcome = true } ∷ assumed.now) ∷ []
         ++ (record { pair = unfinished.now; outcome = false } ∷ assumed.now) ∷ []) }
 {
     push_one(alloc, pending, assumed, unfinished, true)?;
@@ -131,8 +130,7 @@ fn take<'i, T: Drop>(
     ensures is_new { FirstIsNew given.entry.0 }
     ensures whole { given.entry.0.unassumed ≡ None → IfOk result
         (λ _. (pending.new.items ≡ pending.old.items) × (results.new.items ≡ results.old.items ++ given.entry.1 ∷ [])) }
-    ensures branches { (u : Failure) → given.entry.0.unassumed ≡ Some u → IfOk result
-        (λ _. (pending.new.items
+    ensures branches { (u : Failure) → given.entry.0.unassumed ≡ Some u → IfOk result (λ _. (pending.new.items
         ≡ pending.old.items ++ assuming u.met true outcomes.now ∷ [] ++ assuming u.met false outcomes.now ∷ [])
         × (results.new.items ≡ results.old.items)) }
 {
@@ -167,8 +165,7 @@ pub fn assume_within<
     requires callable { F.IsAlwaysCallable run.old }
     requires met { IsSome first.unassumed }
     requires limit { 1 ≤ run_limit }
-    ensures outcomes { IfOk result
-        (AreOutcomes (by_run F.step) first.entry run.old run_limit run.new) }
+    ensures outcomes { IfOk result (AreOutcomes (by_run F.step) first.entry run.old run_limit run.new) }
     ensures uses { UsesBelow run_limit F.step run.old run.new }
 {
     let (mut pending, mut failure) = begin(alloc, first)?;
@@ -222,8 +219,7 @@ pub fn assume_each_outcome<
     requires callable { F.IsAlwaysCallable run.old }
     requires met { IsSome first.0.unassumed }
     requires limit { 1 ≤ run_limit }
-    ensures outcomes { IfOk result
-        (AreOutcomes (by_run F.step) first.entry.0 run.old run_limit run.new) }
+    ensures outcomes { IfOk result (AreOutcomes (by_run F.step) first.entry.0 run.old run_limit run.new) }
     ensures uses { UsesBelow run_limit F.step run.old run.new }
 {
     let (first, result) = first;

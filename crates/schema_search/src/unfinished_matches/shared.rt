@@ -1,5 +1,5 @@
 //! What the results of a search say together.
-ghost use Rattle.std.specs.Prelude.{◌≡◌, ◌++◌, ◌∷◌, [], IfOk, filter, map, option_map};
+ghost use Rattle.std.specs.Prelude.{◌≡◌, ◌++◌, ◌∷◌, [], IfOk, filter, map, option_map, OnOk};
 ghost use Rattle.std.specs.List.{list_all};
 ghost use Rattle.schema_search.specs.Outcomes.{AreErrors, is_yes};
 ghost use Rattle.schema_search.specs.SharedResults.{AreShared, IsSharedBy, OneError};
@@ -61,7 +61,7 @@ fn keep_shared<'i>(
     error: ValidationError<'i>,
     results: &[KeyedErrors<'i>],
 ) -> Result<(), OutOfMemory>
-    ensures kept { IfOk result (λ _. kept.new.items ≡ kept.old.items ++ filter (in_each_of results.now) (error.entry ∷ [])) }
+    ensures kept { OnOk result (kept.new.items ≡ kept.old.items ++ filter (in_each_of results.now) (error.entry ∷ [])) }
 {
     if is_in_each(alloc, results, &error)? {
         kept.push(error)?;
@@ -144,8 +144,7 @@ fn shared_or_failure<'i>(
     failure: MatchFailure<'i>,
     root: &'i Value,
 ) -> Result<Vec<ValidationError<'i>>, OutOfMemory>
-    ensures shared { IfOk result
-        (λ es. AreShared (view root.now) failure.entry (map (λ r. r.items) results.entry.items) es.items) }
+    ensures shared { IfOk result (λ es. AreShared (view root.now) failure.entry (map (λ r. r.items) results.entry.items) es.items) }
 {
     match shared_errors(alloc, results) {
         Ok(Some(shared)) => {

@@ -1,14 +1,15 @@
 //! What a call says over a search: of a sense whose runs these are, what every completion says.
-ghost use Rattle.std.specs.Prelude.{Bool, IfOk, IsSome, true, ◌↔◌, ◌≡◌, ◌≤◌};
+ghost use Rattle.std.specs.Prelude.{Bool, IfOk, IsSome, true, ◌↔◌, ◌≡◌, ◌≤◌, OnOk};
 ghost use Rattle.serde_json.specs.View.{view};
 ghost use Rattle.schema_definitions.specs.Cover.{Call, Decides, Sense, validate};
 ghost use Rattle.schema_meaning.specs.Headline.{ErrorsOf, FirstSays, VerdictSays};
-ghost use Rattle.schema_meaning.specs.Members.{Follows, is_nil, verdict_of};
+ghost use Rattle.schema_meaning.specs.Members.{Follows, verdict_of};
 ghost use Rattle.schema_search.specs.Outcomes.{by_run, errors_in, none_in};
 ghost use Rattle.schema_definitions.specs.Runs.{first_error};
 ghost use Rattle.schema_meaning.specs.Search.{UsesBelow};
 ghost use Rattle.schema_meaning.specs.Searched.{IsRunOf, Reaches, WantsAllLater};
 ghost use Rattle.schema_search.specs.RunCounts.{MakesFurther};
+ghost use Rattle.schema_search.specs.RunsOf.{OfFollowed, OfRuns, has_none};
 ghost use Rattle.schema_search.specs.SearchGives.{GivesErrors};
 ghost use Rattle.schema_meaning.specs.Shared.{EachAccepts, errors_of};
 
@@ -36,16 +37,13 @@ pub fn validity_under_each<
     requires callable { F.IsAlwaysCallable run.old }
     requires met { IsSome first.0.unassumed }
     requires limit { 1 ≤ run_limit }
-    ensures says { (v : Sense) (call : Call) → Follows v
-        → IsRunOf v call (by_run F.step) first.entry.0 run.old (λ (b : Bool). b) (verdict_of v)
-        → IfOk result (λ b. VerdictSays v run_limit call b) }
-    ensures exactly { (v : Sense) (call : Call) → Follows v
-        → IsRunOf v call (by_run F.step) first.entry.0 run.old (λ (b : Bool). b) (verdict_of v)
-        → IfOk result (λ b. (b ≡ true) ↔ (Decides v run_limit call × EachAccepts v)) }
-    ensures makes { (v : Sense) (call : Call)
-        → IsRunOf v call (by_run F.step) first.entry.0 run.old (λ (b : Bool). b) (verdict_of v)
-        → IfOk result (λ _. MakesFurther v run_limit call (by_run F.step) run.old run.new) }
-    ensures reaches { IfOk result (λ _. Reaches (by_run F.step) run.old run.new) }
+    ensures says { OfFollowed (by_run F.step) first.entry.0 run.old (λ (b : Bool). b) verdict_of
+        (λ v call. IfOk result (VerdictSays v run_limit call)) }
+    ensures exactly { OfFollowed (by_run F.step) first.entry.0 run.old (λ (b : Bool). b) verdict_of
+        (λ v call. IfOk result (λ b. (b ≡ true) ↔ (Decides v run_limit call × EachAccepts v))) }
+    ensures makes { OfRuns (by_run F.step) first.entry.0 run.old (λ (b : Bool). b) verdict_of
+        (λ v call. OnOk result (MakesFurther v run_limit call (by_run F.step) run.old run.new)) }
+    ensures reaches { OnOk result (Reaches (by_run F.step) run.old run.new) }
     ensures uses { UsesBelow run_limit F.step run.old run.new }
 {
     Ok(validity(assume_each_outcome(alloc, run, first, run_limit)?))
@@ -74,19 +72,15 @@ pub fn errors_under_each<
     ensures errors { (v : Sense) (call : Call) → WantsAllLater call → Follows v
         → IsRunOf v call (by_run F.step) first.entry.0 run.old errors_in (errors_of v)
         → IfOk result (λ es. ErrorsOf v run_limit call (errors_in es)) }
-    ensures first { (v : Sense) → Follows v
-        → IsRunOf v validate (by_run F.step) first.entry.0 run.old errors_in (errors_of v)
+    ensures first { (v : Sense) → Follows v → IsRunOf v validate (by_run F.step) first.entry.0 run.old errors_in (errors_of v)
         → IfOk result (λ es. FirstSays v run_limit (first_error (errors_in es))) }
-    ensures verdict { (v : Sense) (call : Call) → Follows v
-        → IsRunOf v call (by_run F.step) first.entry.0 run.old none_in (λ m. is_nil (errors_of v m))
-        → IfOk result (λ es. VerdictSays v run_limit call (none_in es)) }
-    ensures gives { (v : Sense) (call : Call)
-        → IsRunOf v call (by_run F.step) first.entry.0 run.old none_in (λ m. is_nil (errors_of v m))
-        → IfOk result (λ es. GivesErrors v call run_limit (by_run F.step) run.old (view root.now) es.items) }
-    ensures makes { (v : Sense) (call : Call)
-        → IsRunOf v call (by_run F.step) first.entry.0 run.old none_in (λ m. is_nil (errors_of v m))
-        → IfOk result (λ _. MakesFurther v run_limit call (by_run F.step) run.old run.new) }
-    ensures reaches { IfOk result (λ _. Reaches (by_run F.step) run.old run.new) }
+    ensures verdict { OfFollowed (by_run F.step) first.entry.0 run.old none_in has_none
+        (λ v call. IfOk result (λ es. VerdictSays v run_limit call (none_in es))) }
+    ensures gives { OfRuns (by_run F.step) first.entry.0 run.old none_in has_none
+        (λ v call. IfOk result (λ es. GivesErrors v call run_limit (by_run F.step) run.old (view root.now) es.items)) }
+    ensures makes { OfRuns (by_run F.step) first.entry.0 run.old none_in has_none
+        (λ v call. OnOk result (MakesFurther v run_limit call (by_run F.step) run.old run.new)) }
+    ensures reaches { OnOk result (Reaches (by_run F.step) run.old run.new) }
     ensures uses { UsesBelow run_limit F.step run.old run.new }
 {
     let outcomes = assume_each_outcome(alloc, run, first, run_limit)?;
