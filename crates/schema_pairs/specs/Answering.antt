@@ -31,6 +31,22 @@ pub record KeepsRest (old new : Solver) : Type 0 where
   pub marking : new.marking ≡ old.marking
   pub begun : new.begun ≡ old.begun
 
+-- all stays but the pairs in progress
+pub record OnlyPairs (old new : Solver) : Type 0 where
+  pub root : new.root ≡ old.root
+  pub assumed : new.assumed ≡ old.assumed
+  pub verdicts : new.verdicts ≡ old.verdicts
+  pub marking : new.marking ≡ old.marking
+  pub begun : new.begun ≡ old.begun
+
+-- all stays but the marks
+pub record OnlyMarks (old new : Solver) : Type 0 where
+  pub root : new.root ≡ old.root
+  pub in_progress : new.in_progress ≡ old.in_progress
+  pub assumed : new.assumed ≡ old.assumed
+  pub verdicts : new.verdicts ≡ old.verdicts
+  pub begun : new.begun ≡ old.begun
+
 -- no pair that was assumed since a mark, which is after the first so many, was assumed before it too
 abbrev pub IsApart : ℕ → Solver → Type 0
 IsApart mark c = (i : ℕ) (p : Place) → has_pair (drop mark c.assumed) i p ≡ true → has_pair (take mark c.assumed) i p ≡ false

@@ -1,5 +1,5 @@
 -- The pair of a question that is answered by what is found: what is found of it, and what becomes of it.
-use Rattle.std.specs.Prelude.{[], List, None, Some, false, is_some, true, ℕ, ◌++◌, ◌∷◌, ◌≡◌}
+use Rattle.std.specs.Prelude.{[], IfOk, List, None, OnErr, Result, Some, false, is_some, true, ℕ, ◌++◌, ◌∷◌, ◌≡◌}
 use Rattle.serde_json.specs.View.{view}
 use Rattle.schema_definitions.specs.Instance.{Place, subject_at}
 use Rattle.schema_places.specs.Numbers.{number_of}
@@ -7,7 +7,7 @@ use Rattle.schema_contexts.specs.Progress.{EndsWith}
 use Rattle.schema_contexts.specs.Verdicts.{verdict_of}
 use Rattle.run_steps.specs.EvaluationPlaces.{CarriesItsNumber, steps_to}
 use Rattle.run_steps.specs.declared.evaluation_place.EvaluationPlace.{EvaluationPlace}
-use Rattle.schema_pairs.specs.Answering.{Accepts, Begins, IsFound, Refuses}
+use Rattle.schema_pairs.specs.Answering.{Accepts, Begins, IsFound, KeepsRest, Refuses}
 use Rattle.schema_pairs.specs.Contexts.{Solver, has_pair, solver_places}
 use Rattle.schema_pairs.specs.Saying.{WhatIsSaid}
 use Rattle.schema_pairs.specs.declared.pair.SolverPair.{SolverPair}
@@ -72,3 +72,12 @@ module _ (p : SolverPair) (old new : Solver) where
   -- a yes of it is kept, with the mark: this was said, and it is answered from this now
   abbrev pub PairAccepts : ℕ → WhatIsSaid → WhatIsSaid → Type 0
   PairAccepts mark said now = Accepts p.node.0 (place_of p) mark said now old new
+
+-- what is said of it is kept, with the mark, and answered; or else, of a no, nothing has changed
+pub record KeepsAnswer {E : Type 0} (p : SolverPair) (mark : ℕ) (said : WhatIsSaid) (old new : Solver) (result : Result WhatIsSaid E) : Type 0 where
+  pub valid : IfOk result (λ now. now.valid ≡ said.valid)
+  pub refused : IfOk result (λ now. said.valid ≡ false → PairRefuses p old new mark)
+  pub accepted : IfOk result (λ now. said.valid ≡ true → PairAccepts p old new mark said now)
+  pub unchanged : OnErr result (said.valid ≡ false → new ≡ old)
+  pub assumed : OnErr result (new.assumed ≡ old.assumed)
+  pub rest : KeepsRest old new

@@ -1,9 +1,10 @@
 //! What a solver has found while it runs: the pairs in progress, those that are assumed, and the verdicts that are known.
 ghost use Rattle.std.specs.Prelude.{◌≡◌, ◌<◌, ◌≤◌, []};
-ghost use Rattle.std.specs.Prelude.{All, IfErr, IfOk, IfSome, None, OnErr, OnOk, false, true, ℕ};
+ghost use Rattle.std.specs.Prelude.{All, IfOk, IfSome, None, OnErr, OnOk, false, true, ℕ};
 ghost use Rattle.std.specs.Prelude.{length, take};
 ghost use Rattle.std.specs.Borrow.{sem};
 ghost use Rattle.std.specs.List.{list_any};
+ghost use Rattle.schema_parts.specs.Showing.{Yields};
 ghost use Rattle.schema_definitions.specs.Runs.{with_mark, without_last};
 ghost use Rattle.schema_places.specs.Numbers.{NumbersAll, OwnNumbers};
 ghost use Rattle.schema_parts.specs.KeywordViews.{marked_of};
@@ -11,7 +12,7 @@ ghost use Rattle.schema_contexts.specs.Rows.{AreWide};
 ghost use Rattle.serde_json.specs.View.{view};
 ghost use Rattle.schema_pairs.specs.Contexts.{solver_places};
 ghost use Rattle.schema_pairs.specs.ContextViews.{ClearsBits, HaveBits, HoldVerdicts, KeepsVerdict, SettlesPairs};
-ghost use Rattle.schema_pairs.specs.Answering.{IsApart, KeepsRest, fresh};
+ghost use Rattle.schema_pairs.specs.Answering.{IsApart, KeepsRest, OnlyMarks, OnlyPairs, fresh};
 ghost use Rattle.schema_pairs.specs.AtNumbers.{FoundAt, HasOwnNumbers, IsAloneAt, IsBesideAt, IsFreeAt, IsIdleAt, IsKnown, IsLastAt};
 ghost use Rattle.schema_pairs.specs.AtNumbers.{AcceptsAt, AssumesAt, AssumesBesideAt, BeginsAt, IsUnknownAt, LeavesAt, RefusesAt};
 ghost use Rattle.schema_pairs.specs.AtNumbers.{RemembersAt, SettlesAt, SettlesBesideAt, same_mark};
@@ -204,7 +205,7 @@ impl<'i> SolverContext<'i> {
     pub fn enter(&mut self, node: SchemaNode, place: usize) -> Result<usize, OutOfMemory>
         requires known { IsKnown place self.old }
         requires is_new { IsIdleAt node place self.old }
-        ensures mark { IfOk result (λ n. n ≡ length self.old.assumed) }
+        ensures mark { Yields result (length self.old.assumed) }
         ensures begins { OnOk result (BeginsAt node place self.old self.new) }
         ensures unchanged { OnErr result (self.new ≡ self.old) }
     {
@@ -225,11 +226,7 @@ impl<'i> SolverContext<'i> {
         requires known { IsKnown place self.old }
         requires last { IsLastAt node place self.old }
         ensures left { LeavesAt node place self.old self.new }
-        ensures root { self.new.root ≡ self.old.root }
-        ensures assumed { self.new.assumed ≡ self.old.assumed }
-        ensures verdicts { self.new.verdicts ≡ self.old.verdicts }
-        ensures marking { self.new.marking ≡ self.old.marking }
-        ensures begun { self.new.begun ≡ self.old.begun }
+        ensures frame { OnlyPairs self.old self.new }
     {
         self.pairs.pop();
         self.guard.put_bit(node.0, 0, place, false);
@@ -323,10 +320,7 @@ impl<'i> SolverContext<'i> {
         ensures accepted { IfOk result (λ now. said.valid ≡ true → AcceptsAt node place self.old self.new mark said now) }
         ensures unchanged { OnErr result (said.valid ≡ false → self.new ≡ self.old) }
         ensures assumed { OnErr result (self.new.assumed ≡ self.old.assumed) }
-        ensures root { self.new.root ≡ self.old.root }
-        ensures in_progress { self.new.in_progress ≡ self.old.in_progress }
-        ensures marking { self.new.marking ≡ self.old.marking }
-        ensures begun { self.new.begun ≡ self.old.begun }
+        ensures rest { KeepsRest self.old self.new }
     {
         if !said.valid() {
             self.remember(node, place, false)?;
@@ -350,7 +344,7 @@ impl<'i> SolverContext<'i> {
         requires known { IsKnown place self.old }
         requires yes { said.valid ≡ true }
         requires beside { IsBesideAt place self.old }
-        ensures same { IfOk result (λ now. now ≡ said) }
+        ensures same { Yields result said }
         ensures assumed { OnOk result (said.leans ≡ true → AssumesBesideAt node place self.old self.new) }
         ensures settled { OnOk result (said.leans ≡ false → SettlesBesideAt node place self.old self.new) }
         ensures unchanged { OnErr result (self.new ≡ self.old) }
@@ -372,14 +366,10 @@ impl<'i> SolverContext<'i> {
         children: &[Option<Edge>],
         marked: Marked,
     ) -> Result<bool, OutOfMemory>
-        ensures held { IfOk result (λ b. b ≡ list_any (same_mark children.now (marked_of marked)) self.old.marking) }
+        ensures held { Yields result (list_any (same_mark children.now (marked_of marked)) self.old.marking) }
         ensures marks { OnOk result (self.new.marking ≡ with_mark (same_mark children.now) (marked_of marked) self.old.marking) }
-        ensures unchanged { IfErr result (λ _. self.new ≡ self.old) }
-        ensures root { self.new.root ≡ self.old.root }
-        ensures in_progress { self.new.in_progress ≡ self.old.in_progress }
-        ensures assumed { self.new.assumed ≡ self.old.assumed }
-        ensures verdicts { self.new.verdicts ≡ self.old.verdicts }
-        ensures begun { self.new.begun ≡ self.old.begun }
+        ensures unchanged { OnErr result (self.new ≡ self.old) }
+        ensures frame { OnlyMarks self.old self.new }
     {
         self.marking.enter(children, marked)
     }
@@ -387,11 +377,7 @@ impl<'i> SolverContext<'i> {
     /// Takes away the last mark of the keyword's run that is at work, where it has marked anything. It allocates nothing.
     pub fn exit_marking(&mut self)
         ensures left { self.new.marking ≡ without_last self.old.marking }
-        ensures root { self.new.root ≡ self.old.root }
-        ensures in_progress { self.new.in_progress ≡ self.old.in_progress }
-        ensures assumed { self.new.assumed ≡ self.old.assumed }
-        ensures verdicts { self.new.verdicts ≡ self.old.verdicts }
-        ensures begun { self.new.begun ≡ self.old.begun }
+        ensures frame { OnlyMarks self.old self.new }
     {
         self.marking.exit();
     }
@@ -400,11 +386,7 @@ impl<'i> SolverContext<'i> {
     pub fn set_aside(&mut self, alloc: Global) -> Marks
         ensures aside { result ≡ self.old.marking }
         ensures none { self.new.marking ≡ [] }
-        ensures root { self.new.root ≡ self.old.root }
-        ensures in_progress { self.new.in_progress ≡ self.old.in_progress }
-        ensures assumed { self.new.assumed ≡ self.old.assumed }
-        ensures verdicts { self.new.verdicts ≡ self.old.verdicts }
-        ensures begun { self.new.begun ≡ self.old.begun }
+        ensures frame { OnlyMarks self.old self.new }
     {
         mem::replace(&mut self.marking, Marks::new(alloc))
     }
@@ -412,11 +394,7 @@ impl<'i> SolverContext<'i> {
     /// Puts marks back that were set aside, in the place of those of the run that has ended. It allocates nothing.
     pub fn put_back(&mut self, aside: Marks)
         ensures back { self.new.marking ≡ aside }
-        ensures root { self.new.root ≡ self.old.root }
-        ensures in_progress { self.new.in_progress ≡ self.old.in_progress }
-        ensures assumed { self.new.assumed ≡ self.old.assumed }
-        ensures verdicts { self.new.verdicts ≡ self.old.verdicts }
-        ensures begun { self.new.begun ≡ self.old.begun }
+        ensures frame { OnlyMarks self.old self.new }
     {
         self.marking = aside;
     }

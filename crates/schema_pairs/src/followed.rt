@@ -1,5 +1,6 @@
 //! Which numbers a solver follows each time it is asked about them, and of which it remembers what they said at a place.
 ghost use Rattle.std.specs.Prelude.{◌≡◌, ◌∷◌, ◌<◌, ◌||◌, ◌&&◌, [], IfOk, false, length, nat_le, slice_index_or};
+ghost use Rattle.schema_parts.specs.Showing.{Shows, Yields};
 ghost use Rattle.schema_parts.specs.EdgeViews.{edge_of};
 ghost use Rattle.schema_pairs.specs.Following.{AreWays, Counts, Covers, IsFollowing, is_settled_in, table_edges};
 ghost use Rattle.schema_pairs.specs.Following.{child_edges, edges_of, entries_edges, entry_edges};
@@ -123,7 +124,7 @@ impl Followed {
     /// Returns the numbers of these nodes that a solver follows: those to which at most one edge leads that nothing guards, and the settled
     /// ones that take at most `MOST_NODES` nodes to ask. Fails only if memory cannot be allocated.
     pub fn of<K: Drop>(alloc: Global, nodes: &Nodes<K>) -> Result<Followed, OutOfMemory>
-        ensures each { IfOk result (λ f. length f ≡ length nodes.now) }
+        ensures each { Shows length result (length nodes.now) }
         ensures followed { IfOk result (IsFollowing nodes.now) }
     {
         let ways = count_ways(alloc, nodes)?;
@@ -149,7 +150,7 @@ impl Followed {
 
     /// Returns the same numbers once more. Fails only if memory cannot be allocated.
     pub fn clone(&self) -> Result<Followed, OutOfMemory>
-        ensures same { IfOk result (λ f. f ≡ self.now) }
+        ensures same { Yields result self.now }
     {
         let numbers = self.numbers.clone()?;
         Ok(Followed { numbers })

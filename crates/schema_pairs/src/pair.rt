@@ -1,11 +1,12 @@
 //! The pair of a question that is answered by what is found: the node that it asks, and the place, with the place's number.
-ghost use Rattle.std.specs.Prelude.{◌≡◌, false, true, IfOk, IfSome, None, OnErr, OnOk, length};
+ghost use Rattle.std.specs.Prelude.{◌≡◌, IfOk, IfSome, None, OnErr, OnOk, length};
+ghost use Rattle.schema_parts.specs.Showing.{Shows, Yields};
 ghost use Rattle.run_steps.specs.EvaluationPlaces.{steps_to};
 ghost use Rattle.schema_pairs.specs.Contexts.{Solver};
-ghost use Rattle.schema_pairs.specs.Answering.{IsApart};
+ghost use Rattle.schema_pairs.specs.Answering.{IsApart, OnlyPairs};
 ghost use Rattle.schema_pairs.specs.AtNumbers.{HasOwnNumbers};
 ghost use Rattle.schema_pairs.specs.SolverPairs.{CarriesNumber, HasItsNumber, IsFree, IsIdle, IsInside, IsLast, IsUnknown, place_of};
-ghost use Rattle.schema_pairs.specs.SolverPairs.{PairAccepts, PairBegins, PairIsFound, PairLeaves, PairRefuses};
+ghost use Rattle.schema_pairs.specs.SolverPairs.{KeepsAnswer, PairBegins, PairIsFound, PairLeaves};
 
 use crate::context::SolverContext;
 use crate::said::Said;
@@ -32,9 +33,9 @@ impl<'q, 'i> SolverPair<'q, 'i> {
         requires carries { CarriesNumber context.old place.now }
         requires stands { IsInside context.old place.now }
         ensures node { IfOk result (λ p. p.node ≡ node) }
-        ensures place { IfOk result (λ p. place_of p ≡ steps_to place.now) }
+        ensures place { Shows place_of result (steps_to place.now) }
         ensures numbered { IfOk result (λ p. HasItsNumber p context.old) }
-        ensures own { IfOk result (λ _. HasOwnNumbers context.old) }
+        ensures own { OnOk result (HasOwnNumbers context.old) }
         ensures unchanged { context.new ≡ context.old }
     {
         let places = context.places()?;
@@ -73,7 +74,7 @@ impl<'q, 'i> SolverPair<'q, 'i> {
     pub fn enter(&self, context: &mut SolverContext<'i>) -> Result<usize, OutOfMemory>
         requires numbered { HasItsNumber self.now context.old }
         requires is_new { IsIdle self.now context.old }
-        ensures mark { IfOk result (λ n. n ≡ length context.old.assumed) }
+        ensures mark { Yields result (length context.old.assumed) }
         ensures begins { OnOk result (PairBegins self.now context.old context.new) }
         ensures unchanged { OnErr result (context.new ≡ context.old) }
     {
@@ -85,11 +86,7 @@ impl<'q, 'i> SolverPair<'q, 'i> {
         requires numbered { HasItsNumber self.now context.old }
         requires last { IsLast self.now context.old }
         ensures left { PairLeaves self.now context.old context.new }
-        ensures root { context.new.root ≡ context.old.root }
-        ensures assumed { context.new.assumed ≡ context.old.assumed }
-        ensures verdicts { context.new.verdicts ≡ context.old.verdicts }
-        ensures marking { context.new.marking ≡ context.old.marking }
-        ensures begun { context.new.begun ≡ context.old.begun }
+        ensures frame { OnlyPairs context.old context.new }
     {
         context.exit(self.node, self.number);
     }
@@ -108,15 +105,7 @@ impl<'q, 'i> SolverPair<'q, 'i> {
         requires numbered { HasItsNumber self.now context.old }
         requires own { HasOwnNumbers context.old }
         requires apart { IsApart mark context.old }
-        ensures valid { IfOk result (λ now. now.valid ≡ said.valid) }
-        ensures refused { IfOk result (λ now. said.valid ≡ false → PairRefuses self.now context.old context.new mark) }
-        ensures accepted { IfOk result (λ now. said.valid ≡ true → PairAccepts self.now context.old context.new mark said now) }
-        ensures unchanged { OnErr result (said.valid ≡ false → context.new ≡ context.old) }
-        ensures assumed { OnErr result (context.new.assumed ≡ context.old.assumed) }
-        ensures root { context.new.root ≡ context.old.root }
-        ensures in_progress { context.new.in_progress ≡ context.old.in_progress }
-        ensures marking { context.new.marking ≡ context.old.marking }
-        ensures begun { context.new.begun ≡ context.old.begun }
+        ensures { KeepsAnswer self.now mark said context.old context.new result }
     {
         context.keep_answer(self.node, self.number, mark, said)
     }

@@ -1,8 +1,9 @@
 -- What the functions of a solver are asked and answer: by the values of the program, and by what the types of its keywords and of its
 -- matcher say of themselves.
-use Rattle.std.specs.Prelude.{Bool, IfErr, IfOk, IfSome, List, Option, Result, length, ◌≡◌}
+use Rattle.std.specs.Prelude.{[], Bool, IfErr, IfOk, IfSome, List, Option, Result, is_some, length, true, ℕ, ◌≡◌, ◌≤◌, ◌⊎◌}
 use Rattle.serde_json.specs.Data.{object}
-use Rattle.serde_json.specs.View.{members_view}
+use Rattle.serde_json.specs.View.{members_view, view}
+use Rattle.serde_json.specs.declared.value.Value.{Value}
 use Rattle.schema_definitions.specs.Instance.{a_value}
 use Rattle.schema_definitions.specs.Keywords.{Question, for_verdict}
 use Rattle.schema_reports.specs.InstanceViews.{subject_of}
@@ -15,15 +16,19 @@ use Rattle.asked_questions.specs.Members.{Entries}
 use Rattle.asked_questions.specs.Questions.{SaysByQuestions}
 use Rattle.node_table.specs.NodeTable.{numbered}
 use Rattle.run_steps.specs.declared.question.NamedKeyword.{NamedKeyword}
+use Rattle.run_steps.specs.EvaluationPlaces.{steps_to}
+use Rattle.schema_pairs.specs.AtNumbers.{HasOwnNumbers}
 use Rattle.schema_pairs.specs.Contexts.{Solver}
 use Rattle.schema_pairs.specs.Saying.{WhatIsSaid}
+use Rattle.schema_pairs.specs.SolverPairs.{HasItsNumber, IsFree, IsIdle, IsUnknown, place_of}
+use Rattle.schema_pairs.specs.declared.pair.SolverPair.{SolverPair}
 use Rattle.schema_solver.specs.declared.question.Asked.{Asked}
 use Rattle.schema_solver.specs.declared.question.SolverEngine.{SolverEngine}
 use Rattle.schema_solver.specs.declared.question.Stopped.{Stopped}
 use Rattle.schema_solver.specs.declared.question.Stopped.TheVariants as stopped
 use Rattle.schema_solver.specs.Asked.{solver_by}
-use Rattle.schema_solver.specs.Solved.{MayAsk, Solves, Turns, Wanted}
-use Rattle.schema_solver.specs.Solving.{EachSays}
+use Rattle.schema_solver.specs.Solved.{MayAsk, Solves, Turns, Wanted, a_pair}
+use Rattle.schema_solver.specs.Solving.{BeginsFew, EachSays, HoldsAsNodes, IsSoundIn, LimitWithinBound, RestsOnFound, SaysAsNodes}
 use Rattle.schema_solver.specs.TurningOn.{HasBegun}
 
 -- ---- what is found of a root
@@ -71,3 +76,29 @@ module _ {C R K M : Type 0} (k : keyword.Ghosts C R K) (m : matcher.Ghosts M) (e
   -- the keyword's turns are done, with this answer
   abbrev pub AnswersByTurns : NamedKeyword C → Solver → Solver → Result Bool Stopped → code_answer.Answer → Type 0
   AnswersByTurns named old new told answer = Turns (solver_by k m e) k.says_monotone q k.shape named old new told (λ texts. (answer_of texts answer).verdict)
+
+-- the pair of what is asked may be begun: nothing is found of it
+pub record PairMayBegin {C R K M : Type 0} (k : keyword.Ghosts C R K) (m : matcher.Ghosts M) (e : SolverEngine C M) (q : Asked) (i : ℕ) (p : SolverPair) (c : Solver) : Type 0 where
+  pub may_ask : CanAsk k m e q (a_pair i) c
+  pub node : p.node.0 ≡ i
+  pub place : place_of p ≡ steps_to q.place.now
+  pub numbered : HasItsNumber p c
+  pub own : HasOwnNumbers c
+  pub unknown : IsUnknown p c
+  pub idle : IsIdle p c
+  pub free : IsFree p c
+
+-- what is found of a node of an instance at its root place, and what the context holds then; and why nothing is found
+pub record SolvesRoot {C R K M : Type 0} (k : keyword.Ghosts C R K) (m : matcher.Ghosts M) (e : SolverEngine C M) (v : Value) (i : ℕ) (c : Solver) (result : Result (Option Bool) Stopped) : Type 0 where
+  pub exactly : EachSaysMonotone k e → IfOk result (λ found. is_some found ≡ true)
+  pub says : IfFound result (SaysAsNodes (solver_by k m e) (view v) i)
+  pub root : IfFound result (λ _. c.root ≡ v)
+  pub idle : IfFound result (λ _. c.in_progress ≡ [])
+  pub holds : IfFound result (λ _. HoldsAsNodes (solver_by k m e) c)
+  pub sound : IfFound result (λ _. IsSoundIn (solver_by k m e) c)
+  pub rests : IfFound result (RestsOnFound (solver_by k m e) c i)
+  pub few : IfFound result (λ _. BeginsFew (solver_by k m e) v c.begun)
+  pub within : IfOk result (λ _. IfSome e.most (λ most. c.begun ≤ most))
+  pub stops : IfErr result (λ why. (why ≡ stopped.OutOfMemory) ⊎ (why ≡ stopped.Limit))
+  pub limited : IfAtLimit result (is_some e.most ≡ true)
+  pub late : IfAtLimit result (IfSome e.most (LimitWithinBound (solver_by k m e) v))

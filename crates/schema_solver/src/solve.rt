@@ -1,11 +1,8 @@
 //! The verdict of a node by a solver.
-ghost use Rattle.std.specs.Prelude.{◌<◌, ◌≡◌, ◌≤◌, ◌⊎◌, [], IfErr, IfOk, IfSome, is_some, length, true};
-ghost use Rattle.serde_json.specs.View.{view};
+ghost use Rattle.std.specs.Prelude.{◌<◌, ◌≡◌, length};
 ghost use Rattle.schema_parts.specs.MatcherViews.{FinishesEach};
-ghost use Rattle.schema_solver.specs.Asked.{solver_by};
-ghost use Rattle.schema_solver.specs.Calls.{EachSaysMonotone, IfAtLimit, IfFound};
+ghost use Rattle.schema_solver.specs.Calls.{SolvesRoot};
 ghost use Rattle.schema_pairs.specs.Answering.{fresh};
-ghost use Rattle.schema_solver.specs.Solving.{BeginsFew, HoldsAsNodes, IsSoundIn, LimitWithinBound, RestsOnFound, SaysAsNodes};
 
 mod asking;
 mod edges;
@@ -40,19 +37,7 @@ pub fn solve_root<'i, K: Validate, M: Matcher>(
     requires known { node.0 < length engine.now.nodes.now }
     requires finishes { FinishesEach (M.matching engine.now.matcher.now) }
     requires fresh { context.old ≡ fresh instance.now }
-    ensures exactly { EachSaysMonotone K.Validate engine.now → IfOk result (λ found. is_some found ≡ true) }
-    ensures says { IfFound result (SaysAsNodes (solver_by K.Validate M.Matcher.own engine.now) (view instance.now) node.0) }
-    ensures root { IfFound result (λ _. context.new.root ≡ instance.now) }
-    ensures idle { IfFound result (λ _. context.new.in_progress ≡ []) }
-    ensures holds { IfFound result (λ _. HoldsAsNodes (solver_by K.Validate M.Matcher.own engine.now) context.new) }
-    ensures sound { IfFound result (λ _. IsSoundIn (solver_by K.Validate M.Matcher.own engine.now) context.new) }
-    ensures rests { IfFound result (RestsOnFound (solver_by K.Validate M.Matcher.own engine.now) context.new node.0) }
-    ensures few { IfFound result (λ _. BeginsFew (solver_by K.Validate M.Matcher.own engine.now) instance.now context.new.begun) }
-    ensures within { IfOk result (λ _. IfSome engine.now.most (λ most. context.new.begun ≤ most)) }
-    ensures stops { IfErr result (λ e. (e ≡ Stopped.OutOfMemory) ⊎ (e ≡ Stopped.Limit)) }
-    ensures limited { IfAtLimit result (is_some engine.now.most ≡ true) }
-    ensures late { IfAtLimit result (IfSome engine.now.most
-        (LimitWithinBound (solver_by K.Validate M.Matcher.own engine.now) instance.now)) }
+    ensures { SolvesRoot K.Validate M.Matcher.own engine.now instance.now node.0 context.new result }
 {
     // (the call says that the table is ordered)
     let count = engine.nodes.len();

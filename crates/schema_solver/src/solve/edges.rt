@@ -1,10 +1,7 @@
 //! The verdict of what an edge leads to, and of a pair that is answered by what is found, by a solver.
 ghost use Rattle.std.specs.Prelude.{◌≡◌, ◌<◌, ◌≤◌, ℕ, IfErr, OnOk, Some};
-ghost use Rattle.run_steps.specs.EvaluationPlaces.{steps_to};
-ghost use Rattle.schema_pairs.specs.AtNumbers.{HasOwnNumbers};
-ghost use Rattle.schema_pairs.specs.SolverPairs.{HasItsNumber, IsFree, IsIdle, IsUnknown, place_of};
 ghost use Rattle.schema_solver.specs.Solved.{a_pair, the_child, the_edge};
-ghost use Rattle.schema_solver.specs.Calls.{Answers, CanAsk};
+ghost use Rattle.schema_solver.specs.Calls.{Answers, CanAsk, PairMayBegin};
 
 use crate::question::{Asked, SolverEngine, Stopped};
 use crate::solve::entries::{solve_node, solve_node_apart};
@@ -74,8 +71,7 @@ fn may_begin<K, M>(
     context: &SolverContext<'_>,
 ) -> Result<(), Stopped>
     ensures room { OnOk result ((most : ℕ) → engine.now.most ≡ Some most → context.now.begun < most) }
-    ensures stops { IfErr result (λ e. (e ≡ Stopped.Limit)
-        × ((most : ℕ) × (engine.now.most ≡ Some most) × (most ≤ context.now.begun))) }
+    ensures stops { IfErr result (λ e. (e ≡ Stopped.Limit) × ((most : ℕ) × (engine.now.most ≡ Some most) × (most ≤ context.now.begun))) }
 {
     if let Some(most) = engine.most {
         if context.begun() >= most {
@@ -120,14 +116,7 @@ fn begin_pair<'i, K: Validate, M: Matcher>(
     question: &Asked<'_, 'i>,
     context: &mut SolverContext<'i>,
 ) -> Told
-    requires may_ask { CanAsk K.Validate M.Matcher.own engine.now question.now (a_pair node.0) context.old }
-    requires node { pair.now.node.0 ≡ node.0 }
-    requires place { place_of pair.now ≡ steps_to question.now.place.now }
-    requires numbered { HasItsNumber pair.now context.old }
-    requires own { HasOwnNumbers context.old }
-    requires unknown { IsUnknown pair.now context.old }
-    requires idle { IsIdle pair.now context.old }
-    requires free { IsFree pair.now context.old }
+    requires { PairMayBegin K.Validate M.Matcher.own engine.now question.now node.0 pair.now context.old }
     ensures { Answers K.Validate M.Matcher.own engine.now question.now (a_pair node.0) context.old context.new result }
 {
     if let Err(stopped) = may_begin(engine, context) {

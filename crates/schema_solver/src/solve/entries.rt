@@ -129,8 +129,7 @@ fn solve_form<'i, K: Validate, M: Matcher>(
     context: &mut SolverContext<'i>,
 ) -> Told
     requires { CanAsk K.Validate M.Matcher.own engine.now question.now (the_entry K.shape node.0 entry.now) context.old }
-    ensures { Answers K.Validate M.Matcher.own engine.now question.now (the_entry K.shape node.0 entry.now)
-        context.old context.new result }
+    ensures { Answers K.Validate M.Matcher.own engine.now question.now (the_entry K.shape node.0 entry.now) context.old context.new result }
 {
     match &entry.form {
         EntryForm::Keyword(keyword, _) => {
@@ -154,8 +153,7 @@ fn solve_keyword<'i, K: Validate, M: Matcher>(
     context: &mut SolverContext<'i>,
 ) -> Told
     requires { CanAsk K.Validate M.Matcher.own engine.now question.now (the_entry K.shape node.0 entry.now) context.old }
-    ensures { Answers K.Validate M.Matcher.own engine.now question.now (the_entry K.shape node.0 entry.now)
-        context.old context.new result }
+    ensures { Answers K.Validate M.Matcher.own engine.now question.now (the_entry K.shape node.0 entry.now) context.old context.new result }
 {
     match &entry.form {
         EntryForm::Keyword(keyword, children) => {

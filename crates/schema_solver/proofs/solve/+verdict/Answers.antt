@@ -120,7 +120,7 @@ edges::solve_pair-begin_pair-requires g t c =
     let numbered_there = subst (λ z. IsNumbered (solver_places z) pair) (sym same) c.in-Ok.ensures.numbered in
     let own = subst (λ z. OwnNumbers (solver_places z)) (sym same) c.in-Ok.ensures.own in
     let node = ap (λ (n : SchemaNode). n.0) c.in-Ok.ensures.node in
-    λ κs h. (lower_begun _ _ t l c.decreases, (h.0, (h.1.0, (h.1.1.0, (h.1.1.1, (may, (node, (c.in-Ok.ensures.place, (numbered_there, (own, (c.state.ensures.unknown none, (c.state.ensures.idle none, c.state.ensures.free none))))))))))))
+    λ κs h. (lower_begun _ _ t l c.decreases, (h.0, (h.1.0, (h.1.1.0, (h.1.1.1, record { may_ask = may; node = node; place = c.in-Ok.ensures.place; numbered = numbered_there; own = own; unknown = c.state.ensures.unknown none; idle = c.state.ensures.idle none; free = c.state.ensures.free none })))))
 
 pub edges::solve_pair-returns : goal.edges::solve_pair-returns
 edges::solve_pair-returns g t c =
@@ -517,10 +517,10 @@ turns::solver_answer-solver_turns-turned-requires g t c =
     let s = subject_of c.args.question.now.instance in
     let aside = c.set_aside-aside.new.self in
     let begun = begun_with set s (g.K.Validate.shape c.args.keyword.now.keyword.now) c.in-Ok.run' c.in-Ok-begun.answer c.in-Ok.ensures.begins c.in-Ok-begun.ensures.fresh in
-    let e = c.set_aside-aside.ensures in
+    let e = c.set_aside-aside.ensures.frame in
     let went = goes_marked set p c.args.context.now aside c.requires.may.sound e.root e.in_progress e.assumed e.verdicts e.begun in
     let l = ap (λ es. left (numbered g.K.Validate.shape c.args.engine.now.nodes.now) (length c.args.engine.now.nodes.now) c.args.node.0 s (busy_at p es)) e.in_progress in
-    λ κs h. (lower_same _ _ t 4 0 l c.decreases, (h.0, (h.1.0, (h.1.1.0, (h.1.1.1, (record { may = may_after set p c.args.context.now aside s c.args.node.0 c.requires.may went; carries = carries_on c.args.context.now aside c.args.question.now.place.now e.root c.requires.carries; stands = c.requires.stands }, (begun, e.none)))))))
+    λ κs h. (lower_same _ _ t 4 0 l c.decreases, (h.0, (h.1.0, (h.1.1.0, (h.1.1.1, (record { may = may_after set p c.args.context.now aside s c.args.node.0 c.requires.may went; carries = carries_on c.args.context.now aside c.args.question.now.place.now e.root c.requires.carries; stands = c.requires.stands }, (begun, c.set_aside-aside.ensures.none)))))))
 
 pub turns::solver_answer-returns-in-Ok-turned : goal.turns::solver_answer-returns-in-Ok-turned
 turns::solver_answer-returns-in-Ok-turned g t c = record {
@@ -529,8 +529,8 @@ turns::solver_answer-returns-in-Ok-turned g t c = record {
       let p = steps_to c.args.question.now.place.now in
       let aside = c.set_aside-aside.new.self in
       let end = c.solver_turns-turned.new.context in
-      let e = c.set_aside-aside.ensures in
-      let b = c.put_back.ensures in
+      let e = c.set_aside-aside.ensures.frame in
+      let b = c.put_back.ensures.frame in
       let turns : Goes set p aside end = rw c.in-Ok-turned.is at c.solver_turns-turned.ensures.goes in
       let before = goes_marked set p c.args.context.now aside c.requires.may.sound e.root e.in_progress e.assumed e.verdicts e.begun in
       let after = goes_marked set p end c.put_back.new.self turns.sound b.root b.in_progress b.assumed b.verdicts b.begun in
@@ -541,7 +541,7 @@ turns::solver_answer-returns-in-Ok-turned g t c = record {
       let p = steps_to c.args.question.now.place.now in
       let aside = c.set_aside-aside.new.self in
       let end = c.solver_turns-turned.new.context in
-      let b = c.put_back.ensures in
+      let b = c.put_back.ensures.frame in
       let turns : Goes set p aside end = rw c.in-Ok-turned.is at c.solver_turns-turned.ensures.goes in
       let after = goes_marked set p end c.put_back.new.self turns.sound b.root b.in_progress b.assumed b.verdicts b.begun in
       let m = g.K.Validate.shape c.args.keyword.now.keyword.now in
@@ -557,8 +557,8 @@ turns::solver_answer-returns-in-Ok-turned g t c = record {
       let p = steps_to c.args.question.now.place.now in
       let aside = c.set_aside-aside.new.self in
       let end = c.solver_turns-turned.new.context in
-      let e = c.set_aside-aside.ensures in
-      let b = c.put_back.ensures in
+      let e = c.set_aside-aside.ensures.frame in
+      let b = c.put_back.ensures.frame in
       let m = g.K.Validate.shape c.args.keyword.now.keyword.now in
       let es = map (option_map edge_of) c.args.keyword.now.children.now in
       let turns : Goes set p aside end = rw c.in-Ok-turned.is at c.solver_turns-turned.ensures.goes in
@@ -579,10 +579,10 @@ turns::solver_answer-returns g t c = rw c.stopped-in-Err-turned.ensures.told (re
       let p = steps_to c.args.question.now.place.now in
       let aside = c.set_aside-aside.new.self in
       let end = c.solver_turns-turned.new.context in
-      let e = c.set_aside-aside.ensures in
+      let e = c.set_aside-aside.ensures.frame in
       let stops : Stops set says aside end c.in-Err-turned.stopped = rw c.in-Err-turned.is at c.solver_turns-turned.ensures.stops in
       let before = goes_marked set p c.args.context.now aside c.requires.may.sound e.root e.in_progress e.assumed e.verdicts e.begun in
-      stops_still set says c.args.context.now end c.put_back.new.self c.in-Err-turned.stopped (stops_on set says p c.args.context.now aside end c.in-Err-turned.stopped before stops) c.put_back.ensures.begun;
+      stops_still set says c.args.context.now end c.put_back.new.self c.in-Err-turned.stopped (stops_on set says p c.args.context.now aside end c.in-Err-turned.stopped before stops) c.put_back.ensures.frame.begun;
 })
 
 pub turns::solver_turns-returns-in_err-said-in-Ask : goal.turns::solver_turns-returns-in_err-said-in-Ask
@@ -830,7 +830,7 @@ turns::solver_turns-turns-preserved-in-Mark g t c =
     let k = marked_of c.in-Mark.marked in
     let stepped = stepped_by set s m (λ texts. (c.turns.run, answer_of texts c.turns.answer)) (λ texts. reply_of texts c.reply_with-reply.result) (λ texts. told_reply c.turns.told) (turn_of c.in_ok-step.step) (mark k) c.reply_with-reply.ensures.told (ap turn_of c.in-Mark.is) c.in_ok-step.ensures.steps in
     let step = stepped false (tells_nothing (g.K.Validate.is_whole m) s) in
-    let e = c.enter_marking.ensures in
+    let e = c.enter_marking.ensures.frame in
     let next = c.enter_marking.new.self in
     let stays = goes_marked set p c.turns.context next went.sound e.root e.in_progress e.assumed e.verdicts e.begun in
     record {
@@ -867,7 +867,7 @@ turns::solver_turns-turns-preserved g t c =
     let went = c.turns.invariant.goes in
     let stepped = stepped_by set s m (λ texts. (c.turns.run, answer_of texts c.turns.answer)) (λ texts. reply_of texts c.reply_with-reply.result) (λ texts. told_reply c.turns.told) (turn_of c.in_ok-step.step) (unmark) c.reply_with-reply.ensures.told (ap turn_of c.in-Unmark.is) c.in_ok-step.ensures.steps in
     let step = stepped false (tells_nothing (g.K.Validate.is_whole m) s) in
-    let e = c.exit_marking.ensures in
+    let e = c.exit_marking.ensures.frame in
     let next = c.exit_marking.new.self in
     let stays = goes_marked set p c.turns.context next went.sound e.root e.in_progress e.assumed e.verdicts e.begun in
     record {
@@ -875,7 +875,7 @@ turns::solver_turns-turns-preserved g t c =
       can = can_after (g.K.Validate.words false) m (g.K.Validate.absorbed m) (g.K.Validate.remaining m) (g.K.Validate.can_be false m) (g.K.Validate.ends false m) (g.K.Validate.fits false m) (g.met.K.Validate.turn_laws false m) s (c.turns.run, answer_of false c.turns.answer) (c.turn.new.run, answer_of false c.turn.new.answer) told c.turns.invariant.can turn;
       asks = asks_on set m (g.K.Validate.absorbed m) (g.K.Validate.remaining m) (λ texts. g.K.Validate.can_be texts m) (λ texts. g.K.Validate.ends texts m) (λ texts. g.K.Validate.fits texts m) (λ texts. g.met.K.Validate.turn_laws texts m) s (c.turns.run, answer_of false c.turns.answer) (c.turn.new.run, answer_of false c.turn.new.answer) told no_reply (unmark) c.turns.invariant.can turn step (unmark_goes_on) c.turns.invariant.asks;
       leads = leads_unmarked set m (g.K.Validate.absorbed m) (g.K.Validate.remaining m) (λ texts. g.K.Validate.can_be texts m) (λ texts. g.K.Validate.ends texts m) (λ texts. g.K.Validate.fits texts m) (λ texts. g.met.K.Validate.turn_laws texts m) s keeps c.args.context.now p c.args.node.0 c.requires.may_ask.may es c.requires.may_ask.stands c.turns.context next stays c.turns.leans c.turns.context.marking next.marking
-          (λ texts. (c.turns.run, answer_of texts c.turns.answer)) (λ texts. (c.turn.new.run, answer_of texts c.turn.new.answer)) (λ texts. told_reply c.turns.told) turned stepped e.left c.turns.invariant.leads;
+          (λ texts. (c.turns.run, answer_of texts c.turns.answer)) (λ texts. (c.turn.new.run, answer_of texts c.turn.new.answer)) (λ texts. told_reply c.turns.told) turned stepped c.exit_marking.ensures.left c.turns.invariant.leads;
     }
 
 pub asking::solve_counted-loop-asked-init : goal.asking::solve_counted-loop-asked-init
@@ -1205,7 +1205,7 @@ edges::begin_pair-keep_answer-requires-clause-apart g t c =
     let solved = solved_at set g.K.Validate.says_monotone (steps_to c.numbered_place-place.result) c.enter.new.context c.solve_node_apart.new.context _ _ _ c.solve_node_apart.ensures (sym c.in-Ok-result.ensures.same) in
     let ran = pair_ran set old p c.args.node.0 c.args.pair.now.node.0 (place_of c.args.pair.now) (steps_to c.numbered_place-place.result) c.args.context.now c.enter.new.context c.solve_node_apart.new.context c.exit.new.context c.in-Ok.mark c.in-Ok-result.said
     node place same c.numbered_place-place.ensures.same c.requires.unknown c.requires.idle c.requires.free c.args.pair.now.number c.requires.numbered c.requires.own c.requires.may_ask.stands
-    c.in_default.ensures.room c.in-Ok.ensures.begins solved.goes solved.says c.in-Ok.ensures.mark c.exit.ensures.left c.exit.ensures.root c.exit.ensures.assumed c.exit.ensures.verdicts c.exit.ensures.marking c.exit.ensures.begun in
+    c.in_default.ensures.room c.in-Ok.ensures.begins solved.goes solved.says c.in-Ok.ensures.mark c.exit.ensures.left c.exit.ensures.frame.root c.exit.ensures.frame.assumed c.exit.ensures.frame.verdicts c.exit.ensures.frame.marking c.exit.ensures.frame.begun in
     apart_mark set old p c.args.node.0 c.enter.new.context c.solve_node_apart.new.context c.exit.new.context c.in-Ok.mark c.in-Ok-result.said ran
 
 pub edges::begin_pair-returns-in-Ok-keep_answer : goal.edges::begin_pair-returns-in-Ok-keep_answer
@@ -1221,7 +1221,7 @@ edges::begin_pair-returns-in-Ok-keep_answer g t c =
     let solved = solved_at set g.K.Validate.says_monotone (steps_to c.numbered_place-place.result) c.enter.new.context c.solve_node_apart.new.context _ _ _ c.solve_node_apart.ensures (sym c.in-Ok-result.ensures.same) in
     let ran = pair_ran set old p c.args.node.0 c.args.pair.now.node.0 (place_of c.args.pair.now) (steps_to c.numbered_place-place.result) c.args.context.now c.enter.new.context c.solve_node_apart.new.context c.exit.new.context c.in-Ok.mark c.in-Ok-result.said
     node place same c.numbered_place-place.ensures.same c.requires.unknown c.requires.idle c.requires.free c.args.pair.now.number c.requires.numbered c.requires.own c.requires.may_ask.stands
-    c.in_default.ensures.room c.in-Ok.ensures.begins solved.goes solved.says c.in-Ok.ensures.mark c.exit.ensures.left c.exit.ensures.root c.exit.ensures.assumed c.exit.ensures.verdicts c.exit.ensures.marking c.exit.ensures.begun in
+    c.in_default.ensures.room c.in-Ok.ensures.begins solved.goes solved.says c.in-Ok.ensures.mark c.exit.ensures.left c.exit.ensures.frame.root c.exit.ensures.frame.assumed c.exit.ensures.frame.verdicts c.exit.ensures.frame.marking c.exit.ensures.frame.begun in
     let x = c.exit.new.context in
     let n = c.keep_answer.new.context in
     let mark = c.in-Ok.mark in
@@ -1229,7 +1229,7 @@ edges::begin_pair-returns-in-Ok-keep_answer g t c =
     let now = c.in-Ok-keep_answer.kept in
     let as_no = at_pair (λ k z d. said.valid ≡ false → Refuses k z mark x n) node place same c.in-Ok-keep_answer.ensures.refused in
     let as_yes = at_pair (λ k z d. said.valid ≡ true → Accepts k z mark said now x n) node place same c.in-Ok-keep_answer.ensures.accepted in
-    let kept = ran_kept set laws old s p c.args.node.0 c.requires.may_ask.may c.enter.new.context c.solve_node_apart.new.context x mark said ran n c.keep_answer.ensures.root c.keep_answer.ensures.in_progress c.keep_answer.ensures.marking c.keep_answer.ensures.begun now c.in-Ok-keep_answer.ensures.valid as_no as_yes in
+    let kept = ran_kept set laws old s p c.args.node.0 c.requires.may_ask.may c.enter.new.context c.solve_node_apart.new.context x mark said ran n c.keep_answer.ensures.rest.root c.keep_answer.ensures.rest.in_progress c.keep_answer.ensures.rest.marking c.keep_answer.ensures.rest.begun now c.in-Ok-keep_answer.ensures.valid as_no as_yes in
     rw c.said.ensures.told (record {
       goes = kept.0;
       marking = search rules;
@@ -1251,7 +1251,7 @@ edges::begin_pair-returns-in-Err-keep_answer g t c =
     let room : HasRoom set old = c.in_default.ensures.room in
     let solved = solved_at set says (steps_to c.numbered_place-place.result) b e _ _ _ c.solve_node_apart.ensures (sym c.in-Ok-result.ensures.same) in
     let ran = stops_for_memory set says old e (λ most limit few. solved.goes.within most limit (within_begun set old p i b begins room most limit few)) in
-    rw c.stopped-in-Err-keep_answer.ensures.told (solved_none set says p old n _ _ (stops_still set says old e n _ ran (c.keep_answer.ensures.begun ∙ c.exit.ensures.begun)))
+    rw c.stopped-in-Err-keep_answer.ensures.told (solved_none set says p old n _ _ (stops_still set says old e n _ ran (c.keep_answer.ensures.rest.begun ∙ c.exit.ensures.frame.begun)))
 
 -- ---- what a keyword tells at once that it asks
 

@@ -10,18 +10,18 @@ use Rattle.schema_pairs.proofs.pair.SolverPair.keep_answer.Goals as goal
 pub keep_answer-requires-clause-known : goal.keep_answer-requires-clause-known
 keep_answer-requires-clause-known c = (stands (place_of c.args.self.now) (solver_places c.args.context.now) c.args.self.now.number c.requires.numbered).0
 
-pub returns-clause-refused : goal.returns-clause-refused
-returns-clause-refused c =
+pub returns : goal.returns
+returns c =
     let n = c.args.self.now.node.0 in
     let x = c.args.context.now in
     let m = c.args.mark in
     let at = (stands (place_of c.args.self.now) (solver_places c.args.context.now) c.args.self.now.number c.requires.numbered).1 in
-    subst (λ (p : Place). IfOk c.keep_answer.result (λ now. c.args.said.valid ≡ false → Refuses n p m x c.keep_answer.new.self)) at c.keep_answer.ensures.refused
-
-pub returns-clause-accepted : goal.returns-clause-accepted
-returns-clause-accepted c =
-    let n = c.args.self.now.node.0 in
-    let x = c.args.context.now in
-    let m = c.args.mark in
-    let at = (stands (place_of c.args.self.now) (solver_places c.args.context.now) c.args.self.now.number c.requires.numbered).1 in
-    subst (λ (p : Place). IfOk c.keep_answer.result (λ now. c.args.said.valid ≡ true → Accepts n p m c.args.said now x c.keep_answer.new.self)) at c.keep_answer.ensures.accepted
+    let e = c.keep_answer.ensures in
+    record {
+      valid = e.valid;
+      refused = subst (λ (p : Place). IfOk c.keep_answer.result (λ now. c.args.said.valid ≡ false → Refuses n p m x c.keep_answer.new.self)) at e.refused;
+      accepted = subst (λ (p : Place). IfOk c.keep_answer.result (λ now. c.args.said.valid ≡ true → Accepts n p m c.args.said now x c.keep_answer.new.self)) at e.accepted;
+      unchanged = e.unchanged;
+      assumed = e.assumed;
+      rest = e.rest;
+    }
