@@ -26,6 +26,18 @@ pub record Program (K M : Type 0) : Type 0 where
   pub work : Option ℕ
   pub followed : Option (List Bool)
 
+-- a program of these: the nodes, the root's number and draft, the matcher, the limits on runs and steps, and the numbers that a solver follows
+abbrev pub program_with : {C M : Type 0} → List (NodeEntry C) → ℕ → Draft → M → ℕ → Option ℕ → Option (List Bool) → Program C M
+program_with nodes root draft matcher runs work followed = record {
+  nodes = nodes;
+  root = root;
+  draft = draft;
+  matcher = matcher;
+  runs = runs;
+  work = work;
+  followed = followed;
+}
+
 -- S is what is known of a keyword, R a run with its answer so far
 module _ {K S R M : Type 0} (shape : K → S) (words : Bool → Keywords S R) (is_whole : S → Bool) (matching : M → Matcher) (p : Program K M) (instance : Data) where
   -- texts of errors are spoken of only where the instance holds no fraction and every keyword is whole

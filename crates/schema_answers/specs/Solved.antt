@@ -1,5 +1,5 @@
 -- What a validator's solver finds: with a verdict what it rests on, and how many pairs were begun for it; and that there is a solver.
-use Rattle.std.specs.Prelude.{Bool, IfSome, List, Some, is_some, length, true, ℕ, ◌*◌, ◌+◌, ◌≡◌, ◌≤◌}
+use Rattle.std.specs.Prelude.{Bool, IfSome, List, Some, false, is_some, length, true, ℕ, ◌*◌, ◌+◌, ◌≡◌, ◌≤◌}
 use Rattle.serde_json.specs.declared.value.Value.{Value}
 use Rattle.schema_definitions.specs.Keywords.{Answer}
 use Rattle.schema_parts.specs.declared.keyword.Validate.{Ghosts as KeywordMembers}
@@ -40,6 +40,10 @@ module _ {C Run K M : Type 0} (keywords : KeywordMembers C Run K) (matchers : Ma
   -- one pair more than so many is no more than that
   abbrev pub StopsLate : ℕ → Type 0
   StopsLate limit = IfSome p.followed (λ followed. LimitWithinBound (solver_with followed) instance limit)
+
+  -- where it stops, it stops so
+  abbrev pub StopsOnlyLate : Budget → Budget → Type 0
+  StopsOnlyLate old new = old.stopped ≡ false → new.stopped ≡ true → StopsLate old.left
 
   -- so many pairs are enough: there is a solver, and g * p * g is no more than they, for some g numbers that have all those among them
   pub record AreEnough (limit : ℕ) : Type 0 where

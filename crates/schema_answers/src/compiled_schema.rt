@@ -1,6 +1,7 @@
 //! Compiled nodes with all that a call of them needs, and what their runs and their solver answer of an instance.
-ghost use Rattle.std.specs.Prelude.{◌≡◌, ◌&&◌, ◌<◌, ◌≤◌, [], false, true, None, Option, IfOk, All, IfSome, IsSome, OnErr};
+ghost use Rattle.std.specs.Prelude.{◌≡◌, ◌&&◌, ◌<◌, ◌≤◌, [], false, true, None, Option, IfOk, All, IfSome, IsSome, OnErr, OnOk};
 ghost use Rattle.std.specs.Prelude.{is_some, length, slice_get};
+ghost use Rattle.schema_parts.specs.Showing.{Shows};
 ghost use Rattle.serde_json.specs.View.{view};
 ghost use Rattle.schema_keywords.specs.KeywordViews.{draft_of};
 ghost use Rattle.schema_contexts.specs.Works.{Asks, Spends};
@@ -17,7 +18,8 @@ ghost use Rattle.schema_answers.specs.Asked.{DecidesFromSomeDepth, ErrorsFromSom
 ghost use Rattle.schema_answers.specs.Asked.{EvaluatesFromSomeDepth, IfYes};
 ghost use Rattle.schema_answers.specs.Asked.{RunGivesUnit, UnitsFromSomeDepth};
 ghost use Rattle.schema_answers.specs.SharedErrors.{AreShared, TakesAsBegun};
-ghost use Rattle.schema_answers.specs.Solved.{AllSayMonotone, BeganFew, IsCountedIn, IsDecidedWithin, RestsOnContext, StopsLate};
+ghost use Rattle.schema_answers.specs.Solved.{AllSayMonotone, BeganFew, IsCountedIn, IsDecidedWithin, RestsOnContext, StopsOnlyLate};
+ghost use Rattle.schema_answers.specs.Program.{program_with};
 ghost use Rattle.schema_answers.specs.Taken.{TakesByRuns};
 ghost use Rattle.schema_answers.specs.Asked.{RunDecides, RunFindsFirst, RunListsErrors, RunMeets, RunReplies};
 ghost use Rattle.schema_meaning.specs.Numbered.{Ranked};
@@ -119,15 +121,7 @@ impl<K: Validate, M: Matcher> CompiledSchema<K, M> {
     ) -> CompiledSchema<K, M>
         requires inside { root.0 < length nodes }
         requires limit { 1 ≤ limits.runs }
-        ensures made { result ≡ record {
-          nodes = nodes;
-          root = root.0;
-          draft = draft_of draft;
-          matcher = matcher;
-          runs = limits.runs;
-          work = limits.work;
-          followed = finder;
-        } }
+        ensures made { result ≡ program_with nodes root.0 (draft_of draft) matcher limits.runs limits.work finder }
     {
         CompiledSchema {
             nodes,
@@ -196,11 +190,10 @@ impl<K: Validate, M: Matcher> CompiledSchema<K, M> {
         requires wanted { ¬ (mode_of mode ≡ for_units) }
         ensures says { IfOk result (λ r. RunReplies
             K.Validate M.Matcher.own self.now (view instance.now) mode matches.entry.assumptions r.1) }
-        ensures meets { IfOk result (λ r. RunMeets
-            K.Validate M.Matcher.own self.now (view instance.now) (mode_of mode) matches.entry r.0) }
+        ensures meets { IfOk result (λ r. RunMeets K.Validate M.Matcher.own self.now (view instance.now) (mode_of mode) matches.entry r.0) }
         ensures assumes { IfOk result (λ r. r.0.assumptions ≡ matches.entry.assumptions) }
-        ensures makes_one { IfOk result (λ _. 1 ≤ self.now.runs) }
-        ensures works { IfOk result (λ _. Asks work.old work.new) }
+        ensures makes_one { OnOk result (1 ≤ self.now.runs) }
+        ensures works { OnOk result (Asks work.old work.new) }
         ensures speaks { IfOk result (λ r. (o : Outcome) × (reply_of false r.1 ≡ reply_by (mode_of mode) o)) }
         ensures borrows { IfOk result (λ r. All (BorrowsItsPlace (view instance.now)) (errors_in r.1)) }
     {
@@ -237,13 +230,11 @@ impl<K: Validate, M: Matcher> CompiledSchema<K, M> {
         matches: MatchAssumptions<'i>,
         work: &mut Work,
     ) -> Result<(MatchAssumptions<'i>, bool), OutOfMemory>
-        ensures says { IfOk result (λ r. RunDecides
-            K.Validate M.Matcher.own self.now (view instance.now) matches.entry.assumptions r.1) }
-        ensures meets { IfOk result (λ r. RunMeets
-            K.Validate M.Matcher.own self.now (view instance.now) for_verdict matches.entry r.0) }
+        ensures says { IfOk result (λ r. RunDecides K.Validate M.Matcher.own self.now (view instance.now) matches.entry.assumptions r.1) }
+        ensures meets { IfOk result (λ r. RunMeets K.Validate M.Matcher.own self.now (view instance.now) for_verdict matches.entry r.0) }
         ensures assumes { IfOk result (λ r. r.0.assumptions ≡ matches.entry.assumptions) }
-        ensures works { IfOk result (λ _. Asks work.old work.new) }
-        ensures makes_one { IfOk result (λ _. 1 ≤ self.now.runs) }
+        ensures works { OnOk result (Asks work.old work.new) }
+        ensures makes_one { OnOk result (1 ≤ self.now.runs) }
     {
         let (met, reply) = self.asked(alloc, instance, Mode::Verdict, matches, work)?;
         match reply {
@@ -266,18 +257,16 @@ impl<K: Validate, M: Matcher> CompiledSchema<K, M> {
         work: &mut Work,
     ) -> Result<Option<SolvedVerdict<'i>>, OutOfMemory>
         requires finishes { finishes ≡ true → FinishesEach (M.matching self.now.matcher) }
-        ensures exactly { AllSayMonotone K.Validate self.now
-            → IfOk result (λ found. is_some found ≡ (is_some self.now.followed && finishes)) }
+        ensures exactly { AllSayMonotone K.Validate self.now → Shows is_some result (is_some self.now.followed && finishes) }
         ensures only { IfOk result (λ found. is_some found ≡ true → (is_some self.now.followed && finishes) ≡ true) }
         ensures finishes { IfFound result (λ _. FinishesEach (M.matching self.now.matcher)) }
         ensures says { IfFound result (λ v. RunDecides K.Validate M.Matcher.own self.now (view instance.now) [] v.valid) }
         ensures depth { IfFound result (λ v. DecidesFromSomeDepth K.Validate M.Matcher.own self.now (view instance.now) v.valid) }
         ensures rests { IfFound result (RestsOnContext K.Validate M.Matcher.own self.now instance.now) }
         ensures few { IfFound result (BeganFew K.Validate M.Matcher.own self.now instance.now) }
-        ensures works { IfOk result (λ _. Spends work.old work.new) }
+        ensures works { OnOk result (Spends work.old work.new) }
         ensures counted { IfFound result (λ v. IsCountedIn v work.old work.new) }
-        ensures late { OnErr result (work.old.stopped ≡ false → work.new.stopped ≡ true
-            → StopsLate K.Validate M.Matcher.own self.now instance.now work.old.left) }
+        ensures late { OnErr result (StopsOnlyLate K.Validate M.Matcher.own self.now instance.now work.old work.new) }
     {
         self.finder.verdict(
             alloc,
@@ -301,8 +290,7 @@ impl<K: Validate, M: Matcher> CompiledSchema<K, M> {
         instance: &Value,
         work: &mut Work,
     ) -> Result<bool, OutOfMemory>
-        ensures works { IfOk result (λ _. TakesByRuns
-            K.Validate M.Matcher.own self.now (view instance.now) is_valid work.old work.new) }
+        ensures works { OnOk result (TakesByRuns K.Validate M.Matcher.own self.now (view instance.now) is_valid work.old work.new) }
         ensures depth { IfOk result (DecidesFromSomeDepth K.Validate M.Matcher.own self.now (view instance.now)) }
         ensures decides { IsDecidedWithin K.Validate M.Matcher.own self.now instance.now work.old.left
             → OnErr result (work.old.stopped ≡ false → work.new.stopped ≡ false) }
@@ -330,7 +318,7 @@ impl<K: Validate, M: Matcher> CompiledSchema<K, M> {
         instance: &Value,
         work: &mut Work,
     ) -> Result<bool, OutOfMemory>
-        ensures works { IfOk result (λ _. Spends work.old work.new) }
+        ensures works { OnOk result (Spends work.old work.new) }
         ensures finishes { IfYes result (FinishesEach (M.matching self.now.matcher) × (1 ≤ self.now.runs)) }
         ensures first { IfYes result (FirstFromSomeDepth K.Validate M.Matcher.own self.now (view instance.now) None) }
         ensures errors { IfYes result (ErrorsFromSomeDepth K.Validate M.Matcher.own self.now (view instance.now) []) }
@@ -353,13 +341,11 @@ impl<K: Validate, M: Matcher> CompiledSchema<K, M> {
         instance: &'i Value,
         work: &mut Work,
     ) -> Result<(MatchAssumptions<'i>, Option<ValidationError<'i>>), OutOfMemory>
-        ensures says { IfOk result (λ r. RunFindsFirst
-            K.Validate M.Matcher.own self.now (view instance.now) [] r.1) }
-        ensures meets { IfOk result (λ r. RunMeets
-            K.Validate M.Matcher.own self.now (view instance.now) for_first (starting []) r.0) }
+        ensures says { IfOk result (λ r. RunFindsFirst K.Validate M.Matcher.own self.now (view instance.now) [] r.1) }
+        ensures meets { IfOk result (λ r. RunMeets K.Validate M.Matcher.own self.now (view instance.now) for_first (starting []) r.0) }
         ensures assumes { IfOk result (λ r. r.0.assumptions ≡ []) }
-        ensures works { IfOk result (λ _. Asks work.old work.new) }
-        ensures makes_one { IfOk result (λ _. 1 ≤ self.now.runs) }
+        ensures works { OnOk result (Asks work.old work.new) }
+        ensures makes_one { OnOk result (1 ≤ self.now.runs) }
         ensures borrows { IfOk result (λ r. IfSome r.1 (BorrowsItsPlace (view instance.now))) }
     {
         let nothing = MatchAssumptions::new(alloc);
@@ -381,11 +367,10 @@ impl<K: Validate, M: Matcher> CompiledSchema<K, M> {
     ) -> Result<(MatchAssumptions<'i>, Vec<ValidationError<'i>>), OutOfMemory>
         ensures says { IfOk result (λ r. RunListsErrors
             K.Validate M.Matcher.own self.now (view instance.now) matches.entry.assumptions r.1.items) }
-        ensures meets { IfOk result (λ r. RunMeets
-            K.Validate M.Matcher.own self.now (view instance.now) for_all matches.entry r.0) }
+        ensures meets { IfOk result (λ r. RunMeets K.Validate M.Matcher.own self.now (view instance.now) for_all matches.entry r.0) }
         ensures assumes { IfOk result (λ r. r.0.assumptions ≡ matches.entry.assumptions) }
-        ensures works { IfOk result (λ _. Asks work.old work.new) }
-        ensures makes_one { IfOk result (λ _. 1 ≤ self.now.runs) }
+        ensures works { OnOk result (Asks work.old work.new) }
+        ensures makes_one { OnOk result (1 ≤ self.now.runs) }
         ensures borrows { IfOk result (λ r. All (BorrowsItsPlace (view instance.now)) r.1.items) }
     {
         let (met, reply) = self.asked(alloc, instance, Mode::All, matches, work)?;
@@ -406,10 +391,8 @@ impl<K: Validate, M: Matcher> CompiledSchema<K, M> {
     ) -> Result<Vec<ValidationError<'i>>, OutOfMemory>
         requires none { first.0.assumptions ≡ [] }
         requires met { IsSome first.0.unassumed }
-        ensures shares { IfOk result (λ es. AreShared
-            K.Validate M.Matcher.own self.now (view instance.now) first.entry.0 es.items) }
-        ensures works { IfOk result (λ _. TakesAsBegun
-            K.Validate M.Matcher.own self.now (view instance.now) first.entry.0 work.old work.new) }
+        ensures shares { IfOk result (λ es. AreShared K.Validate M.Matcher.own self.now (view instance.now) first.entry.0 es.items) }
+        ensures works { OnOk result (TakesAsBegun K.Validate M.Matcher.own self.now (view instance.now) first.entry.0 work.old work.new) }
     {
         let shared = errors_under_each(
             alloc,
@@ -435,8 +418,7 @@ impl<K: Validate, M: Matcher> CompiledSchema<K, M> {
     ) -> Result<Option<ValidationError<'i>>, OutOfMemory>
         ensures depth { IfOk result (FirstFromSomeDepth K.Validate M.Matcher.own self.now (view instance.now)) }
         ensures borrows { IfOk result (λ e. IfSome e (BorrowsItsPlace (view instance.now))) }
-        ensures works { IfOk result (λ _. TakesByRuns
-            K.Validate M.Matcher.own self.now (view instance.now) validate work.old work.new) }
+        ensures works { OnOk result (TakesByRuns K.Validate M.Matcher.own self.now (view instance.now) validate work.old work.new) }
     {
         let accepts = self.accepts_at_once(alloc, instance, work)?;
         if accepts {
@@ -464,11 +446,9 @@ impl<K: Validate, M: Matcher> CompiledSchema<K, M> {
         instance: &'i Value,
         work: &mut Work,
     ) -> Result<Vec<ValidationError<'i>>, OutOfMemory>
-        ensures depth { IfOk result (λ es. ErrorsFromSomeDepth
-            K.Validate M.Matcher.own self.now (view instance.now) es.items) }
+        ensures depth { IfOk result (λ es. ErrorsFromSomeDepth K.Validate M.Matcher.own self.now (view instance.now) es.items) }
         ensures borrows { IfOk result (λ es. All (BorrowsItsPlace (view instance.now)) es.items) }
-        ensures works { IfOk result (λ _. TakesByRuns
-            K.Validate M.Matcher.own self.now (view instance.now) iter_errors work.old work.new) }
+        ensures works { OnOk result (TakesByRuns K.Validate M.Matcher.own self.now (view instance.now) iter_errors work.old work.new) }
     {
         let accepts = self.accepts_at_once(alloc, instance, work)?;
         if accepts {
@@ -489,13 +469,11 @@ impl<K: Validate, M: Matcher> CompiledSchema<K, M> {
         instance: &'i Value,
         work: &mut Work,
     ) -> Result<(MatchAssumptions<'i>, EvaluationNode), OutOfMemory>
-        ensures says { IfOk result (λ r. RunGivesUnit
-            K.Validate M.Matcher.own self.now (view instance.now) [] r.1) }
-        ensures meets { IfOk result (λ r. RunMeets
-            K.Validate M.Matcher.own self.now (view instance.now) for_units (starting []) r.0) }
+        ensures says { IfOk result (λ r. RunGivesUnit K.Validate M.Matcher.own self.now (view instance.now) [] r.1) }
+        ensures meets { IfOk result (λ r. RunMeets K.Validate M.Matcher.own self.now (view instance.now) for_units (starting []) r.0) }
         ensures assumes { IfOk result (λ r. r.0.assumptions ≡ []) }
-        ensures works { IfOk result (λ _. Asks work.old work.new) }
-        ensures makes_one { IfOk result (λ _. 1 ≤ self.now.runs) }
+        ensures works { OnOk result (Asks work.old work.new) }
+        ensures makes_one { OnOk result (1 ≤ self.now.runs) }
     {
         let place = Place::root(alloc);
         let path = Location::new(alloc);
@@ -535,8 +513,7 @@ impl<K: Validate, M: Matcher> CompiledSchema<K, M> {
     ) -> Result<EvaluationNode, OutOfMemory>
         ensures depth { IfOk result (EvaluatesFromSomeDepth K.Validate M.Matcher.own self.now (view instance.now)) }
         ensures units { IfOk result (UnitsFromSomeDepth K.Validate M.Matcher.own self.now (view instance.now)) }
-        ensures works { IfOk result (λ _. TakesByRuns
-            K.Validate M.Matcher.own self.now (view instance.now) evaluate work.old work.new) }
+        ensures works { OnOk result (TakesByRuns K.Validate M.Matcher.own self.now (view instance.now) evaluate work.old work.new) }
     {
         let (met, unit) = self.unit(alloc, instance, work)?;
         if !met.met_unassumed() {

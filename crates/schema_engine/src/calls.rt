@@ -1,5 +1,5 @@
 //! One instance asked of a schema: built by the default options and asked in one call.
-ghost use Rattle.std.specs.Prelude.{IfOk, IfErr, IfSome, All};
+ghost use Rattle.std.specs.Prelude.{IfOk, IfErr, IfSome, All, OnOk};
 ghost use Rattle.serde_json.specs.View.{view};
 ghost use Rattle.schema_reports.specs.ReportViews.{BorrowsItsPlace};
 ghost use Rattle.schema_answers.specs.Answers.{refusal_of};
@@ -45,9 +45,8 @@ pub fn is_valid<S: Resolver, T: KeywordTable<K>, K: Validate, M: Matcher, V: Met
         schema.now instance.now DecidesGuardedly) }
     ensures greatest { IfOk result (Says S.Resolver T.KeywordTable K.Validate M.Matcher.own resolver.now table.now matcher.now
         schema.now instance.now DecidesGreatest) }
-    ensures built { IfOk result (λ _. Builds S.Resolver T.KeywordTable K.Validate M.Matcher.own resolver.now table.now matcher.now
-        schema.now) }
-    ensures passed { IfOk result (λ _. Passes (S.resolving resolver.now) (V.checked metas.now) schema.now) }
+    ensures built { OnOk result (Builds S.Resolver T.KeywordTable K.Validate M.Matcher.own resolver.now table.now matcher.now schema.now) }
+    ensures passed { OnOk result (Passes (S.resolving resolver.now) (V.checked metas.now) schema.now) }
     ensures refused { IfErr result (Refuses S.Resolver T.KeywordTable K.Validate M.Matcher.own resolver.now table.now matcher.now
         (V.checked metas.now) schema.now BuildRefused) }
     ensures first { IfErr result (Refuses S.Resolver T.KeywordTable K.Validate M.Matcher.own resolver.now table.now matcher.now
@@ -81,9 +80,8 @@ pub fn validate<'i, S: Resolver, T: KeywordTable<K>, K: Validate, M: Matcher, V:
     ensures leads { IfOk result (λ r. Says S.Resolver T.KeywordTable K.Validate M.Matcher.own resolver.now table.now matcher.now
         schema.now instance.now FirstLeads (refusal_of r)) }
     ensures borrows { IfOk result (λ r. IfSome (refusal_of r) (BorrowsItsPlace (view instance.now))) }
-    ensures built { IfOk result (λ _. Builds S.Resolver T.KeywordTable K.Validate M.Matcher.own resolver.now table.now matcher.now
-        schema.now) }
-    ensures passed { IfOk result (λ _. Passes (S.resolving resolver.now) (V.checked metas.now) schema.now) }
+    ensures built { OnOk result (Builds S.Resolver T.KeywordTable K.Validate M.Matcher.own resolver.now table.now matcher.now schema.now) }
+    ensures passed { OnOk result (Passes (S.resolving resolver.now) (V.checked metas.now) schema.now) }
     ensures refused { IfErr result (Refuses S.Resolver T.KeywordTable K.Validate M.Matcher.own resolver.now table.now matcher.now
         (V.checked metas.now) schema.now BuildRefused) }
     ensures first { IfErr result (Refuses S.Resolver T.KeywordTable K.Validate M.Matcher.own resolver.now table.now matcher.now
@@ -118,9 +116,8 @@ pub fn iter_errors<'i, S: Resolver, T: KeywordTable<K>, K: Validate, M: Matcher,
     ensures leads { IfOk result (Says S.Resolver T.KeywordTable K.Validate M.Matcher.own resolver.now table.now matcher.now
         schema.now instance.now EachLeads) }
     ensures borrows { IfOk result (λ es. All (BorrowsItsPlace (view instance.now)) es) }
-    ensures built { IfOk result (λ _. Builds S.Resolver T.KeywordTable K.Validate M.Matcher.own resolver.now table.now matcher.now
-        schema.now) }
-    ensures passed { IfOk result (λ _. Passes (S.resolving resolver.now) (V.checked metas.now) schema.now) }
+    ensures built { OnOk result (Builds S.Resolver T.KeywordTable K.Validate M.Matcher.own resolver.now table.now matcher.now schema.now) }
+    ensures passed { OnOk result (Passes (S.resolving resolver.now) (V.checked metas.now) schema.now) }
     ensures refused { IfErr result (Refuses S.Resolver T.KeywordTable K.Validate M.Matcher.own resolver.now table.now matcher.now
         (V.checked metas.now) schema.now BuildRefused) }
     ensures first { IfErr result (Refuses S.Resolver T.KeywordTable K.Validate M.Matcher.own resolver.now table.now matcher.now
@@ -161,9 +158,8 @@ pub fn evaluate<S: Resolver, T: KeywordTable<K>, K: Validate, M: Matcher, V: Met
         schema.now instance.now UnitsGuardedly) }
     ensures leads { IfOk result (Says S.Resolver T.KeywordTable K.Validate M.Matcher.own resolver.now table.now matcher.now
         schema.now instance.now UnitsLead) }
-    ensures built { IfOk result (λ _. Builds S.Resolver T.KeywordTable K.Validate M.Matcher.own resolver.now table.now matcher.now
-        schema.now) }
-    ensures passed { IfOk result (λ _. Passes (S.resolving resolver.now) (V.checked metas.now) schema.now) }
+    ensures built { OnOk result (Builds S.Resolver T.KeywordTable K.Validate M.Matcher.own resolver.now table.now matcher.now schema.now) }
+    ensures passed { OnOk result (Passes (S.resolving resolver.now) (V.checked metas.now) schema.now) }
     ensures refused { IfErr result (Refuses S.Resolver T.KeywordTable K.Validate M.Matcher.own resolver.now table.now matcher.now
         (V.checked metas.now) schema.now BuildRefused) }
     ensures first { IfErr result (Refuses S.Resolver T.KeywordTable K.Validate M.Matcher.own resolver.now table.now matcher.now

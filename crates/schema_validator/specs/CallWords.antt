@@ -1,6 +1,6 @@
 -- What a validator is made of, and what is said of the answers of its calls: where they may stop at its limit of steps, where they are
 -- bounded by a budget, and where its solver is asked.
-use Rattle.std.specs.Prelude.{All, Bool, IfSome, List, Option, Result, false, is_some, length, true, ℕ, ◌≡◌}
+use Rattle.std.specs.Prelude.{All, Bool, IfSome, List, Option, Result, false, is_some, true, ℕ, ◌≡◌}
 use Rattle.serde_json.specs.Data.{Data}
 use Rattle.serde_json.specs.View.{view}
 use Rattle.serde_json.specs.declared.value.Value.{Value}
@@ -11,8 +11,7 @@ use Rattle.schema_reports.specs.declared.evaluation.EvaluationNode.{EvaluationNo
 use Rattle.schema_reports.specs.declared.reports.ValidationError.{ValidationError}
 use Rattle.schema_parts.specs.declared.keyword.Validate.{Ghosts as KeywordMembers}
 use Rattle.schema_parts.specs.declared.matcher.Matcher.{Ghosts as MatcherMembers}
-use Rattle.node_table.specs.NodeTable.{NodeEntry, numbered}
-use Rattle.schema_verdicts.specs.Saying.{EachSays}
+use Rattle.node_table.specs.NodeTable.{NodeEntry}
 use Rattle.schema_verdicts.specs.declared.eligible.SolvedVerdict.{SolvedVerdict}
 use Rattle.schema_answers.specs.Answers.{refusal_of}
 use Rattle.schema_answers.specs.Program.{Program}
@@ -21,27 +20,11 @@ use Rattle.schema_validator.specs.Greatest.{NodesAreMonotone}
 
 -- ---- what a validator is made of
 
--- nodes, the root's number and draft, the matcher, the limits on runs and steps, and the numbers that a solver follows
-abbrev pub program_with : {C M : Type 0} → List (NodeEntry C) → ℕ → Draft → M → ℕ → Option ℕ → Option (List Bool) → Program C M
-program_with nodes root draft matcher runs work followed = record {
-  nodes = nodes;
-  root = root;
-  draft = draft;
-  matcher = matcher;
-  runs = runs;
-  work = work;
-  followed = followed;
-}
-
 -- it has these nodes, and the root has this number and this draft
 abbrev pub IsMadeOf : {C M : Type 0} → List (NodeEntry C) → ℕ → Draft → Program C M → Type 0
 IsMadeOf nodes root draft p = (p.nodes ≡ nodes) × (p.root ≡ root) × (p.draft ≡ draft)
 
--- each keyword of its nodes says that it is monotone
-abbrev pub EachSaysMonotone : {C Run K M : Type 0} → KeywordMembers C Run K → Program C M → Type 0
-EachSaysMonotone k p = EachSays k.says_monotone (numbered k.shape p.nodes) (length p.nodes)
-
--- each of them is monotone, whether texts are spoken of or not
+-- each keyword of its nodes is monotone, whether texts are spoken of or not
 abbrev pub AllAreMonotone : {C Run K M : Type 0} → KeywordMembers C Run K → Program C M → Type 0
 AllAreMonotone k p = (texts : Bool) → NodesAreMonotone k.shape k.words p texts
 

@@ -1,5 +1,5 @@
 -- What is said while a map is built, of what it is built from.
-use Rattle.std.specs.Prelude.{List, MatchOption, Option}
+use Rattle.std.specs.Prelude.{List, MatchOption, MatchResult, Option, Result}
 use Rattle.serde_json.specs.View.{view}
 use Rattle.schema_definitions.specs.Instance.{Place}
 use Rattle.schema_definitions.specs.Keywords.{Answer}
@@ -50,6 +50,10 @@ module _ {A T M P S C Maker Run K : Type 0} (r : ResolverMembers A P S) (t : Tab
   abbrev pub RefusesToCompile : SchemaKey P → BuildError → Type 0
   RefusesToCompile key e = RefusesAlone parts b.options.now (key_of r.point key) e
 
+  -- so it is compiled, or refused
+  abbrev pub GivesCompiled : SchemaKey P → Result (Program C M) BuildError → Type 0
+  GivesCompiled key result = MatchResult result (IsCompiledOf key) (RefusesToCompile key)
+
   -- ---- of a path below the root
 
   -- the validator of the schema that stands there
@@ -59,6 +63,10 @@ module _ {A T M P S C Maker Run K : Type 0} (r : ResolverMembers A P S) (t : Tab
   -- there is no key for it, or it is refused
   abbrev pub HasNoEntryAt : Place → BuildError → Type 0
   HasNoEntryAt path e = FailsEntry parts b.options.now (root_held r b) path e
+
+  -- so there is that validator, or none
+  abbrev pub GivesEntry : Place → Result (Program C M) BuildError → Type 0
+  GivesEntry path result = MatchResult result (IsEntryAt path) (HasNoEntryAt path)
 
   -- that validator; none where what stands there does not compile
   abbrev pub IsEntryIfCompiled : Place → Option (Program C M) → Type 0
@@ -70,9 +78,17 @@ module _ {A T M P S C Maker Run K : Type 0} (r : ResolverMembers A P S) (t : Tab
   abbrev pub RefusesForEntry : Place → BuildError → Type 0
   RefusesForEntry path e = RefusesEntry parts b.options.now (root_held r b) path e
 
+  -- so it is given where it compiles, or the whole map is refused
+  abbrev pub GivesIfCompiled : Place → Result (Option (Program C M)) BuildError → Type 0
+  GivesIfCompiled path result = MatchResult result (IsEntryIfCompiled path) (RefusesForEntry path)
+
   -- the map has its validator too, or what stands there does not compile
   abbrev pub PutsEntry : Place → Entries (Program C M) → Entries (Program C M) → Type 0
   PutsEntry path old new = IsPut parts b.options.now (view b.schema.now) (root_held r b) path old new
+
+  -- so it is put, or the whole map is refused
+  abbrev pub GivesPut : Place → Entries (Program C M) → Entries (Program C M) → Result (Unit {0}) BuildError → Type 0
+  GivesPut path old new result = MatchResult result (λ _. PutsEntry path old new) (RefusesForEntry path)
 
   -- ---- of several paths
 

@@ -1,5 +1,5 @@
 //! Validators by the default options.
-ghost use Rattle.std.specs.Prelude.{◌≡◌, IfOk, IfErr};
+ghost use Rattle.std.specs.Prelude.{◌≡◌, IfOk, IfErr, OnOk};
 ghost use Rattle.serde_json.specs.View.{view};
 ghost use Rattle.schema_validator.specs.Building.{AcceptsAsBuilt, CanBeBuilt, HasUnitsAsBuilt, IsBuiltWith, MeansAsBuilt, NamesFirst};
 ghost use Rattle.schema_validator.specs.Building.{PointsAsBuilt, RefusesToBuild, UnitsPointAsBuilt};
@@ -55,10 +55,9 @@ impl<K: Validate, M: Matcher> Validator<K, M> {
         ensures program { IfOk result (λ v. IsBuiltWith S.Resolver T.KeywordTable K.Validate M.Matcher.own
             resolver.now table.now matcher.now default_options schema.now default_nested v) }
         ensures solver { IfOk result HasSolver }
-        ensures built { IfOk result (λ _. CanBeBuilt S.Resolver T.KeywordTable K.Validate M.Matcher.own
+        ensures built { OnOk result (CanBeBuilt S.Resolver T.KeywordTable K.Validate M.Matcher.own
             resolver.now table.now matcher.now default_options schema.now) }
-        ensures passed { IfOk result (λ _. PassesCheck (S.resolving resolver.now) (V.checked metas.now)
-            default_options (view schema.now)) }
+        ensures passed { OnOk result (PassesCheck (S.resolving resolver.now) (V.checked metas.now) default_options (view schema.now)) }
         ensures refused { IfErr result (RefusesToBuild S.Resolver T.KeywordTable K.Validate M.Matcher.own
             resolver.now table.now matcher.now default_options schema.now (V.checked metas.now)) }
         ensures first { IfErr result (NamesFirst S.Resolver T.KeywordTable K.Validate M.Matcher.own

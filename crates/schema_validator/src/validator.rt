@@ -1,5 +1,5 @@
 //! A validator: what it answers of instances.
-ghost use Rattle.std.specs.Prelude.{◌≡◌, ◌↔◌, ◌<◌, ◌≤◌, false, true, None, IfOk, OnErr, length};
+ghost use Rattle.std.specs.Prelude.{◌≡◌, ◌↔◌, ◌<◌, ◌≤◌, true, None, IfOk, OnErr, length, OnOk};
 ghost use Rattle.serde_json.specs.View.{view};
 ghost use Rattle.schema_definitions.specs.Cover.{evaluate, is_valid, iter_errors, validate};
 ghost use Rattle.schema_keywords.specs.KeywordViews.{draft_of};
@@ -11,12 +11,13 @@ ghost use Rattle.schema_answers.specs.Asked.{DecidesInEverySense, ErrorsInEveryS
 ghost use Rattle.schema_answers.specs.Asked.{ErrorsPointAsNodes, FirstPointsAsNodes};
 ghost use Rattle.schema_answers.specs.Asked.{EvaluatesFromSomeDepth, EvaluatesInEverySense};
 ghost use Rattle.schema_answers.specs.Asked.{UnitsFromSomeDepth, UnitsInEverySense};
-ghost use Rattle.schema_validator.specs.CallWords.{AllAreMonotone, EachBorrows, EachSaysMonotone, FindsBySolver, FindsOnlyBySolver};
+ghost use Rattle.schema_validator.specs.CallWords.{AllAreMonotone, EachBorrows, FindsBySolver, FindsOnlyBySolver};
 ghost use Rattle.schema_validator.specs.CallWords.{FindsVerdict, FindsWith, FirstBorrows, FirstIsSo, IsSpentIfStopped, StaysUnstopped};
-ghost use Rattle.schema_validator.specs.CallWords.{program_with};
+ghost use Rattle.schema_answers.specs.Program.{program_with};
 ghost use Rattle.schema_validator.specs.Greatest.{DecidesAccepted, ErrorsAccepted, EvaluatesAccepted, FirstAccepted};
 ghost use Rattle.schema_validator.specs.Handed.{default_runs};
-ghost use Rattle.schema_answers.specs.Solved.{AreEnough, BeganFew, IsCountedIn, IsDecidedWithin, RestsOnContext, StopsLate};
+ghost use Rattle.schema_answers.specs.Solved.{AllSayMonotone, AreEnough, BeganFew, IsCountedIn};
+ghost use Rattle.schema_answers.specs.Solved.{IsDecidedWithin, RestsOnContext, StopsOnlyLate};
 ghost use Rattle.schema_answers.specs.Taken.{TakesByRuns};
 ghost use Rattle.schema_meaning.specs.Numbered.{Ranked};
 ghost use Rattle.node_table.specs.NodeTable.{numbered};
@@ -149,7 +150,7 @@ impl<K: Validate, M: Matcher> Validator<K, M> {
     /// of the nodes: the largest set of numbers and places, each of which accepts where exactly those of the set do; also where chains
     /// of references return. Allocates nothing.
     pub fn is_monotone(&self) -> bool
-        ensures exactly { (result ≡ true) ↔ EachSaysMonotone K.Validate self.now }
+        ensures exactly { (result ≡ true) ↔ AllSayMonotone K.Validate self.now }
         ensures monotone { result ≡ true → AllAreMonotone K.Validate self.now }
     {
         is_monotone(self.nodes())
@@ -179,8 +180,7 @@ impl<K: Validate, M: Matcher> Validator<K, M> {
         ensures depth { IfOk result (DecidesFromSomeDepth K.Validate M.Matcher.own self.now (view instance.now)) }
         ensures senses { IfOk result (DecidesInEverySense K.Validate M.Matcher.own self.now (view instance.now)) }
         ensures greatest { IfOk result (DecidesAccepted K.Validate M.Matcher.own self.now (view instance.now)) }
-        ensures works { IfOk result (λ _. TakesByRuns
-            K.Validate M.Matcher.own self.now (view instance.now) is_valid work.old work.new) }
+        ensures works { OnOk result (TakesByRuns K.Validate M.Matcher.own self.now (view instance.now) is_valid work.old work.new) }
         ensures stopped { OnErr result (IsSpentIfStopped work.new) }
         ensures decides { IsDecidedWithin K.Validate M.Matcher.own self.now instance.now work.old.left
             → OnErr result (StaysUnstopped work.old work.new) }
@@ -210,7 +210,7 @@ impl<K: Validate, M: Matcher> Validator<K, M> {
         instance: &'i Value,
     ) -> Result<Option<SolvedVerdict<'i>>, OutOfMemory>
         requires finishes { FinishesEach (M.matching self.now.matcher) }
-        ensures exactly { EachSaysMonotone K.Validate self.now → IfOk result (FindsBySolver self.now) }
+        ensures exactly { AllSayMonotone K.Validate self.now → IfOk result (FindsBySolver self.now) }
         ensures only { IfOk result (FindsOnlyBySolver self.now) }
         ensures depth { IfOk result (FindsVerdict (DecidesFromSomeDepth K.Validate M.Matcher.own self.now (view instance.now))) }
         ensures greatest { IfOk result (FindsVerdict (DecidesAccepted K.Validate M.Matcher.own self.now (view instance.now))) }
@@ -235,16 +235,15 @@ impl<K: Validate, M: Matcher> Validator<K, M> {
         work: &mut Work,
     ) -> Result<Option<SolvedVerdict<'i>>, OutOfMemory>
         requires finishes { FinishesEach (M.matching self.now.matcher) }
-        ensures exactly { EachSaysMonotone K.Validate self.now → IfOk result (FindsBySolver self.now) }
+        ensures exactly { AllSayMonotone K.Validate self.now → IfOk result (FindsBySolver self.now) }
         ensures only { IfOk result (FindsOnlyBySolver self.now) }
         ensures depth { IfOk result (FindsVerdict (DecidesFromSomeDepth K.Validate M.Matcher.own self.now (view instance.now))) }
         ensures greatest { IfOk result (FindsVerdict (DecidesAccepted K.Validate M.Matcher.own self.now (view instance.now))) }
         ensures rests { IfOk result (FindsWith (RestsOnContext K.Validate M.Matcher.own self.now instance.now)) }
         ensures few { IfOk result (FindsWith (BeganFew K.Validate M.Matcher.own self.now instance.now)) }
-        ensures works { IfOk result (λ _. Spends work.old work.new) }
+        ensures works { OnOk result (Spends work.old work.new) }
         ensures counted { IfOk result (FindsWith (λ v. IsCountedIn v work.old work.new)) }
-        ensures late { OnErr result (work.old.stopped ≡ false → work.new.stopped ≡ true
-            → StopsLate K.Validate M.Matcher.own self.now instance.now work.old.left) }
+        ensures late { OnErr result (StopsOnlyLate K.Validate M.Matcher.own self.now instance.now work.old work.new) }
         ensures decides { AreEnough K.Validate M.Matcher.own self.now instance.now work.old.left
             → OnErr result (StaysUnstopped work.old work.new) }
     {
@@ -269,8 +268,7 @@ impl<K: Validate, M: Matcher> Validator<K, M> {
         ensures greatest { IfOk result (FirstIsSo K.Validate M.Matcher.own self.now instance.now FirstAccepted) }
         ensures points { IfOk result (FirstIsSo K.Validate M.Matcher.own self.now instance.now FirstPointsAsNodes) }
         ensures borrows { IfOk result (FirstBorrows instance.now) }
-        ensures works { IfOk result (λ _. TakesByRuns
-            K.Validate M.Matcher.own self.now (view instance.now) validate work.old work.new) }
+        ensures works { OnOk result (TakesByRuns K.Validate M.Matcher.own self.now (view instance.now) validate work.old work.new) }
         ensures stopped { OnErr result (IsSpentIfStopped work.new) }
     {
         let _ranked = self.node_count();
@@ -296,8 +294,7 @@ impl<K: Validate, M: Matcher> Validator<K, M> {
         ensures greatest { IfOk result (ErrorsAccepted K.Validate M.Matcher.own self.now (view instance.now)) }
         ensures points { IfOk result (ErrorsPointAsNodes K.Validate M.Matcher.own self.now (view instance.now)) }
         ensures borrows { IfOk result (EachBorrows instance.now) }
-        ensures works { IfOk result (λ _. TakesByRuns
-            K.Validate M.Matcher.own self.now (view instance.now) iter_errors work.old work.new) }
+        ensures works { OnOk result (TakesByRuns K.Validate M.Matcher.own self.now (view instance.now) iter_errors work.old work.new) }
         ensures stopped { OnErr result (IsSpentIfStopped work.new) }
     {
         let _ranked = self.node_count();
@@ -323,8 +320,7 @@ impl<K: Validate, M: Matcher> Validator<K, M> {
         ensures greatest { IfOk result (EvaluatesAccepted K.Validate M.Matcher.own self.now (view instance.now)) }
         ensures units { IfOk result (UnitsFromSomeDepth K.Validate M.Matcher.own self.now (view instance.now)) }
         ensures plain { IfOk result (UnitsInEverySense K.Validate M.Matcher.own self.now (view instance.now)) }
-        ensures works { IfOk result (λ _. TakesByRuns
-            K.Validate M.Matcher.own self.now (view instance.now) evaluate work.old work.new) }
+        ensures works { OnOk result (TakesByRuns K.Validate M.Matcher.own self.now (view instance.now) evaluate work.old work.new) }
         ensures stopped { OnErr result (IsSpentIfStopped work.new) }
     {
         let _ranked = self.node_count();

@@ -1,5 +1,5 @@
 //! Building a validator.
-ghost use Rattle.std.specs.Prelude.{IfOk, IfErr};
+ghost use Rattle.std.specs.Prelude.{IfOk, IfErr, OnOk};
 ghost use Rattle.serde_json.specs.View.{view};
 ghost use Rattle.schema_validator.specs.Building.{AcceptsAsBuilt, CanBeBuilt, HasUnitsAsBuilt, IsBuiltWith, MeansAsBuilt, NamesFirst};
 ghost use Rattle.schema_validator.specs.Building.{PointsAsBuilt, RefusesToBuild, UnitsPointAsBuilt};
@@ -64,10 +64,9 @@ impl ValidationOptions {
         ensures program { IfOk result (λ v. IsBuiltWith S.Resolver T.KeywordTable K.Validate M.Matcher.own
             resolver.now table.now matcher.now self.now schema.now self.now.nested v) }
         ensures solver { IfOk result HasSolver }
-        ensures built { IfOk result (λ _. CanBeBuilt S.Resolver T.KeywordTable K.Validate M.Matcher.own
+        ensures built { OnOk result (CanBeBuilt S.Resolver T.KeywordTable K.Validate M.Matcher.own
             resolver.now table.now matcher.now self.now schema.now) }
-        ensures passed { IfOk result (λ _. PassesCheck (S.resolving resolver.now) (V.checked metas.now)
-            self.now (view schema.now)) }
+        ensures passed { OnOk result (PassesCheck (S.resolving resolver.now) (V.checked metas.now) self.now (view schema.now)) }
         ensures refused { IfErr result (RefusesToBuild S.Resolver T.KeywordTable K.Validate M.Matcher.own
             resolver.now table.now matcher.now self.now schema.now (V.checked metas.now)) }
         ensures first { IfErr result (NamesFirst S.Resolver T.KeywordTable K.Validate M.Matcher.own
@@ -121,10 +120,9 @@ impl ValidationOptions {
         ensures program { IfOk result (λ v. IsBuiltWith S.Resolver T.KeywordTable K.Validate M.Matcher.own
             resolver.now table.now matcher.now self.now schema.now nested v) }
         ensures solver { IfOk result HasSolver }
-        ensures built { IfOk result (λ _. CanBeBuilt S.Resolver T.KeywordTable K.Validate M.Matcher.own
+        ensures built { OnOk result (CanBeBuilt S.Resolver T.KeywordTable K.Validate M.Matcher.own
             resolver.now table.now matcher.now self.now schema.now) }
-        ensures passed { IfOk result (λ _. PassesCheck (S.resolving resolver.now) (V.checked metas.now)
-            self.now (view schema.now)) }
+        ensures passed { OnOk result (PassesCheck (S.resolving resolver.now) (V.checked metas.now) self.now (view schema.now)) }
         ensures refused { IfErr result (RefusesToBuild S.Resolver T.KeywordTable K.Validate M.Matcher.own
             resolver.now table.now matcher.now self.now schema.now (V.checked metas.now)) }
         ensures first { IfErr result (NamesFirst S.Resolver T.KeywordTable K.Validate M.Matcher.own
@@ -163,10 +161,8 @@ impl ValidationOptions {
         metas: &V,
         root: &SchemaKey<S::State>,
     ) -> Result<(), BuildError>
-        ensures accepted { IfOk result (λ _. PassesIfChecked (S.resolving resolver.now) (V.checked metas.now)
-            self.now root.now) }
-        ensures refused { IfErr result (FailsIfChecked (S.resolving resolver.now) (V.checked metas.now)
-            self.now root.now) }
+        ensures accepted { OnOk result (PassesIfChecked (S.resolving resolver.now) (V.checked metas.now) self.now root.now) }
+        ensures refused { IfErr result (FailsIfChecked (S.resolving resolver.now) (V.checked metas.now) self.now root.now) }
     {
         if !self.checks {
             return Ok(());

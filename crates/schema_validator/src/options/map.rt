@@ -6,9 +6,8 @@ ghost use Rattle.schema_parts.specs.Showing.{Shows};
 ghost use Rattle.schema_validator.specs.Building.{CanBeMapped, EachAcceptsAsBuilt, EachHasUnitsAsBuilt, EachIsBuilt, EachMeansAsBuilt};
 ghost use Rattle.schema_validator.specs.Building.{EachPointsAsBuilt, EachSolvesAsBuilt, EachsUnitsPointAsBuilt, HoldsEachThere};
 ghost use Rattle.schema_validator.specs.Building.{HoldsWhatCompiles, NamesFirstOfMap, RefusesToMap};
-ghost use Rattle.schema_validator.specs.MapWords.{HasNoEntryAt, HoldsEntries, HoldsRootKey, IsCompiledOf, IsEntryAt, IsEntryIfCompiled};
-ghost use Rattle.schema_validator.specs.MapWords.{IsMadeMap, NamesFirstMade, PutsEntry, RefusesForEntry, RefusesForOneOf, RefusesMade};
-ghost use Rattle.schema_validator.specs.MapWords.{RefusesToCompile, key_below, root_held};
+ghost use Rattle.schema_validator.specs.MapWords.{GivesCompiled, GivesEntry, GivesIfCompiled, GivesPut, HoldsEntries, HoldsRootKey};
+ghost use Rattle.schema_validator.specs.MapWords.{IsMadeMap, NamesFirstMade, RefusesForOneOf, RefusesMade, key_below, root_held};
 ghost use Rattle.schema_validator.specs.Mapped.{name_of};
 
 use crate::compiled::of_compiled_within;
@@ -72,7 +71,7 @@ impl ValidationOptions {
             resolver.now table.now matcher.now self.now schema.now) }
         ensures at_each { IfOk result (HoldsEachThere S.Resolver T.KeywordTable K.Validate M.Matcher.own
             resolver.now table.now matcher.now self.now schema.now) }
-        ensures built { IfOk result (λ _. CanBeMapped S.Resolver T.KeywordTable K.Validate M.Matcher.own
+        ensures built { OnOk result (CanBeMapped S.Resolver T.KeywordTable K.Validate M.Matcher.own
             resolver.now table.now matcher.now self.now schema.now (V.checked metas.now)) }
         ensures refused { IfErr result (RefusesToMap S.Resolver T.KeywordTable K.Validate M.Matcher.own
             resolver.now table.now matcher.now self.now schema.now (V.checked metas.now)) }
@@ -181,8 +180,7 @@ impl<'p, S: Resolver, T, M: Matcher> MapBuilding<'p, S, T, M> {
     where
         T: KeywordTable<K>,
         requires root { HoldsRootKey S.Resolver self.now }
-        ensures compiled { IfOk result (IsCompiledOf S.Resolver T.KeywordTable K.Validate M.Matcher.own self.now key) }
-        ensures refused { IfErr result (RefusesToCompile S.Resolver T.KeywordTable K.Validate M.Matcher.own self.now key) }
+        ensures { GivesCompiled S.Resolver T.KeywordTable K.Validate M.Matcher.own self.now key result }
     {
         let options = self.options;
         let compiled = compile_subschema(
@@ -220,8 +218,7 @@ impl<'p, S: Resolver, T, M: Matcher> MapBuilding<'p, S, T, M> {
     where
         T: KeywordTable<K>,
         requires root { HoldsRootKey S.Resolver self.now }
-        ensures entry { IfOk result (IsEntryAt S.Resolver T.KeywordTable K.Validate M.Matcher.own self.now path.now) }
-        ensures refused { IfErr result (HasNoEntryAt S.Resolver T.KeywordTable K.Validate M.Matcher.own self.now path.now) }
+        ensures { GivesEntry S.Resolver T.KeywordTable K.Validate M.Matcher.own self.now path.now result }
     {
         let key = self.key_at(path)?;
         self.compiled(key)
@@ -235,8 +232,7 @@ impl<'p, S: Resolver, T, M: Matcher> MapBuilding<'p, S, T, M> {
     where
         T: KeywordTable<K>,
         requires root { HoldsRootKey S.Resolver self.now }
-        ensures entry { IfOk result (IsEntryIfCompiled S.Resolver T.KeywordTable K.Validate M.Matcher.own self.now path.now) }
-        ensures refused { IfErr result (RefusesForEntry S.Resolver T.KeywordTable K.Validate M.Matcher.own self.now path.now) }
+        ensures { GivesIfCompiled S.Resolver T.KeywordTable K.Validate M.Matcher.own self.now path.now result }
     {
         match self.entry(path) {
             Ok(validator) => Ok(Some(validator)),
@@ -267,8 +263,7 @@ impl<'p, S: Resolver, T, M: Matcher> MapBuilding<'p, S, T, M> {
     where
         T: KeywordTable<K>,
         requires root { HoldsRootKey S.Resolver self.now }
-        ensures put { OnOk result (PutsEntry S.Resolver T.KeywordTable K.Validate M.Matcher.own self.now path.now map.old map.new) }
-        ensures refused { IfErr result (RefusesForEntry S.Resolver T.KeywordTable K.Validate M.Matcher.own self.now path.now) }
+        ensures { GivesPut S.Resolver T.KeywordTable K.Validate M.Matcher.own self.now path.now map.old map.new result }
     {
         if let Some(validator) = self.entry_if_compiled(path)? {
             let name = self.name_of(path)?;

@@ -1,5 +1,5 @@
 //! The calls of a validator, within its limit of steps.
-ghost use Rattle.std.specs.Prelude.{◌≡◌, IfOk, IfSome, Some, true};
+ghost use Rattle.std.specs.Prelude.{◌≡◌, IfOk, IfSome, Some, true, OnSome};
 ghost use Rattle.serde_json.specs.View.{view};
 ghost use Rattle.schema_answers.specs.Asked.{DecidesFromSomeDepth, ErrorsFromSomeDepth, FirstFromSomeDepth};
 ghost use Rattle.schema_answers.specs.Asked.{DecidesInEverySense, ErrorsInEverySense, FirstInEverySense};
@@ -26,7 +26,7 @@ impl<K: Validate, M: Matcher> Validator<K, M> {
     // The validator's limit of steps, where a call has stopped at one.
     fn stopped_at(&self, work: &Work) -> Option<u64>
         ensures limit { IfSome result (λ limit. self.now.work ≡ Some limit) }
-        ensures stopped { IfSome result (λ _. work.now.stopped ≡ true) }
+        ensures stopped { OnSome result (work.now.stopped ≡ true) }
     {
         if !work.is_stopped() {
             return None;

@@ -27,8 +27,8 @@ of_compiled_within-requires g c =
     let within = slice_get_within _ 0 _ done.first in
     record { inside = omega arith; limit = omega arith }
 
-pub returns-in_err-compiled-clause-refused : goal.returns-in_err-compiled-clause-refused
-returns-in_err-compiled-clause-refused g c =
+pub returns-in_err-compiled : goal.returns-in_err-compiled
+returns-in_err-compiled g c =
     let self = c.args.self.now in
     let r = g.S.Resolver.resolving self.resolver.now in
     let owns = g.T.KeywordTable.owned self.table.now in
@@ -43,8 +43,8 @@ returns-in_err-compiled-clause-refused g c =
     (subst (λ (o : Options). RefusesAlone (all_parts r (record { owns = owns; builtin = builtin; script = script }) o.formats o.declared m (words texts) o.draft o.base) o.limit key c.in_err-compiled.field-0.0) c.options.view_is
     (c.in_err-compiled.ensures.refused m (words texts) (option_map draft_of inside.draft) (option_map string_bytes inside.base))))
 
-pub returns-clause-compiled : goal.returns-clause-compiled
-returns-clause-compiled g c =
+pub returns : goal.returns
+returns g c =
     let self = c.args.self.now in
     let r = g.S.Resolver.resolving self.resolver.now in
     let owns = g.T.KeywordTable.owned self.table.now in

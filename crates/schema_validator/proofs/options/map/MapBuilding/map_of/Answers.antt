@@ -31,11 +31,11 @@ loop-path-preserved g c =
     let path : Place = c.path-item.result in
     let one_more : take (k + 1) paths ≡ take k paths ++ path ∷ [] = take_more paths k path c.loop-path-test.true ∙ ap (λ (p : Place). take k paths ++ p ∷ []) (sym c.path-item.is) in
     subst (λ (ps : List Place). HoldsPlaces h self.options.now schema root ps c.put.new.map) (sym one_more)
-    (holds_more h self.options.now schema root (take k paths) path c.loop-path.map c.put.new.map c.loop-path.invariant c.in_ok-put.ensures.put)
+    (holds_more h self.options.now schema root (take k paths) path c.loop-path.map c.put.new.map c.loop-path.invariant c.in_ok-put.ensures)
 
 pub returns-in_err-put-clause-refused : goal.returns-in_err-put-clause-refused
 returns-in_err-put-clause-refused g c =
     let p = err_from_is_err_and c.from_residual.result c.from_residual.ensures.1 in
     let paths = c.args.paths.now in
     let path : Place = c.path-item.result in
-    rw (p.1, p.2) (path, in_of paths path (c.loop-path.path-index, c.loop-path-test.true, sym c.path-item.is), c.in_err-put.ensures.refused)
+    rw (p.1, p.2) (path, in_of paths path (c.loop-path.path-index, c.loop-path-test.true, sym c.path-item.is), c.in_err-put.ensures)

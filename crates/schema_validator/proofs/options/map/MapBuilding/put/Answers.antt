@@ -4,10 +4,10 @@ use Rattle.schema_validator.specs.MapViews.{at_pointer}
 use Rattle.schema_validator.proofs.options.map.MapBuilding.put.Goals as goal
 use Rattle.schema_validator.proofs.options.map.MapBuilding.put.Goals.{in-Some+in_ok-name+in_ok-insert, in_default}
 
-pub returns-clause-put : goal.returns-clause-put
-returns-clause-put g c = elim c.match-branch-2.branch [
+pub returns : goal.returns
+returns g c = elim c.match-branch-2.branch [
   | in-Some+in_ok-name+in_ok-insert w ↦
-      let entry = rw w.in-Some.is at c.in_ok-validator.ensures.entry in
+      let entry = rw w.in-Some.is at c.in_ok-validator.ensures in
       let old = c.args.map.now in
       inr (
         w.in-Some.validator,
@@ -16,6 +16,6 @@ returns-clause-put g c = elim c.match-branch-2.branch [
             ∙ ap (λ t. cond (bytes_eq t name) (Some w.in-Some.validator) (at_pointer old name)) w.in_ok-name.ensures.name,
       )
   | in_default w ↦
-      let left = rw w.in_default.is at c.in_ok-validator.ensures.entry in
+      let left = rw w.in_default.is at c.in_ok-validator.ensures in
       inl (left, w.map-is)
 ]
