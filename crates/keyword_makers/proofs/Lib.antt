@@ -1,1 +1,2 @@
 mod Pointers
+pub mod HandedOut

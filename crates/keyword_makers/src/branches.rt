@@ -1,7 +1,8 @@
 //! The children of `if`.
 ghost use Rattle.std.specs.Prelude.{◌≡◌, ◌++◌, IfOk, codes};
-ghost use Rattle.serde_json.specs.View.{members_view};
 ghost use Rattle.keyword_makers.specs.Branches.{after_branch, branch_child, branch_places, has_branch, if_places};
+ghost use Rattle.schema_parts.specs.Showing.{Yields};
+ghost use Rattle.schema_parts.specs.Readings.{fields};
 
 use crate::paths::{value_in, value_of};
 use schema_parts::schema_place::SchemaPath;
@@ -28,9 +29,9 @@ fn push_branch(
     paths: &mut Vec<SchemaPath>,
     number: usize,
 ) -> Result<Option<usize>, OutOfMemory>
-    ensures paths { IfOk result (λ _. paths.new.items ≡ paths.old.items
-        ++ branch_places (has_branch name.now (members_view object.now.entries)) name.now) }
-    ensures child { IfOk result (λ child. child ≡ branch_child (has_branch name.now (members_view object.now.entries)) number) }
+    ensures paths { IfOk result (λ _. paths.new.items ≡ paths.old.items ++ branch_places (has_branch name.now (fields object.now))
+        name.now) }
+    ensures child { Yields result (branch_child (has_branch name.now (fields object.now)) number) }
 {
     match value_in(object, name) {
         None => Ok(None),
@@ -47,11 +48,11 @@ pub fn branches_of(
     name: &str,
     object: &Map<String, Value>,
 ) -> Result<Branches, OutOfMemory>
-    ensures paths { IfOk result (λ b. b.paths.items ≡ if_places name.now
-        (has_branch (codes "then") (members_view object.now.entries)) (has_branch (codes "else") (members_view object.now.entries))) }
-    ensures accepted { IfOk result (λ b. b.accepted ≡ branch_child (has_branch (codes "then") (members_view object.now.entries)) 1) }
-    ensures refused { IfOk result (λ b. b.refused ≡ branch_child (has_branch (codes "else") (members_view object.now.entries))
-        (after_branch (has_branch (codes "then") (members_view object.now.entries)) 1)) }
+    ensures paths { IfOk result (λ b. b.paths.items ≡ if_places name.now (has_branch (codes "then") (fields object.now))
+        (has_branch (codes "else") (fields object.now))) }
+    ensures accepted { IfOk result (λ b. b.accepted ≡ branch_child (has_branch (codes "then") (fields object.now)) 1) }
+    ensures refused { IfOk result (λ b. b.refused ≡ branch_child (has_branch (codes "else") (fields object.now)) (after_branch
+        (has_branch (codes "then") (fields object.now)) 1)) }
 {
     let mut paths = Vec::new(alloc);
     paths.push(value_of(alloc, name)?)?;

@@ -2,12 +2,13 @@
 ghost use Rattle.std.specs.Prelude.{◌≡◌, Bool, IfOk, Some};
 ghost use Rattle.serde_json.specs.Data.{Data, Members};
 ghost use Rattle.serde_json.specs.Find.{get_member};
-ghost use Rattle.serde_json.specs.View.{members_view, view};
+ghost use Rattle.serde_json.specs.View.{view};
 ghost use Rattle.schema_definitions.specs.Drafts as drafts;
 ghost use Rattle.schema_definitions.specs.Instance.{Text};
 ghost use Rattle.schema_keywords.specs.KeywordViews.{draft_of};
 ghost use Rattle.keyword_makers.specs.ByObject.{IsRightHere, MadeHere, formed, malformed_beside, script_found, script_here};
 ghost use Rattle.keyword_makers.specs.MakerViews.{Begins, waiting_of};
+ghost use Rattle.schema_parts.specs.Readings.{fields};
 
 use crate::by_value::{Children, paths_of};
 use crate::maker::{Ending, PathsMaker, asks_for, ends};
@@ -64,8 +65,7 @@ pub trait MakesByObject<K: Validate> {
         object: &Map<String, Value>,
         draft: Draft,
     ) -> Result<ObjectKeyword<K>, OutOfMemory>
-        ensures made { IfOk result (λ m. formed K.shape m
-            ≡ made self.now (draft_of draft) (members_view object.now.entries) name.now (view value.now)) };
+        ensures made { IfOk result (λ m. formed K.shape m ≡ made self.now (draft_of draft) (fields object.now) name.now (view value.now)) };
 
     // the keyword absorbs no other, and holds no fraction where the object holds none
     ghost right: { (t : Self) (draft : drafts.Draft) (object : Members) (name : Text) (value : Data)
@@ -87,8 +87,8 @@ fn beside_maker<K: Validate>(
     object: &Map<String, Value>,
     beside: &str,
 ) -> Result<PathsMaker<K>, OutOfMemory>
-    ensures maker { IfOk result (Begins K.shape (malformed_beside name.now (view value.now) beside.now
-        (get_member beside.now (members_view object.now.entries)))) }
+    ensures maker { IfOk result (Begins K.shape (malformed_beside name.now (view value.now) beside.now (get_member beside.now
+        (fields object.now)))) }
 {
     match value_in(object, beside) {
         None => malformed(alloc, name, value),
@@ -104,8 +104,7 @@ fn maker_of<K: Validate>(
     object: &Map<String, Value>,
     made: ObjectKeyword<K>,
 ) -> Result<PathsMaker<K>, OutOfMemory>
-    ensures maker { IfOk result (Begins K.shape (script_here (members_view object.now.entries) name.now
-        (view value.now) (formed K.shape made.entry))) }
+    ensures maker { IfOk result (Begins K.shape (script_here (fields object.now) name.now (view value.now) (formed K.shape made.entry))) }
 {
     match made {
         ObjectKeyword::Keyword(keyword, children) => {
@@ -131,8 +130,8 @@ fn member_maker<K: Validate, T: MakesByObject<K>>(
     object: &Map<String, Value>,
     draft: Draft,
 ) -> Result<PathsMaker<K>, OutOfMemory>
-    ensures maker { IfOk result (Begins K.shape (script_found (T.made keywords.now) (draft_of draft)
-        (members_view object.now.entries) name.now (get_member name.now (members_view object.now.entries)))) }
+    ensures maker { IfOk result (Begins K.shape (script_found (T.made keywords.now) (draft_of draft) (fields object.now) name.now
+        (get_member name.now (fields object.now)))) }
 {
     match value_in(object, name) {
         None => Ok(ends(alloc, Ending::Nothing)),

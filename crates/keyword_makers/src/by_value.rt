@@ -2,10 +2,11 @@
 ghost use Rattle.std.specs.Prelude.{◌≡◌, Bool, IfOk};
 ghost use Rattle.serde_json.specs.Data.{Data};
 ghost use Rattle.serde_json.specs.Find.{get_member};
-ghost use Rattle.serde_json.specs.View.{members_view, view};
+ghost use Rattle.serde_json.specs.View.{view};
 ghost use Rattle.schema_definitions.specs.Instance.{Text};
 ghost use Rattle.keyword_makers.specs.ByValue.{IsRightMember, MadeMember, children_of, named, script_at, script_of, shaped};
 ghost use Rattle.keyword_makers.specs.MakerViews.{Begins, waiting_of};
+ghost use Rattle.schema_parts.specs.Readings.{Lists, fields};
 
 use crate::maker::{Ending, PathsMaker, asks_for, ends};
 use crate::members::{member_below, names_of, values_below};
@@ -86,7 +87,7 @@ pub(crate) fn paths_of(
     name: &str,
     value: &Value,
 ) -> Result<Vec<SchemaPath>, OutOfMemory>
-    ensures paths { IfOk result (λ paths. paths.items ≡ children_of (named children.entry) name.now (view value.now)) }
+    ensures paths { Lists result (children_of (named children.entry) name.now (view value.now)) }
 {
     match children {
         Children::Childless => Ok(Vec::new(alloc)),
@@ -140,8 +141,7 @@ fn member_maker<K: Validate, T: MakesByValue<K>>(
     name: &str,
     object: &Map<String, Value>,
 ) -> Result<PathsMaker<K>, OutOfMemory>
-    ensures maker { IfOk result (Begins K.shape
-        (script_at (T.made keywords.now) name.now (get_member name.now (members_view object.now.entries)))) }
+    ensures maker { IfOk result (Begins K.shape (script_at (T.made keywords.now) name.now (get_member name.now (fields object.now)))) }
 {
     match value_in(object, name) {
         None => Ok(ends(alloc, Ending::Nothing)),

@@ -14,6 +14,7 @@ use schema_reports::location::OutOfMemory;
 use schema_reports::reports::OwnedError;
 use serde_json::Value;
 use std::alloc::Global;
+use std::mem;
 
 /// How a maker ends: with a keyword, with none, or with a refusal.
 #[derive(Drop)]
@@ -23,7 +24,8 @@ pub enum Ending<K> {
     Refused(OwnedError),
 }
 
-/// A maker: the paths of the children, in order, how many of them it has asked for, and how it ends, until it has.
+/// A maker: the paths of the children, in order, of which those it has asked for are handed out, how many those are, and how it ends,
+/// until it has.
 #[derive(Drop)]
 pub struct PathsMaker<K> {
     pub paths: Vec<SchemaPath>,
@@ -81,12 +83,13 @@ pub fn each_item<K: Validate>(
 
 impl<K: Validate> PathsMaker<K> {
     /// Takes a turn.
+    #[tactic(auto, using(crate::proofs::HandedOut::handed_out))]
     pub fn turn(&mut self, alloc: Global, _reply: MakerReply) -> Result<MakerStep<K>, OutOfMemory>
         ensures takes { IfOk result (λ step. TakesTurn K.shape (waiting_of K.shape self.old) (maker_reply_of _reply) step
             (waiting_of K.shape self.new)) }
     {
         if self.asked < self.paths.len() {
-            let path = self.paths[self.asked].clone()?;
+            let path = mem::replace(&mut self.paths[self.asked], SchemaPath::root(alloc));
             self.asked += 1;
             return Ok(MakerStep::Compile(path));
         }

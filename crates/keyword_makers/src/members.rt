@@ -1,9 +1,10 @@
 //! The members of an object that is a keyword's value: their names, and the places of their values.
-ghost use Rattle.std.specs.Prelude.{◌≡◌, ◌++◌, ◌∷◌, [], IfOk, map, string_bytes};
+ghost use Rattle.std.specs.Prelude.{◌∷◌, [], map, string_bytes};
 ghost use Rattle.std.specs.Rc.{rc_str_bytes};
-ghost use Rattle.serde_json.specs.View.{members_view};
 ghost use Rattle.schema_definitions.specs.Instance.{to_member};
 ghost use Rattle.keyword_makers.specs.Members.{names_of, values_below};
+ghost use Rattle.schema_parts.specs.Readings.{AddsTexts, Lists, ListsTexts, fields};
+ghost use Rattle.schema_parts.specs.Showing.{Yields};
 
 use crate::paths::step_below;
 use schema_parts::schema_place::{SchemaPath, SchemaStep};
@@ -14,7 +15,7 @@ use std::rc::RcStr;
 
 /// Adds a string with this text.
 pub fn push_text(alloc: Global, text: &str, texts: &mut Vec<String>) -> Result<(), OutOfMemory>
-    ensures pushed { IfOk result (λ _. map string_bytes texts.new.items ≡ map string_bytes texts.old.items ++ text.now ∷ []) }
+    ensures pushed { AddsTexts texts.old.items texts.new.items (text.now ∷ []) result }
 {
     texts.push(String::from_str(alloc, text)?)?;
     Ok(())
@@ -22,7 +23,7 @@ pub fn push_text(alloc: Global, text: &str, texts: &mut Vec<String>) -> Result<(
 
 /// The names of the members, in order.
 pub fn names_of(alloc: Global, members: &Map<String, Value>) -> Result<Vec<String>, OutOfMemory>
-    ensures names { IfOk result (λ names. map string_bytes names.items ≡ names_of (members_view members.now.entries)) }
+    ensures names { ListsTexts result (names_of (fields members.now)) }
 {
     let mut names = Vec::new(alloc);
     for (name, _) in members {
@@ -37,7 +38,7 @@ pub fn values_below(
     keyword: &str,
     names: &[String],
 ) -> Result<Vec<SchemaPath>, OutOfMemory>
-    ensures paths { IfOk result (λ paths. paths.items ≡ values_below keyword.now (map string_bytes names.now)) }
+    ensures paths { Lists result (values_below keyword.now (map string_bytes names.now)) }
 {
     let first = RcStr::from_str(alloc, keyword)?;
     let mut paths = Vec::with_capacity(alloc, names.len())?;
@@ -47,9 +48,25 @@ pub fn values_below(
     Ok(paths)
 }
 
+/// The places of the values of these names, below a keyword, whose name they share; each shares its own name too.
+pub fn values_of(
+    alloc: Global,
+    keyword: &str,
+    names: &[RcStr],
+) -> Result<Vec<SchemaPath>, OutOfMemory>
+    ensures paths { Lists result (values_below keyword.now (map rc_str_bytes names.now)) }
+{
+    let first = RcStr::from_str(alloc, keyword)?;
+    let mut paths = Vec::with_capacity(alloc, names.len())?;
+    for name in names {
+        paths.push(step_below(alloc, &first, SchemaStep::Member(name.clone()?))?)?;
+    }
+    Ok(paths)
+}
+
 /// The place of the value of a name, below a keyword.
 pub fn member_below(alloc: Global, keyword: &str, name: &str) -> Result<SchemaPath, OutOfMemory>
-    ensures path { IfOk result (λ path. path ≡ to_member keyword.now ∷ to_member name.now ∷ []) }
+    ensures path { Yields result (to_member keyword.now ∷ to_member name.now ∷ []) }
 {
     let first = RcStr::from_str(alloc, keyword)?;
     member_of(alloc, &first, name)
@@ -57,7 +74,7 @@ pub fn member_below(alloc: Global, keyword: &str, name: &str) -> Result<SchemaPa
 
 /// The place of the value of a name, below a keyword whose name it shares.
 fn member_of(alloc: Global, keyword: &RcStr, name: &str) -> Result<SchemaPath, OutOfMemory>
-    ensures path { IfOk result (λ path. path ≡ to_member (rc_str_bytes keyword.now) ∷ to_member name.now ∷ []) }
+    ensures path { Yields result (to_member (rc_str_bytes keyword.now) ∷ to_member name.now ∷ []) }
 {
     let step = SchemaStep::Member(RcStr::from_str(alloc, name)?);
     step_below(alloc, keyword, step)

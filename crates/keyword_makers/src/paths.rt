@@ -1,11 +1,13 @@
 //! The values of members, and paths below a keyword.
-ghost use Rattle.std.specs.Prelude.{◌≡◌, ◌∷◌, [], IfOk, option_map};
+ghost use Rattle.std.specs.Prelude.{◌≡◌, ◌∷◌, []};
 ghost use Rattle.std.specs.Rc.{rc_str_bytes};
 ghost use Rattle.serde_json.specs.Find.{get_member};
-ghost use Rattle.serde_json.specs.View.{items_view, members_view, view};
-ghost use Rattle.schema_definitions.specs.Instance.{to_item, to_member};
+ghost use Rattle.serde_json.specs.View.{items_view};
+ghost use Rattle.schema_definitions.specs.Instance.{to_member};
 ghost use Rattle.schema_parts.specs.SchemaViews.{schema_step_of};
 ghost use Rattle.keyword_makers.specs.Making.{items_from};
+ghost use Rattle.schema_parts.specs.Readings.{Lists, fields, value_read};
+ghost use Rattle.schema_parts.specs.Showing.{Yields};
 
 use schema_parts::schema_place::{SchemaPath, SchemaStep};
 use schema_reports::location::OutOfMemory;
@@ -15,14 +17,14 @@ use std::rc::RcStr;
 
 /// The value of this name in an object.
 pub fn value_in<'o>(object: &'o Map<String, Value>, name: &str) -> Option<&'o Value>
-    ensures value { option_map (λ v. view v.now) result ≡ get_member name.now (members_view object.now.entries) }
+    ensures value { value_read result ≡ get_member name.now (fields object.now) }
 {
     object.get(name)
 }
 
 /// The place of a keyword's own value.
 pub fn value_of(alloc: Global, keyword: &str) -> Result<SchemaPath, OutOfMemory>
-    ensures path { IfOk result (λ path. path ≡ to_member keyword.now ∷ []) }
+    ensures path { Yields result (to_member keyword.now ∷ []) }
 {
     let name = RcStr::from_str(alloc, keyword)?;
     let mut path = SchemaPath::with_capacity(alloc, 1)?;
@@ -36,7 +38,7 @@ pub(crate) fn step_below(
     keyword: &RcStr,
     step: SchemaStep,
 ) -> Result<SchemaPath, OutOfMemory>
-    ensures path { IfOk result (λ path. path ≡ to_member (rc_str_bytes keyword.now) ∷ schema_step_of step ∷ []) }
+    ensures path { Yields result (to_member (rc_str_bytes keyword.now) ∷ schema_step_of step ∷ []) }
 {
     let mut path = SchemaPath::with_capacity(alloc, 2)?;
     path.push(SchemaStep::Member(keyword.clone()?))?;
@@ -50,7 +52,7 @@ pub fn items_below(
     keyword: &str,
     items: &[Value],
 ) -> Result<Vec<SchemaPath>, OutOfMemory>
-    ensures paths { IfOk result (λ paths. paths.items ≡ items_from keyword.now 0 (items_view items.now)) }
+    ensures paths { Lists result (items_from keyword.now 0 (items_view items.now)) }
 {
     let first = RcStr::from_str(alloc, keyword)?;
     let mut paths = Vec::with_capacity(alloc, items.len())?;

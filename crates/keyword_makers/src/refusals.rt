@@ -1,5 +1,5 @@
 //! Refusals: of a value of another shape than its keyword's, and others.
-ghost use Rattle.std.specs.Prelude.{◌≡◌, ◌∷◌, [], IfOk, option_map, string_bytes, true};
+ghost use Rattle.std.specs.Prelude.{◌∷◌, [], IfOk, option_map, string_bytes, true};
 ghost use Rattle.schema_definitions.specs.Making.{refused, then_end};
 ghost use Rattle.serde_json.specs.View.{view};
 ghost use Rattle.schema_definitions.specs.Instance.{to_member};
@@ -7,6 +7,7 @@ ghost use Rattle.schema_definitions.specs.Pointer.{pointer_to};
 ghost use Rattle.schema_reports.specs.ReportViews.{owned_error_of};
 ghost use Rattle.keyword_makers.specs.Making.{makes_if, malformed, malformed_text, refused_error};
 ghost use Rattle.keyword_makers.specs.MakerViews.{Begins};
+ghost use Rattle.schema_parts.specs.Showing.{Shows, Yields};
 
 use crate::maker::{Ending, PathsMaker, ends};
 use schema_parts::keyword::Validate;
@@ -18,7 +19,7 @@ use std::alloc::Global;
 /// The pointer of a keyword in its object.
 #[tactic(auto, using(crate::proofs::Pointers::pointer_one))]
 fn keyword_pointer(alloc: Global, name: &str) -> Result<Location, OutOfMemory>
-    ensures pointer { IfOk result (λ l. l ≡ pointer_to (to_member name.now ∷ [])) }
+    ensures pointer { Yields result (pointer_to (to_member name.now ∷ [])) }
 {
     let root = Location::new(alloc);
     let pointer = root.join(LocationSegment::Property(name));
@@ -28,7 +29,7 @@ fn keyword_pointer(alloc: Global, name: &str) -> Result<Location, OutOfMemory>
 
 /// The text of a refusal.
 fn malformed_text(alloc: Global, name: &str) -> Result<String, OutOfMemory>
-    ensures text { IfOk result (λ text. string_bytes text ≡ malformed_text name.now) }
+    ensures text { Shows string_bytes result (malformed_text name.now) }
 {
     let mut text = String::from_str(alloc, "\"")?;
     text.push_str(name)?;
@@ -43,7 +44,7 @@ fn refused_error(
     value: &Value,
     text: String,
 ) -> Result<OwnedError, OutOfMemory>
-    ensures error { IfOk result (λ e. owned_error_of e ≡ refused_error name.now (view value.now) (string_bytes text)) }
+    ensures error { Shows owned_error_of result (refused_error name.now (view value.now) (string_bytes text)) }
 {
     Ok(OwnedError {
         instance: value.clone()?,

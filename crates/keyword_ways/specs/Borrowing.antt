@@ -1,5 +1,5 @@
 -- What becomes of the places that the errors in an answer borrow.
-use Rattle.std.specs.Prelude.{All}
+use Rattle.std.specs.Prelude.{All, IfOk, Result}
 use Rattle.serde_json.specs.Data.{Data}
 use Rattle.schema_reports.specs.ReportViews.{BorrowsItsPlace}
 use Rattle.schema_parts.specs.FaultViews.{PassesBorrowed, errors_in, faults_in}
@@ -13,3 +13,11 @@ KeepsBorrows old new = (root : Data) → All (PassesBorrowed root) (faults_in ol
 -- so it is where each error of a reply borrows its place too
 abbrev pub TakesBorrows : Reply → Answer → Answer → Type 0
 TakesBorrows reply old new = (root : Data) → All (BorrowsItsPlace root) (errors_in reply) → All (PassesBorrowed root) (faults_in old) → All (PassesBorrowed root) (faults_in new)
+
+-- the first where there is an answer
+abbrev pub Retains : {A E : Type 0} → Answer → Answer → Result A E → Type 0
+Retains old new result = IfOk result (λ _. KeepsBorrows old new)
+
+-- the second where there is an answer
+abbrev pub Borrows : {A E : Type 0} → Reply → Answer → Answer → Result A E → Type 0
+Borrows reply old new result = IfOk result (λ _. TakesBorrows reply old new)

@@ -9,8 +9,10 @@ ghost use Rattle.schema_parts.specs.KeywordViews.{answer_of, fault_of, reply_of}
 ghost use Rattle.keyword_ways.specs.FaultLists.{first_kept};
 ghost use Rattle.keyword_ways.specs.Tallies.{says_yes};
 ghost use Rattle.keyword_ways.specs.Ways.{evaluated, goes_on, with_first};
-ghost use Rattle.keyword_ways.specs.Borrowing.{KeepsBorrows, TakesBorrows};
+ghost use Rattle.keyword_ways.specs.Borrowing.{KeepsBorrows, TakesBorrows, Borrows, Retains};
 ghost use Rattle.keyword_ways.specs.AnswerWords.{Refuses, Notes, Takes, own_fault, Becomes};
+ghost use Rattle.schema_parts.specs.Readings.{Lists};
+ghost use Rattle.schema_parts.specs.Showing.{Shows};
 
 use crate::units::{invalidate, with_unit};
 use schema_parts::keyword::{Answer, Fault, Mode, OwnError, Reply};
@@ -79,7 +81,7 @@ fn with_first<'i>(answer: Answer<'i>, fault: Box<Fault<'i>>) -> Answer<'i>
 /// The errors of an answer.
 fn faults_of<'i>(alloc: Global, answer: Answer<'i>) -> Result<Vec<Fault<'i>>, OutOfMemory>
     ensures errors { IfOk result (λ faults. (texts : Bool) → map (fault_of texts) faults.items ≡ (answer_of texts answer.entry).errors) }
-    ensures faults { IfOk result (λ faults. faults.items ≡ faults_in answer.entry) }
+    ensures faults { Lists result (faults_in answer.entry) }
 {
     match answer {
         Answer::Verdict(_) => Ok(Vec::new(alloc)),
@@ -106,7 +108,7 @@ fn evaluated<'i>(
     before: Answer<'i>,
 ) -> Result<Answer<'i>, OutOfMemory>
     ensures evaluated { IfOk result (Becomes before.entry (λ texts a. evaluated a (own_fault texts keyword.now text))) }
-    ensures faults { IfOk result (λ after. faults_in after ≡ []) }
+    ensures faults { Shows faults_in result [] }
 {
     let mut found = before.into_evaluation(alloc)?;
     let keyword = String::from_str(alloc, keyword)?;
@@ -136,7 +138,7 @@ pub fn note<'i>(
     answer: &mut Answer<'i>,
 ) -> Result<(), OutOfMemory>
     ensures noted { IfOk result (λ _. Notes mode keyword.now text answer.old answer.new) }
-    ensures borrows { IfOk result (λ _. KeepsBorrows answer.old answer.new) }
+    ensures borrows { Retains answer.old answer.new result }
 {
     let before = mem::replace(answer, Answer::Verdict(false));
     *answer = with_own(alloc, mode, keyword, text, before)?;
@@ -196,8 +198,7 @@ fn with_own_last<'i>(
 
 /// An error at the keyword itself.
 fn own_fault<'i>(alloc: Global, keyword: &str, text: String) -> Result<Fault<'i>, OutOfMemory>
-    ensures own { IfOk result (λ fault. (texts : Bool) → fault_of texts fault
-        ≡ own_fault texts keyword.now text) }
+    ensures own { IfOk result (λ fault. (texts : Bool) → fault_of texts fault ≡ own_fault texts keyword.now text) }
     ensures borrows { IfOk result (λ fault. (root : Data) → PassesBorrowed root fault) }
 {
     Ok(Fault::Own(OwnError {
@@ -238,7 +239,7 @@ pub fn says_yes(reply: &Reply<'_>) -> bool
 /// Takes what a child answered. A verdict that lets the answer be moves nothing.
 pub fn take<'i>(alloc: Global, reply: Reply<'i>, answer: &mut Answer<'i>) -> Result<(), OutOfMemory>
     ensures taken { IfOk result (λ _. Takes reply.entry answer.old answer.new) }
-    ensures borrows { IfOk result (λ _. TakesBorrows reply.entry answer.old answer.new) }
+    ensures borrows { Borrows reply.entry answer.old answer.new result }
 {
     match reply {
         Reply::Truth(holds) => {
@@ -259,7 +260,7 @@ fn take_told<'i>(
     answer: &mut Answer<'i>,
 ) -> Result<(), OutOfMemory>
     ensures taken { IfOk result (λ _. Takes reply.entry answer.old answer.new) }
-    ensures borrows { IfOk result (λ _. TakesBorrows reply.entry answer.old answer.new) }
+    ensures borrows { Borrows reply.entry answer.old answer.new result }
 {
     let before = mem::replace(answer, Answer::Verdict(false));
     *answer = with_reply(alloc, reply, before)?;

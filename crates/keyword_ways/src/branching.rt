@@ -1,10 +1,10 @@
 //! A run that branches: it asks whether one child accepts, and passes on what the child of the branch that follows answers.
-ghost use Rattle.std.specs.Prelude.{◌≡◌, IfOk};
+ghost use Rattle.std.specs.Prelude.{◌≡◌};
 ghost use Rattle.schema_parts.specs.KeywordViews.{turn_of};
 ghost use Rattle.keyword_ways.specs.Ways.{asked, branch_number, stage_at};
-ghost use Rattle.keyword_ways.specs.Borrowing.{TakesBorrows};
 ghost use Rattle.keyword_ways.specs.TurnWords.{Turns, Steps};
 ghost use Rattle.keyword_ways.specs.Branching.{branches_here, chosen_here};
+ghost use Rattle.keyword_ways.specs.Borrowing.{Borrows};
 
 use crate::answers::{says_yes, take};
 use crate::run::{Progress, Stage};
@@ -19,10 +19,7 @@ fn ask_branch<'s>(
     refused: Option<usize>,
     run: &mut Progress,
 ) -> Step<'s>
-    ensures stage { run.new ≡ record run.old {
-      stage = stage_at (branch_number accepts)
-          (chosen_here accepts accepted refused);
-    } }
+    ensures stage { run.new ≡ record run.old { stage = stage_at (branch_number accepts) (chosen_here accepts accepted refused) } }
     ensures step { turn_of result ≡ asked run.old.mode (chosen_here accepts accepted refused) }
 {
     let branch = if accepts { accepted } else { refused };
@@ -49,9 +46,9 @@ pub fn branch_on<'s, 'i>(
     reply: Reply<'i>,
     answer: &mut Answer<'i>,
 ) -> Result<Step<'s>, OutOfMemory>
-    ensures turns { IfOk result (λ _. Turns (branches_here accepted refused) run.old answer.old reply.entry run.new answer.new) }
-    ensures steps { IfOk result (Steps (branches_here accepted refused) run.old answer.old reply.entry) }
-    ensures borrows { IfOk result (λ _. TakesBorrows reply.entry answer.old answer.new) }
+    ensures turns { Turns (branches_here accepted refused) run.old answer.old reply.entry run.new answer.new result }
+    ensures steps { Steps (branches_here accepted refused) run.old answer.old reply.entry result }
+    ensures borrows { Borrows reply.entry answer.old answer.new result }
 {
     match run.stage {
         Stage::Begun => {

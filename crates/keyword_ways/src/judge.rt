@@ -1,6 +1,6 @@
 //! Keywords that judge by how many questions are answered by yes. An author says which questions it asks, of how many such answers
 //! it holds, its name and its error's text; its turns and all laws follow.
-ghost use Rattle.std.specs.Prelude.{◌≡◌, ℕ, Bool, IfOk, string_bytes, true};
+ghost use Rattle.std.specs.Prelude.{◌≡◌, ℕ, Bool, IfOk, true};
 ghost use Rattle.schema_definitions.specs.Instance.{Subject, Text};
 ghost use Rattle.schema_reports.specs.InstanceViews.{subject_of};
 ghost use Rattle.schema_definitions.specs.Keywords.{Question, ask};
@@ -9,9 +9,10 @@ ghost use Rattle.keyword_ways.specs.Items.{each_from};
 ghost use Rattle.keyword_ways.specs.OwnWays.{counted_ways, judge_ways};
 ghost use Rattle.keyword_ways.specs.Places.{AsksPresent};
 ghost use Rattle.keyword_ways.specs.WayGrows.{never_falls};
-ghost use Rattle.keyword_ways.specs.Borrowing.{KeepsBorrows, TakesBorrows};
-ghost use Rattle.keyword_ways.specs.AnswerWords.{IfNoFraction, TellsAtOnce};
+ghost use Rattle.keyword_ways.specs.AnswerWords.{TellsAtOnce};
 ghost use Rattle.keyword_ways.specs.TurnWords.{TellsTurn, StepsSpoken};
+ghost use Rattle.keyword_ways.specs.Borrowing.{Borrows, Retains};
+ghost use Rattle.keyword_ways.specs.TextWords.{ShowsText};
 
 use crate::answers::{note, refuse};
 use crate::judging::{Judge, Judging, judge_on};
@@ -74,8 +75,7 @@ pub trait JudgeKeyword: Drop {
         instance: Instance<'_>,
         accepted: usize,
     ) -> Result<String, OutOfMemory>
-        ensures text { IfOk result (λ text. IfNoFraction instance.entry (λ s. string_bytes text
-            ≡ error_text (shape self.now) s accepted)) };
+        ensures text { IfOk result (ShowsText instance.entry (λ s. error_text (shape self.now) s accepted)) };
 
     /// Whether the keyword says of itself that it is monotone: a yes more among the answers never turns its own from yes to no.
     /// `false` says nothing, and is always right.
@@ -100,7 +100,7 @@ fn tell_judged<'i, J: JudgeKeyword>(
 ) -> Result<(), OutOfMemory>
     ensures told { IfOk result (λ _. TellsAtOnce (λ _. true) (counted_ways J.called J.accepts J.error_text accepted) (J.shape judge.now)
         instance.entry mode answer.old answer.new) }
-    ensures borrows { IfOk result (λ _. KeepsBorrows answer.old answer.new) }
+    ensures borrows { Retains answer.old answer.new result }
 {
     if judge.holds(instance, accepted) {
         return Ok(());
@@ -122,11 +122,11 @@ pub fn turn_judge<'s, 'i, J: JudgeKeyword>(
     reply: Reply<'i>,
     answer: &mut Answer<'i>,
 ) -> Result<Step<'s>, OutOfMemory>
-    ensures turns { IfOk result (λ _. TellsTurn (λ _. true) (judge_ways J.called J.enough J.shows J.accepts J.error_text J.question
-        J.count) (J.shape keyword.now) instance.entry run.old answer.old reply.entry run.new answer.new) }
-    ensures steps { IfOk result (StepsSpoken (judge_ways J.called J.enough J.shows J.accepts J.error_text J.question J.count)
-        (J.shape keyword.now) instance.entry run.old answer.old reply.entry) }
-    ensures borrows { IfOk result (λ _. TakesBorrows reply.entry answer.old answer.new) }
+    ensures turns { TellsTurn (λ _. true) (judge_ways J.called J.enough J.shows J.accepts J.error_text J.question J.count)
+        (J.shape keyword.now) instance.entry run.old answer.old reply.entry run.new answer.new result }
+    ensures steps { StepsSpoken (judge_ways J.called J.enough J.shows J.accepts J.error_text J.question J.count) (J.shape keyword.now)
+        instance.entry run.old answer.old reply.entry result }
+    ensures borrows { Borrows reply.entry answer.old answer.new result }
 {
     let mode = run.mode;
     let judging = judge_on(alloc, keyword.judge(instance), run, reply, answer)?;

@@ -8,7 +8,7 @@ ghost use Rattle.keyword_ways.specs.Judging.{counted_of, judging_answer, judging
 ghost use Rattle.keyword_ways.specs.Judging.{JudgesAnswer, JudgesIn, JudgesStage, JudgesStep};
 ghost use Rattle.keyword_ways.specs.Tallies.{Tally, asked_in, counted, is_settled, says_yes, wants_units};
 ghost use Rattle.keyword_ways.specs.Ways.{asked, counted_at, judged_at, next_if, nth};
-ghost use Rattle.keyword_ways.specs.Borrowing.{KeepsBorrows};
+ghost use Rattle.keyword_ways.specs.Borrowing.{Retains};
 
 use crate::answers::says_yes;
 use crate::run::{Progress, Stage};
@@ -152,7 +152,7 @@ pub fn judge_on<'i>(
         → JudgesStep judge f run.old (reply_of texts reply.entry) judging) }
     ensures answer { IfOk result (λ judging. (texts : Bool) (f : ℕ → Question)
         → JudgesIn judge f texts run.old reply.entry answer.old judging answer.new) }
-    ensures borrows { IfOk result (λ _. KeepsBorrows answer.old answer.new) }
+    ensures borrows { Retains answer.old answer.new result }
 {
     let yes = says_yes(&reply);
     keep_child(alloc, run.stage, reply, answer)?;
@@ -171,7 +171,7 @@ pub fn judge_children<'i>(
     ensures step { IfOk result (λ judging. (texts : Bool) → JudgesStep judge child_here run.old (reply_of texts reply.entry) judging) }
     ensures answer { IfOk result (λ judging. (texts : Bool) → JudgesIn judge child_here texts run.old reply.entry answer.old judging
         answer.new) }
-    ensures borrows { IfOk result (λ _. KeepsBorrows answer.old answer.new) }
+    ensures borrows { Retains answer.old answer.new result }
 {
     judge_on(alloc, judge, run, reply, answer)
 }

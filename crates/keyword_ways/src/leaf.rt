@@ -1,13 +1,15 @@
 //! Keywords that ask nothing. An author says when such a keyword holds, its name and its error's text; all laws follow.
-ghost use Rattle.std.specs.Prelude.{◌≡◌, Bool, IfOk, string_bytes, true};
+ghost use Rattle.std.specs.Prelude.{◌≡◌, Bool, IfOk, true};
 ghost use Rattle.schema_definitions.specs.Instance.{Subject, Text};
 ghost use Rattle.schema_reports.specs.InstanceViews.{subject_of};
 ghost use Rattle.schema_definitions.specs.Keywords.{done};
 ghost use Rattle.schema_parts.specs.KeywordViews.{turn_of};
 ghost use Rattle.keyword_ways.specs.OwnWays.{leaf_ways};
-ghost use Rattle.keyword_ways.specs.Borrowing.{KeepsBorrows, TakesBorrows};
-ghost use Rattle.keyword_ways.specs.AnswerWords.{IfNoFraction, TellsAtOnce};
+ghost use Rattle.keyword_ways.specs.AnswerWords.{TellsAtOnce};
 ghost use Rattle.keyword_ways.specs.TurnWords.{TellsTurn};
+ghost use Rattle.keyword_ways.specs.Borrowing.{Borrows, Retains};
+ghost use Rattle.schema_parts.specs.Showing.{Shows};
+ghost use Rattle.keyword_ways.specs.TextWords.{ShowsText};
 
 use crate::answers::{note, refuse};
 use crate::run::Progress;
@@ -41,7 +43,7 @@ pub trait LeafKeyword: Drop {
 
     /// The error's text. It is asked for only where the keyword does not hold and an error is wanted.
     fn text(&self, alloc: Global, instance: Instance<'_>) -> Result<String, OutOfMemory>
-        ensures text { IfOk result (λ text. IfNoFraction instance.entry (λ s. string_bytes text ≡ error_text (shape self.now) s)) };
+        ensures text { IfOk result (ShowsText instance.entry (error_text (shape self.now))) };
 }
 
 /// Notes the keyword's error where it does not hold.
@@ -54,7 +56,7 @@ fn tell_leaf<'i, L: LeafKeyword>(
 ) -> Result<(), OutOfMemory>
     ensures told { IfOk result (λ _. TellsAtOnce (λ _. true) (leaf_ways L.called L.accepts L.error_text) (L.shape leaf.now) instance.entry
         mode answer.old answer.new) }
-    ensures borrows { IfOk result (λ _. KeepsBorrows answer.old answer.new) }
+    ensures borrows { Retains answer.old answer.new result }
 {
     if leaf.holds(instance) {
         return Ok(());
@@ -76,10 +78,10 @@ pub fn turn_leaf<'s, 'i, L: LeafKeyword>(
     reply: Reply<'i>,
     answer: &mut Answer<'i>,
 ) -> Result<Step<'s>, OutOfMemory>
-    ensures turns { IfOk result (λ _. TellsTurn (λ _. true) (leaf_ways L.called L.accepts L.error_text) (L.shape leaf.now) instance.entry
-        run.old answer.old reply.entry run.new answer.new) }
-    ensures step { IfOk result (λ step. turn_of step ≡ done) }
-    ensures borrows { IfOk result (λ _. TakesBorrows reply.entry answer.old answer.new) }
+    ensures turns { TellsTurn (λ _. true) (leaf_ways L.called L.accepts L.error_text) (L.shape leaf.now) instance.entry run.old answer.old
+        reply.entry run.new answer.new result }
+    ensures step { Shows turn_of result done }
+    ensures borrows { Borrows reply.entry answer.old answer.new result }
 {
     drop(reply);
     if tell_on(run) {

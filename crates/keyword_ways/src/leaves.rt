@@ -8,9 +8,10 @@ ghost use Rattle.schema_reports.specs.ReportViews.{spoken};
 ghost use Rattle.schema_parts.specs.KeywordViews.{is_nil, turn_of};
 ghost use Rattle.keyword_ways.specs.OwnWays.{telling_ways};
 ghost use Rattle.keyword_ways.specs.Ways.{noted};
-ghost use Rattle.keyword_ways.specs.Borrowing.{KeepsBorrows, TakesBorrows};
 ghost use Rattle.keyword_ways.specs.AnswerWords.{IfNoFraction, TellsAtOnce, Becomes};
 ghost use Rattle.keyword_ways.specs.TurnWords.{TellsTurn};
+ghost use Rattle.keyword_ways.specs.Borrowing.{Borrows, Retains};
+ghost use Rattle.schema_parts.specs.Showing.{Shows, Yields};
 
 use crate::answers::{note, refuse};
 use crate::run::Progress;
@@ -47,7 +48,7 @@ pub trait TellingKeyword: Drop {
     ///
     /// Memory cannot be allocated.
     fn holds(&self, alloc: Global, instance: Instance<'_>) -> Result<bool, OutOfMemory>
-        ensures holds { IfOk result (λ holds. holds ≡ is_nil (error_texts (shape self.now) (subject_of instance.entry))) };
+        ensures holds { Yields result (is_nil (error_texts (shape self.now) (subject_of instance.entry))) };
 
     /// Returns the errors' texts, in order, where the keyword does not hold. They are asked for only where an error is wanted. Nothing
     /// is promised of what they say where the instance or the keyword holds a fraction.
@@ -78,7 +79,7 @@ fn note_each<'i>(
 ) -> Result<(), OutOfMemory>
     ensures noted { IfOk result (λ _. Becomes answer.old (λ texts a. noted mode name.now a
         (map (λ text. spoken texts (string_bytes text)) found.items)) answer.new) }
-    ensures borrows { IfOk result (λ _. KeepsBorrows answer.old answer.new) }
+    ensures borrows { Retains answer.old answer.new result }
 {
     for text in found {
         note(alloc, mode, name, text, answer)?;
@@ -97,7 +98,7 @@ fn tell_each<'i, T: TellingKeyword>(
 ) -> Result<(), OutOfMemory>
     ensures told { IfOk result (λ _. TellsAtOnce T.shows_no_fraction (telling_ways T.called T.error_texts) (T.shape keyword.now)
         instance.entry mode answer.old answer.new) }
-    ensures borrows { IfOk result (λ _. KeepsBorrows answer.old answer.new) }
+    ensures borrows { Retains answer.old answer.new result }
 {
     if keyword.holds(alloc, instance)? {
         return Ok(());
@@ -120,10 +121,10 @@ pub fn turn_telling<'s, 'i, T: TellingKeyword>(
     reply: Reply<'i>,
     answer: &mut Answer<'i>,
 ) -> Result<Step<'s>, OutOfMemory>
-    ensures turns { IfOk result (λ _. TellsTurn T.shows_no_fraction (telling_ways T.called T.error_texts) (T.shape keyword.now)
-        instance.entry run.old answer.old reply.entry run.new answer.new) }
-    ensures step { IfOk result (λ step. turn_of step ≡ done) }
-    ensures borrows { IfOk result (λ _. TakesBorrows reply.entry answer.old answer.new) }
+    ensures turns { TellsTurn T.shows_no_fraction (telling_ways T.called T.error_texts) (T.shape keyword.now) instance.entry run.old
+        answer.old reply.entry run.new answer.new result }
+    ensures step { Shows turn_of result done }
+    ensures borrows { Borrows reply.entry answer.old answer.new result }
 {
     drop(reply);
     if tell_on(run) {

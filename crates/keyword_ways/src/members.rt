@@ -2,10 +2,10 @@
 ghost use Rattle.std.specs.Prelude.{◌≡◌, [], IfSome, is_some, option_map, slice_index_or};
 ghost use Rattle.serde_json.specs.Data.{object};
 ghost use Rattle.serde_json.specs.Find.{get_member};
-ghost use Rattle.serde_json.specs.View.{members_view};
 ghost use Rattle.schema_definitions.specs.Instance.{a_value};
 ghost use Rattle.schema_reports.specs.InstanceViews.{subject_of};
 ghost use Rattle.keyword_ways.specs.Members.{has_member, is_object, member_count, name_at, names_in, names_of_any, subject_names};
+ghost use Rattle.schema_parts.specs.Readings.{fields};
 
 use schema_reports::instance::Instance;
 use serde_json::{Map, Value};
@@ -22,7 +22,7 @@ pub fn is_object(instance: Instance<'_>) -> bool
 
 /// Whether an object has a member of this name.
 fn is_named(members: &Map<String, Value>, name: &str) -> bool
-    ensures named { result ≡ is_some (get_member name.now (members_view members.now.entries)) }
+    ensures named { result ≡ is_some (get_member name.now (fields members.now)) }
 {
     members.contains_key(name)
 }
@@ -57,7 +57,7 @@ pub fn member_count(instance: Instance<'_>) -> usize
 
 /// The name of the member of a number, in the order of an object; an empty text where there is none.
 fn name_among(members: &Map<String, Value>, number: usize) -> &str
-    ensures name { result.now ≡ slice_index_or (names_in (members_view members.now.entries)) number [] }
+    ensures name { result.now ≡ slice_index_or (names_in (fields members.now)) number [] }
 {
     let mut left = number;
     for (name, _) in members {
@@ -86,8 +86,8 @@ pub fn name_at<'i>(instance: Instance<'i>, number: usize) -> &'i str
 /// The members of the instance, where it is an object.
 #[inline(always)]
 pub fn members_of<'i>(instance: Instance<'i>) -> Option<&'i Map<String, Value>>
-    ensures members { IfSome result (λ members. subject_of instance.entry ≡ a_value (object (members_view members.now.entries))) }
-    ensures names { names_of_any (option_map (λ m. members_view m.now.entries) result) ≡ subject_names (subject_of instance.entry) }
+    ensures members { IfSome result (λ members. subject_of instance.entry ≡ a_value (object (fields members.now))) }
+    ensures names { names_of_any (option_map (λ m. fields m.now) result) ≡ subject_names (subject_of instance.entry) }
 {
     match instance {
         Instance::Name(_) => None,

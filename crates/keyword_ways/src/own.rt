@@ -1,12 +1,12 @@
 //! Keywords of an author's own. An author says in which way a keyword goes about an instance and takes its turns; all laws of a
 //! keyword follow.
-ghost use Rattle.std.specs.Prelude.{◌≡◌, Bool, IfOk};
+ghost use Rattle.std.specs.Prelude.{◌≡◌, Bool};
 ghost use Rattle.schema_definitions.specs.Instance.{Subject};
 ghost use Rattle.keyword_ways.specs.OwnWays.{AlwaysPresent};
 ghost use Rattle.keyword_ways.specs.WayGrows.{EachGrows};
 ghost use Rattle.keyword_ways.specs.Ways.{Way};
-ghost use Rattle.keyword_ways.specs.Borrowing.{TakesBorrows};
 ghost use Rattle.keyword_ways.specs.TurnWords.{TellsTurn, TellsStep};
+ghost use Rattle.keyword_ways.specs.Borrowing.{Borrows};
 
 use crate::run::Progress;
 use schema_parts::keyword::{Answer, Mode, Reply, Step, Validate};
@@ -45,10 +45,10 @@ pub trait OwnKeyword: Drop {
         reply: Reply<'i>,
         answer: &mut Answer<'i>,
     ) -> Result<Step<'s>, OutOfMemory>
-        ensures turns { IfOk result (λ _. TellsTurn shows_no_fraction way (shape self.now) instance.entry run.old answer.old reply.entry
-            run.new answer.new) }
-        ensures steps { IfOk result (TellsStep shows_no_fraction way (shape self.now) instance.entry run.old answer.old reply.entry) }
-        ensures borrows { IfOk result (λ _. TakesBorrows reply.entry answer.old answer.new) };
+        ensures turns { TellsTurn shows_no_fraction way (shape self.now) instance.entry run.old answer.old reply.entry run.new answer.new
+            result }
+        ensures steps { TellsStep shows_no_fraction way (shape self.now) instance.entry run.old answer.old reply.entry result }
+        ensures borrows { Borrows reply.entry answer.old answer.new result };
 
     /// Whether the keyword says of itself that it is monotone: a yes more among the answers never turns its own from yes to no.
     /// `false` says nothing, and is always right.

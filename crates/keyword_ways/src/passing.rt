@@ -6,8 +6,8 @@ ghost use Rattle.schema_parts.specs.declared.keyword.Mode.{Mode as ModeOfRun};
 ghost use Rattle.keyword_ways.specs.Asking.{IsNext, IsNextFrom, nth_at, stage_of};
 ghost use Rattle.keyword_ways.specs.Items.{child_here, each_from};
 ghost use Rattle.keyword_ways.specs.Ways.{asked, passes_on};
-ghost use Rattle.keyword_ways.specs.Borrowing.{TakesBorrows};
 ghost use Rattle.keyword_ways.specs.TurnWords.{TurnsIn, StepsIn, AnswersIn};
+ghost use Rattle.keyword_ways.specs.Borrowing.{Borrows};
 
 use crate::answers::{goes_on, take};
 use crate::run::{Progress, Stage};
@@ -24,7 +24,7 @@ fn take_asked<'i>(
 ) -> Result<(), OutOfMemory>
     ensures answered { IfOk result (λ _. (texts : Bool) (qs : List Question) (m : ModeOfRun)
         → AnswersIn texts (passes_on qs) m stage reply.entry answer.old answer.new) }
-    ensures borrows { IfOk result (λ _. TakesBorrows reply.entry answer.old answer.new) }
+    ensures borrows { Borrows reply.entry answer.old answer.new result }
 {
     match stage {
         Stage::Asked(_) => take(alloc, reply, answer),
@@ -51,7 +51,7 @@ pub fn onward<'i>(
         → IsNext qs run.now.stage (reply_of texts reply.entry) place) }
     ensures next_from { IfOk result (λ start. (texts : Bool) (os : List (Option Question)) → length os ≤ limit
         → IsNextFrom os run.now.stage (reply_of texts reply.entry) start) }
-    ensures borrows { IfOk result (λ _. TakesBorrows reply.entry answer.old answer.new) }
+    ensures borrows { Borrows reply.entry answer.old answer.new result }
 {
     let onward = goes_on(&reply);
     take_asked(alloc, run.stage, reply, answer)?;
@@ -104,7 +104,7 @@ pub fn next_number<'i>(
         → TurnsIn texts (passes_on (each_from f first count)) run.old answer.old reply.entry run.new answer.new) }
     ensures steps { IfOk result (λ number. (texts : Bool) (f : ℕ → Question)
         → StepsIn texts (passes_on (each_from f first count)) run.old answer.old reply.entry (asked run.old.mode (option_map f number))) }
-    ensures borrows { IfOk result (λ _. TakesBorrows reply.entry answer.old answer.new) }
+    ensures borrows { Borrows reply.entry answer.old answer.new result }
 {
     let place = onward(alloc, count, run, reply, answer)?;
     Ok(number_at(place, first, count, run))

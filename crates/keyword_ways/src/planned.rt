@@ -1,14 +1,16 @@
 //! Keywords that say by a plan how they go about an instance. Their runs and their laws are the same for all of them.
-ghost use Rattle.std.specs.Prelude.{◌≡◌, ℕ, Bool, IfOk, Some, false, refl, string_bytes, true};
+ghost use Rattle.std.specs.Prelude.{◌≡◌, ℕ, Bool, IfOk, Some, false, refl, true};
 ghost use Rattle.schema_definitions.specs.Instance.{Subject, Text};
 ghost use Rattle.schema_reports.specs.InstanceViews.{subject_of};
 ghost use Rattle.schema_definitions.specs.Keywords.{done};
 ghost use Rattle.schema_parts.specs.KeywordViews.{turn_of};
 ghost use Rattle.keyword_ways.specs.Plans.{asks_count, asks_of, enough_of, is_wanted, plan_ways, question_of, error_ways, wanting_ways};
 ghost use Rattle.keyword_ways.specs.Ways.{asked, passes_on};
-ghost use Rattle.keyword_ways.specs.Borrowing.{KeepsBorrows, TakesBorrows};
-ghost use Rattle.keyword_ways.specs.AnswerWords.{IfNoFraction, TellsAtOnce};
+ghost use Rattle.keyword_ways.specs.AnswerWords.{TellsAtOnce};
 ghost use Rattle.keyword_ways.specs.TurnWords.{Turns, Steps, TellsTurn, StepsSpoken};
+ghost use Rattle.keyword_ways.specs.Borrowing.{Borrows, Retains};
+ghost use Rattle.schema_parts.specs.Showing.{Shows};
+ghost use Rattle.keyword_ways.specs.TextWords.{ShowsText};
 
 use crate::answers::{note, refuse};
 use crate::items::item_count;
@@ -99,8 +101,8 @@ pub trait PlannedKeyword: Drop {
         instance: Instance<'_>,
         accepted: usize,
     ) -> Result<String, OutOfMemory>
-        ensures text { IfOk result (λ text. shows_no_fraction (shape self.now) ≡ true
-            → IfNoFraction instance.entry (λ s. string_bytes text ≡ error_text (shape self.now) s accepted)) };
+        ensures text { IfOk result (λ text. shows_no_fraction (shape self.now) ≡ true → ShowsText instance.entry (λ s. error_text
+            (shape self.now) s accepted) text) };
 
     /// Returns whether the keyword says of itself that it is monotone: a yes more among the answers never turns its own from yes to
     /// no. So it is where none of its plans has a most. `false` says nothing, and is always right.
@@ -128,7 +130,7 @@ fn tell<'i, P: PlannedKeyword>(
 ) -> Result<(), OutOfMemory>
     ensures told { IfOk result (λ _. TellsAtOnce P.shows_no_fraction (error_ways P.called P.error_text false accepted)
         (P.shape keyword.now) instance.entry mode answer.old answer.new) }
-    ensures borrows { IfOk result (λ _. KeepsBorrows answer.old answer.new) }
+    ensures borrows { Retains answer.old answer.new result }
 {
     if mode == Mode::Verdict {
         refuse(alloc, answer);
@@ -170,10 +172,10 @@ fn turn_telling<'s, 'i, P: PlannedKeyword>(
     reply: Reply<'i>,
     answer: &mut Answer<'i>,
 ) -> Result<Step<'s>, OutOfMemory>
-    ensures turns { IfOk result (λ _. TellsTurn P.shows_no_fraction (error_ways P.called P.error_text holds 0) (P.shape keyword.now)
-        instance.entry run.old answer.old reply.entry run.new answer.new) }
-    ensures step { IfOk result (λ step. turn_of step ≡ done) }
-    ensures borrows { IfOk result (λ _. TakesBorrows reply.entry answer.old answer.new) }
+    ensures turns { TellsTurn P.shows_no_fraction (error_ways P.called P.error_text holds 0) (P.shape keyword.now) instance.entry run.old
+        answer.old reply.entry run.new answer.new result }
+    ensures step { Shows turn_of result done }
+    ensures borrows { Borrows reply.entry answer.old answer.new result }
 {
     drop(reply);
     let first = tell_on(run);
@@ -192,10 +194,9 @@ fn turn_passing<'s, 'i: 's>(
     reply: Reply<'i>,
     answer: &mut Answer<'i>,
 ) -> Result<Step<'s>, OutOfMemory>
-    ensures turns { IfOk result (λ _. Turns (passes_on (asks_of asks (subject_of instance.entry))) run.old answer.old reply.entry run.new
-        answer.new) }
-    ensures steps { IfOk result (Steps (passes_on (asks_of asks (subject_of instance.entry))) run.old answer.old reply.entry) }
-    ensures borrows { IfOk result (λ _. TakesBorrows reply.entry answer.old answer.new) }
+    ensures turns { Turns (passes_on (asks_of asks (subject_of instance.entry))) run.old answer.old reply.entry run.new answer.new result }
+    ensures steps { Steps (passes_on (asks_of asks (subject_of instance.entry))) run.old answer.old reply.entry result }
+    ensures borrows { Borrows reply.entry answer.old answer.new result }
 {
     let mode = run.mode;
     let count = count_of(asks, instance);
@@ -249,11 +250,11 @@ fn turn_judging<'s, 'i: 's, P: PlannedKeyword>(
     reply: Reply<'i>,
     answer: &mut Answer<'i>,
 ) -> Result<Step<'s>, OutOfMemory>
-    ensures turns { IfOk result (λ _. TellsTurn P.shows_no_fraction (wanting_ways P.called P.error_text wanted) (P.shape keyword.now)
-        instance.entry run.old answer.old reply.entry run.new answer.new) }
-    ensures steps { IfOk result (StepsSpoken (wanting_ways P.called P.error_text wanted) (P.shape keyword.now) instance.entry run.old
-        answer.old reply.entry) }
-    ensures borrows { IfOk result (λ _. TakesBorrows reply.entry answer.old answer.new) }
+    ensures turns { TellsTurn P.shows_no_fraction (wanting_ways P.called P.error_text wanted) (P.shape keyword.now) instance.entry run.old
+        answer.old reply.entry run.new answer.new result }
+    ensures steps { StepsSpoken (wanting_ways P.called P.error_text wanted) (P.shape keyword.now) instance.entry run.old answer.old
+        reply.entry result }
+    ensures borrows { Borrows reply.entry answer.old answer.new result }
 {
     let mode = run.mode;
     let judging = judge_on(alloc, judge_of(wanted, instance), run, reply, answer)?;

@@ -7,8 +7,9 @@ ghost use Rattle.schema_parts.specs.KeywordViews.{reply_of};
 ghost use Rattle.keyword_ways.specs.Judging.{kept_at};
 ghost use Rattle.keyword_ways.specs.Tallies.{with_inside};
 ghost use Rattle.keyword_ways.specs.Ways.{with_unit};
-ghost use Rattle.keyword_ways.specs.Borrowing.{KeepsBorrows};
 ghost use Rattle.keyword_ways.specs.AnswerWords.{KeepsUnit, Becomes};
+ghost use Rattle.keyword_ways.specs.Borrowing.{Retains};
+ghost use Rattle.schema_parts.specs.Showing.{Shows};
 
 use crate::run::Stage;
 use schema_parts::keyword::{Answer, Reply};
@@ -50,7 +51,7 @@ pub fn with_unit<'i>(
     before: Answer<'i>,
 ) -> Result<Answer<'i>, OutOfMemory>
     ensures taken { IfOk result (Becomes before.entry (λ texts a. with_unit a (unit_of texts node))) }
-    ensures faults { IfOk result (λ after. faults_in after ≡ []) }
+    ensures faults { Shows faults_in result [] }
 {
     let accepts = node.report.valid;
     let mut found = before.into_evaluation(alloc)?;
@@ -68,7 +69,7 @@ fn with_kept<'i>(
     before: Answer<'i>,
 ) -> Result<Answer<'i>, OutOfMemory>
     ensures kept { IfOk result (KeepsUnit node before.entry) }
-    ensures faults { IfOk result (λ after. faults_in after ≡ []) }
+    ensures faults { Shows faults_in result [] }
 {
     let mut found = before.into_evaluation(alloc)?;
     push_unit(&mut found.own, node)?;
@@ -99,7 +100,7 @@ pub fn keep_child<'i>(
     answer: &mut Answer<'i>,
 ) -> Result<(), OutOfMemory>
     ensures kept { IfOk result (λ _. Becomes answer.old (λ texts a. kept_at stage a (reply_of texts reply.entry)) answer.new) }
-    ensures borrows { IfOk result (λ _. KeepsBorrows answer.old answer.new) }
+    ensures borrows { Retains answer.old answer.new result }
 {
     match stage {
         Stage::Counted(_, _) => match reply {
