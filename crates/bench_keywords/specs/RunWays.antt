@@ -31,8 +31,8 @@ abbrev pub member_asked : ℕ → Text → Question
 member_asked child name = record { child = child; below = down (to_member name) }
 
 -- for each name the question at the instance's member of that name
-abbrev pub at_members : List (String Global) → Instance → List (Option Question)
-at_members names instance = members_from 0 (map string_bytes names) (subject_of instance)
+abbrev pub at_members : List Text → Instance → List (Option Question)
+at_members names instance = members_from 0 names (subject_of instance)
 
 -- for each name the question at the name of that member
 abbrev pub at_names : List (String Global) → Instance → List (Option Question)

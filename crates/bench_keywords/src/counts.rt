@@ -1,14 +1,14 @@
 //! Keywords that count.
 ghost use Rattle.std.specs.Prelude.{◌≡◌, ◌==◌, decimal, length, option_map, if◌then◌else◌, IfOk};
 ghost use Rattle.std.specs.Str.{chars};
-ghost use Rattle.serde_json.specs.View.{members_view};
 ghost use Rattle.schema_reports.specs.InstanceViews.{subject_of};
 ghost use Rattle.bench_keywords.specs.Counts.{allows, count_fits, count_name, count_of, count_text, count_words, many_counted};
 ghost use Rattle.bench_keywords.specs.Counts.{member_count, one_counted, subject_members, subject_string};
-ghost use Rattle.keyword_ways.specs.Borrowing.{KeepsBorrows};
 ghost use Rattle.bench_keywords.specs.BenchShape.{has_count};
 ghost use Rattle.keyword_ways.specs.TextWords.{Adds, ShowsText};
 ghost use Rattle.bench_keywords.specs.Telling.{TellsOwn};
+ghost use Rattle.keyword_ways.specs.Borrowing.{Retains};
+ghost use Rattle.schema_parts.specs.Readings.{fields};
 
 use keyword_ways::answers::{note, refuse};
 use schema_parts::keyword::{Answer, Mode};
@@ -126,7 +126,7 @@ pub fn members_count(instance: Instance<'_>) -> Option<usize>
 /// How many members an object has.
 #[tactic(auto, using(crate::proofs::PropertyCounts::member_count_length))]
 fn count_members(members: &Map<String, Value>) -> usize
-    ensures count { result ≡ member_count (members_view members.now.entries) }
+    ensures count { result ≡ member_count (fields members.now) }
 {
     members.len()
 }
@@ -178,7 +178,7 @@ pub fn tell_count<'i>(
     answer: &mut Answer<'i>,
 ) -> Result<(), OutOfMemory>
     ensures told { IfOk result (λ _. TellsOwn (has_count kind limit) instance.entry mode answer.old answer.new) }
-    ensures borrows { IfOk result (λ _. KeepsBorrows answer.old answer.new) }
+    ensures borrows { Retains answer.old answer.new result }
 {
     if count_fits(kind, limit, instance) {
         return Ok(());

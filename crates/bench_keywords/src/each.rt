@@ -1,13 +1,13 @@
 //! Keywords that ask about one number after the other: `prefixItems`, `items`.
-ghost use Rattle.std.specs.Prelude.{◌≡◌, ◌+◌, ◌-◌, ◌^◌, ◌<◌, min, option_map, IfOk};
+ghost use Rattle.std.specs.Prelude.{◌≡◌, ◌+◌, ◌-◌, ◌^◌, ◌<◌, min, option_map};
 ghost use Rattle.schema_reports.specs.InstanceViews.{subject_of};
 ghost use Rattle.schema_parts.specs.KeywordViews.{turn_of};
 ghost use Rattle.keyword_ways.specs.Items.{child_at_item, first_at_item, item_count};
 ghost use Rattle.keyword_ways.specs.Ways.{asked};
-ghost use Rattle.keyword_ways.specs.Borrowing.{TakesBorrows};
 ghost use Rattle.bench_keywords.specs.BenchShape.{has_items, has_prefix_items};
 ghost use Rattle.keyword_ways.specs.TurnWords.{StepsBy, TurnsBy};
 ghost use Rattle.bench_keywords.specs.RunWays.{as_shape};
+ghost use Rattle.keyword_ways.specs.Borrowing.{Borrows};
 
 use keyword_ways::items::item_count;
 use keyword_ways::passing::next_number;
@@ -46,10 +46,9 @@ pub fn turn_prefix_items<'s, 'i>(
     reply: Reply<'i>,
     answer: &mut Answer<'i>,
 ) -> Result<Step<'s>, OutOfMemory>
-    ensures turns { IfOk result (λ _. TurnsBy (as_shape (has_prefix_items children)) instance.entry run.old answer.old reply.entry run.new
-        answer.new) }
-    ensures steps { IfOk result (StepsBy (as_shape (has_prefix_items children)) instance.entry run.old answer.old reply.entry) }
-    ensures borrows { IfOk result (λ _. TakesBorrows reply.entry answer.old answer.new) }
+    ensures turns { TurnsBy (as_shape (has_prefix_items children)) instance.entry run.old answer.old reply.entry run.new answer.new result }
+    ensures steps { StepsBy (as_shape (has_prefix_items children)) instance.entry run.old answer.old reply.entry result }
+    ensures borrows { Borrows reply.entry answer.old answer.new result }
 {
     let count = prefix_count(children, instance);
     let mode = run.mode;
@@ -66,10 +65,9 @@ pub fn turn_items<'s, 'i>(
     reply: Reply<'i>,
     answer: &mut Answer<'i>,
 ) -> Result<Step<'s>, OutOfMemory>
-    ensures turns { IfOk result (λ _. TurnsBy (as_shape (has_items before)) instance.entry run.old answer.old reply.entry run.new
-        answer.new) }
-    ensures steps { IfOk result (StepsBy (as_shape (has_items before)) instance.entry run.old answer.old reply.entry) }
-    ensures borrows { IfOk result (λ _. TakesBorrows reply.entry answer.old answer.new) }
+    ensures turns { TurnsBy (as_shape (has_items before)) instance.entry run.old answer.old reply.entry run.new answer.new result }
+    ensures steps { StepsBy (as_shape (has_items before)) instance.entry run.old answer.old reply.entry result }
+    ensures borrows { Borrows reply.entry answer.old answer.new result }
 {
     let count = items_after(before, instance);
     let mode = run.mode;

@@ -8,10 +8,11 @@ ghost use Rattle.keyword_ways.specs.Members.{subject_names};
 ghost use Rattle.keyword_ways.specs.Ways.{way_begin};
 ghost use Rattle.bench_keywords.specs.BenchShape.{is_whole};
 ghost use Rattle.bench_keywords.specs.Shapes.{shape_of};
-ghost use Rattle.keyword_ways.specs.Borrowing.{KeepsBorrows, TakesBorrows};
 ghost use Rattle.bench_keywords.specs.Telling.{TellsFirst, TellsOwn};
 ghost use Rattle.keyword_ways.specs.TurnWords.{TellsStepBy, TellsTurnBy};
 ghost use Rattle.bench_keywords.specs.RunWays.{holding};
+ghost use Rattle.keyword_ways.specs.Borrowing.{Borrows, Retains};
+ghost use Rattle.schema_parts.specs.Showing.{Shows};
 
 use crate::counts::{CountKind, count_fits, tell_count};
 use crate::each::{turn_items, turn_prefix_items};
@@ -94,7 +95,7 @@ fn tell<'i>(
     answer: &mut Answer<'i>,
 ) -> Result<(), OutOfMemory>
     ensures told { IfOk result (λ _. TellsOwn (shape_of keyword.now) instance.entry mode answer.old answer.new) }
-    ensures borrows { IfOk result (λ _. KeepsBorrows answer.old answer.new) }
+    ensures borrows { Retains answer.old answer.new result }
 {
     match keyword {
         BenchKeyword::Type(name) => tell_type(alloc, *name, mode, instance, answer),
@@ -121,8 +122,8 @@ fn turn_telling<'s, 'i>(
 ) -> Result<Step<'s>, OutOfMemory>
     ensures stage { IfOk result (λ _. run.new ≡ record run.old { stage = Ended }) }
     ensures told { IfOk result (λ _. TellsFirst (shape_of keyword.now) instance.entry run.old answer.old answer.new) }
-    ensures step { IfOk result (λ step. turn_of step ≡ done) }
-    ensures borrows { IfOk result (λ _. TakesBorrows reply.entry answer.old answer.new) }
+    ensures step { Shows turn_of result done }
+    ensures borrows { Borrows reply.entry answer.old answer.new result }
 {
     if tell_on(run) {
         tell(keyword, alloc, run.mode, instance, answer)?;
@@ -159,11 +160,11 @@ fn turn_at<'s, 'i: 's>(
     reply: Reply<'i>,
     answer: &mut Answer<'i>,
 ) -> Result<Step<'s>, OutOfMemory>
-    ensures turns { IfOk result (λ _. TellsTurnBy (is_whole (shape_of keyword.now)) (holding names.now (shape_of keyword.now))
-        instance.entry run.old answer.old reply.entry run.new answer.new) }
-    ensures steps { IfOk result (TellsStepBy (is_whole (shape_of keyword.now)) (holding names.now (shape_of keyword.now)) instance.entry
-        run.old answer.old reply.entry) }
-    ensures borrows { IfOk result (λ _. TakesBorrows reply.entry answer.old answer.new) }
+    ensures turns { TellsTurnBy (is_whole (shape_of keyword.now)) (holding names.now (shape_of keyword.now)) instance.entry run.old
+        answer.old reply.entry run.new answer.new result }
+    ensures steps { TellsStepBy (is_whole (shape_of keyword.now)) (holding names.now (shape_of keyword.now)) instance.entry run.old
+        answer.old reply.entry result }
+    ensures borrows { Borrows reply.entry answer.old answer.new result }
 {
     match keyword {
         BenchKeyword::Type(_)

@@ -1,9 +1,9 @@
 //! Names that a run holds.
 ghost use Rattle.std.specs.Prelude.{◌≡◌, [], map, string_bytes};
-ghost use Rattle.serde_json.specs.View.{members_view};
 ghost use Rattle.schema_reports.specs.InstanceViews.{subject_of};
 ghost use Rattle.keyword_ways.specs.Members.{names_in, subject_names};
 ghost use Rattle.schema_parts.specs.Showing.{Yields};
+ghost use Rattle.schema_parts.specs.Readings.{fields};
 
 use keyword_ways::run::Progress;
 use schema_reports::instance::Instance;
@@ -53,7 +53,7 @@ impl Names {
 
     /// The names of an object's members. Fails only if memory cannot be allocated.
     fn of_members(alloc: Global, members: &Map<String, Value>) -> Result<Names, OutOfMemory>
-        ensures names { Yields result (names_in (members_view members.now.entries)) }
+        ensures names { Yields result (names_in (fields members.now)) }
     {
         let mut texts = Vec::new(alloc);
         for (name, _) in members {

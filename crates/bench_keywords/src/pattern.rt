@@ -1,12 +1,12 @@
 //! `pattern`.
 ghost use Rattle.std.specs.Prelude.{true, IfOk};
 ghost use Rattle.bench_keywords.specs.Words.{pattern_text};
-ghost use Rattle.keyword_ways.specs.Borrowing.{KeepsBorrows, TakesBorrows};
 ghost use Rattle.bench_keywords.specs.BenchShape.{has_pattern};
 ghost use Rattle.keyword_ways.specs.TextWords.{ShowsText};
 ghost use Rattle.bench_keywords.specs.Telling.{TellsMatch};
 ghost use Rattle.keyword_ways.specs.TurnWords.{StepsBy, TellsTurnBy};
 ghost use Rattle.bench_keywords.specs.RunWays.{as_shape, to_match};
+ghost use Rattle.keyword_ways.specs.Borrowing.{Borrows, Retains};
 
 use crate::texts::text_of;
 use keyword_ways::answers::{note, refuse};
@@ -39,7 +39,7 @@ fn tell_pattern<'i>(
     answer: &mut Answer<'i>,
 ) -> Result<(), OutOfMemory>
     ensures told { IfOk result (λ _. TellsMatch matches pattern.now instance.entry mode answer.old answer.new) }
-    ensures borrows { IfOk result (λ _. KeepsBorrows answer.old answer.new) }
+    ensures borrows { Retains answer.old answer.new result }
 {
     if matches {
         return Ok(());
@@ -63,10 +63,10 @@ fn turn_of_text<'s, 'i>(
     reply: Reply<'i>,
     answer: &mut Answer<'i>,
 ) -> Result<Step<'s>, OutOfMemory>
-    ensures turns { IfOk result (λ _. TellsTurnBy true (to_match pattern.now text.now) instance.entry run.old answer.old reply.entry
-        run.new answer.new) }
-    ensures steps { IfOk result (StepsBy (to_match pattern.now text.now) instance.entry run.old answer.old reply.entry) }
-    ensures borrows { IfOk result (λ _. TakesBorrows reply.entry answer.old answer.new) }
+    ensures turns { TellsTurnBy true (to_match pattern.now text.now) instance.entry run.old answer.old reply.entry run.new answer.new
+        result }
+    ensures steps { StepsBy (to_match pattern.now text.now) instance.entry run.old answer.old reply.entry result }
+    ensures borrows { Borrows reply.entry answer.old answer.new result }
 {
     let mode = run.mode;
     match match_on(run, reply) {
@@ -89,10 +89,10 @@ pub fn turn_pattern<'s, 'i: 's>(
     reply: Reply<'i>,
     answer: &mut Answer<'i>,
 ) -> Result<Step<'s>, OutOfMemory>
-    ensures turns { IfOk result (λ _. TellsTurnBy true (as_shape (has_pattern pattern.now)) instance.entry run.old answer.old reply.entry
-        run.new answer.new) }
-    ensures steps { IfOk result (StepsBy (as_shape (has_pattern pattern.now)) instance.entry run.old answer.old reply.entry) }
-    ensures borrows { IfOk result (λ _. TakesBorrows reply.entry answer.old answer.new) }
+    ensures turns { TellsTurnBy true (as_shape (has_pattern pattern.now)) instance.entry run.old answer.old reply.entry run.new answer.new
+        result }
+    ensures steps { StepsBy (as_shape (has_pattern pattern.now)) instance.entry run.old answer.old reply.entry result }
+    ensures borrows { Borrows reply.entry answer.old answer.new result }
 {
     match text_of(instance) {
         Some(text) => turn_of_text(alloc, pattern, text, run, instance, reply, answer),

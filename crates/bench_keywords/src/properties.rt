@@ -1,11 +1,12 @@
 //! `properties`.
-ghost use Rattle.std.specs.Prelude.{◌≡◌, None, map, option_map, string_bytes, true, IfOk};
+ghost use Rattle.std.specs.Prelude.{◌≡◌, None, map, option_map, true};
+ghost use Rattle.std.specs.Rc.{rc_str_bytes};
 ghost use Rattle.keyword_ways.specs.Somes.{some_from};
-ghost use Rattle.keyword_ways.specs.Borrowing.{TakesBorrows};
 ghost use Rattle.bench_keywords.specs.BenchShape.{has_properties};
 ghost use Rattle.keyword_ways.specs.SomeWords.{AsksSome, StandsAtSome};
 ghost use Rattle.keyword_ways.specs.TurnWords.{StepsBy, TurnsBy};
 ghost use Rattle.bench_keywords.specs.RunWays.{as_shape, at_members, member_asked};
+ghost use Rattle.keyword_ways.specs.Borrowing.{Borrows};
 
 use keyword_ways::members::has_member;
 use keyword_ways::passing::onward;
@@ -14,30 +15,30 @@ use schema_parts::keyword::{Answer, Below, Reply, Step};
 use schema_reports::instance::Instance;
 use schema_reports::location::OutOfMemory;
 use std::alloc::Global;
+use std::rc::RcStr;
 
 /// Asks each child whose name is a member of the instance there.
 #[inline(always)]
 pub fn turn_properties<'s, 'i>(
     alloc: Global,
-    names: &'s [String],
+    names: &'s [RcStr],
     run: &mut Progress,
     instance: Instance<'i>,
     reply: Reply<'i>,
     answer: &mut Answer<'i>,
 ) -> Result<Step<'s>, OutOfMemory>
-    ensures turns { IfOk result (λ _. TurnsBy (as_shape (has_properties (map string_bytes names.now))) instance.entry run.old answer.old
-        reply.entry run.new answer.new) }
-    ensures steps { IfOk result (StepsBy (as_shape (has_properties (map string_bytes names.now))) instance.entry run.old answer.old
-        reply.entry) }
-    ensures borrows { IfOk result (λ _. TakesBorrows reply.entry answer.old answer.new) }
+    ensures turns { TurnsBy (as_shape (has_properties (map rc_str_bytes names.now))) instance.entry run.old answer.old reply.entry run.new
+        answer.new result }
+    ensures steps { StepsBy (as_shape (has_properties (map rc_str_bytes names.now))) instance.entry run.old answer.old reply.entry result }
+    ensures borrows { Borrows reply.entry answer.old answer.new result }
 {
     let start = onward(alloc, names.len(), run, reply, answer)?;
     Ok(ask_member(names, start, run, instance))
 }
 
 /// Whether no child is asked, where that shows at a glance: the instance has no members.
-pub fn asks_none(names: &[String], instance: Instance<'_>) -> bool
-    ensures none { result ≡ true → some_from 0 (at_members names.now instance.entry) ≡ None }
+pub fn asks_none(names: &[RcStr], instance: Instance<'_>) -> bool
+    ensures none { result ≡ true → some_from 0 (at_members (map rc_str_bytes names.now) instance.entry) ≡ None }
 {
     !may_have_members(instance) && first_present(names, 0, instance).is_none()
 }
@@ -56,13 +57,13 @@ fn may_have_members(instance: Instance<'_>) -> bool {
 /// Asks at the first name from this number on that is a member of the instance, if there is one, and ends the run else.
 #[inline(always)]
 fn ask_member<'s>(
-    names: &'s [String],
+    names: &'s [RcStr],
     start: Option<usize>,
     run: &mut Progress,
     instance: Instance<'_>,
 ) -> Step<'s>
-    ensures stage { StandsAtSome (at_members names.now instance.entry) start run.old run.new }
-    ensures step { AsksSome (at_members names.now instance.entry) start run.old.mode result }
+    ensures stage { StandsAtSome (at_members (map rc_str_bytes names.now) instance.entry) start run.old run.new }
+    ensures step { AsksSome (at_members (map rc_str_bytes names.now) instance.entry) start run.old.mode result }
 {
     match start {
         None => {
@@ -85,11 +86,12 @@ fn ask_member<'s>(
 /// The first child from this number on whose name is a member of the instance, with its name.
 #[tactic(auto, using(keyword_ways::proofs::NextQuestions::members_from_drop))]
 fn first_present<'s>(
-    names: &'s [String],
+    names: &'s [RcStr],
     start: usize,
     instance: Instance<'_>,
 ) -> Option<(usize, &'s str)>
-    ensures present { option_map (λ p. (p.0, member_asked p.0 p.1.now)) result ≡ some_from start (at_members names.now instance.entry) }
+    ensures present { option_map (λ p. (p.0, member_asked p.0 p.1.now)) result
+        ≡ some_from start (at_members (map rc_str_bytes names.now) instance.entry) }
 {
     for child in start..names.len() {
         let name = names[child].as_str();

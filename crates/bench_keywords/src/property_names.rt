@@ -1,15 +1,15 @@
 //! `propertyNames`.
-ghost use Rattle.std.specs.Prelude.{◌≡◌, Some, map, option_map, string_bytes, IfOk};
-ghost use Rattle.serde_json.specs.View.{members_view};
+ghost use Rattle.std.specs.Prelude.{◌≡◌, Some, map, option_map, string_bytes};
 ghost use Rattle.schema_reports.specs.InstanceViews.{subject_of};
 ghost use Rattle.keyword_ways.specs.Members.{at_name, only_if};
 ghost use Rattle.keyword_ways.specs.Somes.{some_from};
 ghost use Rattle.bench_keywords.specs.Words.{is_named, name_asked};
-ghost use Rattle.keyword_ways.specs.Borrowing.{TakesBorrows};
 ghost use Rattle.bench_keywords.specs.BenchShape.{has_property_names};
 ghost use Rattle.keyword_ways.specs.SomeWords.{AsksSome, StandsAtSome};
 ghost use Rattle.keyword_ways.specs.TurnWords.{StepsBy, TurnsBy};
 ghost use Rattle.bench_keywords.specs.RunWays.{at_names, holding};
+ghost use Rattle.keyword_ways.specs.Borrowing.{Borrows};
+ghost use Rattle.schema_parts.specs.Readings.{fields};
 
 use keyword_ways::passing::onward;
 use keyword_ways::run::{Progress, Stage};
@@ -21,8 +21,7 @@ use std::alloc::Global;
 
 /// The name of the member that has this name, as the object holds it.
 fn name_among<'i>(members: &'i Map<String, Value>, name: &str) -> Option<&'i str>
-    ensures name { option_map (λ k. at_name k.now) result
-        ≡ only_if (is_named name.now (Some (members_view members.now.entries))) (at_name name.now) }
+    ensures name { option_map (λ k. at_name k.now) result ≡ only_if (is_named name.now (Some (fields members.now))) (at_name name.now) }
 {
     match members.get_key_value(name) {
         Some((key, _)) => Some(key.as_str()),
@@ -99,11 +98,10 @@ pub fn turn_property_names<'i>(
     reply: Reply<'i>,
     answer: &mut Answer<'i>,
 ) -> Result<Step<'i>, OutOfMemory>
-    ensures turns { IfOk result (λ _. TurnsBy (holding (map string_bytes names.now) has_property_names) instance.entry run.old answer.old
-        reply.entry run.new answer.new) }
-    ensures steps { IfOk result (StepsBy (holding (map string_bytes names.now) has_property_names) instance.entry run.old answer.old
-        reply.entry) }
-    ensures borrows { IfOk result (λ _. TakesBorrows reply.entry answer.old answer.new) }
+    ensures turns { TurnsBy (holding (map string_bytes names.now) has_property_names) instance.entry run.old answer.old reply.entry
+        run.new answer.new result }
+    ensures steps { StepsBy (holding (map string_bytes names.now) has_property_names) instance.entry run.old answer.old reply.entry result }
+    ensures borrows { Borrows reply.entry answer.old answer.new result }
 {
     let start = onward(alloc, names.len(), run, reply, answer)?;
     Ok(ask_name(names, start, run, instance))

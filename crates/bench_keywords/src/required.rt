@@ -3,9 +3,9 @@ ghost use Rattle.std.specs.Prelude.{◌≡◌, map, string_bytes, IfOk};
 ghost use Rattle.std.specs.List.{list_any};
 ghost use Rattle.schema_reports.specs.InstanceViews.{subject_of};
 ghost use Rattle.bench_keywords.specs.Words.{required_text, lacks};
-ghost use Rattle.keyword_ways.specs.Borrowing.{KeepsBorrows};
 ghost use Rattle.bench_keywords.specs.Telling.{TellsMissing};
 ghost use Rattle.schema_parts.specs.Showing.{Shows};
+ghost use Rattle.keyword_ways.specs.Borrowing.{Retains};
 
 use keyword_ways::answers::{note, refuse};
 use keyword_ways::members::{has_member, is_object};
@@ -23,7 +23,7 @@ pub fn tell_required<'i>(
     answer: &mut Answer<'i>,
 ) -> Result<(), OutOfMemory>
     ensures told { IfOk result (λ _. TellsMissing (map string_bytes names.now) instance.entry mode answer.old answer.new) }
-    ensures borrows { IfOk result (λ _. KeepsBorrows answer.old answer.new) }
+    ensures borrows { Retains answer.old answer.new result }
 {
     if mode == Mode::Verdict {
         if lacks_one(names, instance) {

@@ -4,10 +4,10 @@ ghost use Rattle.std.specs.List.{list_any};
 ghost use Rattle.schema_reports.specs.InstanceViews.{subject_of};
 ghost use Rattle.bench_keywords.specs.TypeNames.{fits, type_name};
 ghost use Rattle.bench_keywords.specs.Words.{more_names, names_text, type_text, types_text};
-ghost use Rattle.keyword_ways.specs.Borrowing.{KeepsBorrows};
 ghost use Rattle.bench_keywords.specs.BenchShape.{has_type, has_types};
 ghost use Rattle.keyword_ways.specs.TextWords.{Adds, ShowsText};
 ghost use Rattle.bench_keywords.specs.Telling.{TellsOwn};
+ghost use Rattle.keyword_ways.specs.Borrowing.{Retains};
 
 use crate::type_names::TypeName;
 use keyword_ways::answers::{note, refuse};
@@ -25,7 +25,7 @@ pub fn tell_type<'i>(
     answer: &mut Answer<'i>,
 ) -> Result<(), OutOfMemory>
     ensures told { IfOk result (λ _. TellsOwn (has_type name) instance.entry mode answer.old answer.new) }
-    ensures borrows { IfOk result (λ _. KeepsBorrows answer.old answer.new) }
+    ensures borrows { Retains answer.old answer.new result }
 {
     if name.fits(instance) {
         return Ok(());
@@ -62,7 +62,7 @@ pub fn tell_types<'i>(
     answer: &mut Answer<'i>,
 ) -> Result<(), OutOfMemory>
     ensures told { IfOk result (λ _. TellsOwn (has_types names.now) instance.entry mode answer.old answer.new) }
-    ensures borrows { IfOk result (λ _. KeepsBorrows answer.old answer.new) }
+    ensures borrows { Retains answer.old answer.new result }
 {
     if fits_one(names, instance) {
         return Ok(());

@@ -1,7 +1,8 @@
 //! The matcher.
-ghost use Rattle.std.specs.Prelude.{◌≡◌, ◌≤◌, ◌++◌, bytes_eq, drop, length, map, string_bytes, IfOk};
+ghost use Rattle.std.specs.Prelude.{◌≡◌, ◌≤◌, bytes_eq, drop, length, map, string_bytes};
 ghost use Rattle.std.specs.List.{list_any};
 ghost use Rattle.bench_parts.specs.BenchMatching.{begins_with, contains_text};
+ghost use Rattle.schema_parts.specs.Readings.{AddsTexts};
 
 use schema_matches::site::{Match, Reason};
 use schema_parts::matcher::Matcher;
@@ -94,8 +95,7 @@ impl Clone for BenchMatcher {
 
 /// Adds copies of texts.
 fn push_copies(texts: &[String], copies: &mut Vec<String>) -> Result<(), AllocError>
-    ensures pushed { IfOk result (λ _. map string_bytes copies.new.items ≡ map string_bytes copies.old.items
-        ++ map string_bytes texts.now) }
+    ensures pushed { AddsTexts copies.old.items copies.new.items (map string_bytes texts.now) result }
 {
     for text in texts {
         copies.push(text.clone()?)?;

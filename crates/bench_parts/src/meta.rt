@@ -3,7 +3,7 @@ ghost use Rattle.std.specs.Prelude.{◌≡◌, [], Bool, IfOk, Some, true, false
 ghost use Rattle.serde_json.specs.Data.{Data, array, object};
 ghost use Rattle.serde_json.specs.Find.{as_array};
 ghost use Rattle.serde_json.specs.Written.{has_float, items_have_float, members_have_float};
-ghost use Rattle.serde_json.specs.View.{items_view, members_view, view};
+ghost use Rattle.serde_json.specs.View.{items_view, view};
 ghost use Rattle.schema_definitions.specs.Instance.{a_value, subject_at};
 ghost use Rattle.schema_keywords.specs.KeywordViews.{draft_of};
 ghost use Rattle.schema_reports.specs.ReportViews.{BorrowsItsPlace, error_of};
@@ -12,6 +12,7 @@ ghost use Rattle.bench_parts.specs.BenchMeta.{fault_in, fault_in_items, fault_in
 ghost use Rattle.bench_parts.specs.BenchMeta.{is_list_of_items, is_no_length, mistyped, type_text};
 ghost use Rattle.bench_parts.specs.FaultWords.{FaultBorrows, FaultIs};
 ghost use Rattle.bench_parts.specs.MetaPlaces.{steps_to};
+ghost use Rattle.schema_parts.specs.Readings.{fields};
 
 use crate::meta_place::MetaPlace;
 use schema_keywords::keywords::Draft;
@@ -28,8 +29,7 @@ pub struct BenchMeta {}
 
 /// The text of a value that is not of these types.
 fn type_text(alloc: Global, value: &Value, types: &str) -> Result<String, OutOfMemory>
-    ensures text { IfOk result (λ text. has_float (view value.now) ≡ false
-        → string_bytes text ≡ type_text (view value.now) types.now) }
+    ensures text { IfOk result (λ text. has_float (view value.now) ≡ false → string_bytes text ≡ type_text (view value.now) types.now) }
 {
     let mut text = Instance::Value(value).text(alloc)?;
     text.push_str(" is not of ")?;
@@ -183,9 +183,9 @@ fn fault_in_members<'v>(
     place: &MetaPlace<'_, 'v>,
     members: &'v Map<String, Value>,
 ) -> Result<Option<ValidationError<'v>>, OutOfMemory>
-    ensures fault { IfOk result (FaultIs (members_have_float (members_view members.now.entries))
-        (λ texts. fault_in_members texts (draft_of draft) (steps_to place.now) (members_view members.now.entries))) }
-    ensures borrows { IfOk result (FaultBorrows (steps_to place.now) (object (members_view members.now.entries))) }
+    ensures fault { IfOk result (FaultIs (members_have_float (fields members.now)) (λ texts. fault_in_members texts (draft_of draft)
+        (steps_to place.now) (fields members.now))) }
+    ensures borrows { IfOk result (FaultBorrows (steps_to place.now) (object (fields members.now))) }
 {
     for (name, member) in members.iter() {
         let named = name.as_str();

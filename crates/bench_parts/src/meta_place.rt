@@ -1,7 +1,8 @@
 //! The place of a value in a schema under the meta check, which allocates nothing until it is asked for.
-ghost use Rattle.std.specs.Prelude.{◌≡◌, ◌++◌, ◌∷◌, [], IfOk};
+ghost use Rattle.std.specs.Prelude.{◌≡◌, ◌++◌, ◌∷◌, []};
 ghost use Rattle.schema_reports.specs.InstanceViews.{step_of};
 ghost use Rattle.bench_parts.specs.MetaPlaces.{steps_to};
+ghost use Rattle.schema_parts.specs.Showing.{Yields};
 
 use schema_reports::instance::{InstanceStep, Place};
 use schema_reports::location::OutOfMemory;
@@ -24,7 +25,7 @@ impl<'p, 'v> MetaPlace<'p, 'v> {
 
     // Returns the place as an owned one, with room for so many steps more. Fails only if memory cannot be allocated.
     fn with_room(&self, alloc: Global, more: usize) -> Result<Place<'v>, OutOfMemory>
-        ensures same { IfOk result (λ p. p ≡ steps_to self.now) }
+        ensures same { Yields result (steps_to self.now) }
     {
         match self {
             MetaPlace::Root => Place::root(alloc).with_room(more),
@@ -38,7 +39,7 @@ impl<'p, 'v> MetaPlace<'p, 'v> {
 
     /// Returns the place as an owned one. Fails only if memory cannot be allocated.
     pub fn made(&self, alloc: Global) -> Result<Place<'v>, OutOfMemory>
-        ensures same { IfOk result (λ p. p ≡ steps_to self.now) }
+        ensures same { Yields result (steps_to self.now) }
     {
         self.with_room(alloc, 0)
     }

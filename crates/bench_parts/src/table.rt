@@ -1,11 +1,12 @@
 //! The keyword table.
 ghost use Rattle.std.specs.Prelude.{IfOk};
 ghost use Rattle.serde_json.specs.Find.{get_member};
-ghost use Rattle.serde_json.specs.View.{members_view, view};
+ghost use Rattle.serde_json.specs.View.{view};
 ghost use Rattle.schema_keywords.specs.KeywordViews.{draft_of};
 ghost use Rattle.keyword_makers.specs.MakerViews.{Begins, waiting_of};
 ghost use Rattle.bench_parts.specs.Makers.{items_script, later_script, member_script, properties_script, schema_script, value_script};
 ghost use Rattle.bench_keywords.specs.Shapes.{shape_of};
+ghost use Rattle.schema_parts.specs.Readings.{fields};
 
 pub mod keyword_values;
 pub mod schema_values;
@@ -19,7 +20,7 @@ use bench_keywords::keyword::BenchKeyword;
 use keyword_makers::branches::branches_of;
 use keyword_makers::lists::{each_schema, list_length};
 use keyword_makers::maker::{Ending, PathsMaker, asks_for, ends, only_child};
-use keyword_makers::members::values_below;
+use keyword_makers::members::values_of;
 use keyword_makers::paths::value_in;
 use keyword_makers::refusals::{makes_if, malformed};
 use schema_keywords::keywords::{Draft, VocabularySet};
@@ -47,7 +48,7 @@ fn properties_maker(
     match value.as_object() {
         Some(members) => {
             let names = AscendingNames::of_members(alloc, members)?;
-            let paths = values_below(alloc, name, names.as_slice())?;
+            let paths = values_of(alloc, name, names.as_slice())?;
             Ok(asks_for(paths, BenchKeyword::Properties(names)))
         }
         None => malformed(alloc, name, value),
@@ -62,8 +63,7 @@ fn items_maker(
     object: &Map<String, Value>,
     draft: Draft,
 ) -> Result<PathsMaker<BenchKeyword>, OutOfMemory>
-    ensures maker { IfOk result (Begins shape_of
-        (items_script (draft_of draft) (members_view object.now.entries) name.now (view value.now))) }
+    ensures maker { IfOk result (Begins shape_of (items_script (draft_of draft) (fields object.now) name.now (view value.now))) }
 {
     if is_older_list(draft, value) {
         return Ok(ends(alloc, Ending::Nothing));
@@ -80,8 +80,7 @@ fn value_maker(
     object: &Map<String, Value>,
     draft: Draft,
 ) -> Result<PathsMaker<BenchKeyword>, OutOfMemory>
-    ensures maker { IfOk result (Begins shape_of
-        (value_script (draft_of draft) (members_view object.now.entries) name.now (view value.now))) }
+    ensures maker { IfOk result (Begins shape_of (value_script (draft_of draft) (fields object.now) name.now (view value.now))) }
 {
     if name == "type" {
         let keyword = type_keyword(alloc, value)?;
@@ -105,8 +104,7 @@ fn later_maker(
     object: &Map<String, Value>,
     draft: Draft,
 ) -> Result<PathsMaker<BenchKeyword>, OutOfMemory>
-    ensures maker { IfOk result (Begins shape_of
-        (later_script (draft_of draft) (members_view object.now.entries) name.now (view value.now))) }
+    ensures maker { IfOk result (Begins shape_of (later_script (draft_of draft) (fields object.now) name.now (view value.now))) }
 {
     if name == "minLength" {
         return makes_if(
@@ -147,8 +145,7 @@ fn schema_maker(
     object: &Map<String, Value>,
     draft: Draft,
 ) -> Result<PathsMaker<BenchKeyword>, OutOfMemory>
-    ensures maker { IfOk result (Begins shape_of
-        (schema_script (draft_of draft) (members_view object.now.entries) name.now (view value.now))) }
+    ensures maker { IfOk result (Begins shape_of (schema_script (draft_of draft) (fields object.now) name.now (view value.now))) }
 {
     if name == "allOf" {
         return each_schema(alloc, name, value, BenchKeyword::AllOf(list_length(value)));
@@ -187,8 +184,8 @@ fn member_maker(
     object: &Map<String, Value>,
     draft: Draft,
 ) -> Result<PathsMaker<BenchKeyword>, OutOfMemory>
-    ensures maker { IfOk result (Begins shape_of (member_script (draft_of draft) (members_view object.now.entries) name.now
-        (get_member name.now (members_view object.now.entries)))) }
+    ensures maker { IfOk result (Begins shape_of (member_script (draft_of draft) (fields object.now) name.now (get_member name.now
+        (fields object.now)))) }
 {
     match value_in(object, name) {
         Some(value) => value_maker(alloc, name, value, object, draft),

@@ -9,9 +9,9 @@ ghost use Rattle.keyword_ways.specs.Items.{first_at_item};
 ghost use Rattle.keyword_ways.specs.Ways.{asked, at_first, passes_on, way_turn};
 ghost use Rattle.fused_keywords.specs.Openings.{asked_count, before_of, checks_hold, errors, first_gives, opening, run_questions};
 ghost use Rattle.keyword_ways.specs.AnswerWords.{BecomesTold, IfTold};
-ghost use Rattle.keyword_ways.specs.Borrowing.{KeepsBorrows, TakesBorrows};
 ghost use Rattle.keyword_ways.specs.TurnWords.{Steps};
 ghost use Rattle.fused_keywords.specs.Borrowing.{BorrowsAll, KeepsAll};
+ghost use Rattle.keyword_ways.specs.Borrowing.{Borrows, Retains};
 
 use crate::checks::Check;
 use keyword_ways::items::item_count;
@@ -188,7 +188,7 @@ impl ArrayKeyword {
     ) -> Result<(), OutOfMemory>
         ensures opened { IfOk result (λ _. BecomesTold true instance.entry (λ texts s a. at_first run.now.stage
             (opening texts run.now.mode self s) a) answer.old answer.new) }
-        ensures borrows { IfOk result (λ _. KeepsBorrows answer.old answer.new) }
+        ensures borrows { Retains answer.old answer.new result }
     {
         match run.stage {
             Stage::Begun => {
@@ -212,9 +212,9 @@ impl ArrayKeyword {
         ensures turns { IfOk result (λ _. IfTold true instance.entry (λ texts s. way_turn (passes_on (run_questions run.old.mode self s))
             (run.old, at_first run.old.stage (opening texts run.old.mode self s) (answer_of texts answer.old)) (reply_of texts reply.entry)
             ≡ (run.new, answer_of texts answer.new))) }
-        ensures steps { IfOk result (Steps (passes_on (run_questions run.old.mode self (subject_of instance.entry))) run.old answer.old
-            reply.entry) }
-        ensures borrows { IfOk result (λ _. TakesBorrows reply.entry answer.old answer.new) }
+        ensures steps { Steps (passes_on (run_questions run.old.mode self (subject_of instance.entry))) run.old answer.old reply.entry
+            result }
+        ensures borrows { Borrows reply.entry answer.old answer.new result }
     {
         let mode = run.mode;
         let count = self.asked_count(mode, instance);

@@ -1,6 +1,6 @@
 //! The keyword table.
-ghost use Rattle.std.specs.Prelude.{◌≡◌, ◌∷◌, [], IfOk, codes, map, option_map, string_bytes};
-ghost use Rattle.serde_json.specs.View.{members_view, view};
+ghost use Rattle.std.specs.Prelude.{◌≡◌, ◌∷◌, [], IfOk, codes};
+ghost use Rattle.serde_json.specs.View.{view};
 ghost use Rattle.schema_keywords.specs.KeywordViews.{draft_of};
 ghost use Rattle.schema_parts.specs.MakerViews as makers;
 ghost use Rattle.keyword_makers.specs.MakerViews.{made_of, waiting_of, Begins};
@@ -11,6 +11,8 @@ ghost use Rattle.fused_keywords.specs.FusedScripts.{made_among, plain_script, sa
 ghost use Rattle.fused_keywords.specs.FusedScripts.{waiting_among};
 ghost use Rattle.fused_keywords.specs.FusedShape.{of_bench};
 ghost use Rattle.fused_keywords.specs.FusedShapes.{fused_shape};
+ghost use Rattle.schema_parts.specs.Readings.{ListsTexts, fields, value_read};
+ghost use Rattle.schema_parts.specs.Showing.{Shows};
 
 use crate::array::ArrayKeyword;
 use crate::keyword::FusedKeyword;
@@ -96,8 +98,7 @@ fn least_in(value: &Value) -> Option<u64>
 
 /// The limit of the three in one by their values.
 fn limit_of(type_value: Option<&Value>, items: Option<&Value>, least: Option<&Value>) -> Option<u64>
-    ensures limit { result ≡ limit_of (option_map (λ v. view v.now) type_value.entry) (option_map (λ v. view v.now) items.entry)
-        (option_map (λ v. view v.now) least.entry) }
+    ensures limit { result ≡ limit_of (value_read type_value.entry) (value_read items.entry) (value_read least.entry) }
 {
     let type_value = type_value?;
     let items = items?;
@@ -122,7 +123,7 @@ fn fused_limit(
     draft: Draft,
     vocabularies: &VocabularySet,
 ) -> Option<u64>
-    ensures limit { result ≡ fused_limit (draft_of draft) vocabularies.now (members_view object.now.entries) }
+    ensures limit { result ≡ fused_limit (draft_of draft) vocabularies.now (fields object.now) }
 {
     let known = is_known(draft, vocabularies, "type")
         && is_known(draft, vocabularies, "minItems")
@@ -171,8 +172,7 @@ fn plain_maker(
     vocabularies: &VocabularySet,
     formats: bool,
 ) -> Result<PathsMaker<FusedKeyword>, OutOfMemory>
-    ensures maker { IfOk result (Begins fused_shape (plain_script name.now (members_view object.now.entries) (draft_of draft)
-        vocabularies.now formats)) }
+    ensures maker { IfOk result (Begins fused_shape (plain_script name.now (fields object.now) (draft_of draft) vocabularies.now formats)) }
 {
     let origin = KeywordOrigin::Builtin(name);
     if name == "minItems" {
@@ -195,8 +195,8 @@ fn member_maker(
     vocabularies: &VocabularySet,
     formats: bool,
 ) -> Result<FusedMaker, OutOfMemory>
-    ensures maker { IfOk result (λ m. fused_waiting m ≡ makers.begun (script_by (fused_limit (draft_of draft) vocabularies.now
-        (members_view object.now.entries)) name.now (members_view object.now.entries) (draft_of draft) vocabularies.now formats)) }
+    ensures maker { Shows fused_waiting result (makers.begun (script_by (fused_limit (draft_of draft) vocabularies.now
+        (fields object.now)) name.now (fields object.now) (draft_of draft) vocabularies.now formats)) }
 {
     if let Some(least) = fused_limit(object, draft, vocabularies) {
         if name == "type" || name == "minItems" {
@@ -212,7 +212,7 @@ fn member_maker(
 
 /// The names of the keywords that `items` absorbs.
 fn absorbed_names(alloc: Global) -> Result<Vec<String>, OutOfMemory>
-    ensures names { IfOk result (λ names. map string_bytes names.items ≡ codes "type" ∷ codes "minItems" ∷ []) }
+    ensures names { ListsTexts result (codes "type" ∷ codes "minItems" ∷ []) }
 {
     let mut names = Vec::new(alloc);
     names.push(String::from_str(alloc, "type")?)?;

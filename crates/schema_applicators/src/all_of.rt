@@ -1,9 +1,8 @@
 //! `allOf`.
-ghost use Rattle.std.specs.Prelude.{IfOk};
 ghost use Rattle.keyword_ways.specs.Items.{child_here, each_from};
 ghost use Rattle.keyword_ways.specs.Ways.{passes_on};
-ghost use Rattle.keyword_ways.specs.Borrowing.{TakesBorrows};
 ghost use Rattle.keyword_ways.specs.TurnWords.{Steps, Turns};
+ghost use Rattle.keyword_ways.specs.Borrowing.{Borrows};
 
 use keyword_ways::passing::{ask_here, next_number};
 use keyword_ways::run::Progress;
@@ -19,9 +18,9 @@ pub fn turn_all_of<'s, 'i>(
     reply: Reply<'i>,
     answer: &mut Answer<'i>,
 ) -> Result<Step<'s>, OutOfMemory>
-    ensures turns { IfOk result (λ _. Turns (passes_on (each_from child_here 0 count)) run.old answer.old reply.entry run.new answer.new) }
-    ensures steps { IfOk result (Steps (passes_on (each_from child_here 0 count)) run.old answer.old reply.entry) }
-    ensures borrows { IfOk result (λ _. TakesBorrows reply.entry answer.old answer.new) }
+    ensures turns { Turns (passes_on (each_from child_here 0 count)) run.old answer.old reply.entry run.new answer.new result }
+    ensures steps { Steps (passes_on (each_from child_here 0 count)) run.old answer.old reply.entry result }
+    ensures borrows { Borrows reply.entry answer.old answer.new result }
 {
     let mode = run.mode;
     let number = next_number(alloc, 0, count, run, reply, answer)?;

@@ -3,10 +3,10 @@ ghost use Rattle.std.specs.Prelude.{◌≡◌, false, not, IfOk};
 ghost use Rattle.serde_json.specs.View.{view};
 ghost use Rattle.serde_json.specs.Written.{compact_text, has_float};
 ghost use Rattle.schema_applicators.specs.Words.{not_text};
-ghost use Rattle.keyword_ways.specs.Borrowing.{KeepsBorrows, TakesBorrows};
 ghost use Rattle.keyword_ways.specs.TextWords.{ShowsText};
 ghost use Rattle.keyword_ways.specs.TurnWords.{StepsBy, TellsTurnBy};
 ghost use Rattle.schema_applicators.specs.RunWays.{TellsTally, judges_not, tally_of_not};
+ghost use Rattle.keyword_ways.specs.Borrowing.{Borrows, Retains};
 
 use keyword_ways::answers::{note, refuse};
 use keyword_ways::judging::{Judge, Judging, judge_children};
@@ -40,7 +40,7 @@ fn tell_not<'i>(
 ) -> Result<(), OutOfMemory>
     ensures told { IfOk result (λ _. TellsTally (not (has_float (view schema.now))) (tally_of_not (view schema.now)) accepted
         instance.entry mode answer.old answer.new) }
-    ensures borrows { IfOk result (λ _. KeepsBorrows answer.old answer.new) }
+    ensures borrows { Retains answer.old answer.new result }
 {
     if accepted == 0 {
         return Ok(());
@@ -63,10 +63,10 @@ pub fn turn_not<'s, 'i>(
     reply: Reply<'i>,
     answer: &mut Answer<'i>,
 ) -> Result<Step<'s>, OutOfMemory>
-    ensures turns { IfOk result (λ _. TellsTurnBy (not (has_float (view schema.now))) (judges_not (view schema.now)) instance.entry run.old
-        answer.old reply.entry run.new answer.new) }
-    ensures steps { IfOk result (StepsBy (judges_not (view schema.now)) instance.entry run.old answer.old reply.entry) }
-    ensures borrows { IfOk result (λ _. TakesBorrows reply.entry answer.old answer.new) }
+    ensures turns { TellsTurnBy (not (has_float (view schema.now))) (judges_not (view schema.now)) instance.entry run.old answer.old
+        reply.entry run.new answer.new result }
+    ensures steps { StepsBy (judges_not (view schema.now)) instance.entry run.old answer.old reply.entry result }
+    ensures borrows { Borrows reply.entry answer.old answer.new result }
 {
     let mode = run.mode;
     let judge = Judge {

@@ -1,10 +1,10 @@
 //! `oneOf`.
 ghost use Rattle.std.specs.Prelude.{true, IfOk};
 ghost use Rattle.schema_applicators.specs.Words.{many_text, one_of_tally};
-ghost use Rattle.keyword_ways.specs.Borrowing.{KeepsBorrows, TakesBorrows};
 ghost use Rattle.keyword_ways.specs.TextWords.{ShowsText};
 ghost use Rattle.keyword_ways.specs.TurnWords.{StepsBy, TellsTurnBy};
 ghost use Rattle.schema_applicators.specs.RunWays.{TellsTally, judges_one_of};
+ghost use Rattle.keyword_ways.specs.Borrowing.{Borrows, Retains};
 
 use crate::texts::none_text;
 use keyword_ways::answers::{note, refuse};
@@ -33,7 +33,7 @@ fn tell_one_of<'i>(
     answer: &mut Answer<'i>,
 ) -> Result<(), OutOfMemory>
     ensures told { IfOk result (λ _. TellsTally true one_of_tally accepted instance.entry mode answer.old answer.new) }
-    ensures borrows { IfOk result (λ _. KeepsBorrows answer.old answer.new) }
+    ensures borrows { Retains answer.old answer.new result }
 {
     if accepted == 1 {
         return Ok(());
@@ -60,10 +60,9 @@ pub fn turn_one_of<'s, 'i>(
     reply: Reply<'i>,
     answer: &mut Answer<'i>,
 ) -> Result<Step<'s>, OutOfMemory>
-    ensures turns { IfOk result (λ _. TellsTurnBy true (judges_one_of count) instance.entry run.old answer.old reply.entry run.new
-        answer.new) }
-    ensures steps { IfOk result (StepsBy (judges_one_of count) instance.entry run.old answer.old reply.entry) }
-    ensures borrows { IfOk result (λ _. TakesBorrows reply.entry answer.old answer.new) }
+    ensures turns { TellsTurnBy true (judges_one_of count) instance.entry run.old answer.old reply.entry run.new answer.new result }
+    ensures steps { StepsBy (judges_one_of count) instance.entry run.old answer.old reply.entry result }
+    ensures borrows { Borrows reply.entry answer.old answer.new result }
 {
     let mode = run.mode;
     let judge = Judge {

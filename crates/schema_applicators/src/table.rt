@@ -1,10 +1,11 @@
 //! The table of the applicators.
 ghost use Rattle.std.specs.Prelude.{IfOk};
 ghost use Rattle.serde_json.specs.Find.{get_member};
-ghost use Rattle.serde_json.specs.View.{members_view, view};
+ghost use Rattle.serde_json.specs.View.{view};
 ghost use Rattle.schema_applicators.specs.Makers.{member_script, value_script};
 ghost use Rattle.keyword_makers.specs.MakerViews.{waiting_of, Begins};
 ghost use Rattle.schema_applicators.specs.Shapes.{shape_of};
+ghost use Rattle.schema_parts.specs.Readings.{fields};
 
 use crate::applicator::Applicator;
 use keyword_makers::branches::branches_of;
@@ -31,7 +32,7 @@ fn value_maker(
     value: &Value,
     object: &Map<String, Value>,
 ) -> Result<PathsMaker<Applicator>, OutOfMemory>
-    ensures maker { IfOk result (Begins shape_of (value_script (members_view object.now.entries) name.now (view value.now))) }
+    ensures maker { IfOk result (Begins shape_of (value_script (fields object.now) name.now (view value.now))) }
 {
     if name == "allOf" {
         return each_schema(alloc, name, value, Applicator::AllOf(list_length(value)));
@@ -59,8 +60,7 @@ fn member_maker(
     name: &str,
     object: &Map<String, Value>,
 ) -> Result<PathsMaker<Applicator>, OutOfMemory>
-    ensures maker { IfOk result (Begins shape_of (member_script (members_view object.now.entries) name.now
-        (get_member name.now (members_view object.now.entries)))) }
+    ensures maker { IfOk result (Begins shape_of (member_script (fields object.now) name.now (get_member name.now (fields object.now)))) }
 {
     match value_in(object, name) {
         Some(value) => value_maker(alloc, name, value, object),
