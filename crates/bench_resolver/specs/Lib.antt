@@ -14,6 +14,7 @@ pub mod BenchNameViews
 pub mod BenchResourceViews
 pub mod BenchGathered
 pub mod BenchAnswers
+pub mod BenchHolds
 pub mod BenchShowing
 pub mod BenchStart
 pub mod OnWay

@@ -5,9 +5,9 @@ ghost use Rattle.schema_definitions.specs.Drafts.{draft_2020_12};
 ghost use Rattle.schema_keywords.specs.KeywordViews.{draft_of};
 ghost use Rattle.bench_subschemas.specs.declared.rules.Rule.TheVariants.{Narrow, Standard};
 ghost use Rattle.bench_subschemas.specs.BenchResolving.{document_uri};
-ghost use Rattle.bench_resolver.specs.BenchDocuments.{HasCustom, HasDrafts};
 ghost use Rattle.bench_resolver.specs.BenchAnswers.{bench_resolving, HasRoot, FindsRoot};
 ghost use Rattle.bench_resolver.specs.BenchViews.{given_of};
+ghost use Rattle.bench_resolver.specs.BenchHolds.{Customs, Defaults, Drafts, GoesBy, Holds, IsUnder, Others};
 
 pub mod documents;
 pub mod names;
@@ -117,13 +117,13 @@ impl<'a> BenchResolver<'a> {
         document: &'a Value,
         vocabularies: VocabularySet,
     ) -> Result<BenchResolver<'a>, OutOfMemory>
-        ensures rule { IfOk result (λ r. r.rule ≡ Narrow) }
-        ensures document { IfOk result (λ r. r.document ≡ document.now) }
-        ensures uri { IfOk result (λ r. r.uri ≡ document_uri draft_2020_12 (view document.now)) }
-        ensures alone { IfOk result (λ r. r.others ≡ []) }
-        ensures draft { IfOk result (λ r. r.default_draft ≡ draft_2020_12) }
-        ensures drafts { IfOk result (λ r. HasDrafts vocabularies r.vocabularies) }
-        ensures custom { IfOk result (λ r. HasCustom vocabularies r.vocabularies) }
+        ensures rule { GoesBy result Narrow }
+        ensures document { Holds result document.now }
+        ensures uri { IsUnder result (document_uri draft_2020_12 (view document.now)) }
+        ensures alone { Others result [] }
+        ensures draft { Defaults result draft_2020_12 }
+        ensures drafts { Drafts result vocabularies }
+        ensures custom { Customs result vocabularies }
         ensures root_value { IfOk result (HasRoot document.now) }
         ensures root { IfOk result FindsRoot }
     {
@@ -142,13 +142,13 @@ impl<'a> BenchResolver<'a> {
         document: &'a Value,
         vocabularies: VocabularySet,
     ) -> Result<BenchResolver<'a>, OutOfMemory>
-        ensures rule { IfOk result (λ r. r.rule ≡ Narrow) }
-        ensures document { IfOk result (λ r. r.document ≡ document.now) }
-        ensures uri { IfOk result (λ r. r.uri ≡ document_uri (draft_of draft) (view document.now)) }
-        ensures alone { IfOk result (λ r. r.others ≡ []) }
-        ensures draft { IfOk result (λ r. r.default_draft ≡ draft_of draft) }
-        ensures drafts { IfOk result (λ r. HasDrafts vocabularies r.vocabularies) }
-        ensures custom { IfOk result (λ r. HasCustom vocabularies r.vocabularies) }
+        ensures rule { GoesBy result Narrow }
+        ensures document { Holds result document.now }
+        ensures uri { IsUnder result (document_uri (draft_of draft) (view document.now)) }
+        ensures alone { Others result [] }
+        ensures draft { Defaults result (draft_of draft) }
+        ensures drafts { Drafts result vocabularies }
+        ensures custom { Customs result vocabularies }
         ensures root_value { IfOk result (HasRoot document.now) }
         ensures root { IfOk result FindsRoot }
     {
@@ -175,13 +175,13 @@ impl<'a> BenchResolver<'a> {
         others: Vec<Document<'a>>,
         vocabularies: VocabularySet,
     ) -> Result<BenchResolver<'a>, OutOfMemory>
-        ensures rule { IfOk result (λ r. r.rule ≡ Narrow) }
-        ensures document { IfOk result (λ r. r.document ≡ root.entry.value.now) }
-        ensures uri { IfOk result (λ r. r.uri ≡ string_bytes root.entry.uri) }
-        ensures others { IfOk result (λ r. r.others ≡ map given_of others.entry.items) }
-        ensures draft { IfOk result (λ r. r.default_draft ≡ draft_of draft) }
-        ensures drafts { IfOk result (λ r. HasDrafts vocabularies r.vocabularies) }
-        ensures custom { IfOk result (λ r. HasCustom vocabularies r.vocabularies) }
+        ensures rule { GoesBy result Narrow }
+        ensures document { Holds result root.entry.value.now }
+        ensures uri { IsUnder result (string_bytes root.entry.uri) }
+        ensures others { Others result (map given_of others.entry.items) }
+        ensures draft { Defaults result (draft_of draft) }
+        ensures drafts { Drafts result vocabularies }
+        ensures custom { Customs result vocabularies }
         ensures root_value { IfOk result (HasRoot root.entry.value.now) }
         ensures root { IfOk result FindsRoot }
     {
@@ -202,13 +202,13 @@ impl<'a> BenchResolver<'a> {
         document: &'a Value,
         vocabularies: VocabularySet,
     ) -> Result<BenchResolver<'a>, OutOfMemory>
-        ensures rule { IfOk result (λ r. r.rule ≡ Standard) }
-        ensures document { IfOk result (λ r. r.document ≡ document.now) }
-        ensures uri { IfOk result (λ r. r.uri ≡ codes "json-schema:///") }
-        ensures alone { IfOk result (λ r. r.others ≡ []) }
-        ensures draft { IfOk result (λ r. r.default_draft ≡ draft_of draft) }
-        ensures drafts { IfOk result (λ r. HasDrafts vocabularies r.vocabularies) }
-        ensures custom { IfOk result (λ r. HasCustom vocabularies r.vocabularies) }
+        ensures rule { GoesBy result Standard }
+        ensures document { Holds result document.now }
+        ensures uri { IsUnder result (codes "json-schema:///") }
+        ensures alone { Others result [] }
+        ensures draft { Defaults result (draft_of draft) }
+        ensures drafts { Drafts result vocabularies }
+        ensures custom { Customs result vocabularies }
         ensures root_value { IfOk result (HasRoot document.now) }
         ensures root { IfOk result FindsRoot }
     {
@@ -232,13 +232,13 @@ impl<'a> BenchResolver<'a> {
         others: Vec<Document<'a>>,
         vocabularies: VocabularySet,
     ) -> Result<BenchResolver<'a>, OutOfMemory>
-        ensures rule { IfOk result (λ r. r.rule ≡ Standard) }
-        ensures document { IfOk result (λ r. r.document ≡ root.entry.value.now) }
-        ensures uri { IfOk result (λ r. r.uri ≡ string_bytes root.entry.uri) }
-        ensures others { IfOk result (λ r. r.others ≡ map given_of others.entry.items) }
-        ensures draft { IfOk result (λ r. r.default_draft ≡ draft_of draft) }
-        ensures drafts { IfOk result (λ r. HasDrafts vocabularies r.vocabularies) }
-        ensures custom { IfOk result (λ r. HasCustom vocabularies r.vocabularies) }
+        ensures rule { GoesBy result Standard }
+        ensures document { Holds result root.entry.value.now }
+        ensures uri { IsUnder result (string_bytes root.entry.uri) }
+        ensures others { Others result (map given_of others.entry.items) }
+        ensures draft { Defaults result (draft_of draft) }
+        ensures drafts { Drafts result vocabularies }
+        ensures custom { Customs result vocabularies }
         ensures root_value { IfOk result (HasRoot root.entry.value.now) }
         ensures root { IfOk result FindsRoot }
     {
@@ -254,13 +254,13 @@ impl<'a> BenchResolver<'a> {
         others: Vec<Document<'a>>,
         vocabularies: VocabularySet,
     ) -> Result<BenchResolver<'a>, OutOfMemory>
-        ensures rule { IfOk result (λ r. r.rule ≡ rule) }
-        ensures document { IfOk result (λ r. r.document ≡ root.entry.value.now) }
-        ensures uri { IfOk result (λ r. r.uri ≡ string_bytes root.entry.uri) }
-        ensures others { IfOk result (λ r. r.others ≡ map given_of others.entry.items) }
-        ensures draft { IfOk result (λ r. r.default_draft ≡ draft_of draft) }
-        ensures drafts { IfOk result (λ r. HasDrafts vocabularies r.vocabularies) }
-        ensures custom { IfOk result (λ r. HasCustom vocabularies r.vocabularies) }
+        ensures rule { GoesBy result rule }
+        ensures document { Holds result root.entry.value.now }
+        ensures uri { IsUnder result (string_bytes root.entry.uri) }
+        ensures others { Others result (map given_of others.entry.items) }
+        ensures draft { Defaults result (draft_of draft) }
+        ensures drafts { Drafts result vocabularies }
+        ensures custom { Customs result vocabularies }
         ensures root_value { IfOk result (HasRoot root.entry.value.now) }
         ensures root { IfOk result FindsRoot }
     {

@@ -1,15 +1,16 @@
 //! The drafts that values name.
-ghost use Rattle.std.specs.Prelude.{◌≡◌, option_map};
+ghost use Rattle.std.specs.Prelude.{◌≡◌};
 ghost use Rattle.serde_json.specs.View.{view};
 ghost use Rattle.schema_keywords.specs.KeywordViews.{draft_of};
 ghost use Rattle.bench_subschemas.specs.BenchResolving.{detected, draft_of_uri, text_member};
+ghost use Rattle.schema_parts.specs.Readings.{text_read};
 
 use schema_keywords::keywords::Draft;
 use serde_json::Value;
 
 /// The string under a name, where a value has one.
 pub fn text_member<'v>(value: &'v Value, name: &str) -> Option<&'v str>
-    ensures text { option_map (λ t. t.now) result ≡ text_member name.now (view value.now) }
+    ensures text { text_read result ≡ text_member name.now (view value.now) }
 {
     value.get(name)?.as_str()
 }

@@ -1,9 +1,10 @@
 //! Identifiers of schemas, and their names.
-ghost use Rattle.std.specs.Prelude.{◌≡◌, option_map};
+ghost use Rattle.std.specs.Prelude.{◌≡◌};
 ghost use Rattle.serde_json.specs.View.{view};
 ghost use Rattle.schema_keywords.specs.KeywordViews.{draft_of};
 ghost use Rattle.bench_subschemas.specs.BenchResolving.{dynamic_name, fragment_of, identifier, identifier_name, name_in_identifier};
 ghost use Rattle.bench_subschemas.specs.BenchResolving.{plain_fragment, plain_name, unless_fragment, without_fragment};
+ghost use Rattle.schema_parts.specs.Readings.{text_read};
 
 use crate::drafts::text_member;
 use crate::rules::Rule;
@@ -22,7 +23,7 @@ fn identifier_name(draft: Draft) -> &'static str
 
 /// A text, unless it is a fragment alone.
 fn unless_fragment<'v>(text: Option<&'v str>) -> Option<&'v str>
-    ensures kept { option_map (λ t. t.now) result ≡ unless_fragment (option_map (λ t. t.now) text.entry) }
+    ensures kept { text_read result ≡ unless_fragment (text_read text.entry) }
 {
     match text {
         None => None,
@@ -40,7 +41,7 @@ fn unless_fragment<'v>(text: Option<&'v str>) -> Option<&'v str>
 /// The identifier of a schema: its `$id`, or `id` in draft 4. A fragment alone is none, and in drafts 4 to 7 a schema with a `$ref`
 /// has none.
 pub fn identifier<'v>(draft: Draft, value: &'v Value) -> Option<&'v str>
-    ensures identifier { option_map (λ t. t.now) result ≡ identifier (draft_of draft) (view value.now) }
+    ensures identifier { text_read result ≡ identifier (draft_of draft) (view value.now) }
 {
     if draft.is_before_2019_09() && value.get("$ref").is_some() {
         return None;
@@ -70,7 +71,7 @@ pub fn fragment_of(uri: &str) -> &str
 
 /// A fragment that is neither empty nor a pointer.
 fn plain_fragment(fragment: &str) -> Option<&str>
-    ensures plain { option_map (λ t. t.now) result ≡ plain_fragment fragment.now }
+    ensures plain { text_read result ≡ plain_fragment fragment.now }
 {
     let bytes = fragment.as_bytes();
     if bytes.len() > 0 && bytes[0] != b'/' {
@@ -82,7 +83,7 @@ fn plain_fragment(fragment: &str) -> Option<&str>
 
 /// The name that the fragment of an identifier gives; a schema with a `$ref` has none.
 fn name_in_identifier<'v>(draft: Draft, value: &'v Value) -> Option<&'v str>
-    ensures name { option_map (λ t. t.now) result ≡ name_in_identifier (draft_of draft) (view value.now) }
+    ensures name { text_read result ≡ name_in_identifier (draft_of draft) (view value.now) }
 {
     if value.get("$ref").is_some() {
         return None;
@@ -95,7 +96,7 @@ fn name_in_identifier<'v>(draft: Draft, value: &'v Value) -> Option<&'v str>
 
 /// The name of a schema: its `$anchor`, and by the standard's rule in drafts 4 to 7 the fragment of its identifier.
 pub fn plain_name<'v>(rule: Rule, draft: Draft, value: &'v Value) -> Option<&'v str>
-    ensures name { option_map (λ t. t.now) result ≡ plain_name rule (draft_of draft) (view value.now) }
+    ensures name { text_read result ≡ plain_name rule (draft_of draft) (view value.now) }
 {
     match rule {
         Rule::Standard if draft.is_before_2019_09() => name_in_identifier(draft, value),
@@ -105,7 +106,7 @@ pub fn plain_name<'v>(rule: Rule, draft: Draft, value: &'v Value) -> Option<&'v 
 
 /// The dynamic name of a schema: its `$dynamicAnchor`, by the standard's rule from 2020-12 on.
 pub fn dynamic_name<'v>(rule: Rule, draft: Draft, value: &'v Value) -> Option<&'v str>
-    ensures name { option_map (λ t. t.now) result ≡ dynamic_name rule (draft_of draft) (view value.now) }
+    ensures name { text_read result ≡ dynamic_name rule (draft_of draft) (view value.now) }
 {
     match rule {
         Rule::Narrow => text_member(value, "$dynamicAnchor"),

@@ -1,9 +1,10 @@
 //! Whether a schema has a draft named inside it. A schema that has none is read in one draft throughout.
 ghost use Rattle.std.specs.Prelude.{◌≡◌, ◌&&◌, ◌||◌, codes, is_some};
 ghost use Rattle.serde_json.specs.Data.{object};
-ghost use Rattle.serde_json.specs.View.{items_view, members_view, view};
+ghost use Rattle.serde_json.specs.View.{items_view, view};
 ghost use Rattle.bench_subschemas.specs.BenchResolving.{text_member};
 ghost use Rattle.bench_subschemas.specs.NamedDrafts.{items_name_draft, members_name_draft, names_draft_inside};
+ghost use Rattle.schema_parts.specs.Readings.{fields};
 
 use serde_json::{Map, Value};
 
@@ -42,8 +43,8 @@ fn items_name_draft(items: &Vec<Value>) -> bool
 // Whether an object of these members names a draft, where that counts, or one inside it.
 #[cycle(names)]
 fn members_name_draft(members: &Map<String, Value>, counts: bool) -> bool
-    ensures names { result ≡ (counts && is_some (text_member (codes "$schema") (object (members_view members.now.entries)))
-        || members_name_draft (members_view members.now.entries)) }
+    ensures names { result ≡ (counts && is_some (text_member (codes "$schema") (object (fields members.now))) || members_name_draft
+        (fields members.now)) }
 {
     let mut asked = counts;
     for (name, member) in members {

@@ -1,9 +1,10 @@
 //! Schemas that have nothing for the resolver: no subschemas, no identifier and no name.
 ghost use Rattle.std.specs.Prelude.{◌≡◌, IsTrue};
-ghost use Rattle.serde_json.specs.View.{members_view, view};
+ghost use Rattle.serde_json.specs.View.{view};
 ghost use Rattle.bench_subschemas.specs.declared.rules.Rule.TheVariants.{Narrow, Standard};
 ghost use Rattle.bench_subschemas.specs.FoundSchemas.{any_names_schemas, names_schemas};
 ghost use Rattle.bench_subschemas.specs.PlainSchemas.{IsPlain, any_speaks, speaks};
+ghost use Rattle.schema_parts.specs.Readings.{fields};
 
 use crate::rules::Rule;
 use serde_json::{Map, Value};
@@ -50,7 +51,7 @@ fn names_schemas_narrowly(name: &str) -> bool
 
 /// Whether subschemas may lie under the name of one of these members.
 pub(crate) fn any_names_schemas(rule: Rule, members: &Map<String, Value>) -> bool
-    ensures any { result ≡ any_names_schemas rule (members_view members.now.entries) }
+    ensures any { result ≡ any_names_schemas rule (fields members.now) }
 {
     for (name, _) in members {
         if names_schemas(rule, name.as_str()) {
@@ -73,7 +74,7 @@ fn speaks(rule: Rule, name: &str) -> bool
 
 /// Whether the resolver reads what stands under the name of one of these members.
 fn any_speaks(rule: Rule, members: &Map<String, Value>) -> bool
-    ensures any { result ≡ any_speaks rule (members_view members.now.entries) }
+    ensures any { result ≡ any_speaks rule (fields members.now) }
 {
     for (name, _) in members {
         if speaks(rule, name.as_str()) {

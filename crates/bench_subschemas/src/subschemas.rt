@@ -1,9 +1,9 @@
 //! Subschemas of schemas.
-ghost use Rattle.std.specs.Prelude.{◌≡◌, ◌++◌, ◌∷◌, [], flat_map, map, IfOk, IfSome, option_map};
+ghost use Rattle.std.specs.Prelude.{◌≡◌, ◌++◌, ◌∷◌, [], map, IfOk, IfSome};
 ghost use Rattle.std.specs.Rc.{rc_str_bytes};
 ghost use Rattle.serde_json.specs.Find.{get};
 ghost use Rattle.serde_json.specs.Data.{object};
-ghost use Rattle.serde_json.specs.View.{members_view, view};
+ghost use Rattle.serde_json.specs.View.{view};
 ghost use Rattle.schema_definitions.specs.Drafts.{at_path};
 ghost use Rattle.schema_keywords.specs.KeywordViews.{draft_of};
 ghost use Rattle.schema_parts.specs.ResolverViews.{place_of, placed_of};
@@ -11,6 +11,8 @@ ghost use Rattle.bench_subschemas.specs.BenchResolving.{below_list, below_object
 ghost use Rattle.bench_subschemas.specs.BenchResolving.{subschemas};
 ghost use Rattle.bench_subschemas.specs.FoundSchemas.{found_at, schema_if};
 ghost use Rattle.bench_subschemas.specs.FoundViews.{AddsBelow, AddsBelowEach, below, found_of, path_of, placed_at, steps_inside};
+ghost use Rattle.schema_parts.specs.Showing.{Shows};
+ghost use Rattle.schema_parts.specs.Readings.{fields, value_read};
 
 use crate::plain::any_names_schemas;
 use crate::rules::Rule;
@@ -32,7 +34,7 @@ pub fn is_schema(value: &Value) -> bool
 
 /// The value under a name.
 fn member<'v>(members: &'v Map<String, Value>, name: &str) -> Option<&'v Value>
-    ensures member { option_map (λ v. view v.now) result ≡ get name.now (object (members_view members.now.entries)) }
+    ensures member { value_read result ≡ get name.now (object (fields members.now)) }
 {
     members.get(name)
 }
@@ -95,8 +97,7 @@ fn find_in_object<'v>(
     keyword: &'v str,
     found: &mut Vec<FoundSchema<'v>>,
 ) -> Result<(), OutOfMemory>
-    ensures found { IfOk result (λ _. AddsBelow (object (members_view members.now.entries)) below_object keyword.now
-        found.old.items found.new.items) }
+    ensures found { IfOk result (λ _. AddsBelow (object (fields members.now)) below_object keyword.now found.old.items found.new.items) }
 {
     let Some(value) = member(members, keyword) else {
         return Ok(());
@@ -121,8 +122,7 @@ fn find_in_list<'v>(
     keyword: &'v str,
     found: &mut Vec<FoundSchema<'v>>,
 ) -> Result<(), OutOfMemory>
-    ensures found { IfOk result (λ _. AddsBelow (object (members_view members.now.entries)) below_list keyword.now
-        found.old.items found.new.items) }
+    ensures found { IfOk result (λ _. AddsBelow (object (fields members.now)) below_list keyword.now found.old.items found.new.items) }
 {
     let Some(value) = member(members, keyword) else {
         return Ok(());
@@ -147,8 +147,7 @@ fn find_value<'v>(
     keyword: &'v str,
     found: &mut Vec<FoundSchema<'v>>,
 ) -> Result<(), OutOfMemory>
-    ensures found { IfOk result (λ _. AddsBelow (object (members_view members.now.entries)) below_value keyword.now
-        found.old.items found.new.items) }
+    ensures found { IfOk result (λ _. AddsBelow (object (fields members.now)) below_value keyword.now found.old.items found.new.items) }
 {
     let Some(value) = member(members, keyword) else {
         return Ok(());
@@ -176,8 +175,7 @@ fn find_under<'v>(
     keyword: &'v str,
     found: &mut Vec<FoundSchema<'v>>,
 ) -> Result<(), OutOfMemory>
-    ensures found { IfOk result (λ _. AddsBelow (object (members_view members.now.entries)) (below lying) keyword.now
-        found.old.items found.new.items) }
+    ensures found { IfOk result (λ _. AddsBelow (object (fields members.now)) (below lying) keyword.now found.old.items found.new.items) }
 {
     match lying {
         Lying::InObject => find_in_object(members, keyword, found),
@@ -193,8 +191,8 @@ fn find_under_each<'v>(
     keywords: &[&'v str],
     found: &mut Vec<FoundSchema<'v>>,
 ) -> Result<(), OutOfMemory>
-    ensures found { IfOk result (λ _. AddsBelowEach (object (members_view members.now.entries)) (below lying)
-        (map (λ k. k.now) keywords.now) found.old.items found.new.items) }
+    ensures found { IfOk result (λ _. AddsBelowEach (object (fields members.now)) (below lying) (map (λ k. k.now) keywords.now)
+        found.old.items found.new.items) }
 {
     for keyword in keywords {
         find_under(lying, members, *keyword, found)?;
@@ -210,8 +208,8 @@ fn found_in<'v>(
     draft: Draft,
     members: &'v Map<String, Value>,
 ) -> Result<Vec<FoundSchema<'v>>, OutOfMemory>
-    ensures found { IfOk result (λ found. let schema = object (members_view members.now.entries) in
-        map found_of found.items ≡ map (found_at schema) (subschemas rule (draft_of draft) schema)) }
+    ensures found { IfOk result (λ found. let schema = object (fields members.now) in map found_of found.items ≡ map (found_at schema)
+        (subschemas rule (draft_of draft) schema)) }
 {
     let mut found = Vec::new(alloc);
     let objects = names_of_objects(rule, draft);
@@ -272,7 +270,7 @@ fn keyword_again(last: &Option<RcStr>, keyword: &str) -> Result<Option<RcStr>, O
 /// A keyword as a step has it: the last one where that is the same, so that the subschemas under one share it. It is the last one
 /// from then on.
 fn keyword_of(alloc: Global, last: &mut Option<RcStr>, keyword: &str) -> Result<RcStr, OutOfMemory>
-    ensures keyword { IfOk result (λ k. rc_str_bytes k ≡ keyword.now) }
+    ensures keyword { Shows rc_str_bytes result keyword.now }
 {
     if let Some(again) = keyword_again(last, keyword)? {
         return Ok(again);
@@ -289,7 +287,7 @@ fn place_found(
     last: &mut Option<RcStr>,
     found: &FoundSchema<'_>,
 ) -> Result<SchemaPlace, OutOfMemory>
-    ensures place { IfOk result (λ p. place_of p ≡ at_path (place_of place.now) (path_of found.now)) }
+    ensures place { Shows place_of result (at_path (place_of place.now) (path_of found.now)) }
 {
     let keyword = keyword_of(alloc, last, found.keyword)?;
     let mut path = place.path.with_room(alloc, 2)?;

@@ -55,8 +55,7 @@ impl Model for Names {
 impl Names {
     /// The first name with a text.
     pub fn find(&self, text: &str) -> Option<&Name>
-        ensures first { option_map (λ x. name_of x.now) result
-            ≡ option_and_then (slice_get self.now) (name_number text.now self.now) }
+        ensures first { option_map (λ x. name_of x.now) result ≡ option_and_then (slice_get self.now) (name_number text.now self.now) }
     {
         match self.numbers.get(text) {
             Some(number) => self.names.get(*number),
@@ -66,8 +65,7 @@ impl Names {
 
     /// The first dynamic name with a text.
     pub fn find_dynamic(&self, text: &str) -> Option<&Name>
-        ensures first { option_map (λ x. name_of x.now) result
-            ≡ option_and_then (slice_get self.now) (dynamic_number text.now self.now) }
+        ensures first { option_map (λ x. name_of x.now) result ≡ option_and_then (slice_get self.now) (dynamic_number text.now self.now) }
     {
         match self.dynamic_numbers.get(text) {
             Some(number) => self.names.get(*number),
@@ -105,8 +103,7 @@ fn push_names(
     visited: &Visited<'_>,
     names: &mut Vec<Name>,
 ) -> Result<(), OutOfMemory>
-    ensures pushed { IfOk result (λ _. Appends name_of names.old.items names.new.items
-        (names_at rule (visited_of visited.now))) }
+    ensures pushed { IfOk result (λ _. Appends name_of names.old.items names.new.items (names_at rule (visited_of visited.now))) }
 {
     let plain = plain_name(rule, visited.draft, visited.schema);
     push_name(alloc, visited, plain, false, names)?;

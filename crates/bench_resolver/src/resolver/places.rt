@@ -1,7 +1,7 @@
 //! Places of a document, and the values there.
 ghost use Rattle.std.specs.Prelude.{◌≡◌, ◌<◌, ◌++◌, length, map, string_bytes};
 ghost use Rattle.serde_json.specs.Data.{object};
-ghost use Rattle.serde_json.specs.View.{members_view, view};
+ghost use Rattle.serde_json.specs.View.{view};
 ghost use Rattle.schema_definitions.specs.Instance.{after_step, a_value, subject_from};
 ghost use Rattle.schema_parts.specs.SchemaViews.{schema_step_of};
 ghost use Rattle.schema_parts.specs.ResolverViews.{place_of};
@@ -10,6 +10,7 @@ ghost use Rattle.bench_resolver.specs.BenchViews.{held, value_read, subject_read
 ghost use Rattle.bench_resolver.specs.BenchAnswers.{RefusesWith};
 ghost use Rattle.schema_parts.specs.Showing.{Shows};
 ghost use Rattle.bench_resolver.specs.BenchDocuments.{StandsInside};
+ghost use Rattle.schema_parts.specs.Readings.{fields};
 
 use crate::resolver::documents::Documents;
 use schema_parts::resolver::LookupError;
@@ -73,7 +74,7 @@ pub fn value_after<'v>(value: &'v Value, steps: &[SchemaStep]) -> Option<&'v Val
 
 /// The value one step below an object with these members.
 fn member_below<'v>(members: &'v Map<String, Value>, step: &SchemaStep) -> Option<&'v Value>
-    ensures below { subject_read result ≡ after_step (schema_step_of step.now) (a_value (object (members_view members.now.entries))) }
+    ensures below { subject_read result ≡ after_step (schema_step_of step.now) (a_value (object (fields members.now))) }
 {
     match step {
         SchemaStep::Member(name) => members.get(name.as_str()),
@@ -87,8 +88,7 @@ fn value_after_member<'v>(
     steps: &[SchemaStep],
 ) -> Option<&'v Value>
     requires step { 0 < length steps.now }
-    ensures after { subject_read result ≡ subject_from (map schema_step_of steps.now)
-        (a_value (object (members_view members.now.entries))) }
+    ensures after { subject_read result ≡ subject_from (map schema_step_of steps.now) (a_value (object (fields members.now))) }
 {
     match member_below(members, &steps[0]) {
         Some(value) => value_after(value, &steps[1..]),
