@@ -1,9 +1,9 @@
 //! `format`, `contentEncoding` and `contentMediaType`, where they assert.
-ghost use Rattle.std.specs.Prelude.{◌≡◌, ◌++◌, ◌∷◌, [], IfOk, IfSome, Bool, false, map, string_bytes, true};
-ghost use Rattle.schema_reports.specs.InstanceTexts.{subject_has_float};
-ghost use Rattle.schema_reports.specs.InstanceViews.{subject_of};
+ghost use Rattle.std.specs.Prelude.{◌∷◌, [], IfOk, string_bytes, true};
 ghost use Rattle.schema_parts.specs.Showing.{Yields};
 ghost use Rattle.format_keywords.specs.FormatWords.{complaint, error_text, holds, no_format, takes};
+ghost use Rattle.keyword_ways.specs.TextWords.{Adds, ShowsText};
+ghost use Rattle.schema_parts.specs.Readings.{ListsTexts};
 
 use crate::contents::{is_base64, is_json, is_json_in_base64};
 use crate::idn_hostnames::is_idn_hostname;
@@ -35,7 +35,7 @@ pub enum FormatKeyword {
 impl FormatKeyword {
     /// Adds what is said of what does not comply.
     fn push_complaint(self, text: &mut String) -> Result<(), OutOfMemory>
-        ensures pushed { IfOk result (λ _. string_bytes text.new ≡ string_bytes text.old ++ complaint self) }
+        ensures pushed { IfOk result (λ _. Adds (complaint self) text.old text.new) }
     {
         match self {
             FormatKeyword::Of(format) => push_no_format(text, format.name()),
@@ -69,8 +69,7 @@ impl FormatKeyword {
 
     /// The text of the keyword's one error.
     fn text(self, alloc: Global, instance: Instance<'_>) -> Result<String, OutOfMemory>
-        ensures text { IfOk result (λ text. subject_has_float (subject_of instance.entry) ≡ false
-            → string_bytes text ≡ error_text self (subject_of instance.entry)) }
+        ensures text { IfOk result (ShowsText instance.entry (error_text self)) }
     {
         let mut text = instance.text(alloc)?;
         self.push_complaint(&mut text)?;
@@ -80,7 +79,7 @@ impl FormatKeyword {
 
 /// Adds that something is not of a format.
 fn push_no_format(text: &mut String, name: &str) -> Result<(), OutOfMemory>
-    ensures pushed { IfOk result (λ _. string_bytes text.new ≡ string_bytes text.old ++ no_format name.now) }
+    ensures pushed { IfOk result (λ _. Adds (no_format name.now) text.old text.new) }
 {
     text.push_str(" is not a \"")?;
     text.push_str(name)?;
@@ -90,7 +89,7 @@ fn push_no_format(text: &mut String, name: &str) -> Result<(), OutOfMemory>
 
 /// The one text, as a list.
 fn one_text(alloc: Global, text: String) -> Result<Vec<String>, OutOfMemory>
-    ensures one { IfOk result (λ texts. map string_bytes texts.items ≡ string_bytes text ∷ []) }
+    ensures one { ListsTexts result (string_bytes text ∷ []) }
 {
     let mut texts = Vec::new(alloc);
     texts.push(text)?;

@@ -1,13 +1,14 @@
 //! The table that makes `format`, `contentEncoding` and `contentMediaType`.
-ghost use Rattle.std.specs.Prelude.{◌≡◌, IfOk, codes, option_map};
+ghost use Rattle.std.specs.Prelude.{◌≡◌, codes};
 ghost use Rattle.serde_json.specs.Find.{as_str, get_member};
-ghost use Rattle.serde_json.specs.View.{members_view, view};
+ghost use Rattle.serde_json.specs.View.{view};
 ghost use Rattle.schema_keywords.specs.KeywordViews.{draft_of};
 ghost use Rattle.keyword_makers.specs.ByObject.{formed};
 ghost use Rattle.format_keywords.specs.FormatMaking.{asserts_contents, contents_made, encoding_made, format_made};
 ghost use Rattle.format_keywords.specs.FormatMaking.{idn_hostname_in, json_beside, json_in, keyword_if, keyword_named, known};
 ghost use Rattle.format_keywords.specs.FormatMaking.{media_type_made, order, since};
 ghost use Rattle.format_keywords.specs.Shapes.{shape_of};
+ghost use Rattle.schema_parts.specs.Readings.{fields, text_read};
 
 use crate::keyword::FormatKeyword;
 use keyword_makers::by_object::{MakesByObject, ObjectKeyword, TableByObject};
@@ -132,7 +133,7 @@ fn asserts_contents(draft: Draft) -> bool
 
 /// JSON in an encoding.
 fn json_in(encoding: Option<&str>) -> Made
-    ensures made { formed shape_of result ≡ json_in (option_map (λ t. t.now) encoding.entry) }
+    ensures made { formed shape_of result ≡ json_in (text_read encoding.entry) }
 {
     match encoding {
         None => ObjectKeyword::MalformedBeside("contentEncoding"),
@@ -148,7 +149,7 @@ fn json_in(encoding: Option<&str>) -> Made
 
 /// JSON in the encoding beside it, if there is one.
 fn json_beside(object: &Map<String, Value>) -> Made
-    ensures made { formed shape_of result ≡ json_beside (get_member (codes "contentEncoding") (members_view object.now.entries)) }
+    ensures made { formed shape_of result ≡ json_beside (get_member (codes "contentEncoding") (fields object.now)) }
 {
     match value_in(object, "contentEncoding") {
         None => keyword_if(Some(FormatKeyword::Json)),
@@ -158,8 +159,8 @@ fn json_beside(object: &Map<String, Value>) -> Made
 
 /// `contentMediaType`.
 fn media_type_made(object: &Map<String, Value>, value: &Value) -> Made
-    ensures made { formed shape_of result ≡ media_type_made (get_member (codes "contentEncoding") (members_view object.now.entries))
-        (as_str (view value.now)) }
+    ensures made { formed shape_of result ≡ media_type_made (get_member (codes "contentEncoding") (fields object.now)) (as_str
+        (view value.now)) }
 {
     match value.as_str() {
         None => ObjectKeyword::Malformed,
@@ -191,7 +192,7 @@ fn encoding_made(value: &Value) -> Made
 
 /// `contentMediaType` or `contentEncoding`, where they assert.
 fn contents_made(object: &Map<String, Value>, name: &str, value: &Value) -> Made
-    ensures made { formed shape_of result ≡ contents_made (members_view object.now.entries) name.now (view value.now) }
+    ensures made { formed shape_of result ≡ contents_made (fields object.now) name.now (view value.now) }
 {
     if name == "contentMediaType" {
         media_type_made(object, value)

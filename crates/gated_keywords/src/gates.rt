@@ -5,7 +5,7 @@ ghost use Rattle.gated_keywords.specs.GateMoves.{answer_at, run_begin};
 ghost use Rattle.gated_keywords.specs.Gates.{opens};
 ghost use Rattle.gated_keywords.specs.declared.gates.GateStage.TheVariants.{Ended};
 ghost use Rattle.keyword_ways.specs.AnswerWords.{Becomes};
-ghost use Rattle.keyword_ways.specs.Borrowing.{TakesBorrows};
+ghost use Rattle.keyword_ways.specs.Borrowing.{Borrows};
 
 use crate::names::{NamesLeft, Texts};
 use keyword_ways::answers::take;
@@ -97,7 +97,7 @@ pub fn take_asked<'i>(
     answer: &mut Answer<'i>,
 ) -> Result<(), OutOfMemory>
     ensures answered { IfOk result (λ _. Becomes answer.old (λ texts a. answer_at stage a (reply_of texts reply.entry)) answer.new) }
-    ensures borrows { IfOk result (λ _. TakesBorrows reply.entry answer.old answer.new) }
+    ensures borrows { Borrows reply.entry answer.old answer.new result }
 {
     match stage {
         GateStage::Asked(_) => take(alloc, reply, answer),

@@ -1,8 +1,7 @@
 //! `patternProperties` and `additionalProperties`.
 ghost use Rattle.std.specs.Prelude.{◌≡◌, ◌∷◌, [], ◌+◌, ◌^◌, ◌<◌, IfOk, IfSome, None, Some, if◌then◌else◌};
-ghost use Rattle.std.specs.Prelude.{is_some, map, option_map, string_bytes};
+ghost use Rattle.std.specs.Prelude.{is_some, map, string_bytes};
 ghost use Rattle.serde_json.specs.Find.{get_member};
-ghost use Rattle.serde_json.specs.View.{members_view};
 ghost use Rattle.schema_reports.specs.InstanceViews.{subject_of};
 ghost use Rattle.schema_parts.specs.KeywordViews.{turn_of};
 ghost use Rattle.keyword_ways.specs.Members.{has_member};
@@ -10,10 +9,11 @@ ghost use Rattle.gated_keywords.specs.Gates.{opens};
 ghost use Rattle.gated_keywords.specs.GatedKeywords.{form_of, gates_from, gates_of, name_here, names_of, other_gate};
 ghost use Rattle.gated_keywords.specs.GateMoves.{answer_by, run_after, told_in, turn_by};
 ghost use Rattle.keyword_ways.specs.AnswerWords.{Becomes};
-ghost use Rattle.keyword_ways.specs.Borrowing.{KeepsBorrows};
 ghost use Rattle.gated_keywords.specs.MoveWords.{Enters, IsGate, Looks, Moves, SeekAlike, Seeks, SeeksHere, Settles};
 ghost use Rattle.gated_keywords.specs.MoveWords.{TakesMatch, Tests, moved_in};
-ghost use Rattle.schema_parts.specs.Showing.{Yields};
+ghost use Rattle.schema_parts.specs.Showing.{Yields, Shows};
+ghost use Rattle.keyword_ways.specs.Borrowing.{Retains};
+ghost use Rattle.schema_parts.specs.Readings.{fields, text_read};
 
 use crate::gates::{Condition, Gate, GateRun, GateStage, Move, opens, take_asked};
 use crate::listed::Listed;
@@ -80,8 +80,7 @@ fn only_gate(patterns: &[String], number: usize) -> Option<Gate<'_>>
 
 /// The name of an object's member that has this name, as the object holds it.
 fn name_among<'i>(members: &'i Map<String, Value>, name: &str) -> Option<&'i str>
-    ensures name { option_map (λ k. k.now) result
-        ≡ (if is_some (get_member name.now (members_view members.now.entries)) then Some name.now else None) }
+    ensures name { text_read result ≡ (if is_some (get_member name.now (fields members.now)) then Some name.now else None) }
 {
     match members.get_key_value(name) {
         Some((key, _)) => Some(key.as_str()),
@@ -91,8 +90,7 @@ fn name_among<'i>(members: &'i Map<String, Value>, name: &str) -> Option<&'i str
 
 /// The name of the instance's member that has this name, as the instance holds it.
 fn name_in<'i>(instance: Instance<'i>, name: &str) -> Option<&'i str>
-    ensures name { option_map (λ k. k.now) result
-        ≡ (if has_member name.now (subject_of instance.entry) then Some name.now else None) }
+    ensures name { text_read result ≡ (if has_member name.now (subject_of instance.entry) then Some name.now else None) }
 {
     match instance {
         Instance::Name(_) => None,
@@ -105,7 +103,7 @@ fn name_in<'i>(instance: Instance<'i>, name: &str) -> Option<&'i str>
 
 /// The name of the first member that is left, as the instance holds it.
 fn name_here<'i>(run: &GateRun, instance: Instance<'i>) -> Option<&'i str>
-    ensures name { option_map (λ k. k.now) result ≡ name_here (subject_of instance.entry) run.now.names }
+    ensures name { text_read result ≡ name_here (subject_of instance.entry) run.now.names }
 {
     match run.names.first() {
         Some(next) => name_in(instance, next),
@@ -363,7 +361,7 @@ impl GatedKeyword {
     ) -> Result<(), OutOfMemory>
         ensures told { IfOk result (λ _. Becomes answer.old (λ texts a. told_in texts (form_of self.now) mode a
             (map string_bytes names.now)) answer.new) }
-        ensures borrows { IfOk result (λ _. KeepsBorrows answer.old answer.new) }
+        ensures borrows { Retains answer.old answer.new result }
     {
         match self {
             GatedKeyword::NoAdditionalProperties(_) => {
@@ -392,8 +390,8 @@ impl GatedKeyword {
         ensures answered { IfOk result (λ _. Becomes answer.old (λ texts a. answer_by texts (form_of self.now) run.old.mode a
             (moved_in run.old made.entry)) answer.new) }
         ensures run { IfOk result (λ _. run.new ≡ run_after run.old.mode (moved_in run.old made.entry)) }
-        ensures step { IfOk result (λ step. turn_of step ≡ turn_by run.old.mode (moved_in run.old made.entry)) }
-        ensures borrows { IfOk result (λ _. KeepsBorrows answer.old answer.new) }
+        ensures step { Shows turn_of result (turn_by run.old.mode (moved_in run.old made.entry)) }
+        ensures borrows { Retains answer.old answer.new result }
     {
         match made {
             Move::Halts => {

@@ -1,9 +1,10 @@
 //! Names among which others are looked up.
-ghost use Rattle.std.specs.Prelude.{◌≡◌, [], option_map};
-ghost use Rattle.serde_json.specs.View.{members_view, view};
+ghost use Rattle.std.specs.Prelude.{◌≡◌, []};
+ghost use Rattle.serde_json.specs.View.{view};
 ghost use Rattle.keyword_ways.specs.Texts.{is_among};
 ghost use Rattle.keyword_makers.specs.Members.{names_of};
 ghost use Rattle.schema_parts.specs.Showing.{Yields};
+ghost use Rattle.schema_parts.specs.Readings.{fields};
 
 use schema_reports::location::OutOfMemory;
 use serde_json::{Map, Value};
@@ -45,7 +46,7 @@ impl Listed {
 
     /// The names of an object's members.
     pub fn of_members(alloc: Global, members: &Map<String, Value>) -> Result<Listed, OutOfMemory>
-        ensures names { Yields result (names_of (members_view members.now.entries)) }
+        ensures names { Yields result (names_of (fields members.now)) }
     {
         let mut names = BTreeSet::new(alloc);
         for (name, _) in members {

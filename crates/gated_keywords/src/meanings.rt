@@ -26,6 +26,5 @@ pub fn no_additional_properties_means()
 /// The text of that error, where one name is left over, and where two are.
 pub fn unexpected_names()
     ensures one { unexpected_text (codes "a" ∷ []) ≡ codes "Additional properties are not allowed ('a' was unexpected)" }
-    ensures two { unexpected_text (codes "a" ∷ codes "b" ∷ [])
-        ≡ codes "Additional properties are not allowed ('a', 'b' were unexpected)" }
+    ensures two { unexpected_text (codes "a" ∷ codes "b" ∷ []) ≡ codes "Additional properties are not allowed ('a', 'b' were unexpected)" }
 {}

@@ -1,11 +1,11 @@
 //! The names of an instance's members.
 ghost use Rattle.std.specs.Prelude.{◌≡◌};
-ghost use Rattle.serde_json.specs.View.{members_view};
 ghost use Rattle.schema_reports.specs.InstanceViews.{subject_of};
 ghost use Rattle.schema_parts.specs.KeywordViews.{is_nil};
 ghost use Rattle.keyword_ways.specs.Members.{names_in, subject_names};
 ghost use Rattle.gated_keywords.specs.GatedKeywords.{unlisted};
 ghost use Rattle.schema_parts.specs.Showing.{Yields};
+ghost use Rattle.schema_parts.specs.Readings.{fields};
 
 use crate::listed::Listed;
 use crate::names::NamesLeft;
@@ -17,7 +17,7 @@ use std::alloc::Global;
 
 /// The names of an object's members.
 fn names_in(alloc: Global, members: &Map<String, Value>) -> Result<NamesLeft, OutOfMemory>
-    ensures names { Yields result (names_in (members_view members.now.entries)) }
+    ensures names { Yields result (names_in (fields members.now)) }
 {
     let mut names = NamesLeft::none(alloc);
     for (name, _) in members {
@@ -32,7 +32,7 @@ fn unlisted_in(
     listed: &Listed,
     members: &Map<String, Value>,
 ) -> Result<NamesLeft, OutOfMemory>
-    ensures names { Yields result (unlisted listed.now (names_in (members_view members.now.entries))) }
+    ensures names { Yields result (unlisted listed.now (names_in (fields members.now))) }
 {
     let mut left = NamesLeft::none(alloc);
     for (name, _) in members {
@@ -45,7 +45,7 @@ fn unlisted_in(
 
 /// Whether the name of each member of an object is listed.
 fn lists_each_in(listed: &Listed, members: &Map<String, Value>) -> bool
-    ensures lists { result ≡ is_nil (unlisted listed.now (names_in (members_view members.now.entries))) }
+    ensures lists { result ≡ is_nil (unlisted listed.now (names_in (fields members.now))) }
 {
     for (name, _) in members {
         let is_listed = listed.has(name.as_str());

@@ -1,10 +1,10 @@
 //! Lists of texts.
-ghost use Rattle.std.specs.Prelude.{◌≡◌, [], ◌++◌, ◌∷◌, IfOk, map, option_map, string_bytes};
-ghost use Rattle.serde_json.specs.View.{members_view};
+ghost use Rattle.std.specs.Prelude.{◌≡◌, [], ◌++◌, ◌∷◌, IfOk, map, string_bytes};
 ghost use Rattle.keyword_makers.specs.Members.{names_of};
 ghost use Rattle.schema_parts.specs.KeywordViews.{is_nil};
 ghost use Rattle.gated_keywords.specs.Firsts.{first_of, later_of};
 ghost use Rattle.schema_parts.specs.Showing.{Yields};
+ghost use Rattle.schema_parts.specs.Readings.{fields, text_read};
 
 use keyword_makers::members::names_of;
 use schema_reports::location::OutOfMemory;
@@ -62,7 +62,7 @@ impl Texts {
 
     /// The names of an object's members.
     pub fn of_members(alloc: Global, members: &Map<String, Value>) -> Result<Texts, OutOfMemory>
-        ensures names { Yields result (names_of (members_view members.now.entries)) }
+        ensures names { Yields result (names_of (fields members.now)) }
     {
         let items = names_of(alloc, members)?;
         Ok(Texts { items })
@@ -114,7 +114,7 @@ impl NamesLeft {
 
     /// The next name.
     pub fn first(&self) -> Option<&str>
-        ensures first { option_map (λ name. name.now) result ≡ first_of self.now }
+        ensures first { text_read result ≡ first_of self.now }
     {
         match self.names.front() {
             Some(name) => Some(name.as_str()),

@@ -1,11 +1,12 @@
 //! The table of `patternProperties` and `additionalProperties`.
-ghost use Rattle.std.specs.Prelude.{◌≡◌, IfOk, option_map};
+ghost use Rattle.std.specs.Prelude.{◌≡◌, IfOk};
 ghost use Rattle.serde_json.specs.Find.{as_object, get_member};
-ghost use Rattle.serde_json.specs.View.{members_view, view};
+ghost use Rattle.serde_json.specs.View.{view};
 ghost use Rattle.keyword_makers.specs.MakerViews.{waiting_of, Begins};
 ghost use Rattle.gated_keywords.specs.Making.{beside_of, is_false, member_script, names_of_value, others_script, patterns_script};
 ghost use Rattle.gated_keywords.specs.Making.{value_script};
 ghost use Rattle.schema_parts.specs.Showing.{Yields};
+ghost use Rattle.schema_parts.specs.Readings.{fields, value_read};
 
 use crate::keyword::{GatedKeyword, Neighbours};
 use crate::listed::Listed;
@@ -25,7 +26,7 @@ type Maker = PathsMaker<GatedKeyword>;
 
 /// The names that `properties` lists: those of a value's members, which are none where it is no object, or is not there.
 fn listed_of(alloc: Global, value: Option<&Value>) -> Result<Listed, OutOfMemory>
-    ensures listed { Yields result (names_of_value (option_map (λ v. view v.now) value.entry)) }
+    ensures listed { Yields result (names_of_value (value_read value.entry)) }
 {
     match value {
         None => Ok(Listed::none(alloc)),
@@ -38,7 +39,7 @@ fn listed_of(alloc: Global, value: Option<&Value>) -> Result<Listed, OutOfMemory
 
 /// The patterns of `patternProperties`: the names of a value's members, likewise.
 fn patterns_of(alloc: Global, value: Option<&Value>) -> Result<Texts, OutOfMemory>
-    ensures patterns { Yields result (names_of_value (option_map (λ v. view v.now) value.entry)) }
+    ensures patterns { Yields result (names_of_value (value_read value.entry)) }
 {
     match value {
         None => Ok(Texts::none(alloc)),
@@ -51,7 +52,7 @@ fn patterns_of(alloc: Global, value: Option<&Value>) -> Result<Texts, OutOfMemor
 
 /// What stands beside `additionalProperties` in an object.
 fn beside_of(alloc: Global, object: &Map<String, Value>) -> Result<Neighbours, OutOfMemory>
-    ensures beside { Yields result (beside_of (members_view object.now.entries)) }
+    ensures beside { Yields result (beside_of (fields object.now)) }
 {
     Ok(Neighbours {
         listed: listed_of(alloc, value_in(object, "properties"))?,
@@ -90,7 +91,7 @@ fn others_maker(
     value: &Value,
     object: &Map<String, Value>,
 ) -> Result<Maker, OutOfMemory>
-    ensures maker { IfOk result (Begins (λ k. k) (others_script (members_view object.now.entries) name.now (view value.now))) }
+    ensures maker { IfOk result (Begins (λ k. k) (others_script (fields object.now) name.now (view value.now))) }
 {
     let beside = beside_of(alloc, object)?;
     if is_false(value) {
@@ -107,7 +108,7 @@ fn value_maker(
     value: &Value,
     object: &Map<String, Value>,
 ) -> Result<Maker, OutOfMemory>
-    ensures maker { IfOk result (Begins (λ k. k) (value_script (members_view object.now.entries) name.now (view value.now))) }
+    ensures maker { IfOk result (Begins (λ k. k) (value_script (fields object.now) name.now (view value.now))) }
 {
     if name == "patternProperties" {
         return patterns_maker(alloc, name, value);
@@ -124,8 +125,7 @@ fn member_maker(
     name: &str,
     object: &Map<String, Value>,
 ) -> Result<Maker, OutOfMemory>
-    ensures maker { IfOk result (Begins (λ k. k) (member_script (members_view object.now.entries) name.now
-        (get_member name.now (members_view object.now.entries)))) }
+    ensures maker { IfOk result (Begins (λ k. k) (member_script (fields object.now) name.now (get_member name.now (fields object.now)))) }
 {
     match value_in(object, name) {
         Some(value) => value_maker(alloc, name, value, object),

@@ -1,8 +1,9 @@
 //! One pattern, compiled, and what searches for it.
 ghost use Rattle.std.specs.Prelude.{◌≡◌, IfErr, IfOk, [], bytes_eq, is_some, ◌∷◌};
 ghost use Rattle.regex_matcher.specs.CompiledViews.{AnswersAs, regex_finds};
-ghost use Rattle.regex_matcher.specs.RegexMatching.{found_in, is_readable, pattern_in, read_in};
+ghost use Rattle.regex_matcher.specs.RegexMatching.{found_in, is_readable, pattern_in};
 ghost use Rattle.regex_matcher.specs.SchemaPatterns.{IsFaultOf};
+ghost use Rattle.schema_parts.specs.Showing.{Yields};
 
 use crate::ecma::translate;
 use crate::error::PatternError;
@@ -38,7 +39,7 @@ impl Compiled {
     ///
     /// Fails if memory cannot be allocated, or if the text can be read and is too big to compile.
     pub fn new(alloc: Global, source: &str) -> Result<Compiled, PatternError>
-        ensures source { IfOk result (λ c. c ≡ source.now) }
+        ensures source { Yields result source.now }
         ensures fault { IfErr result (IsFaultOf (source.now ∷ [])) }
     {
         let text = String::from_str(alloc, source)?;
@@ -69,7 +70,7 @@ impl Compiled {
     ///
     /// Fails only if memory cannot be allocated.
     pub fn search(&self, alloc: Global) -> Result<Search<'_>, OutOfMemory>
-        ensures source { IfOk result (λ s. s ≡ self.now) }
+        ensures source { Yields result self.now }
     {
         let source = self.source.as_str();
         let matcher = match &self.regex {

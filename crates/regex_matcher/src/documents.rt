@@ -1,8 +1,9 @@
 //! The patterns that documents hold.
-ghost use Rattle.std.specs.Prelude.{◌≡◌, ◌++◌, ◌∷◌, [], IfOk, map, string_bytes};
-ghost use Rattle.serde_json.specs.View.{items_view, members_view, view};
+ghost use Rattle.std.specs.Prelude.{◌∷◌, [], map};
+ghost use Rattle.serde_json.specs.View.{items_view, view};
 ghost use Rattle.regex_matcher.specs.SchemaPatterns.{given_by, member_names_of, names_of, patterns_in, patterns_in_items};
 ghost use Rattle.regex_matcher.specs.SchemaPatterns.{patterns_in_members, patterns_of, text_of};
+ghost use Rattle.schema_parts.specs.Readings.{AddsTexts, ListsTexts, fields};
 
 use schema_reports::location::OutOfMemory;
 use serde_json::{Map, Value};
@@ -15,7 +16,7 @@ use std::alloc::Global;
 ///
 /// Fails only if memory cannot be allocated.
 pub fn patterns_of(alloc: Global, documents: &[&Value]) -> Result<Vec<String>, OutOfMemory>
-    ensures patterns { IfOk result (λ texts. map string_bytes texts.items ≡ patterns_of (map (λ d. view d.now) documents.now)) }
+    ensures patterns { ListsTexts result (patterns_of (map (λ d. view d.now) documents.now)) }
 {
     let mut texts = Vec::new(alloc);
     for document in documents {
@@ -27,8 +28,7 @@ pub fn patterns_of(alloc: Global, documents: &[&Value]) -> Result<Vec<String>, O
 // Adds the patterns of a value.
 #[cycle(walk)]
 fn push_patterns(alloc: Global, value: &Value, texts: &mut Vec<String>) -> Result<(), OutOfMemory>
-    ensures pushed { IfOk result (λ _. map string_bytes texts.new.items
-        ≡ map string_bytes texts.old.items ++ patterns_in (view value.now)) }
+    ensures pushed { AddsTexts texts.old.items texts.new.items (patterns_in (view value.now)) result }
 {
     match value {
         Value::Null => Ok(()),
@@ -47,8 +47,7 @@ fn push_patterns_of_items(
     items: &Vec<Value>,
     texts: &mut Vec<String>,
 ) -> Result<(), OutOfMemory>
-    ensures pushed { IfOk result (λ _. map string_bytes texts.new.items
-        ≡ map string_bytes texts.old.items ++ patterns_in_items (items_view items.now.items)) }
+    ensures pushed { AddsTexts texts.old.items texts.new.items (patterns_in_items (items_view items.now.items)) result }
 {
     for item in items {
         push_patterns(alloc, item, texts)?;
@@ -63,8 +62,7 @@ fn push_patterns_of_members(
     members: &Map<String, Value>,
     texts: &mut Vec<String>,
 ) -> Result<(), OutOfMemory>
-    ensures pushed { IfOk result (λ _. map string_bytes texts.new.items
-        ≡ map string_bytes texts.old.items ++ patterns_in_members (members_view members.now.entries)) }
+    ensures pushed { AddsTexts texts.old.items texts.new.items (patterns_in_members (fields members.now)) result }
 {
     for (name, member) in members.iter() {
         push_given(alloc, name.as_str(), member, texts)?;
@@ -80,8 +78,7 @@ fn push_given(
     member: &Value,
     texts: &mut Vec<String>,
 ) -> Result<(), OutOfMemory>
-    ensures pushed { IfOk result (λ _. map string_bytes texts.new.items
-        ≡ map string_bytes texts.old.items ++ given_by name.now (view member.now)) }
+    ensures pushed { AddsTexts texts.old.items texts.new.items (given_by name.now (view member.now)) result }
 {
     if name == "pattern" {
         return push_text_of(alloc, member, texts);
@@ -94,7 +91,7 @@ fn push_given(
 
 // Adds the value, if it is a text.
 fn push_text_of(alloc: Global, value: &Value, texts: &mut Vec<String>) -> Result<(), OutOfMemory>
-    ensures pushed { IfOk result (λ _. map string_bytes texts.new.items ≡ map string_bytes texts.old.items ++ text_of (view value.now)) }
+    ensures pushed { AddsTexts texts.old.items texts.new.items (text_of (view value.now)) result }
 {
     if let Some(text) = value.as_str() {
         texts.push(String::from_str(alloc, text)?)?;
@@ -108,8 +105,7 @@ fn push_member_names(
     value: &Value,
     texts: &mut Vec<String>,
 ) -> Result<(), OutOfMemory>
-    ensures pushed { IfOk result (λ _. map string_bytes texts.new.items
-        ≡ map string_bytes texts.old.items ++ member_names_of (view value.now)) }
+    ensures pushed { AddsTexts texts.old.items texts.new.items (member_names_of (view value.now)) result }
 {
     match value.as_object() {
         Some(members) => push_names(alloc, members, texts),
@@ -123,8 +119,7 @@ fn push_names(
     members: &Map<String, Value>,
     texts: &mut Vec<String>,
 ) -> Result<(), OutOfMemory>
-    ensures pushed { IfOk result (λ _. map string_bytes texts.new.items
-        ≡ map string_bytes texts.old.items ++ names_of (members_view members.now.entries)) }
+    ensures pushed { AddsTexts texts.old.items texts.new.items (names_of (fields members.now)) result }
 {
     for (name, _) in members.iter() {
         texts.push(String::from_str(alloc, name.as_str())?)?;

@@ -1,7 +1,8 @@
 //! The matcher.
-ghost use Rattle.std.specs.Prelude.{◌≡◌, ◌<◌, IfOk, IfSome, length, slice_get};
+ghost use Rattle.std.specs.Prelude.{◌≡◌, ◌<◌, IfOk, IfSome, length};
 ghost use Rattle.schema_matches.specs.MatchViews.{match_of};
 ghost use Rattle.regex_matcher.specs.RegexMatching.{TellsUnreadable, careful, found_in, pattern_in, regex_matcher};
+ghost use Rattle.schema_parts.specs.Showing.{Yields};
 
 use crate::compiled::{Compiled, Search};
 use crate::patterns::Patterns;
@@ -42,7 +43,7 @@ impl<'r> RegexMatcher<'r> {
     ///
     /// Fails only if memory cannot be allocated.
     pub fn new(alloc: Global, patterns: &'r Patterns) -> Result<RegexMatcher<'r>, OutOfMemory>
-        ensures kept { IfOk result (λ m. m ≡ record { unreadable = careful patterns.now; patterns = patterns.now }) }
+        ensures kept { Yields result (record { unreadable = careful patterns.now; patterns = patterns.now }) }
         ensures tells { IfOk result (λ m. TellsUnreadable patterns.now (regex_matcher m.unreadable)) }
     {
         RegexMatcher::with_unreadable(alloc, patterns, careful(patterns))
@@ -58,7 +59,7 @@ impl<'r> RegexMatcher<'r> {
         patterns: &'r Patterns,
         unreadable: Unreadable,
     ) -> Result<RegexMatcher<'r>, OutOfMemory>
-        ensures kept { IfOk result (λ m. m ≡ record { unreadable = unreadable; patterns = patterns.now }) }
+        ensures kept { Yields result (record { unreadable = unreadable; patterns = patterns.now }) }
     {
         let mut searches = Vec::new(alloc);
         for compiled in patterns.compiled() {
@@ -106,7 +107,7 @@ fn found_by(search: &RefCell<Search<'_>>, pattern: &str, subject: &str) -> Optio
 
 // Compiles a pattern for one search.
 fn find_once(alloc: Global, pattern: &str, subject: &str) -> Result<Option<bool>, OutOfMemory>
-    ensures found { IfOk result (λ found. found ≡ found_in (pattern_in pattern.now) subject.now) }
+    ensures found { Yields result (found_in (pattern_in pattern.now) subject.now) }
 {
     match Compiled::new(alloc, pattern) {
         Ok(compiled) => Ok(compiled.search(alloc)?.find(subject)),

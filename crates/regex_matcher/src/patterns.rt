@@ -1,8 +1,9 @@
 //! The patterns of documents, each compiled once.
-ghost use Rattle.std.specs.Prelude.{◌≡◌, ◌++◌, ◌∷◌, [], IfErr, IfOk, IfSome, map, option_map, slice_get};
+ghost use Rattle.std.specs.Prelude.{◌≡◌, ◌++◌, ◌∷◌, [], IfErr, IfOk, IfSome, map, slice_get};
 ghost use Rattle.serde_json.specs.View.{view};
 ghost use Rattle.regex_matcher.specs.RegexMatching.{first_unreadable};
 ghost use Rattle.regex_matcher.specs.SchemaPatterns.{IsAdded, IsFaultOf, patterns_of};
+ghost use Rattle.schema_parts.specs.Readings.{text_read};
 
 use crate::compiled::Compiled;
 use crate::documents::patterns_of;
@@ -106,7 +107,7 @@ impl Patterns {
 
     /// The first pattern of the table that cannot be read, if there is one.
     pub fn first_unreadable(&self) -> Option<&str>
-        ensures first { option_map (λ t. t.now) result ≡ first_unreadable self.now }
+        ensures first { text_read result ≡ first_unreadable self.now }
     {
         for compiled in self.compiled.as_slice() {
             if !compiled.is_readable() {

@@ -1,6 +1,7 @@
 //! Whether a text is a pattern, by reading it alone.
-ghost use Rattle.std.specs.Prelude.{◌≡◌, IfOk, is_some};
+ghost use Rattle.std.specs.Prelude.{is_some};
 ghost use Rattle.regex_matcher.specs.RegexMatching.{is_readable, read_in};
+ghost use Rattle.schema_parts.specs.Showing.{Yields};
 
 use crate::ecma::translate;
 use regex_syntax::{Config, ErrorKind};
@@ -14,7 +15,7 @@ use std::alloc::{AllocError, Global};
 ///
 /// Fails only if memory cannot be allocated.
 pub fn is_readable(alloc: Global, text: &str) -> Result<bool, OutOfMemory>
-    ensures readable { IfOk result (λ b. b ≡ is_readable text.now) }
+    ensures readable { Yields result (is_readable text.now) }
 {
     let Some(translated) = translate(alloc, text)? else {
         return Ok(false);
@@ -24,7 +25,7 @@ pub fn is_readable(alloc: Global, text: &str) -> Result<bool, OutOfMemory>
 
 // Whether the parser of the kit's `regex` reads a text.
 fn is_read(alloc: Global, text: &str) -> Result<bool, OutOfMemory>
-    ensures read { IfOk result (λ b. b ≡ is_some (read_in text.now)) }
+    ensures read { Yields result (is_some (read_in text.now)) }
 {
     match regex_syntax::parse(alloc, text, &Config::default()) {
         Ok(_) => Ok(true),

@@ -1,10 +1,11 @@
 //! What keywords read of the draft, and what `items` and `additionalItems` read of their values and of what stands beside them.
 ghost use Rattle.std.specs.Prelude.{◌≡◌, codes, option_and_then};
 ghost use Rattle.serde_json.specs.Find.{as_array, get_member};
-ghost use Rattle.serde_json.specs.View.{members_view, view};
+ghost use Rattle.serde_json.specs.View.{view};
 ghost use Rattle.schema_keywords.specs.KeywordViews.{draft_of};
 ghost use Rattle.keyword_ways.specs.Items.{count_in};
 ghost use Rattle.standard_applicators.specs.Makers.{has_prefix, is_false, is_older_list, items_before, listed_beside};
+ghost use Rattle.schema_parts.specs.Readings.{fields};
 
 use keyword_makers::lists::list_length;
 use keyword_makers::paths::value_in;
@@ -31,7 +32,7 @@ pub fn is_older_list(draft: Draft, value: &Value) -> bool
 
 /// How many schemas `prefixItems` has.
 fn prefix_length(object: &Map<String, Value>) -> usize
-    ensures length { result ≡ count_in (option_and_then as_array (get_member (codes "prefixItems") (members_view object.now.entries))) }
+    ensures length { result ≡ count_in (option_and_then as_array (get_member (codes "prefixItems") (fields object.now))) }
 {
     match value_in(object, "prefixItems") {
         Some(value) => list_length(value),
@@ -41,7 +42,7 @@ fn prefix_length(object: &Map<String, Value>) -> usize
 
 /// How many items come before those of `items` with one schema: as many as `prefixItems` has schemas, in the drafts that have it.
 pub fn items_before(draft: Draft, object: &Map<String, Value>) -> usize
-    ensures before { result ≡ items_before (draft_of draft) (members_view object.now.entries) }
+    ensures before { result ≡ items_before (draft_of draft) (fields object.now) }
 {
     if has_prefix(draft) {
         prefix_length(object)
@@ -53,7 +54,7 @@ pub fn items_before(draft: Draft, object: &Map<String, Value>) -> usize
 /// How many schemas `items` lists, where it is a list in a draft that has lists there.
 #[tactic(auto, using(keyword_ways::proofs::MemberCounts::items_count_length))]
 pub fn listed_beside(draft: Draft, object: &Map<String, Value>) -> Option<usize>
-    ensures listed { result ≡ listed_beside (draft_of draft) (members_view object.now.entries) }
+    ensures listed { result ≡ listed_beside (draft_of draft) (fields object.now) }
 {
     if has_prefix(draft) {
         return None;

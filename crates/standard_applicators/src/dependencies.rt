@@ -5,9 +5,9 @@ ghost use Rattle.keyword_ways.specs.Ways.{at_first};
 ghost use Rattle.standard_applicators.specs.Courses.{wants_one};
 ghost use Rattle.standard_applicators.specs.Dependents.{dependents_from};
 ghost use Rattle.keyword_ways.specs.AnswerWords.{Becomes};
-ghost use Rattle.keyword_ways.specs.Borrowing.{KeepsBorrows, TakesBorrows};
 ghost use Rattle.standard_applicators.specs.RunWays.{StepsCourse, TurnsCourse, dependencies_course};
 ghost use Rattle.standard_applicators.specs.UnmetWords.{EndsByUnmet, with_unmet};
+ghost use Rattle.keyword_ways.specs.Borrowing.{Borrows, Retains};
 
 use crate::dependents::turn_dependents;
 use crate::wants::{Want, has_unmet, tell_unmet};
@@ -40,7 +40,7 @@ fn tell_first<'i>(
     ensures told { IfOk result (λ _. Becomes answer.old (λ texts a. at_first run.now.stage
         (with_unmet wants.now instance.entry run.now.mode texts a) a) answer.new) }
     ensures ends { IfOk result (EndsByUnmet wants.now instance.entry run.now) }
-    ensures borrows { IfOk result (λ _. KeepsBorrows answer.old answer.new) }
+    ensures borrows { Retains answer.old answer.new result }
 {
     match run.stage {
         Stage::Begun => {
@@ -73,7 +73,7 @@ pub fn turn_dependencies<'s, 'i>(
     ensures turns { IfOk result (λ _. TurnsCourse (dependencies_course wants.now names.now instance.entry) run.old answer.old reply.entry
         run.new answer.new) }
     ensures steps { IfOk result (StepsCourse (dependencies_course wants.now names.now instance.entry) run.old answer.old reply.entry) }
-    ensures borrows { IfOk result (λ _. TakesBorrows reply.entry answer.old answer.new) }
+    ensures borrows { Borrows reply.entry answer.old answer.new result }
 {
     let ends = tell_first(alloc, wants, run, instance, answer)?;
     let asked = asked_names(ends, names);

@@ -1,7 +1,8 @@
 //! The value of `dependencies`: what its members want, and the names of those whose values are schemas.
-ghost use Rattle.std.specs.Prelude.{◌≡◌, ◌++◌, IfOk, map, string_bytes};
-ghost use Rattle.serde_json.specs.View.{items_view, members_view};
+ghost use Rattle.std.specs.Prelude.{◌≡◌, ◌++◌, IfOk};
+ghost use Rattle.serde_json.specs.View.{items_view};
 ghost use Rattle.standard_applicators.specs.DependencyValues.{are_lists_of_texts, are_texts, schema_names, text_wants, wants_of};
+ghost use Rattle.schema_parts.specs.Readings.{Lists, ListsTexts, fields};
 
 use crate::wants::Want;
 use keyword_makers::members::push_text;
@@ -24,7 +25,7 @@ fn are_texts(values: &[Value]) -> bool
 
 /// Whether each of the members that is a list is one of texts.
 pub fn are_lists_of_texts(members: &Map<String, Value>) -> bool
-    ensures lists { result ≡ are_lists_of_texts (members_view members.now.entries) }
+    ensures lists { result ≡ are_lists_of_texts (fields members.now) }
 {
     for (_, value) in members {
         if let Some(items) = value.as_array() {
@@ -56,7 +57,7 @@ fn push_wants(
 
 /// What the members want whose values are lists.
 pub fn wants_of(alloc: Global, members: &Map<String, Value>) -> Result<Vec<Want>, OutOfMemory>
-    ensures wants { IfOk result (λ wants. wants.items ≡ wants_of (members_view members.now.entries)) }
+    ensures wants { Lists result (wants_of (fields members.now)) }
 {
     let mut wants = Vec::new(alloc);
     for (name, value) in members {
@@ -69,7 +70,7 @@ pub fn wants_of(alloc: Global, members: &Map<String, Value>) -> Result<Vec<Want>
 
 /// The names of the members whose values are no lists.
 pub fn schema_names(alloc: Global, members: &Map<String, Value>) -> Result<Vec<String>, OutOfMemory>
-    ensures names { IfOk result (λ names. map string_bytes names.items ≡ schema_names (members_view members.now.entries)) }
+    ensures names { ListsTexts result (schema_names (fields members.now)) }
 {
     let mut names = Vec::new(alloc);
     for (name, value) in members {

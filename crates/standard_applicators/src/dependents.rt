@@ -1,12 +1,12 @@
 //! `dependentSchemas`: children at the keyword's own place, each where the instance has the member of its name.
-ghost use Rattle.std.specs.Prelude.{◌≡◌, IfOk, option_map};
+ghost use Rattle.std.specs.Prelude.{◌≡◌, option_map};
 ghost use Rattle.keyword_ways.specs.Items.{child_here};
 ghost use Rattle.keyword_ways.specs.Somes.{some_from};
 ghost use Rattle.keyword_ways.specs.Ways.{passes_some};
-ghost use Rattle.keyword_ways.specs.Borrowing.{TakesBorrows};
 ghost use Rattle.keyword_ways.specs.SomeWords.{AsksSome, StandsAtSome};
 ghost use Rattle.keyword_ways.specs.TurnWords.{Steps, Turns};
 ghost use Rattle.standard_applicators.specs.RunWays.{dependents_asked};
+ghost use Rattle.keyword_ways.specs.Borrowing.{Borrows};
 
 use keyword_ways::members::has_member;
 use keyword_ways::passing::onward;
@@ -26,10 +26,10 @@ pub fn turn_dependents<'s, 'i>(
     reply: Reply<'i>,
     answer: &mut Answer<'i>,
 ) -> Result<Step<'s>, OutOfMemory>
-    ensures turns { IfOk result (λ _. Turns (passes_some (dependents_asked names.now instance.entry)) run.old answer.old reply.entry
-        run.new answer.new) }
-    ensures steps { IfOk result (Steps (passes_some (dependents_asked names.now instance.entry)) run.old answer.old reply.entry) }
-    ensures borrows { IfOk result (λ _. TakesBorrows reply.entry answer.old answer.new) }
+    ensures turns { Turns (passes_some (dependents_asked names.now instance.entry)) run.old answer.old reply.entry run.new answer.new
+        result }
+    ensures steps { Steps (passes_some (dependents_asked names.now instance.entry)) run.old answer.old reply.entry result }
+    ensures borrows { Borrows reply.entry answer.old answer.new result }
 {
     let start = onward(alloc, names.len(), run, reply, answer)?;
     Ok(ask_dependent(names, start, run, instance))

@@ -1,12 +1,12 @@
 //! Children at items: each of several at the item of its number, or the only one at each item after so many.
-ghost use Rattle.std.specs.Prelude.{◌≡◌, ◌+◌, ◌-◌, ◌^◌, ◌<◌, IfOk, min, option_map};
+ghost use Rattle.std.specs.Prelude.{◌≡◌, ◌+◌, ◌-◌, ◌^◌, ◌<◌, min, option_map};
 ghost use Rattle.schema_reports.specs.InstanceViews.{subject_of};
 ghost use Rattle.schema_parts.specs.KeywordViews.{turn_of};
 ghost use Rattle.keyword_ways.specs.Items.{child_at_item, first_at_item, item_count};
 ghost use Rattle.keyword_ways.specs.Ways.{asked};
-ghost use Rattle.keyword_ways.specs.Borrowing.{TakesBorrows};
 ghost use Rattle.keyword_ways.specs.TurnWords.{Steps, Turns};
 ghost use Rattle.standard_applicators.specs.RunWays.{at_later, at_listed};
+ghost use Rattle.keyword_ways.specs.Borrowing.{Borrows};
 
 use keyword_ways::items::item_count;
 use keyword_ways::passing::next_number;
@@ -45,9 +45,9 @@ pub fn turn_listed_items<'s, 'i>(
     reply: Reply<'i>,
     answer: &mut Answer<'i>,
 ) -> Result<Step<'s>, OutOfMemory>
-    ensures turns { IfOk result (λ _. Turns (at_listed children instance.entry) run.old answer.old reply.entry run.new answer.new) }
-    ensures steps { IfOk result (Steps (at_listed children instance.entry) run.old answer.old reply.entry) }
-    ensures borrows { IfOk result (λ _. TakesBorrows reply.entry answer.old answer.new) }
+    ensures turns { Turns (at_listed children instance.entry) run.old answer.old reply.entry run.new answer.new result }
+    ensures steps { Steps (at_listed children instance.entry) run.old answer.old reply.entry result }
+    ensures borrows { Borrows reply.entry answer.old answer.new result }
 {
     let count = listed_count(children, instance);
     let mode = run.mode;
@@ -64,9 +64,9 @@ pub fn turn_later_items<'s, 'i>(
     reply: Reply<'i>,
     answer: &mut Answer<'i>,
 ) -> Result<Step<'s>, OutOfMemory>
-    ensures turns { IfOk result (λ _. Turns (at_later before instance.entry) run.old answer.old reply.entry run.new answer.new) }
-    ensures steps { IfOk result (Steps (at_later before instance.entry) run.old answer.old reply.entry) }
-    ensures borrows { IfOk result (λ _. TakesBorrows reply.entry answer.old answer.new) }
+    ensures turns { Turns (at_later before instance.entry) run.old answer.old reply.entry run.new answer.new result }
+    ensures steps { Steps (at_later before instance.entry) run.old answer.old reply.entry result }
+    ensures borrows { Borrows reply.entry answer.old answer.new result }
 {
     let count = items_after(before, instance);
     let mode = run.mode;

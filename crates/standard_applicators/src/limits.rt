@@ -1,8 +1,9 @@
 //! What `contains` reads of the limits beside it.
-ghost use Rattle.std.specs.Prelude.{◌≡◌, option_map};
-ghost use Rattle.serde_json.specs.View.{members_view, view};
+ghost use Rattle.std.specs.Prelude.{◌≡◌};
+ghost use Rattle.serde_json.specs.View.{view};
 ghost use Rattle.schema_keywords.specs.KeywordViews.{draft_of};
 ghost use Rattle.standard_applicators.specs.Limits.{contains_in, has_limits, limit_beside, limit_in, limit_of, refused_limit};
+ghost use Rattle.schema_parts.specs.Readings.{fields, value_read};
 
 use crate::contains::Contains;
 use json_values::multiples::natural_of;
@@ -34,7 +35,7 @@ fn limit_of(value: &Value) -> Option<usize>
 
 /// The value of a limit beside `contains`, in a draft that knows it.
 fn limit_beside<'o>(draft: Draft, name: &str, object: &'o Map<String, Value>) -> Option<&'o Value>
-    ensures value { option_map (λ v. view v.now) result ≡ limit_beside (draft_of draft) name.now (members_view object.now.entries) }
+    ensures value { value_read result ≡ limit_beside (draft_of draft) name.now (fields object.now) }
 {
     if has_limits(draft) {
         value_in(object, name)
@@ -45,7 +46,7 @@ fn limit_beside<'o>(draft: Draft, name: &str, object: &'o Map<String, Value>) ->
 
 /// The limit of this name beside `contains`.
 fn limit_in(draft: Draft, name: &str, object: &Map<String, Value>) -> Option<usize>
-    ensures limit { result ≡ limit_in (draft_of draft) name.now (members_view object.now.entries) }
+    ensures limit { result ≡ limit_in (draft_of draft) name.now (fields object.now) }
 {
     match limit_beside(draft, name, object) {
         Some(value) => limit_of(value),
@@ -59,7 +60,7 @@ pub fn refused_limit<'o>(
     name: &str,
     object: &'o Map<String, Value>,
 ) -> Option<&'o Value>
-    ensures refused { option_map (λ v. view v.now) result ≡ refused_limit (draft_of draft) name.now (members_view object.now.entries) }
+    ensures refused { value_read result ≡ refused_limit (draft_of draft) name.now (fields object.now) }
 {
     match limit_beside(draft, name, object) {
         Some(value) => match limit_of(value) {
@@ -72,7 +73,7 @@ pub fn refused_limit<'o>(
 
 /// The `contains` of an object.
 pub fn contains_in(draft: Draft, object: &Map<String, Value>) -> Contains
-    ensures contains { result ≡ contains_in (draft_of draft) (members_view object.now.entries) }
+    ensures contains { result ≡ contains_in (draft_of draft) (fields object.now) }
 {
     let least = limit_in(draft, "minContains", object).unwrap_or(1);
     let most = limit_in(draft, "maxContains", object);

@@ -1,11 +1,12 @@
 //! The table of the keywords.
 ghost use Rattle.std.specs.Prelude.{IfOk};
 ghost use Rattle.serde_json.specs.Find.{get_member};
-ghost use Rattle.serde_json.specs.View.{members_view, view};
+ghost use Rattle.serde_json.specs.View.{view};
 ghost use Rattle.schema_keywords.specs.KeywordViews.{draft_of};
 ghost use Rattle.keyword_makers.specs.MakerViews.{waiting_of, Begins};
 ghost use Rattle.standard_applicators.specs.Makers.{additional_items_script, after_listed, contains_script, dependent_schemas_script};
 ghost use Rattle.standard_applicators.specs.Makers.{dependencies_script, items_script, member_script, value_script};
+ghost use Rattle.schema_parts.specs.Readings.{fields};
 
 use crate::applicator::StandardApplicator;
 use crate::beside::{is_false, is_older_list, items_before, listed_beside};
@@ -43,7 +44,7 @@ fn contains_maker(
     object: &Map<String, Value>,
     draft: Draft,
 ) -> Result<Maker, OutOfMemory>
-    ensures maker { IfOk result (Begins (λ k. k) (contains_script (draft_of draft) (members_view object.now.entries) name.now)) }
+    ensures maker { IfOk result (Begins (λ k. k) (contains_script (draft_of draft) (fields object.now) name.now)) }
 {
     if let Some(value) = refused_limit(draft, "minContains", object) {
         return malformed(alloc, "minContains", value);
@@ -98,8 +99,7 @@ fn items_maker(
     object: &Map<String, Value>,
     draft: Draft,
 ) -> Result<Maker, OutOfMemory>
-    ensures maker { IfOk result (Begins (λ k. k) (items_script (draft_of draft) (members_view object.now.entries) name.now
-        (view value.now))) }
+    ensures maker { IfOk result (Begins (λ k. k) (items_script (draft_of draft) (fields object.now) name.now (view value.now))) }
 {
     if is_older_list(draft, value) {
         let keyword = StandardApplicator::ListedItems(list_length(value));
@@ -139,8 +139,7 @@ fn additional_items_maker(
     object: &Map<String, Value>,
     draft: Draft,
 ) -> Result<Maker, OutOfMemory>
-    ensures maker { IfOk result (Begins (λ k. k) (additional_items_script (draft_of draft) (members_view object.now.entries) name.now
-        (view value.now))) }
+    ensures maker { IfOk result (Begins (λ k. k) (additional_items_script (draft_of draft) (fields object.now) name.now (view value.now))) }
 {
     after_listed(alloc, listed_beside(draft, object), name, value)
 }
@@ -153,8 +152,7 @@ fn value_maker(
     object: &Map<String, Value>,
     draft: Draft,
 ) -> Result<Maker, OutOfMemory>
-    ensures maker { IfOk result (Begins (λ k. k) (value_script (draft_of draft) (members_view object.now.entries) name.now
-        (view value.now))) }
+    ensures maker { IfOk result (Begins (λ k. k) (value_script (draft_of draft) (fields object.now) name.now (view value.now))) }
 {
     if name == "contains" {
         return contains_maker(alloc, name, object, draft);
@@ -181,8 +179,8 @@ fn member_maker(
     object: &Map<String, Value>,
     draft: Draft,
 ) -> Result<Maker, OutOfMemory>
-    ensures maker { IfOk result (Begins (λ k. k) (member_script (draft_of draft) (members_view object.now.entries) name.now
-        (get_member name.now (members_view object.now.entries)))) }
+    ensures maker { IfOk result (Begins (λ k. k) (member_script (draft_of draft) (fields object.now) name.now (get_member name.now
+        (fields object.now)))) }
 {
     match value_in(object, name) {
         Some(value) => value_maker(alloc, name, value, object, draft),

@@ -4,9 +4,9 @@ ghost use Rattle.std.specs.List.{list_any};
 ghost use Rattle.schema_reports.specs.InstanceViews.{subject_of};
 ghost use Rattle.standard_applicators.specs.Wanting.{is_unmet, required_text};
 ghost use Rattle.keyword_ways.specs.AnswerWords.{Becomes};
-ghost use Rattle.keyword_ways.specs.Borrowing.{KeepsBorrows};
 ghost use Rattle.standard_applicators.specs.UnmetWords.{with_unmet};
 ghost use Rattle.schema_parts.specs.Showing.{Shows, Yields};
+ghost use Rattle.keyword_ways.specs.Borrowing.{Retains};
 
 use keyword_ways::answers::{note, refuse};
 use keyword_ways::members::has_member;
@@ -128,7 +128,7 @@ pub fn tell_unmet<'i>(
     answer: &mut Answer<'i>,
 ) -> Result<(), OutOfMemory>
     ensures told { IfOk result (λ _. Becomes answer.old (with_unmet wants.now instance.entry mode) answer.new) }
-    ensures borrows { IfOk result (λ _. KeepsBorrows answer.old answer.new) }
+    ensures borrows { Retains answer.old answer.new result }
 {
     if mode == Mode::Verdict {
         if has_unmet(wants, instance) {

@@ -1,8 +1,9 @@
 //! The keywords that assert by themselves, as one type.
-ghost use Rattle.std.specs.Prelude.{◌≡◌, ◌∷◌, [], IfOk, map, string_bytes, true};
+ghost use Rattle.std.specs.Prelude.{◌≡◌, ◌∷◌, [], IfOk, string_bytes, true};
 ghost use Rattle.schema_reports.specs.InstanceViews.{subject_of};
 ghost use Rattle.standard_assertions.specs.Assertions.{error_text, holds, shows_no_fraction};
 ghost use Rattle.keyword_ways.specs.TextWords.{ShowsText};
+ghost use Rattle.schema_parts.specs.Readings.{ListsTexts};
 
 use crate::constants::{
     constant_text, distinct_text, has_distinct_items, has_distinct_items_by_pairs, is_constant,
@@ -93,7 +94,7 @@ impl Assertion {
 
 /// The one text, as a list.
 fn one_text(alloc: Global, text: String) -> Result<Vec<String>, OutOfMemory>
-    ensures one { IfOk result (λ texts. map string_bytes texts.items ≡ string_bytes text ∷ []) }
+    ensures one { ListsTexts result (string_bytes text ∷ []) }
 {
     let mut texts = Vec::new(alloc);
     texts.push(text)?;

@@ -1,11 +1,12 @@
 //! `dependentRequired` (JSON Schema Validation 2020-12, 6.5.4).
-ghost use Rattle.std.specs.Prelude.{◌≡◌, IfOk, map, string_bytes};
+ghost use Rattle.std.specs.Prelude.{◌≡◌, IfOk, map};
 ghost use Rattle.serde_json.specs.Find.{as_array};
-ghost use Rattle.serde_json.specs.View.{items_view, members_view, view};
+ghost use Rattle.serde_json.specs.View.{items_view, view};
 ghost use Rattle.schema_reports.specs.InstanceViews.{subject_of};
 ghost use Rattle.schema_parts.specs.KeywordViews.{is_nil};
 ghost use Rattle.bench_keywords.specs.Words.{required_text};
 ghost use Rattle.standard_assertions.specs.Dependents.{missing_dependents, missing_names, missing_of, wanted_by_each, AddsRequired};
+ghost use Rattle.schema_parts.specs.Readings.{ListsTexts, fields};
 
 use bench_keywords::required::required_text;
 use json_values::held::HeldValue;
@@ -43,7 +44,7 @@ fn has_each_of(names: &Value, instance: Instance<'_>) -> bool
 /// Whether an instance has, for each of these members that it has, those that the member wants.
 #[tactic(auto, using(crate::proofs::Missing::either_missing))]
 fn meets(dependents: &Map<String, Value>, instance: Instance<'_>) -> bool
-    ensures meets { result ≡ is_nil (wanted_by_each (members_view dependents.now.entries) (subject_of instance.entry)) }
+    ensures meets { result ≡ is_nil (wanted_by_each (fields dependents.now) (subject_of instance.entry)) }
 {
     for (name, wanted) in dependents.iter() {
         if has_member(instance, name.as_str()) && !has_each_of(wanted, instance) {
@@ -106,8 +107,8 @@ fn push_wanted(
     instance: Instance<'_>,
     texts: &mut Vec<String>,
 ) -> Result<(), OutOfMemory>
-    ensures pushed { IfOk result (λ _. AddsRequired (wanted_by_each (members_view dependents.now.entries) (subject_of instance.entry))
-        texts.old.items texts.new.items) }
+    ensures pushed { IfOk result (λ _. AddsRequired (wanted_by_each (fields dependents.now) (subject_of instance.entry)) texts.old.items
+        texts.new.items) }
 {
     for (name, wanted) in dependents.iter() {
         if has_member(instance, name.as_str()) {
@@ -127,8 +128,7 @@ pub fn missing_texts(
     dependents: &HeldValue,
     instance: Instance<'_>,
 ) -> Result<Vec<String>, OutOfMemory>
-    ensures texts { IfOk result (λ texts. map string_bytes texts.items
-        ≡ map required_text (missing_dependents dependents.now (subject_of instance.entry))) }
+    ensures texts { ListsTexts result (map required_text (missing_dependents dependents.now (subject_of instance.entry))) }
 {
     let mut texts = Vec::new(alloc);
     if let Some(members) = dependents.as_value().as_object() {

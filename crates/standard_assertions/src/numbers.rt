@@ -1,5 +1,5 @@
 //! A number of a schema: a limit, or the value of `multipleOf`.
-ghost use Rattle.std.specs.Prelude.{◌≡◌, IfOk, false, option_map, string_bytes};
+ghost use Rattle.std.specs.Prelude.{◌≡◌, IfOk, false, string_bytes};
 ghost use Rattle.serde_json.specs.Find.{as_number, is_float};
 ghost use Rattle.serde_json.specs.View.{number_view, view};
 ghost use Rattle.serde_json.specs.Written.{number_text};

@@ -1,13 +1,14 @@
 //! The table that makes the keywords that assert by themselves.
 ghost use Rattle.std.specs.Prelude.{◌≡◌};
 ghost use Rattle.serde_json.specs.Find.{as_bool, get_member};
-ghost use Rattle.serde_json.specs.View.{members_view, view};
+ghost use Rattle.serde_json.specs.View.{view};
 ghost use Rattle.schema_keywords.specs.KeywordViews.{draft_of};
 ghost use Rattle.keyword_makers.specs.ByObject.{formed};
 ghost use Rattle.schema_parts.specs.Showing.{Shows};
 ghost use Rattle.standard_assertions.specs.Made.{excludes, here_if, limit_here, made_of_counts, made_of_lists, made_of_numbers};
 ghost use Rattle.standard_assertions.specs.Made.{unique_made};
 ghost use Rattle.standard_assertions.specs.Shapes.{shape_of};
+ghost use Rattle.schema_parts.specs.Readings.{fields};
 
 use crate::assertion::Assertion;
 use crate::limits::LimitKind;
@@ -42,7 +43,7 @@ fn here_if(made: Option<Assertion>) -> Made
 
 /// Whether the truth value beside a limit of draft 4, where there is one, excludes the limit; nothing where it is no truth value.
 fn excludes(object: &Map<String, Value>, beside: &str) -> Option<bool>
-    ensures excludes { result ≡ excludes (get_member beside.now (members_view object.now.entries)) }
+    ensures excludes { result ≡ excludes (get_member beside.now (fields object.now)) }
 {
     match value_in(object, beside) {
         Some(value) => value.as_bool(),
@@ -59,8 +60,8 @@ fn limit_here(
     object: &Map<String, Value>,
     value: &Value,
 ) -> Made
-    ensures made { formed shape_of result ≡ limit_here including excluding beside.now (draft_of draft)
-        (members_view object.now.entries) (view value.now) }
+    ensures made { formed shape_of result ≡ limit_here including excluding beside.now (draft_of draft) (fields object.now)
+        (view value.now) }
 {
     if !is_draft_4(draft) {
         return here_if(limit_made(including, value));
@@ -130,8 +131,7 @@ fn made_of_numbers(
     name: &str,
     value: &Value,
 ) -> Result<Made, OutOfMemory>
-    ensures made { Shows (formed shape_of) result
-        (made_of_numbers (draft_of draft) (members_view object.now.entries) name.now (view value.now)) }
+    ensures made { Shows (formed shape_of) result (made_of_numbers (draft_of draft) (fields object.now) name.now (view value.now)) }
 {
     if name == "minimum" {
         let (including, excluding) = (LimitKind::Minimum, LimitKind::MinimumExcluded);

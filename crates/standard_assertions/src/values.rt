@@ -1,12 +1,13 @@
 //! The values of these keywords, as their draft reads them.
-ghost use Rattle.std.specs.Prelude.{◌≡◌, option_and_then, option_map};
+ghost use Rattle.std.specs.Prelude.{◌≡◌};
 ghost use Rattle.serde_json.specs.Find.{as_array, as_number, as_object};
-ghost use Rattle.serde_json.specs.View.{items_view, members_view, view};
+ghost use Rattle.serde_json.specs.View.{items_view, view};
 ghost use Rattle.schema_keywords.specs.KeywordViews.{draft_of};
 ghost use Rattle.standard_assertions.specs.Values.{are_text_lists, are_texts, count_made, dependents_made, enum_made, has_text_lists};
 ghost use Rattle.standard_assertions.specs.Values.{integers_of, is_any_text_list, is_draft_4, limit_made, multiple_made};
 ghost use Rattle.standard_assertions.specs.Values.{size_limit, size_made, type_made};
 ghost use Rattle.schema_parts.specs.Showing.{Yields};
+ghost use Rattle.schema_parts.specs.Readings.{fields};
 
 use crate::assertion::Assertion;
 use crate::limits::LimitKind;
@@ -154,7 +155,7 @@ fn is_text_list(value: &Value) -> bool
 
 /// Whether the value of each member is a list of texts.
 fn are_text_lists(members: &Map<String, Value>) -> bool
-    ensures lists { result ≡ are_text_lists (members_view members.now.entries) }
+    ensures lists { result ≡ are_text_lists (fields members.now) }
 {
     for (_, value) in members.iter() {
         if !is_text_list(value) {

@@ -1,7 +1,5 @@
 //! What the assertions' side of the table makes: the assertions, and the refusals.
-ghost use Rattle.std.specs.Prelude.{◌≡◌, IfOk};
-ghost use Rattle.serde_json.specs.View.{members_view, view};
-ghost use Rattle.schema_keywords.specs.KeywordViews.{draft_of};
+ghost use Rattle.std.specs.Prelude.{◌≡◌};
 
 use crate::treatment::{Treatment, refusal_text, treatment_of};
 use keyword_makers::by_object::{MakesByObject, ObjectKeyword};

@@ -1,11 +1,12 @@
 //! Patterns of a schema that cannot be read as regular expressions.
 ghost use Rattle.std.specs.Prelude.{◌≡◌, ◌∷◌, [], IfOk, option_map, string_bytes};
 ghost use Rattle.serde_json.specs.Find.{get_member};
-ghost use Rattle.serde_json.specs.View.{members_view, view};
+ghost use Rattle.serde_json.specs.View.{view};
 ghost use Rattle.schema_parts.specs.MakerViews.{is_own, name_of};
 ghost use Rattle.keyword_makers.specs.Members.{names_of};
 ghost use Rattle.schema_parts.specs.Showing.{Shows};
 ghost use Rattle.standard_keywords.specs.Patterns.{pattern_refusal, refusal_among, refusal_in, unreadable_text};
+ghost use Rattle.schema_parts.specs.Readings.{fields};
 
 use keyword_makers::paths::value_in;
 use regex_matcher::reading::is_readable;
@@ -50,7 +51,7 @@ fn refusal_of_names(
     alloc: Global,
     members: &Map<String, Value>,
 ) -> Result<Option<String>, OutOfMemory>
-    ensures refusal { Shows (option_map string_bytes) result (refusal_among (names_of (members_view members.now.entries))) }
+    ensures refusal { Shows (option_map string_bytes) result (refusal_among (names_of (fields members.now))) }
 {
     for (name, _) in members {
         let refusal = refusal_of(alloc, name.as_str())?;
@@ -92,7 +93,7 @@ pub fn pattern_refusal(
     object: &Map<String, Value>,
 ) -> Result<Option<String>, OutOfMemory>
     ensures refusal { IfOk result (λ found. option_map string_bytes found ≡ pattern_refusal unreadable (is_own origin.entry)
-        (name_of origin.entry) (get_member (name_of origin.entry) (members_view object.now.entries))) }
+        (name_of origin.entry) (get_member (name_of origin.entry) (fields object.now))) }
 {
     match unreadable {
         UnreadablePatterns::LeftToTheMatcher => Ok(None),

@@ -1,13 +1,12 @@
 //! The keyword table of the standard.
-ghost use Rattle.std.specs.Prelude.{◌≡◌, Bool, IfOk, not, string_bytes};
+ghost use Rattle.std.specs.Prelude.{◌≡◌, IfOk, string_bytes};
 ghost use Rattle.serde_json.specs.Find.{get_member};
-ghost use Rattle.serde_json.specs.View.{members_view};
-ghost use Rattle.schema_keywords.specs.KeywordViews.{draft_of};
 ghost use Rattle.schema_parts.specs.MakerViews.{begun, name_of};
 ghost use Rattle.keyword_makers.specs.MakerViews.{waiting_of};
 ghost use Rattle.standard_assertions.specs.Shapes.{shape_of as assertion_of};
 ghost use Rattle.standard_keywords.specs.StandardScripts.{refused_at};
 ghost use Rattle.standard_keywords.specs.declared.patterns.UnreadablePatterns.TheVariants as unreadable;
+ghost use Rattle.schema_parts.specs.Readings.{fields};
 
 use crate::assertions::AssertionsOrRefusals;
 use crate::patterns::{UnreadablePatterns, pattern_refusal};
@@ -187,7 +186,7 @@ fn refused_at(
     text: String,
 ) -> Result<PathsMaker<Telling<Assertion>>, OutOfMemory>
     ensures maker { IfOk result (λ m. waiting_of assertion_of m ≡ begun (refused_at (name_of origin.entry) (string_bytes text)
-        (get_member (name_of origin.entry) (members_view object.now.entries)))) }
+        (get_member (name_of origin.entry) (fields object.now)))) }
 {
     let name = match origin {
         KeywordOrigin::Own(name) => name,

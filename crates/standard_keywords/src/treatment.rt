@@ -1,6 +1,5 @@
 //! What becomes of each keyword of the standard.
 ghost use Rattle.std.specs.Prelude.{◌≡◌, string_bytes};
-ghost use Rattle.serde_json.specs.View.{members_view};
 ghost use Rattle.schema_keywords.specs.KeywordViews.{draft_of};
 ghost use Rattle.keyword_ways.specs.Texts.{is_among};
 ghost use Rattle.bench_parts.specs.Makers.{has_prefix};
@@ -9,6 +8,7 @@ ghost use Rattle.standard_keywords.specs.Treatments.{is_applied, is_asserted, is
 ghost use Rattle.standard_keywords.specs.Treatments.{of_branches, of_counts, of_each_draft, of_lists_and_objects};
 ghost use Rattle.standard_keywords.specs.Treatments.{of_numbers, of_places};
 ghost use Rattle.standard_keywords.specs.Treatments.{is_silent, of_texts_and_members, refusal_text, treated};
+ghost use Rattle.schema_parts.specs.Readings.{fields};
 
 use bench_parts::table::schema_values::is_older_list;
 use keyword_makers::paths::value_in;
@@ -103,7 +103,7 @@ fn is_basic(name: &str) -> bool
 
 /// Whether the member of a name is an `items` whose value is a list, in a draft where its items are the schemas of places.
 fn is_older_items(draft: Draft, object: &Map<String, Value>, name: &str) -> bool
-    ensures older { result ≡ is_older_items (draft_of draft) (members_view object.now.entries) name.now }
+    ensures older { result ≡ is_older_items (draft_of draft) (fields object.now) name.now }
 {
     if name != "items" {
         return false;
@@ -134,7 +134,7 @@ fn is_of_each_draft(name: &str) -> bool
 
 /// Whether `standard_applicators` makes the keyword of a name.
 fn is_applied(draft: Draft, object: &Map<String, Value>, name: &str) -> bool
-    ensures applied { result ≡ is_applied (draft_of draft) (members_view object.now.entries) name.now }
+    ensures applied { result ≡ is_applied (draft_of draft) (fields object.now) name.now }
 {
     let is_older = !has_prefix(draft) && name == "additionalItems";
     is_of_each_draft(name) || is_older_items(draft, object, name) || is_older
@@ -163,7 +163,7 @@ fn is_silent(draft: Draft, name: &str) -> bool
 
 /// What becomes of the member of a name of an object, in a draft that has the name.
 pub fn treatment_of(draft: Draft, object: &Map<String, Value>, name: &str) -> Treatment
-    ensures treated { result ≡ treated (draft_of draft) (members_view object.now.entries) name.now }
+    ensures treated { result ≡ treated (draft_of draft) (fields object.now) name.now }
 {
     if is_asserted(name) {
         Treatment::Asserted
