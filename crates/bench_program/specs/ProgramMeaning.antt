@@ -1,5 +1,5 @@
 -- What the program prints, by the plain meaning of schema and parts.
-use Rattle.std.specs.Prelude.{Bool, List, [], false, ℕ, ◌≡◌, ◌⊎◌}
+use Rattle.std.specs.Prelude.{Bool, IfOk, List, Result, [], false, string_bytes, ℕ, ◌≡◌, ◌⊎◌}
 use Rattle.serde_json.specs.Data.{Data}
 use Rattle.serde_json.specs.View.{view}
 use Rattle.schema_definitions.specs.Drafts.{draft_2020_12}
@@ -33,6 +33,7 @@ use Rattle.bench_program.specs.ProgramWords.{Holds}
 use Rattle.bench_keywords.specs.Shapes.{shape_of}
 use Rattle.bench_keywords.specs.Words.{words}
 use Rattle.bench_keywords.specs.declared.keyword.BenchKeyword.{BenchKeyword}
+use Rattle.bench_program.specs.declared.program.answers.Answer.{Answer}
 use Rattle.bench_program.specs.declared.program.requests.Call.{Call}
 
 module _ (resolver : Resolver Point) (table : Table BenchShape) (matcher : Matcher) (options : Options) (schema : Data) where
@@ -66,6 +67,13 @@ module _ (p : Program BenchKeyword (List Text)) (instance : Data) where
   -- from some depth on, where chains of references return too
   abbrev pub AnswersFromSomeDepth : Call → Bool → Text → Type 0
   AnswersFromSomeDepth = Answers p.runs (FromSomeDepth shape_of words is_whole bench_matcher p instance) (HasUnits shape_of words is_whole bench_matcher p instance)
+
+  -- both of the answer, where there is one
+  abbrev pub InEverySense : {E : Type 0} → Call → Result Answer E → Type 0
+  InEverySense call result = IfOk result (λ a. AnswersInEverySense call a.accepted (string_bytes a.text))
+
+  abbrev pub FromDepth : {E : Type 0} → Call → Result Answer E → Type 0
+  FromDepth call result = IfOk result (λ a. AnswersFromSomeDepth call a.accepted (string_bytes a.text))
 
 -- the bench table with the standard's names
 abbrev pub bench_table : Table BenchShape

@@ -166,8 +166,7 @@ fn is_as_wanted(given: &Value, want: &Value, name: &str) -> bool
 
 // Whether the text of a refusal ends as a row wants it, where the row says so.
 fn ends_as_wanted(given: &Value, want: &Value) -> bool
-    ensures ends { result
-        ≡ ends_as (option_and_then as_str (get (codes "text") (view given.now))) (get (codes "ends") (view want.now)) }
+    ensures ends { result ≡ ends_as (option_and_then as_str (get (codes "text") (view given.now))) (get (codes "ends") (view want.now)) }
 {
     let Some(end) = want.get("ends") else {
         return true;

@@ -92,8 +92,7 @@ impl Tally {
         cases: &A,
         text: &str,
     ) -> Result<Option<Wrong>, AllocError>
-        ensures counted { IfOk result (λ wrong.
-            self.new.verdicts.items ≡ self.old.verdicts.items ++ (is_none wrong ∷ [])) }
+        ensures counted { IfOk result (λ wrong. self.new.verdicts.items ≡ self.old.verdicts.items ++ (is_none wrong ∷ [])) }
         ensures unread { IfOk result (λ wrong. read_text text.now ≡ None → is_none wrong ≡ false) }
     {
         let line = line_in(alloc, cases, &mut self.names, text)?;

@@ -1,10 +1,10 @@
 //! A keyword that asks whether its pattern matches the name of each member of an object, at that name's place, and refuses where one
 //! is not matched. Its run holds the place of the next name, which is borrowed from the instance.
-ghost use Rattle.std.specs.Prelude.{◌≡◌, ◌<◌, IfSome, drop, option_map};
-ghost use Rattle.serde_json.specs.View.{members_view};
+ghost use Rattle.std.specs.Prelude.{◌≡◌, ◌<◌, IfSome, drop};
 ghost use Rattle.schema_reports.specs.InstanceViews.{subject_of};
 ghost use Rattle.keyword_ways.specs.Members.{names_in};
 ghost use Rattle.law_tests.specs.EachName.{first_name, names_from};
+ghost use Rattle.schema_parts.specs.Readings.{fields, text_read};
 
 use crate::each_item::says_no;
 use crate::own_spot::OwnSpot;
@@ -38,7 +38,7 @@ impl Model for EachNameShape {
 /// The name that comes after so many others among those of an object's members, as the object holds it.
 #[tactic(auto, using(crate::proofs::NamesPast::none_left))]
 fn name_after<'i>(members: &'i Map<String, Value>, others: usize) -> Option<&'i str>
-    ensures name { option_map (λ k. k.now) result ≡ first_name (drop others (names_in (members_view members.now.entries))) }
+    ensures name { text_read result ≡ first_name (drop others (names_in (fields members.now))) }
 {
     let mut left = others;
     for (name, _) in members {
@@ -53,7 +53,7 @@ fn name_after<'i>(members: &'i Map<String, Value>, others: usize) -> Option<&'i 
 /// The name of this place among those of an object's members, as the object holds it.
 #[tactic(auto, using(crate::proofs::NamesPast::names_past))]
 fn name_of<'i>(members: &'i Map<String, Value>, place: usize) -> Option<&'i str>
-    ensures name { option_map (λ k. k.now) result ≡ first_name (drop place (names_in (members_view members.now.entries))) }
+    ensures name { text_read result ≡ first_name (drop place (names_in (fields members.now))) }
     ensures below { IfSome result (λ _. place < usize.MAX) }
 {
     if members.len() <= place {
@@ -64,7 +64,7 @@ fn name_of<'i>(members: &'i Map<String, Value>, place: usize) -> Option<&'i str>
 
 /// The name of this place among those of the members of the instance, as the instance holds it.
 fn name_in<'i>(instance: Instance<'i>, place: usize) -> Option<&'i str>
-    ensures name { option_map (λ k. k.now) result ≡ first_name (names_from place (subject_of instance.entry)) }
+    ensures name { text_read result ≡ first_name (names_from place (subject_of instance.entry)) }
     ensures below { IfSome result (λ _. place < usize.MAX) }
 {
     match instance {

@@ -1,15 +1,13 @@
 //! `x-items`, whose value is a schema that each item of an array is asked by, and `type` with the value "array". A run of `x-items`
 //! marks the number that its maker was given while it asks.
-ghost use Rattle.std.specs.Prelude.{◌≡◌, All, Bool, IfOk, true};
-ghost use Rattle.serde_json.specs.Data.{Data};
+ghost use Rattle.std.specs.Prelude.{◌≡◌, Bool, IfOk, true};
 ghost use Rattle.schema_reports.specs.InstanceViews.{subject_of};
-ghost use Rattle.schema_reports.specs.ReportViews.{BorrowsItsPlace};
-ghost use Rattle.schema_parts.specs.FaultViews.{errors_in, faults_in, PassesBorrowed};
 ghost use Rattle.schema_parts.specs.KeywordViews.{Tells, answer_of, reply_of, turn_of};
 ghost use Rattle.law_tests.specs.Items.{marks};
 ghost use Rattle.law_tests.specs.ItemsWords.{items_words, ways};
 ghost use Rattle.law_tests.specs.Marking.{shown, worked};
 ghost use Rattle.keyword_ways.specs.OwnWays.{own_words};
+ghost use Rattle.keyword_ways.specs.Borrowing.{Borrows};
 
 use crate::marking::{Stage, after_step, first_stage};
 use keyword_ways::items::is_list;
@@ -118,8 +116,7 @@ impl ItemsKeyword {
         ensures steps { IfOk result (λ step. (texts : Bool) → Tells texts true (subject_of instance.entry)
             → shown (marks self.now.planned.keyword) ((own_words ways texts).step self.now.planned.keyword
             (subject_of instance.entry) (run.old.1, answer_of texts answer.old) (reply_of texts reply.entry)) ≡ turn_of step) }
-        ensures borrows { IfOk result (λ _. (root : Data) → All (BorrowsItsPlace root) (errors_in reply.entry)
-            → All (PassesBorrowed root) (faults_in answer.old) → All (PassesBorrowed root) (faults_in answer.new)) }
+        ensures borrows { Borrows reply.entry answer.old answer.new result }
     {
         let step = self
             .planned

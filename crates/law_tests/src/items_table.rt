@@ -4,6 +4,7 @@ ghost use Rattle.std.specs.Prelude.{◌≡◌, ◌∷◌, [], IfOk};
 ghost use Rattle.schema_definitions.specs.Instance.{to_member};
 ghost use Rattle.schema_parts.specs.MakerViews.{maker_reply_of};
 ghost use Rattle.law_tests.specs.ItemsTable.{AsksValue, Given, own_name};
+ghost use Rattle.schema_parts.specs.Showing.{Yields};
 
 use crate::items::{ItemsKeyword, ItemsPlan};
 use keyword_ways::planned::Planned;
@@ -34,7 +35,7 @@ pub enum ItemsMaker {
 
 // The path of the keyword's value.
 fn value_path(alloc: Global) -> Result<SchemaPath, OutOfMemory>
-    ensures path { IfOk result (λ p. p ≡ to_member own_name ∷ []) }
+    ensures path { Yields result (to_member own_name ∷ []) }
 {
     let mut path = SchemaPath::root(alloc);
     path.push(SchemaStep::Member(RcStr::from_str(alloc, "x-items")?))?;

@@ -1,12 +1,14 @@
 //! A table that refuses the value of each member, with the value's own text, which has digits of fractions. It makes no keyword, so
 //! it is a table for every keyword type.
-ghost use Rattle.std.specs.Prelude.{◌≡◌, IfOk, false, not, option_map, string_bytes};
+ghost use Rattle.std.specs.Prelude.{◌≡◌, IfOk, false, not, string_bytes};
 ghost use Rattle.serde_json.specs.Find.{get_member};
-ghost use Rattle.serde_json.specs.View.{members_view, view};
+ghost use Rattle.serde_json.specs.View.{view};
 ghost use Rattle.serde_json.specs.Written.{compact_text, has_float};
 ghost use Rattle.schema_definitions.specs.Reports.{told_error};
 ghost use Rattle.schema_reports.specs.ReportViews.{owned_error_of};
 ghost use Rattle.law_tests.specs.PrintingTable.{ending_of, printed_error, refuses_value};
+ghost use Rattle.schema_parts.specs.Showing.{Shows};
+ghost use Rattle.schema_parts.specs.Readings.{fields, value_read};
 
 use schema_keywords::keywords::{Draft, VocabularySet};
 use schema_parts::keyword::Validate;
@@ -53,8 +55,7 @@ fn located(
 fn printed(alloc: Global, name: &String, value: &Value) -> Result<OwnedError, OutOfMemory>
     ensures error { IfOk result (λ e. told_error false (owned_error_of e)
         ≡ told_error false (printed_error (string_bytes name.now) (view value.now))) }
-    ensures text { IfOk result (λ e. has_float (view value.now) ≡ false
-        → string_bytes e.text ≡ compact_text (view value.now)) }
+    ensures text { IfOk result (λ e. has_float (view value.now) ≡ false → string_bytes e.text ≡ compact_text (view value.now)) }
 {
     let text = value.to_string(alloc)?;
     located(alloc, name, value, text)
@@ -71,7 +72,7 @@ fn refusal(alloc: Global, name: &String, value: &Value) -> Result<OwnedError, Ou
 
 // The value of this name in an object.
 fn value_in<'o>(object: &'o Map<String, Value>, name: &str) -> Option<&'o Value>
-    ensures value { option_map (λ v. view v.now) result ≡ get_member name.now (members_view object.now.entries) }
+    ensures value { value_read result ≡ get_member name.now (fields object.now) }
 {
     object.get(name)
 }
@@ -82,8 +83,7 @@ fn maker_with(
     name: &str,
     value: Option<&Value>,
 ) -> Result<PrintingMaker, OutOfMemory>
-    ensures maker { IfOk result (λ m. ending_of m
-        ≡ refuses_value name.now (option_map (λ v. view v.now) value.entry)) }
+    ensures maker { Shows ending_of result (refuses_value name.now (value_read value.entry)) }
 {
     match value {
         Some(value) => {
@@ -100,8 +100,7 @@ fn maker_of(
     name: &str,
     object: &Map<String, Value>,
 ) -> Result<PrintingMaker, OutOfMemory>
-    ensures maker { IfOk result (λ m. ending_of m
-        ≡ refuses_value name.now (get_member name.now (members_view object.now.entries))) }
+    ensures maker { Shows ending_of result (refuses_value name.now (get_member name.now (fields object.now))) }
 {
     maker_with(alloc, name, value_in(object, name))
 }

@@ -4,6 +4,8 @@ ghost use Rattle.serde_json.specs.Data.{Data};
 ghost use Rattle.schema_parts.specs.FaultViews.{faults_in, PassesBorrowed};
 ghost use Rattle.schema_parts.specs.KeywordViews.{answer_of, fault_of};
 ghost use Rattle.law_tests.specs.Refusals.{refusal, refused_in, told};
+ghost use Rattle.keyword_ways.specs.AnswerWords.{Becomes};
+ghost use Rattle.keyword_ways.specs.Borrowing.{Retains};
 
 use schema_parts::keyword::{Answer, Fault, Found, OwnError};
 use schema_reports::evaluation::ErrorDescription;
@@ -30,8 +32,7 @@ fn refusal<'i>(alloc: Global) -> Result<Fault<'i>, OutOfMemory>
 
 /// The answer of the same mode that refuses with the error.
 fn refused<'i>(alloc: Global, before: Answer<'i>) -> Result<Answer<'i>, OutOfMemory>
-    ensures refused { IfOk result (λ after. (texts : Bool) → answer_of texts after
-        ≡ refused_in texts (answer_of texts before.entry).mode) }
+    ensures refused { IfOk result (λ after. (texts : Bool) → answer_of texts after ≡ refused_in texts (answer_of texts before.entry).mode) }
     ensures borrows { IfOk result (λ after. (root : Data) → All (PassesBorrowed root) (faults_in after)) }
 {
     match before {
@@ -64,9 +65,8 @@ fn refused<'i>(alloc: Global, before: Answer<'i>) -> Result<Answer<'i>, OutOfMem
 
 /// Leaves the answer as it is where the keyword holds, and else makes it one that refuses.
 pub fn tell<'i>(alloc: Global, holds: bool, answer: &mut Answer<'i>) -> Result<(), OutOfMemory>
-    ensures told { IfOk result (λ _. (texts : Bool) → answer_of texts answer.new ≡ told texts holds (answer_of texts answer.old)) }
-    ensures borrows { IfOk result (λ _. (root : Data) → All (PassesBorrowed root) (faults_in answer.old)
-        → All (PassesBorrowed root) (faults_in answer.new)) }
+    ensures told { IfOk result (λ _. Becomes answer.old (λ texts a. told texts holds a) answer.new) }
+    ensures borrows { Retains answer.old answer.new result }
 {
     if !holds {
         let before = mem::replace(answer, Answer::Verdict(false));

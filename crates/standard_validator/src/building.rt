@@ -1,12 +1,12 @@
 //! Builds of validators.
 ghost use Rattle.std.specs.Prelude.{◌≡◌, ◌⊎◌, [], IfErr, IfOk};
 ghost use Rattle.serde_json.specs.View.{view};
-ghost use Rattle.bench_resolver.specs.BenchDocuments.{HasCustom, HasDrafts};
 ghost use Rattle.bench_subschemas.specs.declared.rules.Rule.TheVariants.{Standard};
 ghost use Rattle.schema_keys.specs.declared.error.BuildError.TheVariants.{OutOfMemory};
 ghost use Rattle.schema_parts.specs.Showing.{Yields};
 ghost use Rattle.standard_validator.specs.Built.{IsBuilt, IsBuiltOf, IsRefused, IsRefusedOf};
 ghost use Rattle.standard_validator.specs.Sources.{default_draft_of, options_by, uri_of};
+ghost use Rattle.bench_resolver.specs.BenchHolds.{Customs, Defaults, Drafts, GoesBy, Holds, IsUnder, Others};
 
 use crate::sources::Sources;
 use bench_resolver::resolver::StandardResolver;
@@ -55,13 +55,13 @@ fn options_for(
 
 /// The resolver of the schema and the documents.
 fn resolver_of<'a>(alloc: Global, sources: Sources<'a>) -> Result<StandardResolver<'a>, OutOfMemory>
-    ensures rule { IfOk result (λ r. r.rule ≡ Standard) }
-    ensures uri { IfOk result (λ r. r.uri ≡ uri_of sources.entry) }
-    ensures document { IfOk result (λ r. r.document ≡ sources.entry.schema) }
-    ensures others { IfOk result (λ r. r.others ≡ sources.entry.documents) }
-    ensures draft { IfOk result (λ r. r.default_draft ≡ default_draft_of sources.entry) }
-    ensures drafts { IfOk result (λ r. HasDrafts [] r.vocabularies) }
-    ensures custom { IfOk result (λ r. HasCustom [] r.vocabularies) }
+    ensures rule { GoesBy result Standard }
+    ensures uri { IsUnder result (uri_of sources.entry) }
+    ensures document { Holds result sources.entry.schema }
+    ensures others { Others result sources.entry.documents }
+    ensures draft { Defaults result (default_draft_of sources.entry) }
+    ensures drafts { Drafts result [] }
+    ensures custom { Customs result [] }
 {
     let draft = sources.draft.unwrap_or(Draft::Draft202012);
     let root = Document {

@@ -12,7 +12,7 @@ ghost use Rattle.schema_validator.specs.Handed.{Options};
 ghost use Rattle.bench_resolver.specs.BenchStates.{Point};
 ghost use Rattle.bench_keywords.specs.BenchShape.{BenchShape};
 ghost use Rattle.schema_parts.specs.Showing.{Shows};
-ghost use Rattle.bench_program.specs.ProgramMeaning.{AnswersFromSomeDepth, AnswersInEverySense, AnswersPlainly, BenchHasUnits, BenchMeans};
+ghost use Rattle.bench_program.specs.ProgramMeaning.{AnswersPlainly, BenchHasUnits, BenchMeans, FromDepth, InEverySense};
 ghost use Rattle.bench_program.specs.ProgramRuns.{answer_status};
 ghost use Rattle.bench_program.specs.ProgramTexts.{IsJsonLine, error_line, verdict_text};
 ghost use Rattle.bench_program.specs.declared.program.requests.Call.TheVariants.{Evaluate, IsValid, IterErrors, Validate};
@@ -70,10 +70,8 @@ fn verdict(
     validator: &Validator<BenchKeyword, BenchMatcher>,
     instance: &Value,
 ) -> Result<Answer, OutOfMemory>
-    ensures senses { IfOk result (λ a. AnswersInEverySense
-        validator.now (view instance.now) IsValid a.accepted (string_bytes a.text)) }
-    ensures depth { IfOk result (λ a. AnswersFromSomeDepth
-        validator.now (view instance.now) IsValid a.accepted (string_bytes a.text)) }
+    ensures senses { InEverySense validator.now (view instance.now) IsValid result }
+    ensures depth { FromDepth validator.now (view instance.now) IsValid result }
 {
     let mut work = Work::unlimited();
     let accepted = validator.is_valid_within(alloc, instance, &mut work)?;
@@ -98,10 +96,8 @@ fn first(
     validator: &Validator<BenchKeyword, BenchMatcher>,
     instance: &Value,
 ) -> Result<Answer, OutOfMemory>
-    ensures senses { IfOk result (λ a. AnswersInEverySense
-        validator.now (view instance.now) Validate a.accepted (string_bytes a.text)) }
-    ensures depth { IfOk result (λ a. AnswersFromSomeDepth
-        validator.now (view instance.now) Validate a.accepted (string_bytes a.text)) }
+    ensures senses { InEverySense validator.now (view instance.now) Validate result }
+    ensures depth { FromDepth validator.now (view instance.now) Validate result }
 {
     let mut work = Work::unlimited();
     match validator.validate_within(alloc, instance, &mut work)? {
@@ -126,10 +122,8 @@ fn errors(
     validator: &Validator<BenchKeyword, BenchMatcher>,
     instance: &Value,
 ) -> Result<Answer, OutOfMemory>
-    ensures senses { IfOk result (λ a. AnswersInEverySense
-        validator.now (view instance.now) IterErrors a.accepted (string_bytes a.text)) }
-    ensures depth { IfOk result (λ a. AnswersFromSomeDepth
-        validator.now (view instance.now) IterErrors a.accepted (string_bytes a.text)) }
+    ensures senses { InEverySense validator.now (view instance.now) IterErrors result }
+    ensures depth { FromDepth validator.now (view instance.now) IterErrors result }
 {
     let mut accepted = true;
     let mut text = String::new(alloc);
@@ -147,10 +141,8 @@ fn evaluation(
     validator: &Validator<BenchKeyword, BenchMatcher>,
     instance: &Value,
 ) -> Result<Answer, OutOfMemory>
-    ensures senses { IfOk result (λ a. AnswersInEverySense
-        validator.now (view instance.now) Evaluate a.accepted (string_bytes a.text)) }
-    ensures depth { IfOk result (λ a. AnswersFromSomeDepth
-        validator.now (view instance.now) Evaluate a.accepted (string_bytes a.text)) }
+    ensures senses { InEverySense validator.now (view instance.now) Evaluate result }
+    ensures depth { FromDepth validator.now (view instance.now) Evaluate result }
 {
     let mut work = Work::unlimited();
     let evaluation = validator.evaluate_within(alloc, instance, &mut work)?;
@@ -180,16 +172,14 @@ pub fn ask(
     call: Call,
     instance: &Value,
 ) -> Result<Answer, OutOfMemory>
-    ensures senses { IfOk result (λ a. AnswersInEverySense
-        validator.now (view instance.now) call a.accepted (string_bytes a.text)) }
+    ensures senses { InEverySense validator.now (view instance.now) call result }
     ensures means { IfOk result
         (λ a. (resolver : Resolver Point) (table : Table BenchShape) (matcher : Matcher) (options : Options) (schema : Data)
         → BenchMeans resolver table matcher options schema validator.now
         → BenchHasUnits resolver table matcher options schema validator.now
         → AnswersPlainly resolver table matcher options schema validator.now.runs
         (view instance.now) call a.accepted (string_bytes a.text)) }
-    ensures depth { IfOk result (λ a. AnswersFromSomeDepth
-        validator.now (view instance.now) call a.accepted (string_bytes a.text)) }
+    ensures depth { FromDepth validator.now (view instance.now) call result }
 {
     match call {
         Call::IsValid => verdict(alloc, validator, instance),
