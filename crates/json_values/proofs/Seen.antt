@@ -1,12 +1,9 @@
 -- Items whose keys were met before, one after another.
-use Rattle.std.proofs.Common.{◌≡◌, ◌&&◌, ◌||◌, ◌+◌, ◌<◌, Bool, List, Some, [], ℕ, ap, cond, drop, false, get_or, is_eq, length, nat_cmp, not, refl, sym, true, true≢false, unwrap_or, ◌∙◌}
+use Rattle.std.proofs.Common.{◌≡◌, ◌&&◌, ◌||◌, ◌+◌, ◌<◌, Bool, List, Some, [], ℕ, ap, cond, drop, false, get_or, is_eq, length, not, refl, sym, true, true≢false, unwrap_or, ◌∙◌}
 use Rattle.std.proofs.lemmas.List.{at_drop_more}
-use denote.Ref.{Bor}
-use Rattle.std.specs.Cmp.Lexicographic.{slice_cmp}
 use Rattle.std.specs.List.{list_any}
-use Rattle.std.proofs.lemmas.Map.Text.{is_eq-slice_cmp}
 use Rattle.serde_json.specs.Data.{Data, Items, Num, array, boolean, item, no_items, null, number, object, string}
-use Rattle.serde_json.specs.Find.{as_number, as_str}
+use Rattle.serde_json.specs.Find.{as_number}
 use Rattle.serde_json.specs.View.{items_view, view}
 use Rattle.serde_json.specs.declared.value.Value.{Value}
 use Rattle.json_values.specs.Equality.{all_distinct, equal, has_equal}
@@ -101,36 +98,3 @@ number_added n ks ls updates (number m) = updates m
 number_added n ks ls updates (string s) = refl
 number_added n ks ls updates (array ds) = refl
 number_added n ks ls updates (object ms) = refl
-
--- ---- texts
-
-pub is_text : (d : Data) (s : List ℕ) → as_str d ≡ Some s → d ≡ string s
-is_text null s h = absurd (cc h)
-is_text (boolean b) s h = absurd (cc h)
-is_text (number m) s h = absurd (cc h)
-is_text (string r) s h = ap (λ o. string (unwrap_or o s)) h
-is_text (array ds) s h = absurd (cc h)
-is_text (object ms) s h = absurd (cc h)
-
-abbrev pub text_met : List (Bor (List ℕ)) → Data → Bool
-text_met ks (string s) = list_any (λ k. is_eq (slice_cmp nat_cmp s k.now)) ks
-text_met ks _ = false
-
-pub no_text : (e : Data) → text_met [] e ≡ false
-no_text null = refl
-no_text (boolean b) = refl
-no_text (number n) = refl
-no_text (string s) = refl
-no_text (array ds) = refl
-no_text (object ms) = refl
-
-pub text_added : (s : List ℕ) (ks ls : List (Bor (List ℕ)))
-    → ((r : List ℕ) → list_any (λ k. is_eq (slice_cmp nat_cmp r k.now)) ls
-    ≡ cond (is_eq (slice_cmp nat_cmp s r)) true (list_any (λ k. is_eq (slice_cmp nat_cmp r k.now)) ks))
-    → Adds (text_met ks) (text_met ls) (string s)
-text_added s ks ls updates null = refl
-text_added s ks ls updates (boolean b) = refl
-text_added s ks ls updates (number m) = refl
-text_added s ks ls updates (string r) = updates r ∙ ap (λ b. cond b true (text_met ks (string r))) (is_eq-slice_cmp s r)
-text_added s ks ls updates (array ds) = refl
-text_added s ks ls updates (object ms) = refl

@@ -1,8 +1,10 @@
 //! Whether the items of a list are distinct (JSON Schema Validation 2020-12, 6.4.3), in n log n steps where all are numbers
 //! or all are texts.
-ghost use Rattle.std.specs.Prelude.{◌≡◌, IfOk, IfSome};
+ghost use Rattle.std.specs.Prelude.{◌≡◌, ◌↔◌, IfOk, IfSome, IsTrue, map};
+ghost use Rattle.std.specs.List.{IsDistinct};
 ghost use Rattle.serde_json.specs.View.{items_view};
 ghost use Rattle.json_values.specs.Equality.{all_distinct};
+ghost use Rattle.json_values.specs.Keys.{key_of_text, keyed_text, keyed_value};
 
 use crate::OutOfMemory;
 use crate::equality::are_all_distinct_by_pairs;
@@ -11,6 +13,7 @@ use serde_json::{Number, Value};
 use std::alloc::Global;
 use std::cmp::Ordering;
 use std::collections::BTreeSet;
+use std::hash::{FoldHasher, Hasher};
 use std::marker::Model;
 
 /// Up to so many items are compared by pairs.
@@ -101,20 +104,54 @@ fn are_distinct_numbers(alloc: Global, values: &[Value]) -> Result<Option<bool>,
     Ok(Some(true))
 }
 
-/// Whether no two of the values are equal, if all up to the first equal one are texts.
-fn are_distinct_texts(alloc: Global, values: &[Value]) -> Result<Option<bool>, OutOfMemory>
-    ensures distinct { IfOk result (λ answer. IfSome answer (λ distinct. distinct ≡ all_distinct (items_view values.now))) }
+/// Whether no two of the items are equal. It sorts them.
+fn are_distinct_by_sorting<T: Ord>(items: &mut [T]) -> bool
+    ensures distinct { IsTrue result ↔ IsDistinct T.eq items.old }
 {
-    let mut seen = BTreeSet::new(alloc);
+    items.sort_unstable();
+    for later in 1..items.len() {
+        if items[later - 1] == items[later] {
+            return false;
+        }
+    }
+    true
+}
+
+/// A key that equal texts share: a hash, by which most texts are told apart.
+#[tactic(auto, unfolding(crate::specs::Keys::key_of_text))]
+fn key_of_text(text: &str) -> u64
+    ensures key { result ≡ key_of_text text.now }
+{
+    let mut hasher = FoldHasher::default();
+    hasher.write(text.as_bytes());
+    hasher.finish()
+}
+
+/// The texts, each behind its key, if all values are texts.
+fn keyed_texts<'a>(
+    alloc: Global,
+    values: &'a [Value],
+) -> Result<Option<Vec<(u64, &'a str)>>, OutOfMemory>
+    ensures texts { IfOk result (λ answer. IfSome answer (λ keyed. map keyed_text keyed.items ≡ map keyed_value values.now)) }
+{
+    let mut keyed = Vec::with_capacity(alloc, values.len())?;
     for value in values {
         let Some(text) = value.as_str() else {
             return Ok(None);
         };
-        if !seen.insert(text)? {
-            return Ok(Some(false));
-        }
+        keyed.push((key_of_text(text), text))?;
     }
-    Ok(Some(true))
+    Ok(Some(keyed))
+}
+
+/// Whether no two of the values are equal, if all are texts. The texts are sorted, by their keys first.
+fn are_distinct_texts(alloc: Global, values: &[Value]) -> Result<Option<bool>, OutOfMemory>
+    ensures distinct { IfOk result (λ answer. IfSome answer (λ distinct. distinct ≡ all_distinct (items_view values.now))) }
+{
+    let Some(mut keyed) = keyed_texts(alloc, values)? else {
+        return Ok(None);
+    };
+    Ok(Some(are_distinct_by_sorting(&mut keyed)))
 }
 
 /// Whether no two of the values are equal, as `uniqueItems` wants. Where all are numbers or all are texts it takes n log n
