@@ -7,6 +7,8 @@ use Rattle.serde_json.specs.Data.{Data, array, boolean, null, number, object, st
 use Rattle.serde_json.specs.View.{items_view, view}
 use Rattle.serde_json.specs.declared.value.Value.{Value}
 use Rattle.json_values.specs.Equality.{all_distinct, equal, has_equal}
+use Rattle.json_values.specs.Numbers.{value_of}
+use Rattle.json_values.proofs.RoundedKeys.{same_number_key}
 use Rattle.json_values.specs.Keys.{key_of, key_of_text, keyed_equal, keyed_value}
 
 -- equal values share a key
@@ -25,7 +27,7 @@ share_key (boolean x) (array y) h = refl
 share_key (boolean x) (object y) h = refl
 share_key (number x) null h = absurd (true≢false (sym h))
 share_key (number x) (boolean y) h = absurd (true≢false (sym h))
-share_key (number x) (number y) h = refl
+share_key (number x) (number y) h = same_number_key (value_of x) (value_of y) h
 share_key (number x) (string y) h = absurd (true≢false (sym h))
 share_key (number x) (array y) h = absurd (true≢false (sym h))
 share_key (number x) (object y) h = absurd (true≢false (sym h))

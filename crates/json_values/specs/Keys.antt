@@ -1,24 +1,39 @@
 -- Keys by which values are sorted: equal values share one, and others mostly do not.
 use Rattle.std.specs.Prelude.{Bool, List, ℕ, ◌&&◌, ◌==◌}
+use Rattle.std.specs.Float.{Float, binary64, float_key, round_to_format}
 use Rattle.std.specs.Hash.FoldHasher.{finish, initial, write}
 use denote.Ref.{Bor}
-use Rattle.serde_json.specs.Data.{Data, string}
+use Rattle.serde_json.specs.Data.{Data, Num, number, string}
 use Rattle.serde_json.specs.View.{view}
 use Rattle.serde_json.specs.declared.value.Value.{Value}
 use Rattle.json_values.specs.Equality.{equal}
+use Rattle.json_values.specs.Numbers.{value_of}
 
 -- the hash of a text
 unfoldable pub key_of_text : List ℕ → ℕ
 key_of_text text = finish (write initial text)
 
+-- the bits of the nearest float, and one key for both zeros
+abbrev pub key_of_float : Float → ℕ
+key_of_float x = float_key binary64 (round_to_format binary64 x)
+
+-- an integer has the key of the float nearest to it, so 1 has that of 1.0
+abbrev pub key_of_number : Num → ℕ
+key_of_number n = key_of_float (value_of n)
+
 -- the key of a value
 abbrev pub key_of : Data → ℕ
 key_of (string text) = key_of_text text
+key_of (number n) = key_of_number n
 key_of _ = 0
 
 -- a value behind its key
 abbrev pub keyed_value : Value → ℕ × Data
 keyed_value value = (key_of (view value), view value)
+
+-- a number behind a key
+abbrev pub keyed_number : ℕ × Num → ℕ × Data
+keyed_number k = (k.0, number k.1)
 
 -- a text behind a key
 abbrev pub keyed_text : ℕ × Bor (List ℕ) → ℕ × Data

@@ -2,9 +2,9 @@
 //! or all are texts.
 ghost use Rattle.std.specs.Prelude.{◌≡◌, ◌↔◌, IfOk, IfSome, IsTrue, map};
 ghost use Rattle.std.specs.List.{IsDistinct};
-ghost use Rattle.serde_json.specs.View.{items_view};
+ghost use Rattle.serde_json.specs.View.{items_view, number_view};
 ghost use Rattle.json_values.specs.Equality.{all_distinct};
-ghost use Rattle.json_values.specs.Keys.{key_of_text, keyed_text, keyed_value};
+ghost use Rattle.json_values.specs.Keys.{key_of_float, key_of_number, key_of_text, keyed_number, keyed_text, keyed_value};
 
 use crate::OutOfMemory;
 use crate::equality::are_all_distinct_by_pairs;
@@ -12,7 +12,6 @@ use crate::numbers::{compare, is_same_number};
 use serde_json::{Number, Value};
 use std::alloc::Global;
 use std::cmp::Ordering;
-use std::collections::BTreeSet;
 use std::hash::{FoldHasher, Hasher};
 use std::marker::Model;
 
@@ -88,22 +87,6 @@ impl Ord for OrderedNumber {
     }
 }
 
-/// Whether no two of the values are equal, if all up to the first equal one are numbers.
-fn are_distinct_numbers(alloc: Global, values: &[Value]) -> Result<Option<bool>, OutOfMemory>
-    ensures distinct { IfOk result (λ answer. IfSome answer (λ distinct. distinct ≡ all_distinct (items_view values.now))) }
-{
-    let mut seen = BTreeSet::new(alloc);
-    for value in values {
-        let Some(number) = value.as_number() else {
-            return Ok(None);
-        };
-        if !seen.insert(OrderedNumber { number: *number })? {
-            return Ok(Some(false));
-        }
-    }
-    Ok(Some(true))
-}
-
 /// Whether no two of the items are equal. It sorts them.
 fn are_distinct_by_sorting<T: Ord>(items: &mut [T]) -> bool
     ensures distinct { IsTrue result ↔ IsDistinct T.eq items.old }
@@ -149,6 +132,54 @@ fn are_distinct_texts(alloc: Global, values: &[Value]) -> Result<Option<bool>, O
     ensures distinct { IfOk result (λ answer. IfSome answer (λ distinct. distinct ≡ all_distinct (items_view values.now))) }
 {
     let Some(mut keyed) = keyed_texts(alloc, values)? else {
+        return Ok(None);
+    };
+    Ok(Some(are_distinct_by_sorting(&mut keyed)))
+}
+
+/// A key that equal floats share: the bits, which are those of 0.0 for -0.0.
+fn key_of_float(x: f64) -> u64
+    ensures key { result ≡ key_of_float x }
+{
+    if x.is_nan() {
+        return 1 << 63;
+    }
+    let bits = x.to_bits();
+    if bits == 1 << 63 { 0 } else { bits }
+}
+
+/// A key that equal numbers share: that of the nearest float.
+fn key_of_number(number: &Number) -> u64
+    ensures key { result ≡ key_of_number (number_view number.now) }
+{
+    match number.as_f64() {
+        Some(x) => key_of_float(x),
+        None => 0,
+    }
+}
+
+/// The numbers, each behind its key, if all values are numbers.
+fn keyed_numbers(
+    alloc: Global,
+    values: &[Value],
+) -> Result<Option<Vec<(u64, OrderedNumber)>>, OutOfMemory>
+    ensures numbers { IfOk result (λ answer. IfSome answer (λ keyed. map keyed_number keyed.items ≡ map keyed_value values.now)) }
+{
+    let mut keyed = Vec::with_capacity(alloc, values.len())?;
+    for value in values {
+        let Some(number) = value.as_number() else {
+            return Ok(None);
+        };
+        keyed.push((key_of_number(number), OrderedNumber { number: *number }))?;
+    }
+    Ok(Some(keyed))
+}
+
+/// Whether no two of the values are equal, if all are numbers. The numbers are sorted, by their keys first.
+fn are_distinct_numbers(alloc: Global, values: &[Value]) -> Result<Option<bool>, OutOfMemory>
+    ensures distinct { IfOk result (λ answer. IfSome answer (λ distinct. distinct ≡ all_distinct (items_view values.now))) }
+{
+    let Some(mut keyed) = keyed_numbers(alloc, values)? else {
         return Ok(None);
     };
     Ok(Some(are_distinct_by_sorting(&mut keyed)))

@@ -8,12 +8,14 @@ never_both b t e p q = sym q ∙ sym e ∙ p
 pub returns-then-eq : goal.returns-then-eq
 returns-then-eq g c =
     let new = c.sort_unstable.new.self in
+    let x = c.index-items-later.result in
+    let y = c.index-items-later-in-loop-later.result in
     record {
       distinct = (
         λ never. absurd (true≢false (sym never)),
-        λ h. never_both _ _ c.eq.ensures c.if-eq.true
+        λ h. never_both c.eq.result (g.T.PartialEq.eq x y) c.eq.ensures c.if-eq.true
             (equal_neighbours g.met.T.Ord.total g.met.T.Ord.matches_eq c.args.items.now new c.sort_unstable.ensures.permutation h
-            c.loop-later.later _ _ c.loop-later.auto.later c.loop-later-test.true c.index-items-later.is c.index-items-later-in-loop-later.is),
+            c.loop-later.later x y c.loop-later.auto.later c.loop-later-test.true c.index-items-later.is c.index-items-later-in-loop-later.is),
       );
     }
 

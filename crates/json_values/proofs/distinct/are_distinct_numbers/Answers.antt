@@ -1,26 +1,12 @@
-use Rattle.std.proofs.Common.{◌≡◌, ◌∙◌, ◌+◌, ap, drop, false, option_map, subst, sym, []}
-use Rattle.serde_json.specs.Data.{item, number}
-use Rattle.serde_json.specs.View.{items_view, number_view, view}
-use Rattle.json_values.specs.Equality.{all_distinct}
-use Rattle.json_values.proofs.Seen.{first_item, is_number, items_at, new_item, no_number, not_met, number_added, number_met, rest_distinct}
+use Rattle.std.proofs.Common.{◌∙◌, ap, map, refl}
+use Rattle.json_values.specs.Keys.{keyed_number}
+use Rattle.json_values.proofs.Keyed.{distinct_by_keys}
 use Rattle.json_values.proofs.distinct.are_distinct_numbers.Goals as goal
 
-pub loop-value-init : goal.loop-value-init
-loop-value-init c =
-    let all = items_view c.args.values.now in
-    subst (λ ks. all_distinct all ≡ rest_distinct (number_met ks) all) (sym c.new-seen.ensures.empty) (first_item (number_met []) no_number all)
-
-pub loop-value-preserved : goal.loop-value-preserved
-loop-value-preserved c =
-    let values = c.args.values.now in
-    let i = c.loop-value.value-index in
-    let x = c.value-item.result in
-    let n = number_view c.in-Some.number.now in
-    let rest = items_view (drop (i + 1) values) in
-    let before = number_met c.loop-value.seen.keys in
-    let after = number_met c.insert.new.self.keys in
-    let is : view x ≡ number n = is_number (view x) n (sym c.as_number.ensures ∙ ap (option_map (λ m. number_view m.now)) c.in-Some.is) in
-    let here : items_view (drop i values) ≡ item (number n) rest = items_at values i x c.loop-value-test.true c.value-item.is ∙ ap (λ d. item d rest) is in
-    let fresh : before (number n) ≡ false = not_met _ _ c.in_ok-insert.ensures.added c.if-not-branch.false in
-    c.loop-value.invariant ∙ ap (rest_distinct before) here
-    ∙ new_item before after (number n) rest fresh (number_added n c.loop-value.seen.keys c.insert.new.self.keys c.in_ok-insert.ensures.updates.0)
+pub returns : goal.returns
+returns c =
+    let numbers = rw c.in-Some.is at c.in_ok-keyed.ensures.numbers in
+    record {
+      distinct = distinct_by_keys _ keyed_number (λ x y. refl) c.deref_mut.result.now c.args.values.now c.are_distinct_by_sorting.result
+          (ap (map keyed_number) c.deref_mut.ensures.value ∙ numbers) c.are_distinct_by_sorting.ensures.distinct;
+    }
