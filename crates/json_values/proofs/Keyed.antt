@@ -1,5 +1,5 @@
 -- Values are distinct where they are so behind keys that equal values share.
-use Rattle.std.proofs.Common.{◌≡◌, ◌∙◌, ◌&&◌, ◌||◌, ◌==◌, ◌↔◌, Bool, IsTrue, List, [], ◌∷◌, ℕ, ap, arith, false, map, not, refl, subst, sym, true, true≢false}
+use Rattle.std.proofs.Common.{◌≡◌, ◌∙◌, ◌&&◌, ◌||◌, ◌==◌, ◌↔◌, Bool, IsTrue, List, [], ◌∷◌, ℕ, ap, arith, false, inl, inr, length, map, not, refl, subst, suc, sym, take, take_all, true, true≢false, zero, ◌⊎◌}
 use Rattle.std.specs.List.{AllByRecursion, IsDistinct}
 use Rattle.std.proofs.lemmas.Bool.Decides.{nat_tests}
 use Rattle.std.proofs.lemmas.Slice.Eq.{bytes_eq-Decides}
@@ -127,3 +127,27 @@ distinct_by_keys e f agree ks vs b is test =
     (subst (IsDistinct keyed_equal) is (distinct_mapped e keyed_equal f agree ks (test.0 yes)))))
     (λ h. test.1 (distinct_before e keyed_equal f agree ks
     (subst (IsDistinct keyed_equal) (sym is) (distinct_mapped equal_values keyed_equal keyed_value same_keyed vs (items_distinct vs h)))))
+
+-- ---- of the first items alone
+
+apart_first : (P : Value → Type 0) (n : ℕ) (vs : List Value) → AllByRecursion P vs → AllByRecursion P (take n vs)
+apart_first P zero vs h = tt
+apart_first P (suc n) [] h = tt
+apart_first P (suc n) (v ∷ vs) h = (h.0, apart_first P n vs h.1)
+
+distinct_first : (n : ℕ) (vs : List Value) → IsDistinct equal_values vs → IsDistinct equal_values (take n vs)
+unfolding IsDistinct
+distinct_first zero vs h = tt
+distinct_first (suc n) [] h = tt
+distinct_first (suc n) (v ∷ vs) h = (apart_first (λ w. equal_values v w ≡ false) n vs h.0, distinct_first n vs h.1)
+
+same_if : (a b : Bool) → a ≡ false → (b ≡ true → a ≡ true) → a ≡ b
+same_if a true is h = h refl
+same_if a false is h = is
+
+-- where the first items are not distinct, all are not
+pub distinct_by_first : (n : ℕ) (vs : List Value) (b : Bool) → b ≡ all_distinct (items_view (take n vs)) → ((b ≡ true) × (n ≡ length vs)) ⊎ (b ≡ false)
+    → b ≡ all_distinct (items_view vs)
+distinct_by_first n vs b is (inl all) = is ∙ ap (λ l. all_distinct (items_view l)) (take_all n vs (omega (arith, all.1)))
+distinct_by_first n vs b is (inr found) =
+    same_if b (all_distinct (items_view vs)) found (λ h. is ∙ distinct_items (take n vs) (distinct_first n vs (items_distinct vs h)))

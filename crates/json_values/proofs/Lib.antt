@@ -4,5 +4,6 @@ pub mod Dividing
 pub mod Keyed
 pub mod RoundedKeys
 pub mod Sizing
+pub mod Slots
 pub mod Sorting
 pub mod Walking

@@ -1,5 +1,5 @@
 -- Keys by which values are sorted: equal values share one, and others mostly do not.
-use Rattle.std.specs.Prelude.{Bool, List, ℕ, ◌&&◌, ◌==◌}
+use Rattle.std.specs.Prelude.{◌≡◌, Bool, List, ℕ, ◌*◌, ◌/◌, ◌%◌, ◌^◌, ◌<◌, ◌&&◌, ◌==◌, length, slice_index}
 use Rattle.std.specs.Float.{Float, binary64, float_key, round_to_format}
 use Rattle.std.specs.Hash.FoldHasher.{finish, initial, write}
 use denote.Ref.{Bor}
@@ -8,6 +8,7 @@ use Rattle.serde_json.specs.View.{view}
 use Rattle.serde_json.specs.declared.value.Value.{Value}
 use Rattle.json_values.specs.Equality.{equal}
 use Rattle.json_values.specs.Numbers.{value_of}
+use Rattle.json_values.specs.declared.distinct.TheConstants.{MIXER, MORE}
 
 -- the hash of a text
 unfoldable pub key_of_text : List ℕ → ℕ
@@ -42,3 +43,16 @@ keyed_text k = (k.0, string k.1.now)
 -- keys and values are equal
 abbrev pub keyed_equal : ℕ × Data → ℕ × Data → Bool
 keyed_equal k l = (k.0 == l.0) && equal k.1 l.1
+
+-- the slot of a key in a table of so many: the key times an odd number, less what is past 64 bits, brought down to their number
+unfoldable pub slot_of : ℕ → ℕ → ℕ
+slot_of key slots = (key * MIXER % 2 ^ 64) * slots / 2 ^ 64
+
+-- the table says that more than one key has the slot of this one
+abbrev pub is_shared : List ℕ → ℕ → Bool
+is_shared met key = slice_index met (slot_of key (length met)) == MORE
+
+-- where two of the first keys have one slot, the table says so
+abbrev pub IsMarked : List ℕ → List ℕ → ℕ → Type 0
+IsMarked met keys count = (i j : ℕ) → i < j → j < count → slot_of (slice_index keys i) (length met) ≡ slot_of (slice_index keys j) (length met)
+    → slice_index met (slot_of (slice_index keys j) (length met)) ≡ MORE

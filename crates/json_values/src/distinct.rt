@@ -1,9 +1,10 @@
-//! Whether the items of a list are distinct (JSON Schema Validation 2020-12, 6.4.3), in n log n steps where all are numbers
-//! or all are texts.
-ghost use Rattle.std.specs.Prelude.{◌≡◌, ◌↔◌, IfOk, IfSome, IsTrue, map};
+//! Whether the items of a list are distinct (JSON Schema Validation 2020-12, 6.4.3). Where all are numbers or all are texts it
+//! takes n steps in the usual case, and n log n at worst.
+ghost use Rattle.std.specs.Prelude.{◌≡◌, ◌<◌, ◌↔◌, IfOk, IfSome, IsTrue, length, map, take, vec_len};
 ghost use Rattle.std.specs.List.{IsDistinct};
 ghost use Rattle.serde_json.specs.View.{items_view, number_view};
 ghost use Rattle.json_values.specs.Equality.{all_distinct};
+ghost use Rattle.json_values.specs.Keys.{IsMarked, is_shared, slot_of};
 ghost use Rattle.json_values.specs.Keys.{key_of_float, key_of_number, key_of_text, keyed_number, keyed_text, keyed_value};
 
 use crate::OutOfMemory;
@@ -17,6 +18,21 @@ use std::marker::Model;
 
 /// Up to so many items are compared by pairs.
 const FEW: usize = 8;
+
+/// An odd number, by which keys are multiplied to mix their bits.
+const MIXER: u64 = 0x9e37_79b9_7f4a_7c15;
+
+/// So many slots are kept for each item.
+const SLOTS_AN_ITEM: usize = 4;
+
+/// A slot that no key has.
+const NONE: u8 = 0;
+
+/// A slot that one key has.
+const ONE: u8 = 1;
+
+/// A slot that more than one key has.
+const MORE: u8 = 2;
 
 /// A number that is ordered as the number that it is. Contracts see that number.
 #[derive(Drop)]
@@ -100,6 +116,52 @@ fn are_distinct_by_sorting<T: Ord>(items: &mut [T]) -> bool
     true
 }
 
+/// The slot of a key in a table of so many slots. The key is mixed first, so that keys that are near have slots that are far.
+#[tactic(auto, unfolding(crate::specs::Keys::slot_of))]
+fn slot_of(key: u64, slots: usize) -> usize
+    ensures slot { result ≡ slot_of key slots }
+    ensures within { 0 < slots → result < slots }
+{
+    let mixed = key.wrapping_mul(MIXER);
+    ((mixed as u128 * slots as u128) >> 64) as usize
+}
+
+/// A table in which each slot says whether no key, one key or more than one has it.
+fn count_slots<T>(alloc: Global, keyed: &[(u64, T)]) -> Result<Vec<u8>, OutOfMemory>
+    ensures marked { IfOk result (λ met. IsMarked met.items (map (λ k. k.0) keyed.now) (length keyed.now)) }
+{
+    let mut met = vec![in alloc; NONE; keyed.len().saturating_mul(SLOTS_AN_ITEM)]?;
+    for item in keyed {
+        let slot = slot_of(item.0, met.len());
+        let mark = if met[slot] == NONE { ONE } else { MORE };
+        met[slot] = mark;
+    }
+    Ok(met)
+}
+
+/// Whether more than one key has the slot of this one.
+fn is_shared(met: &[u8], key: u64) -> bool
+    ensures { result ≡ is_shared met.now key }
+{
+    match met.get(slot_of(key, met.len())) {
+        Some(count) => *count == MORE,
+        None => false,
+    }
+}
+
+/// Whether no two of the items, each behind a key, are equal. Items whose slot no other has are equal to none. The others are
+/// sorted: mostly few, but all of them at worst.
+fn are_distinct_by_slots<T: Ord + Drop>(
+    alloc: Global,
+    mut keyed: Vec<(u64, T)>,
+) -> Result<bool, OutOfMemory>
+    ensures distinct { IfOk result (λ distinct. IsTrue distinct ↔ IsDistinct ⟦<(u64, T) as PartialEq>⟧.eq keyed.items) }
+{
+    let met = count_slots(alloc, &keyed)?;
+    keyed.retain(|item| is_shared(&met, item.0));
+    Ok(are_distinct_by_sorting(&mut keyed))
+}
+
 /// A key that equal texts share: a hash, by which most texts are told apart.
 #[tactic(auto, unfolding(crate::specs::Keys::key_of_text))]
 fn key_of_text(text: &str) -> u64
@@ -110,31 +172,31 @@ fn key_of_text(text: &str) -> u64
     hasher.finish()
 }
 
-/// The texts, each behind its key, if all values are texts.
-fn keyed_texts<'a>(
-    alloc: Global,
-    values: &'a [Value],
-) -> Result<Option<Vec<(u64, &'a str)>>, OutOfMemory>
-    ensures texts { IfOk result (λ answer. IfSome answer (λ keyed. map keyed_text keyed.items ≡ map keyed_value values.now)) }
+/// The texts before the first value of another kind, each behind its key.
+fn keyed_texts<'a>(alloc: Global, values: &'a [Value]) -> Result<Vec<(u64, &'a str)>, OutOfMemory>
+    ensures texts { IfOk result (λ keyed. map keyed_text keyed.items ≡ map keyed_value (take (vec_len keyed) values.now)) }
 {
     let mut keyed = Vec::with_capacity(alloc, values.len())?;
     for value in values {
         let Some(text) = value.as_str() else {
-            return Ok(None);
+            return Ok(keyed);
         };
         keyed.push((key_of_text(text), text))?;
     }
-    Ok(Some(keyed))
+    Ok(keyed)
 }
 
-/// Whether no two of the values are equal, if all are texts. The texts are sorted, by their keys first.
+/// Whether no two of the values are equal, if all are texts, or if two of the first texts are equal.
 fn are_distinct_texts(alloc: Global, values: &[Value]) -> Result<Option<bool>, OutOfMemory>
     ensures distinct { IfOk result (λ answer. IfSome answer (λ distinct. distinct ≡ all_distinct (items_view values.now))) }
 {
-    let Some(mut keyed) = keyed_texts(alloc, values)? else {
+    let keyed = keyed_texts(alloc, values)?;
+    let all = keyed.len() == values.len();
+    let distinct = are_distinct_by_slots(alloc, keyed)?;
+    if distinct && !all {
         return Ok(None);
-    };
-    Ok(Some(are_distinct_by_sorting(&mut keyed)))
+    }
+    Ok(Some(distinct))
 }
 
 /// A key that equal floats share: the bits, which are those of 0.0 for -0.0.
@@ -158,35 +220,36 @@ fn key_of_number(number: &Number) -> u64
     }
 }
 
-/// The numbers, each behind its key, if all values are numbers.
-fn keyed_numbers(
-    alloc: Global,
-    values: &[Value],
-) -> Result<Option<Vec<(u64, OrderedNumber)>>, OutOfMemory>
-    ensures numbers { IfOk result (λ answer. IfSome answer (λ keyed. map keyed_number keyed.items ≡ map keyed_value values.now)) }
+/// The numbers before the first value of another kind, each behind its key.
+fn keyed_numbers(alloc: Global, values: &[Value]) -> Result<Vec<(u64, OrderedNumber)>, OutOfMemory>
+    ensures numbers { IfOk result (λ keyed. map keyed_number keyed.items ≡ map keyed_value (take (vec_len keyed) values.now)) }
 {
     let mut keyed = Vec::with_capacity(alloc, values.len())?;
     for value in values {
         let Some(number) = value.as_number() else {
-            return Ok(None);
+            return Ok(keyed);
         };
         keyed.push((key_of_number(number), OrderedNumber { number: *number }))?;
     }
-    Ok(Some(keyed))
+    Ok(keyed)
 }
 
-/// Whether no two of the values are equal, if all are numbers. The numbers are sorted, by their keys first.
+/// Whether no two of the values are equal, if all are numbers, or if two of the first numbers are equal.
 fn are_distinct_numbers(alloc: Global, values: &[Value]) -> Result<Option<bool>, OutOfMemory>
     ensures distinct { IfOk result (λ answer. IfSome answer (λ distinct. distinct ≡ all_distinct (items_view values.now))) }
 {
-    let Some(mut keyed) = keyed_numbers(alloc, values)? else {
+    let keyed = keyed_numbers(alloc, values)?;
+    let all = keyed.len() == values.len();
+    let distinct = are_distinct_by_slots(alloc, keyed)?;
+    if distinct && !all {
         return Ok(None);
-    };
-    Ok(Some(are_distinct_by_sorting(&mut keyed)))
+    }
+    Ok(Some(distinct))
 }
 
-/// Whether no two of the values are equal, as `uniqueItems` wants. Where all are numbers or all are texts it takes n log n
-/// steps, else up to n² of `is_equal`; truth values and nulls are told apart in the first few.
+/// Whether no two of the values are equal, as `uniqueItems` wants. Where all are numbers or all are texts it takes n steps
+/// in the usual case, and n log n at worst, whoever chose the items; else up to n² of `is_equal`, unless two numbers or two
+/// texts at the front are equal; truth values and nulls are told apart in the first few.
 ///
 /// # Errors
 ///

@@ -1,12 +1,15 @@
-use Rattle.std.proofs.Common.{◌∙◌, ap, map, refl}
+use Rattle.std.proofs.Common.{◌≡◌, ◌⊎◌, false, length, refl, subst, true, vec_len}
 use Rattle.json_values.specs.Keys.{keyed_text}
-use Rattle.json_values.proofs.Keyed.{distinct_by_keys}
+use Rattle.json_values.proofs.Keyed.{distinct_by_first, distinct_by_keys}
 use Rattle.json_values.proofs.distinct.are_distinct_texts.Goals as goal
 
 pub returns : goal.returns
 returns c =
-    let texts = rw c.in-Some.is at c.in_ok-keyed.ensures.texts in
+    let keyed = c.in_ok-keyed.keyed in
+    let values = c.args.values.now in
+    let distinct = c.in_ok-distinct.distinct in
     record {
-      distinct = distinct_by_keys _ keyed_text (λ x y. refl) c.deref_mut.result.now c.args.values.now c.are_distinct_by_sorting.result
-          (ap (map keyed_text) c.deref_mut.ensures.value ∙ texts) c.are_distinct_by_sorting.ensures.distinct;
+      distinct = distinct_by_first (vec_len keyed) values distinct
+          (distinct_by_keys _ keyed_text (λ x y. refl) keyed.items _ distinct c.in_ok-keyed.ensures.texts c.in_ok-distinct.ensures.distinct)
+          (subst (λ n. ((distinct ≡ true) × (n ≡ length values)) ⊎ (distinct ≡ false)) c.len.ensures c.else-distinct.either);
     }
