@@ -23,7 +23,7 @@ const FEW: usize = 8;
 const MIXER: u64 = 0x9e37_79b9_7f4a_7c15;
 
 /// So many slots are kept for each item.
-const SLOTS_AN_ITEM: usize = 4;
+const SLOTS_AN_ITEM: usize = 8;
 
 /// A slot that no key has.
 const NONE: u8 = 0;
