@@ -1,5 +1,6 @@
 -- What the resolver's code holds, as the definitions have it: states, documents and schemas.
 use Rattle.std.specs.Prelude.{List, Option, flat_map, map, option_map, string_bytes, ◌++◌}
+use Rattle.std.specs.Rc.{rc_str_bytes}
 use Rattle.std.proofs.Common.{Bor}
 use Rattle.serde_json.specs.Data.{Data}
 use Rattle.serde_json.specs.View.{view}
@@ -16,7 +17,7 @@ use Rattle.bench_resolver.specs.BenchResources.{Visited}
 use Rattle.bench_resolver.specs.BenchStates.{Point}
 
 abbrev pub point_of : BenchState → Point
-point_of s = record { base = string_bytes s.base; entered = s.entered.items }
+point_of s = record { base = rc_str_bytes s.base; entered = s.entered.value.items }
 
 abbrev pub given_of : code.Document.Document → GivenDocument
 given_of d = record { uri = string_bytes d.uri; value = d.value.now }

@@ -3,8 +3,8 @@ use Rattle.std.proofs.Common.{ℕ, ◌≡◌, ◌&&◌, ◌∙◌, ◌++◌, ◌
 use Rattle.std.proofs.Common.{subst}
 use Rattle.std.specs.Str.{bytes_eq}
 use Rattle.std.proofs.lemmas.Slice.Eq.{bytes_eq-Decides}
-use Rattle.std.specs.Prelude.{◌↔◌, slice_get, string_bytes}
-use Rattle.std.specs.List.{AllZip, each_same}
+use Rattle.std.specs.Prelude.{◌↔◌, slice_get}
+use Rattle.std.specs.Rc.{rc_str_bytes}
 use Rattle.serde_json.specs.Data.{Data}
 use Rattle.schema_definitions.specs.Instance.{Place, Subject, a_name, a_value, after_step, subject_at, subject_from}
 use Rattle.schema_parts.specs.ResolverViews.{IsInside}
@@ -65,8 +65,6 @@ pub same_points : (a b : Point) → (same_point a b ≡ true) ↔ (a ≡ b)
 same_points a b = (equal_points a b, λ e. subst (λ x. same_point a x ≡ true) e (same_again a))
 
 -- a clone of a state is the same state
-pub cloned_points : (s t : BenchState) → string_bytes t.base ≡ string_bytes s.base → AllZip (λ x y. y ≡ x) s.entered.items t.entered.items
+pub cloned_points : (s t : BenchState) → rc_str_bytes t.base ≡ rc_str_bytes s.base → t.entered.value ≡ s.entered.value
     → point_of t ≡ point_of s
-cloned_points s t bases lists = ap (λ (u : List ℕ). let p : Point = record { base = u; entered = t.entered.items } in p) bases
-    ∙ ap (λ (ns : List ℕ). let p : Point = record { base = string_bytes s.base; entered = ns } in p)
-    (each_same s.entered.items t.entered.items lists)
+cloned_points s t bases lists = cc

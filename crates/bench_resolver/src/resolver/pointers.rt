@@ -134,8 +134,7 @@ fn path_of_segments(
     Ok(Some(path))
 }
 
-/// The path that a pointer names in a document, where each step leads to something: a member by its name, or an item by its
-/// index, counted from 0.
+/// The path that a pointer names in a document, where each step leads to something: a member's name, or an item's index from 0.
 ///
 /// # Errors
 ///

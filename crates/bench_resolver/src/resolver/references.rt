@@ -183,7 +183,7 @@ fn first_dynamic(
     ensures target { Shows (option_map (found_of point_of)) result
         (first_dynamic resources.now (point_of state.now) name.now (point_of state.now).entered) }
 {
-    for number in &state.entered {
+    for number in state.entered.as_ref() {
         if let Some(target) = dynamic_in(alloc, resources, state, name, *number)? {
             return Ok(Some(target));
         }
@@ -323,7 +323,7 @@ fn first_recursive(
     ensures target { Shows (option_map (found_of point_of)) result
         (first_recursive resources.now (point_of state.now) (point_of state.now).entered) }
 {
-    for number in &state.entered {
+    for number in state.entered.as_ref() {
         if let Some(target) = recursive_in(alloc, resources, state, *number)? {
             return Ok(Some(target));
         }

@@ -2,8 +2,7 @@
 ghost use Rattle.bench_resolver.specs.BenchRows.{RowsHold};
 ghost use Rattle.bench_resolver.specs.StandardRows.{StandardRowsHold};
 
-/// The worked rows of the narrow rule hold: each names what the definitions say of a small document. The function does nothing when it
-/// runs.
+/// The worked rows of the narrow rule hold: each names what the definitions say of a small document. It does nothing when it runs.
 pub fn worked_rows()
     ensures rows { RowsHold }
 {}

@@ -23,6 +23,7 @@ use schema_parts::schema_place::SchemaPlace;
 use schema_reports::location::OutOfMemory;
 use serde_json::Value;
 use std::alloc::Global;
+use std::rc::{Rc, RcStr};
 
 /// Whether a number is one of these.
 fn has_number(numbers: &[usize], number: usize) -> bool
@@ -36,7 +37,7 @@ fn has_number(numbers: &[usize], number: usize) -> bool
     false
 }
 
-/// The state in a resource: one that was not entered before is added at the end.
+/// The state in a resource: one that was not entered before is added at the end. Where nothing changes, the state is shared.
 ///
 /// # Errors
 ///
@@ -49,14 +50,16 @@ pub fn enter(
 ) -> Result<BenchState, OutOfMemory>
     ensures entered { Shows point_of result (enter number uri.now (point_of state.now)) }
 {
-    let mut entered = state.entered.clone()?;
+    if state.base.as_str() == uri && has_number(&state.entered, number) {
+        return state.clone();
+    }
+    let mut entered = state.entered.as_ref().clone()?;
     if !has_number(&entered, number) {
         entered.push(number)?;
     }
-    Ok(BenchState {
-        base: String::from_str(alloc, uri)?,
-        entered,
-    })
+    let base = RcStr::from_str(alloc, uri)?;
+    let entered = Rc::new(alloc, entered)?;
+    Ok(BenchState { base, entered })
 }
 
 /// The refusal of an identifier that no resource at its place has.
