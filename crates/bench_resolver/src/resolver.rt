@@ -469,7 +469,7 @@ impl<'a> Resolver for BenchResolver<'a> {
 
     ghost equal = { λ s t. same_points (state_point s) (state_point t) };
 
-    ghost cloned = { λ s t same. cloned_points s t same.0 same.1.0 };
+    ghost cloned = { λ s t same. cloned_points s t same.0 same.1 };
 
     ghost inside = { values_stand_inside };
 
