@@ -187,6 +187,7 @@ impl<'p, R: Resolver, T> Compiler<'p, R, T> {
         ensures { GivesNumber R.Resolver T.KeywordTable K.Validate self.now compiled.old compiled.new key nests result }
     {
         if let Some(number) = find::<R>(&compiled.keys, &key) {
+            drop(key);
             return Ok(number);
         }
         let shared = Rc::new(self.alloc, key)?;
@@ -404,7 +405,9 @@ impl<'p, R: Resolver, T> Compiler<'p, R, T> {
         loop {
             match self.table.turn(self.alloc, &mut maker, reply)? {
                 MakerStep::Compile(path) => {
-                    let edge = self.child_edge(compiled, key, members, &path)?;
+                    let made = self.child_edge(compiled, key, members, &path);
+                    drop(path);
+                    let edge = made?;
                     reply = keep_edge(&mut children, Some(edge))?;
                 }
                 MakerStep::Refer(text) => {

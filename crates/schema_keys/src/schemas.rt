@@ -91,6 +91,7 @@ fn push_member_schemas(
         let step = SchemaStep::Member(RcStr::from_str(alloc, name.as_str())?);
         let below = one_below(path, step)?;
         push_schemas(alloc, &below, member, paths)?;
+        drop(below);
     }
     Ok(())
 }

@@ -2,6 +2,7 @@ pub mod AtOnce
 pub mod AskedAtOnce
 pub mod Ascending
 pub mod SchemaViews
+pub mod SchemaPaths
 pub mod ResolverViews
 pub mod Showing
 pub mod KeywordViews

@@ -1,5 +1,5 @@
 //! Places in schemas.
-ghost use Rattle.std.specs.Prelude.{◌≡◌, List, [], ◌∷◌, ◌++◌, OnErr, OnOk, length, take, drop, map};
+ghost use Rattle.std.specs.Prelude.{◌≡◌, List, [], ◌∷◌, ◌++◌, IfOk, OnErr, OnOk, length, take, drop, map};
 ghost use Rattle.schema_parts.specs.Showing.{Shows, Yields};
 ghost use Rattle.std.specs.Cmp.{on_equiv, partial_equiv_from_equiv};
 ghost use Rattle.std.specs.Ordering.{on};
@@ -14,6 +14,7 @@ use schema_reports::location::{Location, LocationSegment, OutOfMemory};
 use std::alloc::{AllocError, Global};
 use std::marker::Model;
 use std::rc::RcStr;
+use std::slice;
 
 /// A step from a value of a schema to one inside it. A member's name is shared by all places below it, so that a clone costs no memory.
 #[derive(Drop)]
@@ -61,13 +62,27 @@ impl Clone for SchemaStep {
 }
 
 // Adds copies of steps.
-fn push_steps(steps: &mut Vec<SchemaStep>, more: &[SchemaStep]) -> Result<(), OutOfMemory>
+fn push_copies(steps: &mut Vec<SchemaStep>, more: &[SchemaStep]) -> Result<(), OutOfMemory>
     ensures added { OnOk result (map schema_step_of steps.new.items ≡ map schema_step_of steps.old.items ++ map schema_step_of more.now) }
 {
     for step in more {
         steps.push(step.clone()?)?;
     }
     Ok(())
+}
+
+// Copies of steps, and one more behind them.
+fn with_one_more(
+    alloc: Global,
+    steps: &[SchemaStep],
+    step: SchemaStep,
+) -> Result<Vec<SchemaStep>, OutOfMemory>
+    ensures added { IfOk result (λ all. map schema_step_of all.items ≡ map schema_step_of steps.now ++ schema_step_of step ∷ []) }
+{
+    let mut all = Vec::with_capacity(alloc, steps.len().saturating_add(2))?;
+    push_copies(&mut all, steps)?;
+    all.push(step)?;
+    Ok(all)
 }
 
 // The first steps, or all where there are no more.
@@ -127,20 +142,30 @@ fn push_pointer_of(pointer: &mut Location, steps: &[SchemaStep]) -> Result<(), O
     Ok(())
 }
 
-/// A path in a document. Contracts see its steps.
+// Steps: none, one or two, which take no memory of their own, or more.
+#[derive(Drop)]
+enum Steps {
+    Root,
+    One(SchemaStep),
+    Two([SchemaStep; 2]),
+    Many(Vec<SchemaStep>),
+}
+
+/// A path in a document. One of at most two steps takes no memory. Contracts see its steps.
 #[derive(Drop)]
 pub struct SchemaPath {
-    steps: Vec<SchemaStep>,
+    alloc: Global,
+    steps: Steps,
 }
 
 impl Model for SchemaPath {
-    ghost use Rattle.std.specs.Prelude.{List, map};
+    ghost use Rattle.std.specs.Prelude.{List};
     ghost use Rattle.schema_definitions.specs.Instance.{Step};
-    ghost use Rattle.schema_parts.specs.SchemaViews.{schema_step_of};
+    ghost use Rattle.schema_parts.specs.SchemaPaths.{steps_in};
 
     ghost Value = { List Step };
 
-    ghost view = { λ p. map schema_step_of p.steps.items };
+    ghost view = { λ p. steps_in p.steps };
 }
 
 impl SchemaPath {
@@ -149,7 +174,8 @@ impl SchemaPath {
         ensures root { result ≡ [] }
     {
         SchemaPath {
-            steps: Vec::new(alloc),
+            alloc,
+            steps: Steps::Root,
         }
     }
 
@@ -157,8 +183,12 @@ impl SchemaPath {
     pub fn with_capacity(alloc: Global, steps: usize) -> Result<SchemaPath, OutOfMemory>
         ensures root { Yields result [] }
     {
+        if steps <= 2 {
+            return Ok(SchemaPath::root(alloc));
+        }
         Ok(SchemaPath {
-            steps: Vec::with_capacity(alloc, steps)?,
+            alloc,
+            steps: Steps::Many(Vec::with_capacity(alloc, steps)?),
         })
     }
 
@@ -166,7 +196,12 @@ impl SchemaPath {
     pub fn steps(&self) -> &[SchemaStep]
         ensures steps { map schema_step_of result.now ≡ self.now }
     {
-        self.steps.as_slice()
+        match &self.steps {
+            Steps::Root => &[],
+            Steps::One(step) => slice::from_ref(step),
+            Steps::Two(steps) => &steps[..],
+            Steps::Many(steps) => steps.as_slice(),
+        }
     }
 
     /// Adds a step at the end. On `Err` nothing has changed.
@@ -174,7 +209,28 @@ impl SchemaPath {
         ensures pushed { OnOk result (self.new ≡ self.old ++ schema_step_of step ∷ []) }
         ensures unchanged { OnErr result (self.new ≡ self.old) }
     {
-        self.steps.push(step)?;
+        if let Steps::Many(steps) = &mut self.steps {
+            steps.push(step)?;
+            return Ok(());
+        }
+        self.steps = match &self.steps {
+            Steps::Root => Steps::One(step),
+            Steps::One(first) => Steps::Two([first.clone()?, step]),
+            _ => Steps::Many(with_one_more(self.alloc, self.steps(), step)?),
+        };
+        Ok(())
+    }
+
+    // Adds copies of steps. On `Err` a part of them may have been added.
+    fn push_steps(&mut self, more: &[SchemaStep]) -> Result<(), OutOfMemory>
+        ensures added { OnOk result (self.new ≡ self.old ++ map schema_step_of more.now) }
+    {
+        if let Steps::Many(steps) = &mut self.steps {
+            return push_copies(steps, more);
+        }
+        for step in more {
+            self.push(step.clone()?)?;
+        }
         Ok(())
     }
 
@@ -182,65 +238,62 @@ impl SchemaPath {
     pub fn len(&self) -> usize
         ensures count { result ≡ length self.now }
     {
-        self.steps.len()
+        self.steps().len()
     }
 
     /// Returns `true` if the other path begins with this one.
     pub fn is_prefix_of(&self, other: &SchemaPath) -> bool
         ensures prefix { result ≡ same_place self.now (take (length self.now) other.now) }
     {
-        same_schema_steps(
-            self.steps.as_slice(),
-            first_steps(other.steps.as_slice(), self.steps.len()),
-        )
+        same_schema_steps(self.steps(), first_steps(other.steps(), self.steps().len()))
     }
 
     /// Returns the first `count` steps, or all if there are fewer. Fails only if memory cannot be allocated.
     pub fn first(&self, alloc: Global, count: usize) -> Result<SchemaPath, OutOfMemory>
         ensures first { Yields result (take count self.now) }
     {
-        let kept = first_steps(self.steps.as_slice(), count);
-        let mut steps = Vec::with_capacity(alloc, kept.len())?;
-        push_steps(&mut steps, kept)?;
-        Ok(SchemaPath { steps })
+        let kept = first_steps(self.steps(), count);
+        let mut path = SchemaPath::with_capacity(alloc, kept.len())?;
+        path.push_steps(kept)?;
+        Ok(path)
     }
 
     /// Returns what is left after the first `count` steps. Fails only if memory cannot be allocated.
     pub fn after(&self, alloc: Global, count: usize) -> Result<SchemaPath, OutOfMemory>
         ensures rest { Yields result (drop count self.now) }
     {
-        let kept = later_steps(self.steps.as_slice(), count);
-        let mut steps = Vec::with_capacity(alloc, kept.len())?;
-        push_steps(&mut steps, kept)?;
-        Ok(SchemaPath { steps })
+        let kept = later_steps(self.steps(), count);
+        let mut path = SchemaPath::with_capacity(alloc, kept.len())?;
+        path.push_steps(kept)?;
+        Ok(path)
     }
 
     /// Returns the same path, with room for so many steps more. Fails only if memory cannot be allocated.
     pub fn with_room(&self, alloc: Global, more: usize) -> Result<SchemaPath, OutOfMemory>
         ensures same { Yields result self.now }
     {
-        let count = self.steps.len().saturating_add(more);
-        let mut steps = Vec::with_capacity(alloc, count)?;
-        push_steps(&mut steps, self.steps.as_slice())?;
-        Ok(SchemaPath { steps })
+        let count = self.steps().len().saturating_add(more);
+        let mut path = SchemaPath::with_capacity(alloc, count)?;
+        path.push_steps(self.steps())?;
+        Ok(path)
     }
 
     /// Returns the path followed by another. Fails only if memory cannot be allocated.
     pub fn append(&self, alloc: Global, rest: &SchemaPath) -> Result<SchemaPath, OutOfMemory>
         ensures appended { Yields result (self.now ++ rest.now) }
     {
-        let count = self.steps.len().saturating_add(rest.steps.len());
-        let mut steps = Vec::with_capacity(alloc, count)?;
-        push_steps(&mut steps, self.steps.as_slice())?;
-        push_steps(&mut steps, rest.steps.as_slice())?;
-        Ok(SchemaPath { steps })
+        let count = self.steps().len().saturating_add(rest.steps().len());
+        let mut path = SchemaPath::with_capacity(alloc, count)?;
+        path.push_steps(self.steps())?;
+        path.push_steps(rest.steps())?;
+        Ok(path)
     }
 
     /// Returns the JSON Pointer of the path. Fails only if memory cannot be allocated.
     pub fn pointer(&self, alloc: Global) -> Result<Location, OutOfMemory>
         ensures pointer { Yields result (pointer_to self.now) }
     {
-        let steps = self.steps.as_slice();
+        let steps = self.steps();
         let mut pointer = Location::with_capacity(alloc, pointer_room(steps))?;
         push_pointer_of(&mut pointer, steps)?;
         Ok(pointer)
@@ -254,7 +307,7 @@ impl PartialEq for SchemaPath {
 
     /// Returns `true` if both paths consist of the same steps.
     fn eq(&self, other: &SchemaPath) -> bool {
-        same_schema_steps(self.steps.as_slice(), other.steps.as_slice())
+        same_schema_steps(self.steps(), other.steps())
     }
 }
 
@@ -267,9 +320,9 @@ impl Clone for SchemaPath {
 
     /// Returns a clone of the path. Fails only if memory cannot be allocated.
     fn clone(&self) -> Result<SchemaPath, AllocError> {
-        let mut steps = Vec::with_capacity(*self.steps.allocator(), self.steps.len())?;
-        push_steps(&mut steps, self.steps.as_slice())?;
-        Ok(SchemaPath { steps })
+        let mut path = SchemaPath::with_capacity(self.alloc, self.len())?;
+        path.push_steps(self.steps())?;
+        Ok(path)
     }
 }
 

@@ -89,6 +89,7 @@ impl<'p, R: Resolver, V: MetaValidators> SchemaCheck<'p, R, V> {
             let step = SchemaStep::Member(RcStr::from_str(self.alloc, name.as_str())?);
             let below = one_below(place, step)?;
             let copy = self.masked_below(cuts, &below, member)?;
+            drop(below);
             let name = name.clone()?;
             drop(copies.insert(name, copy)?);
         }

@@ -415,7 +415,7 @@ made_entry-loop-children-preserved-in-Compile g t c =
     let takes = rw c.in-Compile.is at c.in_ok-path.ensures.takes in
     let e = c.in_ok-edge-in-Compile.ensures.0 in (
       rw (c.in_ok-reply-in-Compile.ensures.kept, c.in_ok-reply-in-Compile.ensures.told)
-          (asked_compile s.parts s.shape s.limit s.nested k name making waiting waiting' told es old.keys keys' (map v c.child_edge.new.compiled.keys) old.nodes nodes' c.child_edge.new.compiled.nodes c.in-Compile.path (edge_of c.in_ok-edge-in-Compile.edge) (length c.loop-children.children.items)
+          (asked_compile s.parts s.shape s.limit s.nested k name making waiting waiting' told es old.keys keys' (map v c.child_edge-made.new.compiled.keys) old.nodes nodes' c.child_edge-made.new.compiled.nodes c.in-Compile.path (edge_of c.in_ok-edge-in-Compile.edge) (length c.loop-children.children.items)
           inv takes (sym (length-map c.loop-children.children.items (option_map edge_of))) e.leads c.in_ok-edge-in-Compile.ensures.1 e.step),
       c.loop-children.invariant.1,
     )
