@@ -6,6 +6,7 @@ pub use Rattle.schema_parts.specs.UnitQuestions
 pub use Rattle.schema_parts.specs.FaultViews
 pub use Rattle.schema_parts.specs.EdgeViews
 pub mod NodeTable
+pub mod Names
 pub mod NodeViews
 pub mod Cloned
 pub mod ValidatorViews

@@ -16,7 +16,7 @@ form_of (Keyword k es) = spec.node_keyword k (map (option_map edge_of) es.items)
 form_of (Reference e) = spec.node_reference (edge_of e)
 
 abbrev pub entry_of : {K : Type 0} → Entry K → spec.NodePart K
-entry_of x = record { name = string_bytes x.name; priority = x.priority; is_leaf = x.is_leaf; form = form_of x.form }
+entry_of x = record { name = x.name; priority = x.priority; is_leaf = x.is_leaf; form = form_of x.form }
 
 abbrev pub plan_of : {K : Type 0} → NodeForm K → spec.NodePlan K
 plan_of Always = spec.node_always

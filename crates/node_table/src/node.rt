@@ -9,9 +9,11 @@ ghost use Rattle.node_table.specs.NodeTable.{is_settled_entry};
 
 pub mod absolute;
 mod cloning;
+pub mod name;
 mod sharing;
 pub mod validators;
 
+use crate::node::name::KeywordName;
 use schema_parts::numbers::{Edge, SchemaNode};
 use schema_reports::location::{Location, OutOfMemory};
 use serde_json::Value;
@@ -28,7 +30,7 @@ pub enum EntryForm<K> {
 /// One keyword of a schema.
 #[derive(Drop)]
 pub struct Entry<K> {
-    pub name: String,
+    pub name: KeywordName,
     pub priority: u8,
     pub is_leaf: bool,
     pub form: EntryForm<K>,

@@ -1,5 +1,5 @@
 -- What errors say of a keyword's faults, and a reply of its answer; and where the places that they borrow lie.
-use Rattle.std.specs.Prelude.{All, Bool, IfOk, Result, String, map, option_map, string_bytes, ◌++◌, ◌≡◌}
+use Rattle.std.specs.Prelude.{All, Bool, IfOk, Result, map, option_map, string_bytes, ◌++◌, ◌≡◌}
 use Rattle.std.specs.declared.alloc.Global.{Global}
 use Rattle.std.specs.declared.vec.Vec.{Vec}
 use Rattle.serde_json.specs.Data.{Data}
@@ -33,28 +33,28 @@ abbrev pub IsVerdictOf : Answer → Bool → Type 0
 IsVerdictOf a b = (texts : Bool) → b ≡ (answer_of texts a).verdict
 
 -- the path of an error of a keyword's own, by that of the keyword's schema
-abbrev pub error_path : OwnError → String Global → Text → Text
+abbrev pub error_path : OwnError → Text → Text → Text
 error_path e name before = joined before (name_from e.absorbed name) ++ string_bytes e.path
 
 -- an error of the keyword's own stands at this place and these paths
-pub record ErrorStandsAt {K : Type 0} (n : Node K) (name : String Global) (q : Question) (e : OwnError) (p : ErrorPlaces) : Type 0 where
+pub record ErrorStandsAt {K : Type 0} (n : Node K) (name : Text) (q : Question) (e : OwnError) (p : ErrorPlaces) : Type 0 where
   pub place : p.place ≡ place_under q.place.now e.below.items
   pub schema_path : p.schema_path ≡ error_path e name n.location
   pub evaluation_path : p.evaluation_path ≡ error_path e name (path_here q)
   pub absolute : option_map string_bytes p.absolute_keyword_location ≡ keyword_absolute (node_of n) (name_from e.absorbed name)
 
-module _ {K : Type 0} (n : Node K) (name : String Global) (q : Question) where
+module _ {K : Type 0} (n : Node K) (name : Text) (q : Question) where
   -- an error is given that says a fault of the node's keyword of this name
   abbrev pub SaysFault : {E : Type 0} → Fault → Result ValidationError E → Type 0
-  SaysFault f result = IfOk result (λ e. (texts : Bool) → error_of texts e ≡ fault_error (at_work n q) (string_bytes name) (fault_of texts f))
+  SaysFault f result = IfOk result (λ e. (texts : Bool) → error_of texts e ≡ fault_error (at_work n q) name (fault_of texts f))
 
   -- one for each of its faults, in order
   abbrev pub SaysFaults : {E : Type 0} → Vec Fault Global → Result (Vec ValidationError Global) E → Type 0
-  SaysFaults fs result = IfOk result (λ es. (texts : Bool) → map (error_of texts) es.items ≡ map (fault_error (at_work n q) (string_bytes name)) (map (fault_of texts) fs.items))
+  SaysFaults fs result = IfOk result (λ es. (texts : Bool) → map (error_of texts) es.items ≡ map (fault_error (at_work n q) name) (map (fault_of texts) fs.items))
 
   -- a reply says in a mode what its answer does
   abbrev pub SaysAnswer : Mode → Answer → Reply → Type 0
-  SaysAnswer mode a r = (texts : Bool) → reply_of texts r ≡ answer_reply mode (at_work n q) (string_bytes name) (answer_of texts a)
+  SaysAnswer mode a r = (texts : Bool) → reply_of texts r ≡ answer_reply mode (at_work n q) name (answer_of texts a)
 
 module _ (q : Question) where
   -- the error that is given borrows its place, where the fault lies inside what is asked about

@@ -1,6 +1,5 @@
 -- The matches that keywords ask for, and what a run remembers of them.
-use Rattle.std.specs.Prelude.{Bool, List, None, String, map, string_bytes, ◌≡◌}
-use Rattle.std.specs.declared.alloc.Global.{Global}
+use Rattle.std.specs.Prelude.{Bool, List, None, map, ◌≡◌}
 use Rattle.schema_definitions.specs.Instance.{Text}
 use Rattle.schema_definitions.specs.Keywords.{MatchPoint, match_text}
 use Rattle.schema_definitions.specs.Laws.{IsPresent}
@@ -38,5 +37,5 @@ abbrev pub OfMatch : Step → (Pair → MatchPoint → Type 0) → Type 0
 OfMatch step Holds = (a : Pair) (point : MatchPoint) → turn_of step ≡ match_text a point → Holds a point
 
 -- a run remembers of a match what it has to, once the node's keyword of this name has asked for it
-abbrev pub AsksMatch : {K : Type 0} → Node K → String Global → Question → Matcher → Context → Context → Pair → MatchPoint → Type 0
-AsksMatch n name q matcher old new a point = new.remembered ≡ asked_in old matcher a (site_here n (string_bytes name) q point)
+abbrev pub AsksMatch : {K : Type 0} → Node K → Text → Question → Matcher → Context → Context → Pair → MatchPoint → Type 0
+AsksMatch n name q matcher old new a point = new.remembered ≡ asked_in old matcher a (site_here n name q point)

@@ -32,5 +32,5 @@ abbrev pub pointer_here : Question → Text
 pointer_here q = pointer_to (steps_to q.place.now)
 
 -- the name that a path from a keyword on begins with: that of the one that it absorbs, or else its own
-abbrev pub name_from : Option (String Global) → String Global → Text
-name_from absorbed name = unwrap_or (option_map string_bytes absorbed) (string_bytes name)
+abbrev pub name_from : Option (String Global) → Text → Text
+name_from absorbed name = unwrap_or (option_map string_bytes absorbed) name

@@ -1,8 +1,7 @@
 -- What replies say: of two replies, with stamped errors, and of the schema `false`; and what becomes of the places that they borrow.
-use Rattle.std.specs.Prelude.{All, Bool, List, String, false, string_bytes, true, ◌≡◌}
-use Rattle.std.specs.declared.alloc.Global.{Global}
+use Rattle.std.specs.Prelude.{All, Bool, List, false, true, ◌≡◌}
 use Rattle.serde_json.specs.Data.{Data}
-use Rattle.schema_definitions.specs.Instance.{Subject}
+use Rattle.schema_definitions.specs.Instance.{Subject, Text}
 use Rattle.schema_definitions.specs.Meaning.{Where, stamped}
 use Rattle.schema_reports.specs.InstanceTexts.{subject_has_float}
 use Rattle.schema_reports.specs.InstanceViews.{subject_of}
@@ -30,14 +29,14 @@ BorrowsBoth a b r = (root : Data) → All (BorrowsItsPlace root) (errors_in a) �
 abbrev pub StayBorrowed : List ValidationError → List ValidationError → Type 0
 StayBorrowed old new = (root : Data) → All (BorrowsItsPlace root) old → All (BorrowsItsPlace root) new
 
-module _ {K : Type 0} (n : Node K) (name : String Global) where
+module _ {K : Type 0} (n : Node K) (name : Text) where
   -- an error is stamped by the node's keyword of this name
   abbrev pub StampsError : ValidationError → ValidationError → Type 0
-  StampsError old new = (texts : Bool) → error_of texts new ≡ stamped (keyword_absolute (node_of n) (string_bytes name)) (error_of texts old)
+  StampsError old new = (texts : Bool) → error_of texts new ≡ stamped (keyword_absolute (node_of n) name) (error_of texts old)
 
   -- each error of a reply is
   abbrev pub StampsReply : Reply → Reply → Type 0
-  StampsReply old new = (texts : Bool) → Stamps (keyword_absolute (node_of n) (string_bytes name)) (reply_of texts old) (reply_of texts new)
+  StampsReply old new = (texts : Bool) → Stamps (keyword_absolute (node_of n) name) (reply_of texts old) (reply_of texts new)
 
 -- a value says what the schema `false` says of the question; texts are spoken of only where the instance holds no fraction
 abbrev pub SaysFalse : {K A B : Type 0} → Node K → Question → (Bool → A → B) → (Bool → Where → Subject → B) → A → Type 0

@@ -16,6 +16,7 @@ use crate::question::Question;
 use crate::replies::{keyword_location, stamped_error};
 use crate::spots::{after, place_below};
 use node_table::node::Node;
+use node_table::node::name::KeywordName;
 use schema_contexts::evaluation_path::path_from;
 use schema_contexts::validation::ValidationContext;
 use schema_parts::keyword::{Answer, Fault, Found, Mode, OwnError, Reply};
@@ -68,7 +69,7 @@ fn instance_below<'i>(instance: Instance<'i>, steps: &[InstanceStep<'i>]) -> Ins
 }
 
 // The name that a path from the keyword on begins with: the keyword's own, or that of the one that it absorbs.
-fn spot_name<'n>(absorbed: &'n Option<String>, name: &'n String) -> &'n str
+fn spot_name<'n>(absorbed: &'n Option<String>, name: &'n KeywordName) -> &'n str
     ensures name { result.now ≡ name_from absorbed.now name.now }
 {
     match absorbed {
@@ -90,7 +91,7 @@ struct ErrorPlaces<'i> {
 fn error_places<'i, K>(
     alloc: Global,
     node: &Node<K>,
-    name: &String,
+    name: &KeywordName,
     question: &Question<'_, 'i>,
     found: &OwnError<'i>,
     context: &mut ValidationContext<'i>,
@@ -116,7 +117,7 @@ fn error_places<'i, K>(
 fn own_error<'i, K>(
     alloc: Global,
     node: &Node<K>,
-    name: &String,
+    name: &KeywordName,
     question: &Question<'_, 'i>,
     found: OwnError<'i>,
     context: &mut ValidationContext<'i>,
@@ -142,7 +143,7 @@ fn own_error<'i, K>(
 fn error_by<'i, K>(
     alloc: Global,
     node: &Node<K>,
-    name: &String,
+    name: &KeywordName,
     question: &Question<'_, 'i>,
     fault: Fault<'i>,
     context: &mut ValidationContext<'i>,
@@ -161,7 +162,7 @@ fn error_by<'i, K>(
 fn errors_by<'i, K>(
     alloc: Global,
     node: &Node<K>,
-    name: &String,
+    name: &KeywordName,
     question: &Question<'_, 'i>,
     faults: Vec<Fault<'i>>,
     context: &mut ValidationContext<'i>,
@@ -234,7 +235,7 @@ fn first_fault<'i>(answer: Answer<'i>) -> Option<Fault<'i>>
 fn first_finished<'i, K>(
     alloc: Global,
     node: &Node<K>,
-    name: &String,
+    name: &KeywordName,
     question: &Question<'_, 'i>,
     answer: Answer<'i>,
     context: &mut ValidationContext<'i>,
@@ -257,7 +258,7 @@ fn first_finished<'i, K>(
 fn all_finished<'i, K>(
     alloc: Global,
     node: &Node<K>,
-    name: &String,
+    name: &KeywordName,
     question: &Question<'_, 'i>,
     answer: Answer<'i>,
     context: &mut ValidationContext<'i>,
@@ -275,7 +276,7 @@ fn all_finished<'i, K>(
 pub fn finished<'i, K>(
     alloc: Global,
     node: &Node<K>,
-    name: &String,
+    name: &KeywordName,
     question: &Question<'_, 'i>,
     answer: Answer<'i>,
     context: &mut ValidationContext<'i>,

@@ -11,6 +11,7 @@ ghost use Rattle.run_steps.specs.MatchWords.{AsksInside, AsksMatch, OfMatch};
 use crate::question::{Engine, Question};
 use crate::sites::match_site;
 use node_table::node::Node;
+use node_table::node::name::KeywordName;
 use schema_contexts::validation::ValidationContext;
 use schema_matches::site::Match;
 use schema_parts::keyword::{MatchPoint, Step};
@@ -52,7 +53,7 @@ fn has_place(point: MatchPoint<'_>) -> bool
 fn asked_match<'i, K, M: Matcher>(
     engine: &Engine<'_, K, M>,
     node: &Node<K>,
-    name: &String,
+    name: &KeywordName,
     question: &Question<'_, 'i>,
     pattern: &str,
     subject: &str,
@@ -84,7 +85,7 @@ fn asked_match<'i, K, M: Matcher>(
 pub fn step_match<'i, K, M: Matcher>(
     engine: &Engine<'_, K, M>,
     node: &Node<K>,
-    name: &String,
+    name: &KeywordName,
     question: &Question<'_, 'i>,
     step: Step<'_>,
     context: &mut ValidationContext<'i>,

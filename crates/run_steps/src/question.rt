@@ -2,6 +2,7 @@
 
 use crate::evaluation_place::EvaluationPlace;
 use node_table::node::Nodes;
+use node_table::node::name::KeywordName;
 use schema_contexts::evaluation_path::EvaluationPath;
 use schema_parts::keyword::Mode;
 use schema_parts::numbers::Edge;
@@ -28,7 +29,7 @@ pub struct Question<'q, 'i> {
 /// A keyword, the name that it goes by, and the edges that the requests of its maker got.
 #[derive_where(Clone, Copy)]
 pub struct NamedKeyword<'k, K> {
-    pub name: &'k String,
+    pub name: &'k KeywordName,
     pub keyword: &'k K,
     pub children: &'k [Option<Edge>],
 }

@@ -16,6 +16,7 @@ ghost use Rattle.run_steps.specs.ReplyWords.{BorrowsBoth, SaysBoth, SaysFalse, S
 use crate::question::Question;
 use node_table::node::Node;
 use node_table::node::absolute::absolute_location;
+use node_table::node::name::KeywordName;
 use schema_parts::keyword::{Mode, Reply};
 use schema_reports::location::{Location, LocationSegment, OutOfMemory};
 use schema_reports::reports::ValidationError;
@@ -127,7 +128,7 @@ pub fn keyword_location<K>(
 fn stamp<'i, K>(
     alloc: Global,
     node: &Node<K>,
-    name: &String,
+    name: &KeywordName,
     error: &mut ValidationError<'i>,
 ) -> Result<(), OutOfMemory>
     ensures stamped { OnOk result (StampsError node.now name.now error.old error.new) }
@@ -145,7 +146,7 @@ fn stamp<'i, K>(
 pub fn stamped_error<'i, K>(
     alloc: Global,
     node: &Node<K>,
-    name: &String,
+    name: &KeywordName,
     mut error: ValidationError<'i>,
 ) -> Result<ValidationError<'i>, OutOfMemory>
     ensures stamped { IfOk result (λ e. StampsError node.now name.now error.entry e) }
@@ -160,11 +161,11 @@ pub fn stamped_error<'i, K>(
 fn stamped_errors<'i, K>(
     alloc: Global,
     node: &Node<K>,
-    name: &String,
+    name: &KeywordName,
     mut errors: Vec<ValidationError<'i>>,
 ) -> Result<Vec<ValidationError<'i>>, OutOfMemory>
     ensures stamped { IfOk result (λ es. (texts : Bool) → map (error_of texts) es.items
-        ≡ map (stamped (keyword_absolute (node_of node.now) (string_bytes name.now))) (map (error_of texts) errors.entry.items)) }
+        ≡ map (stamped (keyword_absolute (node_of node.now) name.now)) (map (error_of texts) errors.entry.items)) }
     ensures borrows { IfOk result (λ es. StayBorrowed errors.entry.items es.items) }
 {
     for error in errors.iter_mut() {
@@ -179,7 +180,7 @@ fn stamped_errors<'i, K>(
 fn stamped_by_base<'i, K>(
     alloc: Global,
     node: &Node<K>,
-    name: &String,
+    name: &KeywordName,
     reply: Reply<'i>,
 ) -> Result<Reply<'i>, OutOfMemory>
     ensures stamped { IfOk result (λ r. StampsReply node.now name.now reply.entry r) }
@@ -207,7 +208,7 @@ fn stamped_by_base<'i, K>(
 pub fn stamped_reply<'i, K>(
     alloc: Global,
     node: &Node<K>,
-    name: &String,
+    name: &KeywordName,
     reply: Reply<'i>,
 ) -> Result<Reply<'i>, OutOfMemory>
     ensures stamped { IfOk result (λ r. StampsReply node.now name.now reply.entry r) }

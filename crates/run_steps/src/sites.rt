@@ -1,5 +1,5 @@
 //! Where a match is asked for.
-ghost use Rattle.std.specs.Prelude.{◌≡◌, ◌++◌, IfOk, map, string_bytes};
+ghost use Rattle.std.specs.Prelude.{◌≡◌, ◌++◌, IfOk, map};
 ghost use Rattle.schema_parts.specs.Showing.{Yields};
 ghost use Rattle.schema_reports.specs.InstanceViews.{step_of};
 ghost use Rattle.schema_definitions.specs.Pointer.{joined};
@@ -10,6 +10,7 @@ ghost use Rattle.run_steps.specs.MatchWords.{AsksInside, plain_point, site_here}
 use crate::question::Question;
 use crate::spots::{own_steps, place_below, step_below};
 use node_table::node::Node;
+use node_table::node::name::KeywordName;
 use schema_contexts::evaluation_path::path_from;
 use schema_matches::site::MatchSite;
 use schema_parts::keyword::{Below, MatchPoint, Spot};
@@ -86,14 +87,14 @@ fn steps_at<'s>(
 fn spot_site<'i, 's, K>(
     alloc: Global,
     node: &Node<K>,
-    name: &String,
+    name: &KeywordName,
     question: &Question<'_, 'i>,
     located: bool,
     spot: &Spot<'s>,
     below: Below<'s>,
 ) -> Result<MatchSite<'i>, OutOfMemory>
     requires present { AsksInside question.now.instance (spot_point located spot.now below) }
-    ensures site { IfOk result (λ s. s ≡ site_here node.now (string_bytes name.now) question.now
+    ensures site { IfOk result (λ s. s ≡ site_here node.now name.now question.now
         (spot_point located spot.now below.entry)) }
 {
     let name = match &spot.absorbed {
@@ -113,13 +114,13 @@ fn spot_site<'i, 's, K>(
 pub fn match_site<'i, K>(
     alloc: Global,
     node: &Node<K>,
-    name: &String,
+    name: &KeywordName,
     question: &Question<'_, 'i>,
     pattern: &str,
     point: MatchPoint<'_>,
 ) -> Result<MatchSite<'i>, OutOfMemory>
     requires present { AsksInside question.now.instance (point_of pattern.now point) }
-    ensures site { Yields result (site_here node.now (string_bytes name.now) question.now (point_of pattern.now point.entry)) }
+    ensures site { Yields result (site_here node.now name.now question.now (point_of pattern.now point.entry)) }
 {
     match point {
         MatchPoint::AtKeyword(located) => {

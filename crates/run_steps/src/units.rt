@@ -1,5 +1,5 @@
 //! The units of a node at a place: its own, that of each entry, and those of the keywords that an entry absorbs.
-ghost use Rattle.std.specs.Prelude.{◌≡◌, Bool, IfOk, map, string_bytes};
+ghost use Rattle.std.specs.Prelude.{◌≡◌, Bool, IfOk, map};
 ghost use Rattle.schema_definitions.specs.Meaning.{Where};
 ghost use Rattle.schema_definitions.specs.Pointer.{joined, pointer_to};
 ghost use Rattle.schema_definitions.specs.Reports.{unit, units_of};
@@ -19,6 +19,7 @@ use crate::question::Question;
 use crate::replies::false_error;
 use node_table::node::Node;
 use node_table::node::absolute::absolute_location;
+use node_table::node::name::KeywordName;
 use schema_contexts::unit_paths::UnitTexts;
 use schema_contexts::validation::ValidationContext;
 use schema_parts::keyword::{Answer, Found};
@@ -253,7 +254,7 @@ fn absorbed_units<K>(
 pub fn units_of_keyword<K>(
     alloc: Global,
     node: &Node<K>,
-    name: &String,
+    name: &KeywordName,
     question: &Question<'_, '_>,
     pointer: &SharedLocation,
     answer: Answer<'_>,
@@ -261,7 +262,7 @@ pub fn units_of_keyword<K>(
 ) -> Result<EntryUnits, OutOfMemory>
     requires pointed { pointer.now ≡ pointer_here question.now }
     ensures units { IfOk result (λ units. (texts : Bool) → entry_units_of texts units
-        ≡ given_units (at_work node.now question.now) (string_bytes name.now) (answer_of texts answer.entry).gives) }
+        ≡ given_units (at_work node.now question.now) name.now (answer_of texts answer.entry).gives) }
     ensures stays { context.new ≡ context.old }
 {
     let Found { own, absorbed } = Box::into_inner(answer.into_evaluation(alloc)?);
@@ -273,13 +274,13 @@ pub fn units_of_keyword<K>(
 /// The unit of a reference of this name: its target's, at the reference's own evaluation path. It absorbs none.
 pub fn units_of_reference(
     alloc: Global,
-    name: &String,
+    name: &KeywordName,
     question: &Question<'_, '_>,
     unit: EvaluationNode,
     context: &mut ValidationContext<'_>,
 ) -> Result<EntryUnits, OutOfMemory>
     ensures units { IfOk result (λ units. (texts : Bool) (x : Where) → x.path ≡ path_here question.now
-        → entry_units_of texts units ≡ reference_units x (string_bytes name.now) (unit_of texts unit)) }
+        → entry_units_of texts units ≡ reference_units x name.now (unit_of texts unit)) }
     ensures stays { context.new ≡ context.old }
 {
     let evaluation_path = context.keyword_path(alloc, question.path, name.as_str())?;

@@ -1,5 +1,5 @@
 -- What the functions of a run answer, over the values of the program: each answer in a word.
-use Rattle.std.specs.Prelude.{Bool, IfOk, List, Option, Result, map, option_map, string_bytes, ℕ, ◌≡◌, ◌≤◌}
+use Rattle.std.specs.Prelude.{Bool, IfOk, List, Option, Result, map, option_map, ℕ, ◌≡◌, ◌≤◌}
 use Rattle.schema_reports.specs.declared.evaluation.EvaluationNode.{EvaluationNode}
 use Rattle.schema_parts.specs.EdgeViews.{edge_of}
 use Rattle.schema_parts.specs.KeywordViews.{below_of}
@@ -94,10 +94,10 @@ module _ {C R K M E : Type 0} (k : keyword.Ghosts C R K) (m : matcher.Ghosts M) 
   ReplyOfEntry i x c c' result = EntryReplied (setting_by k m e) q i (shaped_part k.shape (entry_of x)) c c' result
 
   abbrev pub ReplyOfForm : ℕ → Entry C → Context → Context → Result code.Reply E → Type 0
-  ReplyOfForm i x c c' result = FormReplied (setting_by k m e) q i (string_bytes x.name) (shaped_form k.shape (form_of x.form)) c c' result
+  ReplyOfForm i x c c' result = FormReplied (setting_by k m e) q i x.name (shaped_form k.shape (form_of x.form)) c c' result
 
   abbrev pub ReplyOfKeyword : ℕ → NamedKeyword C → Context → Context → Result code.Reply E → Type 0
-  ReplyOfKeyword i w c c' result = FormReplied (setting_by k m e) q i (string_bytes w.name.now) (form_at_work k.shape w) c c' result
+  ReplyOfKeyword i w c c' result = FormReplied (setting_by k m e) q i w.name.now (form_at_work k.shape w) c c' result
 
   abbrev pub ReplyOfChild : ℕ → List (Option Edge) → ℕ → Below → Context → Context → Result code.Reply E → Type 0
   ReplyOfChild i es n below c c' result = ChildReplied (setting_by k m e) q i (map (option_map edge_of) es) (record { child = n; below = below_of below }) c c' result
@@ -117,10 +117,10 @@ module _ {C R K M E : Type 0} (k : keyword.Ghosts C R K) (m : matcher.Ghosts M) 
   UnitsOfEntries i xs c c' result = PartsGiven (setting_by k m e) q i (map (shaped_part k.shape) (map entry_of xs)) c c' result
 
   abbrev pub UnitsOfEntry : ℕ → Entry C → Context → Context → Result EntryUnits E → Type 0
-  UnitsOfEntry i x c c' result = FormGiven (setting_by k m e) q i (string_bytes x.name) (shaped_form k.shape (form_of x.form)) c c' result
+  UnitsOfEntry i x c c' result = FormGiven (setting_by k m e) q i x.name (shaped_form k.shape (form_of x.form)) c c' result
 
   abbrev pub UnitsOfKeyword : ℕ → NamedKeyword C → Context → Context → Result EntryUnits E → Type 0
-  UnitsOfKeyword i w c c' result = FormGiven (setting_by k m e) q i (string_bytes w.name.now) (form_at_work k.shape w) c c' result
+  UnitsOfKeyword i w c c' result = FormGiven (setting_by k m e) q i w.name.now (form_at_work k.shape w) c c' result
 
   abbrev pub UnitOfChild : ℕ → List (Option Edge) → ℕ → Below → Context → Context → Result EvaluationNode E → Type 0
   UnitOfChild i es n below c c' result = ChildGiven (setting_by k m e) q i (map (option_map edge_of) es) (record { child = n; below = below_of below }) c c' result
@@ -171,13 +171,13 @@ module _ {C R K M E : Type 0} (k : keyword.Ghosts C R K) (m : matcher.Ghosts M) 
   abbrev pub TurnsOfKeyword : {T : Type 0} → NamedKeyword C → Context → Context → Result T E → code_answer.Answer → Type 0
   TurnsOfKeyword w c c' result a = KeywordTurned (setting_by k m e) (asking q) c c' result w.children.now
       (FindsRightly (setting_by k m e) (asking q) c i (map (option_map edge_of) w.children.now) (k.shape w.keyword.now) a)
-      (PassesItsOwn (asking q) a) (MeetsForm (setting_by k m e) (asking q) c c' i (string_bytes w.name.now) (form_at_work k.shape w))
+      (PassesItsOwn (asking q) a) (MeetsForm (setting_by k m e) (asking q) c c' i w.name.now (form_at_work k.shape w))
 
   -- what it has found is told
   abbrev pub AnswerOfKeyword : NamedKeyword C → Context → Context → Result code_answer.Answer E → Type 0
   AnswerOfKeyword w c c' result = KeywordFound (setting_by k m e) (asking q) c c' result w.children.now
       (λ a. FindsRightly (setting_by k m e) (asking q) c i (map (option_map edge_of) w.children.now) (k.shape w.keyword.now) a)
-      (λ a. PassesItsOwn (asking q) a) (MeetsForm (setting_by k m e) (asking q) c c' i (string_bytes w.name.now) (form_at_work k.shape w))
+      (λ a. PassesItsOwn (asking q) a) (MeetsForm (setting_by k m e) (asking q) c c' i w.name.now (form_at_work k.shape w))
 
   -- a child is told in the mode that it is asked in
   abbrev pub AnswerOfChild : List (Option Edge) → ℕ → Below → Context → Context → Result code.Reply E → Type 0

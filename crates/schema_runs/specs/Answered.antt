@@ -1,5 +1,5 @@
 -- What the functions of a run for the verdict are asked, and what they are answered: one record for each.
-use Rattle.std.specs.Prelude.{◌≡◌, ◌≤◌, ℕ, Bool, IfOk, List, Option, Result, map, option_map, string_bytes, true}
+use Rattle.std.specs.Prelude.{◌≡◌, ◌≤◌, ℕ, Bool, IfOk, List, Option, Result, map, option_map, true}
 use Rattle.schema_definitions.specs.Instance.{Text}
 use Rattle.schema_definitions.specs.Guarded.{Children, NodeEdge, NodeForm, NodePart, node_edges}
 use Rattle.schema_definitions.specs.Keywords.{Answer, Below, Question as ChildQuestion, for_verdict}
@@ -154,7 +154,7 @@ pub record Turned {K R T E : Type 0} (g : Setting K (R × Answer)) (q : Asking) 
   pub works : IfOk result (λ _. Spends c.work c'.work)
 
 abbrev pub Turns : {C R K T E : Type 0} → (C → K) → Setting K (R × Answer) → Question → ℕ → NamedKeyword C → Context → Context → Result T E → code_answer.Answer → Type 0
-Turns shape g q i k c c' result answer = Turned g (asking q) c c' result i (string_bytes k.name.now) (form_at_work shape k) (map (option_map edge_of) k.children.now) (shape k.keyword.now) answer
+Turns shape g q i k c c' result answer = Turned g (asking q) c c' result i k.name.now (form_at_work shape k) (map (option_map edge_of) k.children.now) (shape k.keyword.now) answer
 
 -- ---- where errors or units are wanted
 
@@ -223,10 +223,10 @@ abbrev pub the_entries : {C K : Type 0} → (C → K) → ℕ → List (Entry C)
 the_entries shape i es = some_parts i (map (shaped_part shape) (map entry_of es))
 
 abbrev pub the_entry : {C K : Type 0} → (C → K) → ℕ → Entry C → Wanted K
-the_entry shape i e = a_form i (string_bytes e.name) (shaped_form shape (form_of e.form))
+the_entry shape i e = a_form i e.name (shaped_form shape (form_of e.form))
 
 abbrev pub the_keyword : {C K : Type 0} → (C → K) → ℕ → NamedKeyword C → Wanted K
-the_keyword shape i k = a_form i (string_bytes k.name.now) (form_at_work shape k)
+the_keyword shape i k = a_form i k.name.now (form_at_work shape k)
 
 abbrev pub the_question : {K : Type 0} → ℕ → List (Option Edge) → ChildQuestion → Wanted K
 the_question i es k = a_child i (map (option_map edge_of) es) k

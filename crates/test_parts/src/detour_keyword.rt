@@ -7,7 +7,9 @@ ghost use Rattle.test_parts.specs.Detours.{match_at, matches_before, pattern_at,
 use bench_keywords::keyword::BenchKeyword;
 use bench_keywords::names::NamesRun;
 use bench_keywords::texts::text_of;
+use node_table::node::name::KeywordName;
 use node_table::node::{Entry, EntryForm, NodeForm, Nodes};
+use schema_keywords::keywords::BuiltinKeyword;
 use schema_parts::keyword::{Answer, Mode, Reply, Step, Validate};
 use schema_reports::instance::Instance;
 use schema_reports::location::{Location, OutOfMemory};
@@ -171,10 +173,9 @@ pub fn nodes_of(
 ) -> Result<Nodes<DetourKeyword>, OutOfMemory>
     ensures root { IfOk result (λ nodes. 0 < length nodes) }
 {
-    let name = String::from_str(alloc, "pattern")?;
     let mut entries = Vec::new(alloc);
     entries.push(Entry {
-        name,
+        name: KeywordName::known(BuiltinKeyword::Pattern),
         priority: 30,
         is_leaf,
         form: EntryForm::Keyword(keyword, Vec::new(alloc)),

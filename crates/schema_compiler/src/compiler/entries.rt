@@ -1,13 +1,15 @@
 //! Keywords in the order of their priorities; those of one priority stay in the order in which they came.
 ghost use Rattle.std.specs.Prelude.{◌≡◌, ◌≤◌, IfOk, None, map, length, insert, option_map, string_bytes, OnOk};
-ghost use Rattle.schema_parts.specs.Showing.{Shows};
+ghost use Rattle.schema_parts.specs.Showing.{Shows, Yields};
 ghost use Rattle.schema_definitions.specs.Guarded.{NodePart};
 ghost use Rattle.node_table.specs.NodeViews.{entry_of, form_of, plan_of};
 ghost use Rattle.schema_compiler.specs.Ordering.{placed_after};
 ghost use Rattle.schema_compiler.specs.Steps.{alone};
 
 use crate::compiler::compilation::PlannedNode;
+use node_table::node::name::KeywordName;
 use node_table::node::{Entry, EntryForm, NodeForm};
+use schema_keywords::keywords::BuiltinKeyword;
 use schema_reports::location::OutOfMemory;
 use std::alloc::Global;
 
@@ -35,6 +37,18 @@ pub(crate) fn insert_by_priority<K: Drop>(
     Ok(())
 }
 
+// The name of a keyword, which is copied where it is not that of the standard's keyword of this priority.
+fn name_for(name: &String, priority: u8) -> Result<KeywordName, OutOfMemory>
+    ensures name { Yields result (string_bytes name.now) }
+{
+    if let Some(keyword) = BuiltinKeyword::with_priority(priority) {
+        if keyword.as_str() == name.as_str() {
+            return Ok(KeywordName::known(keyword));
+        }
+    }
+    KeywordName::copied(name)
+}
+
 /// A keyword of this name and form.
 pub(crate) fn entry_named<K: Drop>(
     name: &String,
@@ -50,7 +64,7 @@ pub(crate) fn entry_named<K: Drop>(
     }) }
 {
     Ok(Entry {
-        name: name.clone()?,
+        name: name_for(name, priority)?,
         priority,
         is_leaf,
         form,

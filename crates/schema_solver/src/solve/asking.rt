@@ -18,6 +18,7 @@ use asked_questions::AskedQuestion;
 use asked_questions::counted::CountedQuestions;
 use asked_questions::members::MembersQuestions;
 use asked_questions::names::NamesQuestions;
+use node_table::node::name::KeywordName;
 use run_steps::matches::finished_match;
 use run_steps::question::NamedKeyword;
 use schema_contexts::marks::child_edge;
@@ -36,7 +37,7 @@ use serde_json::{Map, Value};
 pub(crate) fn solve_asked<'i, K: Validate, M: Matcher>(
     engine: &SolverEngine<'_, K, M>,
     node: SchemaNode,
-    name: &String,
+    name: &KeywordName,
     keyword: &K,
     children: &Vec<Option<Edge>>,
     question: &Asked<'_, 'i>,

@@ -1,4 +1,4 @@
-use Rattle.std.proofs.Common.{◌∙◌, string_bytes, All, subst}
+use Rattle.std.proofs.Common.{◌∙◌, All, subst}
 use Rattle.schema_reports.specs.InstanceViews.{subject_of}
 use Rattle.schema_definitions.specs.Meaning.{fault_error}
 use Rattle.schema_reports.specs.ReportViews.{error_of, BorrowsItsPlace}
@@ -13,7 +13,7 @@ use Rattle.run_steps.proofs.faults.errors_by.Goals as goal
 
 pub loop-fault-preserved : goal.loop-fault-preserved
 loop-fault-preserved g c = record {
-  so_far = λ texts. made_more (error_of texts) (fault_error (entry_where (node_of c.args.node.now) (path_of c.args.question.now.path.now) (steps_to c.args.question.now.place.now)) (string_bytes c.args.name.now)) (fault_of texts)
+  so_far = λ texts. made_more (error_of texts) (fault_error (entry_where (node_of c.args.node.now) (path_of c.args.question.now.path.now) (steps_to c.args.question.now.place.now)) c.args.name.now) (fault_of texts)
       c.loop-fault.errors.items _ c.in_ok-error_by.field-0 c.in-Some.fault _ _ _ c.in_ok-push.ensures.items c.in-Some.ensures.steps.0 (c.in_ok-error_by.ensures.error texts) (c.loop-fault.invariant.so_far texts);
   borrows = λ root at_place each.
       let s = subject_of c.args.question.now.instance in

@@ -1,4 +1,4 @@
-use Rattle.std.proofs.Common.{◌∙◌, ap, subst, sym, string_bytes, [], arith, Some}
+use Rattle.std.proofs.Common.{◌∙◌, ap, subst, sym, [], arith, Some}
 use Rattle.schema_reports.specs.InstanceViews.{subject_of}
 use Rattle.schema_definitions.specs.Keywords.{first_of_it}
 use Rattle.schema_reports.specs.ReportViews.{BorrowsItsPlace, error_of}
@@ -16,7 +16,7 @@ returns-in_ok-new-in-Some-clause-reply g c = λ texts.
     let w = entry_where (node_of c.args.node.now) (path_of c.args.question.now.path.now) (steps_to c.args.question.now.place.now) in
     let first = sym c.in-Some.is ∙ c.first_fault.ensures.first in
     ap (λ e. first_of_it (Some (error_of texts e))) c.in_ok-new-in-Some.ensures.ok
-    ∙ ap (λ e. first_of_it (Some e)) (c.in_ok-error-in-Some.ensures.error texts) ∙ ap first_of_it (sym (first_made texts w (string_bytes c.args.name.now) c.args.answer c.in-Some.fault first))
+    ∙ ap (λ e. first_of_it (Some e)) (c.in_ok-error-in-Some.ensures.error texts) ∙ ap first_of_it (sym (first_made texts w c.args.name.now c.args.answer c.in-Some.fault first))
 
 pub returns-in_ok-new-in-Some-clause-borrows : goal.returns-in_ok-new-in-Some-clause-borrows
 returns-in_ok-new-in-Some-clause-borrows g c = λ root at_place inside.

@@ -1,4 +1,4 @@
-use Rattle.std.proofs.Common.{◌≡◌, ◌++◌, Bool, map, take, drop, string_bytes}
+use Rattle.std.proofs.Common.{◌≡◌, ◌++◌, Bool, map, take, drop}
 use Rattle.std.specs.Prelude.{All}
 use Rattle.serde_json.specs.Data.{Data}
 use Rattle.schema_definitions.specs.Meaning.{stamped}
@@ -9,7 +9,7 @@ use Rattle.run_steps.proofs.replies.stamped_errors.Given as goal
 
 abbrev pub invariant-loop-error : goal.invariant-loop-error
 invariant-loop-error g l =
-    let f = stamped (keyword_absolute (node_of l.node) (string_bytes l.name)) in
+    let f = stamped (keyword_absolute (node_of l.node) l.name) in
     record {
       so_far : (texts : Bool) → map (error_of texts) (take l.error-index l.error-items) ++ map f (map (error_of texts) (drop l.error-index l.error-items)) ≡ map f (map (error_of texts) l.fn.errors.items);
       borrows : (root : Data) → All (BorrowsItsPlace root) l.fn.errors.items → All (BorrowsItsPlace root) l.error-items;

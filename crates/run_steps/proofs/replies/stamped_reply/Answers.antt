@@ -6,4 +6,4 @@ use Rattle.run_steps.proofs.replies.stamped_reply.Goals as goal
 
 pub returns-then-is_none-clause-stamped : goal.returns-then-is_none-clause-stamped
 returns-then-is_none-clause-stamped g c = λ texts.
-    stamps_nothing (node_of c.args.node.now) (string_bytes c.args.name.now) (reply_of texts c.args.reply) (stays_none string_bytes c.args.node.now.base (c.is_none.ensures ∙ ap not c.if-is_none.true))
+    stamps_nothing (node_of c.args.node.now) c.args.name.now (reply_of texts c.args.reply) (stays_none string_bytes c.args.node.now.base (c.is_none.ensures ∙ ap not c.if-is_none.true))

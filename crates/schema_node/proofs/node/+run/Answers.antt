@@ -3,7 +3,7 @@ use Rattle.std.proofs.lemmas.Grind.{common_steps}
 use Rattle.std.specs.Prelude.{All, option_and_then}
 use Rattle.schema_reports.specs.ReportViews.{BorrowsItsPlace}
 use Rattle.schema_parts.specs.FaultViews.{PassesBorrowed}
-use Rattle.std.proofs.Common.{rules, arith, ◌≡◌, ◌≤◌, ◌∙◌, ◌==◌, ◌+◌, Bool, sym, refl, ap, subst, map, option_map, string_bytes, length, Some, false, true, List, [], ◌∷◌, ◌++◌, drop}
+use Rattle.std.proofs.Common.{rules, arith, ◌≡◌, ◌≤◌, ◌∙◌, ◌==◌, ◌+◌, Bool, sym, refl, ap, subst, map, option_map, length, Some, false, true, List, [], ◌∷◌, ◌++◌, drop}
 use Rattle.schema_reports.specs.InstanceViews.{subject_of, step_of}
 use Rattle.schema_definitions.specs.Keywords.{Question, ask, ecma, mark, match_text, no_reply, truth, unmark}
 use Rattle.run_steps.specs.EvaluationPlaces.{CarriesItsNumber, steps_to}
@@ -215,8 +215,8 @@ run::run_form-returns-in_ok-reply-in-Reference g t c = record {
       let e = edge_of c.in-Reference.edge in
       let k = reference_edge ns c.args.node.0 e (rw c.in-Reference.is at c.requires.form) in
       let l = falls_here g.K.Validate.words g.K.Validate.is_whole ns (length c.args.engine.now.nodes.now) (settling (g.M.Matcher.matching c.args.engine.now.matcher.now) c.args.context.now.remembered.assumptions) c.requires.may.ranked c.args.node.0 (subject_of c.args.question.now.instance) (busy_at (steps_to c.args.question.now.place.now) c.args.context.now.in_progress) e c.requires.may.known k in
-      let at_node = absolute_is g.K.Validate.shape c.args.engine.now.nodes.now c.args.node.0 (node_of c.node.result.now) (string_bytes c.args.entry.now.name) c.node.ensures.found in
-      rw c.in-Reference.is (if_ok_both c.stamped_reply.result _ _ _ (λ r stamped borrows. form_reference g.K.Validate.words g.K.Validate.is_whole ns (length c.args.engine.now.nodes.now) (settling (g.M.Matcher.matching c.args.engine.now.matcher.now) c.args.context.now.remembered.assumptions) (mode_of c.args.question.now.mode) (path_of c.args.question.now.path.now) (steps_to c.args.question.now.place.now) (busy_at (steps_to c.args.question.now.place.now) c.args.context.now.in_progress) (subject_of c.args.question.now.instance) c.args.node.0 (string_bytes c.args.entry.now.name) e
+      let at_node = absolute_is g.K.Validate.shape c.args.engine.now.nodes.now c.args.node.0 (node_of c.node.result.now) c.args.entry.now.name c.node.ensures.found in
+      rw c.in-Reference.is (if_ok_both c.stamped_reply.result _ _ _ (λ r stamped borrows. form_reference g.K.Validate.words g.K.Validate.is_whole ns (length c.args.engine.now.nodes.now) (settling (g.M.Matcher.matching c.args.engine.now.matcher.now) c.args.context.now.remembered.assumptions) (mode_of c.args.question.now.mode) (path_of c.args.question.now.path.now) (steps_to c.args.question.now.place.now) (busy_at (steps_to c.args.question.now.place.now) c.args.context.now.in_progress) (subject_of c.args.question.now.instance) c.args.node.0 c.args.entry.now.name e
       c.in_ok-reply-in-Reference.reply r _ at_node l stamped borrows (subst (λ path. EdgeReplies g.K.Validate.words g.K.Validate.is_whole ns (length c.args.engine.now.nodes.now) (settling (g.M.Matcher.matching c.args.engine.now.matcher.now) c.args.context.now.remembered.assumptions) (mode_of c.args.question.now.mode) path (steps_to c.args.question.now.place.now) (busy_at (steps_to c.args.question.now.place.now) c.args.context.now.in_progress) (subject_of c.args.question.now.instance) e c.in_ok-reply-in-Reference.reply) c.under_reference-path.ensures.same c.in_ok-reply-in-Reference.ensures.says)) c.stamped_reply.ensures.stamped c.stamped_reply.ensures.borrows);
   meets =
       let ns = numbered g.K.Validate.shape c.args.engine.now.nodes.now in
@@ -228,7 +228,7 @@ run::run_form-returns-in_ok-reply-in-Reference g t c = record {
       let k = reference_edge ns c.args.node.0 e (rw c.in-Reference.is at c.requires.form) in
       let l = falls_here g.K.Validate.words g.K.Validate.is_whole ns (length c.args.engine.now.nodes.now) w c.requires.may.ranked c.args.node.0 s busy e c.requires.may.known k in
       let met = subst (λ path. EdgeMeets g.K.Validate.words g.K.Validate.is_whole ns (length c.args.engine.now.nodes.now) w (mode_of c.args.question.now.mode) path p busy s c.args.context.now.remembered c.run_edge.new.context.remembered e) c.under_reference-path.ensures.same c.in_ok-reply-in-Reference.ensures.meets in
-      rw c.in-Reference.is (if_ok_always c.stamped_reply.result _ (meets_reference g.K.Validate.words g.K.Validate.is_whole ns (length c.args.engine.now.nodes.now) w (mode_of c.args.question.now.mode) (path_of c.args.question.now.path.now) p busy s c.args.node.0 (string_bytes c.args.entry.now.name) e _ _ l met));
+      rw c.in-Reference.is (if_ok_always c.stamped_reply.result _ (meets_reference g.K.Validate.words g.K.Validate.is_whole ns (length c.args.engine.now.nodes.now) w (mode_of c.args.question.now.mode) (path_of c.args.question.now.path.now) p busy s c.args.node.0 c.args.entry.now.name e _ _ l met));
   stays = first_of (search rules, grind (arith, common_steps));
 }
 
@@ -404,7 +404,7 @@ run::run_entry-returns-then-valid g t c = record {
   works = first_of (search rules, grind (arith, common_steps));
   says = λ x reads l.
       leaf_accepts g.K.Validate.words (numbered g.K.Validate.shape c.args.engine.now.nodes.now) (λ texts m s completion matcher a h. (g.met.K.Validate.function_laws texts m).agree s (matching matcher completion) a h) x (mode_of c.args.question.now.mode) c.args.node.0 (path_of c.args.question.now.path.now) (steps_to c.args.question.now.place.now)
-      (busy_at (steps_to c.args.question.now.place.now) c.args.context.now.in_progress) (string_bytes c.args.entry.now.name) _ (told.Truth c.in_ok-valid.valid) c.accepted.result c.if-valid.true (c.in_ok-valid.ensures.says x reads l) c.accepted.ensures.accepts c.accepted.ensures.no_errors;
+      (busy_at (steps_to c.args.question.now.place.now) c.args.context.now.in_progress) c.args.entry.now.name _ (told.Truth c.in_ok-valid.valid) c.accepted.result c.if-valid.true (c.in_ok-valid.ensures.says x reads l) c.accepted.ensures.accepts c.accepted.ensures.no_errors;
   meets = λ texts root depth reads l.
       let ns = numbered g.K.Validate.shape c.args.engine.now.nodes.now in
       let w = settling (g.M.Matcher.matching c.args.engine.now.matcher.now) c.args.context.now.remembered.assumptions in
@@ -484,7 +484,7 @@ run::run_keyword-returns g t c = record {
       let es = map (option_map edge_of) c.args.keyword.now.children.now in
       let busy = busy_at p c.args.context.now.in_progress in
       let n = node_of c.node.result.now in
-      let name = string_bytes c.args.keyword.now.name.now in
+      let name = c.args.keyword.now.name.now in
       let path = path_of c.args.question.now.path.now in
       if_ok_both c.finished.result _ _ _ (λ r reply borrows x reads l.
       let units = child_unit g.K.Validate.words ns x (path_of c.args.question.now.path.now) p busy es in
@@ -537,7 +537,7 @@ run::run_entries-returns g t c = record {
 pub turns::run_turns-turns-init : goal.turns::run_turns-turns-init
 turns::run_turns-turns-init g t c =
     let w = settling (g.M.Matcher.matching c.args.engine.now.matcher.now) c.args.context.now.remembered.assumptions in
-    let name = string_bytes c.args.keyword.now.name.now in
+    let name = c.args.keyword.now.name.now in
     let ns = numbered g.K.Validate.shape c.args.engine.now.nodes.now in
     let p = steps_to c.args.question.now.place.now in
     let s = subject_of c.args.question.now.instance in
@@ -609,7 +609,7 @@ turns::run_turns-returns-in-Done g t c = record {
       let m = g.K.Validate.shape c.args.keyword.now.keyword.now in
       let es = map (option_map edge_of) c.args.keyword.now.children.now in
       let busy = busy_at p c.args.context.now.in_progress in
-      let name = string_bytes c.args.keyword.now.name.now in
+      let name = c.args.keyword.now.name.now in
       let told = reply_of false c.turns.reply in
       let turn = c.in_ok-step.ensures.turns false (tells_nothing (g.K.Validate.is_whole m) s) in
       let tells = tells_keyword g.K.Validate.is_whole ns (length c.args.engine.now.nodes.now) w p s (reading w texts root depth) c.args.node.0 m es c.requires.may.known reads c.requires.form in
@@ -635,7 +635,7 @@ turns::run_turns-turns-smaller-in-Ask g t c =
 pub turns::run_turns-turns-preserved-in-Ask : goal.turns::run_turns-turns-preserved-in-Ask
 turns::run_turns-turns-preserved-in-Ask g t c =
     let w = settling (g.M.Matcher.matching c.args.engine.now.matcher.now) c.args.context.now.remembered.assumptions in
-    let name = string_bytes c.args.keyword.now.name.now in
+    let name = c.args.keyword.now.name.now in
     let ns = numbered g.K.Validate.shape c.args.engine.now.nodes.now in
     let p = steps_to c.args.question.now.place.now in
     let s = subject_of c.args.question.now.instance in
@@ -682,7 +682,7 @@ turns::run_turns-turns-smaller-in-Match g t c =
     let m = g.K.Validate.shape c.args.keyword.now.keyword.now in
     let es = map (option_map edge_of) c.args.keyword.now.children.now in
     let busy = busy_at p c.args.context.now.in_progress in
-    let name = string_bytes c.args.keyword.now.name.now in
+    let name = c.args.keyword.now.name.now in
     let told = reply_of false c.turns.reply in
     let turn = c.in_ok-step.ensures.turns false (tells_nothing (g.K.Validate.is_whole m) s) in
     let asked = step_asks c.in_ok-step.step c.in-Match.is in
@@ -700,7 +700,7 @@ turns::run_turns-turns-smaller-in-Ecma g t c =
     let m = g.K.Validate.shape c.args.keyword.now.keyword.now in
     let es = map (option_map edge_of) c.args.keyword.now.children.now in
     let busy = busy_at p c.args.context.now.in_progress in
-    let name = string_bytes c.args.keyword.now.name.now in
+    let name = c.args.keyword.now.name.now in
     let told = reply_of false c.turns.reply in
     let turn = c.in_ok-step.ensures.turns false (tells_nothing (g.K.Validate.is_whole m) s) in
     let step = rw c.in-Ecma.is at (c.in_ok-step.ensures.steps false (tells_nothing (g.K.Validate.is_whole m) s)) in
@@ -715,7 +715,7 @@ turns::run_turns-step_match-requires g t c =
     let m = g.K.Validate.shape c.args.keyword.now.keyword.now in
     let es = map (option_map edge_of) c.args.keyword.now.children.now in
     let busy = busy_at p c.args.context.now.in_progress in
-    let name = string_bytes c.args.keyword.now.name.now in
+    let name = c.args.keyword.now.name.now in
     let told = reply_of false c.turns.reply in
     let turn = c.in_ok-step.ensures.turns false (tells_nothing (g.K.Validate.is_whole m) s) in
     record { present = λ a point is. matches_there (g.K.Validate.words false) m (g.K.Validate.absorbed m) (g.K.Validate.remaining m) (g.K.Validate.can_be false m) (g.K.Validate.ends false m) (g.K.Validate.fits false m) (g.met.K.Validate.turn_laws false m) s (c.turns.run, answer_of false c.turns.answer) told a point c.turns.invariant.can (c.in_ok-step.ensures.steps false (tells_nothing (g.K.Validate.is_whole m) s) ∙ is) }
@@ -729,7 +729,7 @@ turns::run_turns-turns-preserved-in-Match g t c =
     let m = g.K.Validate.shape c.args.keyword.now.keyword.now in
     let es = map (option_map edge_of) c.args.keyword.now.children.now in
     let busy = busy_at p c.args.context.now.in_progress in
-    let name = string_bytes c.args.keyword.now.name.now in
+    let name = c.args.keyword.now.name.now in
     let told = reply_of false c.turns.reply in
     let turn = c.in_ok-step.ensures.turns false (tells_nothing (g.K.Validate.is_whole m) s) in
     let asked = step_asks c.in_ok-step.step c.in-Match.is in
@@ -777,7 +777,7 @@ turns::run_turns-turns-preserved-in-Ecma g t c =
     let m = g.K.Validate.shape c.args.keyword.now.keyword.now in
     let es = map (option_map edge_of) c.args.keyword.now.children.now in
     let busy = busy_at p c.args.context.now.in_progress in
-    let name = string_bytes c.args.keyword.now.name.now in
+    let name = c.args.keyword.now.name.now in
     let told = reply_of false c.turns.reply in
     let turn = c.in_ok-step.ensures.turns false (tells_nothing (g.K.Validate.is_whole m) s) in
     let text = c.in-Ecma.text.now in
@@ -825,7 +825,7 @@ turns::run_turns-turns-preserved-in-Mark g t c =
     let m = g.K.Validate.shape c.args.keyword.now.keyword.now in
     let es = map (option_map edge_of) c.args.keyword.now.children.now in
     let busy = busy_at p c.args.context.now.in_progress in
-    let name = string_bytes c.args.keyword.now.name.now in
+    let name = c.args.keyword.now.name.now in
     let told = reply_of false c.turns.reply in
     let turn = c.in_ok-step.ensures.turns false (tells_nothing (g.K.Validate.is_whole m) s) in
     let step = rw c.in-Mark.is at (c.in_ok-step.ensures.steps false (tells_nothing (g.K.Validate.is_whole m) s)) in
@@ -871,7 +871,7 @@ turns::run_turns-turns-preserved g t c =
     let m = g.K.Validate.shape c.args.keyword.now.keyword.now in
     let es = map (option_map edge_of) c.args.keyword.now.children.now in
     let busy = busy_at p c.args.context.now.in_progress in
-    let name = string_bytes c.args.keyword.now.name.now in
+    let name = c.args.keyword.now.name.now in
     let told = reply_of false c.turns.reply in
     let turn = c.in_ok-step.ensures.turns false (tells_nothing (g.K.Validate.is_whole m) s) in
     let step = rw c.in-Unmark.is at (c.in_ok-step.ensures.steps false (tells_nothing (g.K.Validate.is_whole m) s)) in
@@ -1167,7 +1167,7 @@ evaluate::evaluate_entry-returns-in_ok-unit-in-Reference g t c = record {
       let e = edge_of c.in-Reference.edge in
       let k = reference_edge ns c.args.node.0 e (rw c.in-Reference.is at c.requires.form) in
       let l = falls_here g.K.Validate.words g.K.Validate.is_whole ns (length c.args.engine.now.nodes.now) w c.requires.may.ranked c.args.node.0 s busy e c.requires.may.known k in
-      let name = string_bytes c.args.entry.now.name in
+      let name = c.args.entry.now.name in
       let asked : Asking = record { subject = q.subject; place = q.place; path = path_of c.under_reference-path.result; mode = q.mode } in
       let same : asked ≡ q = λ i. record { subject = q.subject; place = q.place; path = c.under_reference-path.ensures.same i; mode = q.mode } in
       rw c.in-Reference.is (if_ok_mono c.units_of_reference.result _ _ (λ units is. gives_reference set q c.args.context.now c.args.node.0 name units e c.in_ok-unit-in-Reference.unit asked same l is c.in_ok-unit-in-Reference.ensures.says) c.units_of_reference.ensures.units);
@@ -1181,8 +1181,8 @@ evaluate::evaluate_entry-returns-in_ok-unit-in-Reference g t c = record {
       let k = reference_edge ns c.args.node.0 e (rw c.in-Reference.is at c.requires.form) in
       let l = falls_here g.K.Validate.words g.K.Validate.is_whole ns (length c.args.engine.now.nodes.now) w c.requires.may.ranked c.args.node.0 s busy e c.requires.may.known k in
       let met = subst (λ path. EdgeMeets g.K.Validate.words g.K.Validate.is_whole ns (length c.args.engine.now.nodes.now) w (mode_of c.args.question.now.mode) path p busy s c.args.context.now.remembered c.evaluate_edge.new.context.remembered e) c.under_reference-path.ensures.same c.in_ok-unit-in-Reference.ensures.meets in
-      let form = meets_reference g.K.Validate.words g.K.Validate.is_whole ns (length c.args.engine.now.nodes.now) w (mode_of c.args.question.now.mode) (path_of c.args.question.now.path.now) p busy s c.args.node.0 (string_bytes c.args.entry.now.name) e _ _ l met in
-      rw c.in-Reference.is (if_ok_always c.units_of_reference.result _ (subst (λ (z : Context). FormMeets g.K.Validate.words g.K.Validate.is_whole ns (length c.args.engine.now.nodes.now) w (mode_of c.args.question.now.mode) (path_of c.args.question.now.path.now) p busy s c.args.context.now.remembered z.remembered c.args.node.0 (string_bytes c.args.entry.now.name) (node_reference e)) (sym c.units_of_reference.ensures.stays) form));
+      let form = meets_reference g.K.Validate.words g.K.Validate.is_whole ns (length c.args.engine.now.nodes.now) w (mode_of c.args.question.now.mode) (path_of c.args.question.now.path.now) p busy s c.args.node.0 c.args.entry.now.name e _ _ l met in
+      rw c.in-Reference.is (if_ok_always c.units_of_reference.result _ (subst (λ (z : Context). FormMeets g.K.Validate.words g.K.Validate.is_whole ns (length c.args.engine.now.nodes.now) w (mode_of c.args.question.now.mode) (path_of c.args.question.now.path.now) p busy s c.args.context.now.remembered z.remembered c.args.node.0 c.args.entry.now.name (node_reference e)) (sym c.units_of_reference.ensures.stays) form));
   stays = if_ok_always c.units_of_reference.result _ (rw (← c.units_of_reference.ensures.stays) at c.in_ok-unit-in-Reference.ensures.stays);
 }
 
@@ -1204,7 +1204,7 @@ evaluate::evaluate_keyword-returns g t c = record {
       let m = g.K.Validate.shape c.args.keyword.now.keyword.now in
       let es = map (option_map edge_of) c.args.keyword.now.children.now in
       let n = node_of c.node.result.now in
-      let name = string_bytes c.args.keyword.now.name.now in
+      let name = c.args.keyword.now.name.now in
       let finds = finds_units set q c.args.context.now c.args.node.0 es m c.in_ok-answer.answer c.requires.may.wanted c.in_ok-answer.ensures.right in
       if_ok_mono c.units_of_keyword.result _ _ (λ units is. gives_keyword set q c.args.context.now c.args.node.0 name units m es c.in_ok-answer.answer (entry_where n (path_of c.args.question.now.path.now) p)
       (λ x. where_is g.K.Validate.shape c.args.engine.now.nodes.now (g.K.Validate.words x.texts) x.matcher (subject_in x.root) c.args.node.0 n (path_of c.args.question.now.path.now) p c.node.ensures.found) finds is) c.units_of_keyword.ensures.units;

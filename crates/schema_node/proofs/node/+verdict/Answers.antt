@@ -1,4 +1,4 @@
-use Rattle.std.proofs.Common.{◌≡◌, ◌∙◌, ◌==◌, ◌+◌, ◌≤◌, Bool, arith, suc, sym, refl, rules, ap, subst, map, option_map, string_bytes, length, Some, false, true, true≢false, inl, inr, List, [], ◌∷◌, ◌++◌, drop}
+use Rattle.std.proofs.Common.{◌≡◌, ◌∙◌, ◌==◌, ◌+◌, ◌≤◌, Bool, arith, suc, sym, refl, rules, ap, subst, map, option_map, length, Some, false, true, true≢false, inl, inr, List, [], ◌∷◌, ◌++◌, drop}
 use Rattle.std.proofs.lemmas.Grind.{common_steps}
 use Rattle.schema_reports.specs.InstanceViews.{subject_of, step_of}
 use Rattle.schema_definitions.specs.Keywords.{Question, ask, ecma, for_verdict, mark, match_text, no_reply, truth, unmark}
@@ -179,7 +179,7 @@ verdict::verdict_form-returns-in-Some g t c = record {
       let m = g.K.Validate.shape c.in-Keyword.keyword in
       let es = map (option_map edge_of) c.in-Keyword.children.items in
       let form = rw c.in-Keyword.is at c.requires.stands in
-      rw c.in-Keyword.is (keyword_replies mode c.requires.verdict g.K.Validate.words g.K.Validate.is_whole ns (length c.args.engine.now.nodes.now) w path p busy s c.args.node.0 (string_bytes c.args.entry.now.name) m es c.in-Some.valid (λ x reads l.
+      rw c.in-Keyword.is (keyword_replies mode c.requires.verdict g.K.Validate.words g.K.Validate.is_whole ns (length c.args.engine.now.nodes.now) w path p busy s c.args.node.0 c.args.entry.now.name m es c.in-Some.valid (λ x reads l.
       let tells = tells_keyword g.K.Validate.is_whole ns (length c.args.engine.now.nodes.now) w p s x c.args.node.0 m es c.requires.may.known reads form in
       right_at_once (g.K.Validate.words x.texts) m (g.K.Validate.absorbed m) (g.K.Validate.remaining m) (g.K.Validate.can_be x.texts m) (g.K.Validate.ends x.texts m) (g.K.Validate.fits x.texts m) (g.met.K.Validate.turn_laws x.texts m) s x (child_says g.K.Validate.words ns x path p busy es) (same_edge es) c.in-Some.valid
       (agrees_answers g.K.Validate.words ns (λ texts m s completion matcher a h. (g.met.K.Validate.function_laws texts m).agree s (matching matcher completion) a h) x path p busy es)
@@ -196,7 +196,7 @@ verdict::verdict_form-returns-in-Some g t c = record {
       let m = g.K.Validate.shape c.in-Keyword.keyword in
       let es = map (option_map edge_of) c.in-Keyword.children.items in
       let form = rw c.in-Keyword.is at c.requires.stands in
-      let name = string_bytes c.args.entry.now.name in
+      let name = c.args.entry.now.name in
       let at_node = node_at (g.K.Validate.words texts) w.matcher ns (subject_in root) c.args.node.0 path p in
       let runs = child_run g.K.Validate.words ns w texts root depth path p busy es in
       let tells = tells_keyword g.K.Validate.is_whole ns (length c.args.engine.now.nodes.now) w p s (reading w texts root depth) c.args.node.0 m es c.requires.may.known reads form in
@@ -240,7 +240,7 @@ verdict::verdict_form-returns-in-Reference g t c = record {
       let k = reference_edge ns c.args.node.0 e (rw c.in-Reference.is at c.requires.stands) in
       let l = falls_here g.K.Validate.words g.K.Validate.is_whole ns (length c.args.engine.now.nodes.now) w c.requires.may.ranked c.args.node.0 s busy e c.requires.may.known k in
       rw c.in-Reference.is (if_ok_mono c.verdict_reference.result _ _ (λ b says.
-      form_reference g.K.Validate.words g.K.Validate.is_whole ns (length c.args.engine.now.nodes.now) w mode path p busy s c.args.node.0 (string_bytes c.args.entry.now.name) e (told.Truth b) (told.Truth b) _ refl l (stamps_verdict _ b) (λ root h. h)
+      form_reference g.K.Validate.words g.K.Validate.is_whole ns (length c.args.engine.now.nodes.now) w mode path p busy s c.args.node.0 c.args.entry.now.name e (told.Truth b) (told.Truth b) _ refl l (stamps_verdict _ b) (λ root h. h)
       says) c.verdict_reference.ensures.says);
   meets =
       let ns = numbered g.K.Validate.shape c.args.engine.now.nodes.now in
@@ -254,7 +254,7 @@ verdict::verdict_form-returns-in-Reference g t c = record {
       let k = reference_edge ns c.args.node.0 e (rw c.in-Reference.is at c.requires.stands) in
       let l = falls_here g.K.Validate.words g.K.Validate.is_whole ns (length c.args.engine.now.nodes.now) w c.requires.may.ranked c.args.node.0 s busy e c.requires.may.known k in
       rw c.in-Reference.is (if_ok_mono c.verdict_reference.result _ _ (λ b meets.
-      meets_reference g.K.Validate.words g.K.Validate.is_whole ns (length c.args.engine.now.nodes.now) w mode path p busy s c.args.node.0 (string_bytes c.args.entry.now.name) e _ _ l meets) c.verdict_reference.ensures.meets);
+      meets_reference g.K.Validate.words g.K.Validate.is_whole ns (length c.args.engine.now.nodes.now) w mode path p busy s c.args.node.0 c.args.entry.now.name e _ _ l meets) c.verdict_reference.ensures.meets);
   stays = search rules;
   remembers =
       let q = asking c.args.question.now in
@@ -289,7 +289,7 @@ verdict::verdict_keyword-returns-in-Reference g t c = record {
       let k = reference_edge ns c.args.node.0 e (rw c.in-Reference.is at c.requires.stands) in
       let l = falls_here g.K.Validate.words g.K.Validate.is_whole ns (length c.args.engine.now.nodes.now) w c.requires.may.ranked c.args.node.0 s busy e c.requires.may.known k in
       rw c.in-Reference.is (if_ok_mono c.verdict_reference.result _ _ (λ b says.
-      form_reference g.K.Validate.words g.K.Validate.is_whole ns (length c.args.engine.now.nodes.now) w mode path p busy s c.args.node.0 (string_bytes c.args.entry.now.name) e (told.Truth b) (told.Truth b) _ refl l (stamps_verdict _ b) (λ root h. h)
+      form_reference g.K.Validate.words g.K.Validate.is_whole ns (length c.args.engine.now.nodes.now) w mode path p busy s c.args.node.0 c.args.entry.now.name e (told.Truth b) (told.Truth b) _ refl l (stamps_verdict _ b) (λ root h. h)
       says) c.verdict_reference.ensures.says);
   meets =
       let ns = numbered g.K.Validate.shape c.args.engine.now.nodes.now in
@@ -303,7 +303,7 @@ verdict::verdict_keyword-returns-in-Reference g t c = record {
       let k = reference_edge ns c.args.node.0 e (rw c.in-Reference.is at c.requires.stands) in
       let l = falls_here g.K.Validate.words g.K.Validate.is_whole ns (length c.args.engine.now.nodes.now) w c.requires.may.ranked c.args.node.0 s busy e c.requires.may.known k in
       rw c.in-Reference.is (if_ok_mono c.verdict_reference.result _ _ (λ b meets.
-      meets_reference g.K.Validate.words g.K.Validate.is_whole ns (length c.args.engine.now.nodes.now) w mode path p busy s c.args.node.0 (string_bytes c.args.entry.now.name) e _ _ l meets) c.verdict_reference.ensures.meets);
+      meets_reference g.K.Validate.words g.K.Validate.is_whole ns (length c.args.engine.now.nodes.now) w mode path p busy s c.args.node.0 c.args.entry.now.name e _ _ l meets) c.verdict_reference.ensures.meets);
   stays = search rules;
   remembers =
       let q = asking c.args.question.now in
@@ -328,7 +328,7 @@ verdict_asking::asked_verdict-returns-in_ok-matches-in-Match g t c =
     let old = c.args.context.now in
     let m = g.K.Validate.shape c.args.keyword.now.keyword.now in
     let es = map (option_map edge_of) c.args.keyword.now.children.now in
-    let name = string_bytes c.args.keyword.now.name.now in
+    let name = c.args.keyword.now.name.now in
     let asks = c.in-Match.ensures.asks in
     record {
       keeps = search rules;
@@ -420,7 +420,7 @@ verdict_asking::verdict_counted-returns-then-valid-all g t c =
     let i = c.args.node.0 in
     let m = g.K.Validate.shape c.args.keyword.now.keyword.now in
     let es = map (option_map edge_of) c.args.keyword.now.children.now in
-    let name = string_bytes c.args.keyword.now.name.now in
+    let name = c.args.keyword.now.name.now in
     let old = c.args.context.now in
     let now = c.loop-asked.context in
     let new = c.verdict_there.new.context in
@@ -478,7 +478,7 @@ verdict_asking::verdict_counted-returns g t c =
     let i = c.args.node.0 in
     let m = g.K.Validate.shape c.args.keyword.now.keyword.now in
     let es = map (option_map edge_of) c.args.keyword.now.children.now in
-    let name = string_bytes c.args.keyword.now.name.now in
+    let name = c.args.keyword.now.name.now in
     let old = c.args.context.now in
     let now = c.loop-asked.context in
     let so_far = c.loop-asked.invariant in
@@ -532,7 +532,7 @@ verdict_asking::verdict_members-returns-then-not-valid g t c =
     let i = c.args.node.0 in
     let m = g.K.Validate.shape c.args.keyword.now.keyword.now in
     let es = map (option_map edge_of) c.args.keyword.now.children.now in
-    let name = string_bytes c.args.keyword.now.name.now in
+    let name = c.args.keyword.now.name.now in
     let old = c.args.context.now in
     let now = c.loop-asked.context in
     let new = c.verdict_there.new.context in
@@ -590,7 +590,7 @@ verdict_asking::verdict_members-returns g t c =
     let i = c.args.node.0 in
     let m = g.K.Validate.shape c.args.keyword.now.keyword.now in
     let es = map (option_map edge_of) c.args.keyword.now.children.now in
-    let name = string_bytes c.args.keyword.now.name.now in
+    let name = c.args.keyword.now.name.now in
     let old = c.args.context.now in
     let now = c.loop-asked.context in
     let so_far = c.loop-asked.invariant in
@@ -644,7 +644,7 @@ verdict_asking::verdict_names-returns-then-not-valid g t c =
     let i = c.args.node.0 in
     let m = g.K.Validate.shape c.args.keyword.now.keyword.now in
     let es = map (option_map edge_of) c.args.keyword.now.children.now in
-    let name = string_bytes c.args.keyword.now.name.now in
+    let name = c.args.keyword.now.name.now in
     let old = c.args.context.now in
     let now = c.loop-asked.context in
     let new = c.verdict_there.new.context in
@@ -702,7 +702,7 @@ verdict_asking::verdict_names-returns g t c =
     let i = c.args.node.0 in
     let m = g.K.Validate.shape c.args.keyword.now.keyword.now in
     let es = map (option_map edge_of) c.args.keyword.now.children.now in
-    let name = string_bytes c.args.keyword.now.name.now in
+    let name = c.args.keyword.now.name.now in
     let old = c.args.context.now in
     let now = c.loop-asked.context in
     let so_far = c.loop-asked.invariant in
@@ -967,7 +967,7 @@ verdict::verdict_entries-loop-entry-preserved g t c = record {
       let part = shaped_part g.K.Validate.shape (entry_of c.entry-item.result) in
       let looked = λ (es : List (Entry g.row.K.Denot)). parts_looked g.K.Validate.words ns w texts root depth c.args.node.0 (path_of c.args.question.now.path.now) p busy (map (shaped_part g.K.Validate.shape) (map entry_of es)) in
       let here = meets_same w.matcher _ _ _ _ (other_entry mode (part_looked g.K.Validate.words ns w texts root depth c.args.node.0 (path_of c.args.question.now.path.now) p busy part) (λ no less. absurd (no c.requires.verdict))) (moved (λ es as'. FormMeets g.K.Validate.words g.K.Validate.is_whole ns (length c.args.engine.now.nodes.now) (settling (g.M.Matcher.matching c.args.engine.now.matcher.now) as') mode (path_of c.args.question.now.path.now) p (busy_at p es) (subject_of c.args.question.now.instance) c.loop-entry.context.remembered c.verdict_form.new.context.remembered c.args.node.0 part.name part.form) c.loop-entry.invariant.kept c.loop-entry.invariant.assumes c.in_ok-valid.ensures.meets texts root depth reads l) in
-      let says = (rw (c.loop-entry.invariant.kept, c.loop-entry.invariant.assumes) at (subst (λ v. FormSays (setting g.K.Validate.words g.K.Validate.is_whole g.K.Validate.shape g.M.Matcher.matching c.args.engine.now) (asking c.args.question.now) c.loop-entry.context c.args.node.0 (string_bytes c.entry-item.result.name) (shaped_form g.K.Validate.shape (form_of c.entry-item.result.form)) (told.Truth v)) c.if-not-valid.false c.in_ok-valid.ensures.says)) (reading w texts root depth) reads l in
+      let says = (rw (c.loop-entry.invariant.kept, c.loop-entry.invariant.assumes) at (subst (λ v. FormSays (setting g.K.Validate.words g.K.Validate.is_whole g.K.Validate.shape g.M.Matcher.matching c.args.engine.now) (asking c.args.question.now) c.loop-entry.context c.args.node.0 c.entry-item.result.name (shaped_form g.K.Validate.shape (form_of c.entry-item.result.form)) (told.Truth v)) c.if-not-valid.false c.in_ok-valid.ensures.says)) (reading w texts root depth) reads l in
       let so_far = c.loop-entry.invariant.so_far (reading w texts root depth) reads l in
       let met = c.loop-entry.invariant.met texts root depth reads l in
       let split = ap (λ es. plan_met mode (looked es)) (drop_at c.args.entries.now c.loop-entry.entry-index c.entry-item.result c.loop-entry-test.true c.entry-item.is) in
@@ -978,7 +978,7 @@ verdict::verdict_entries-loop-entry-preserved g t c = record {
       let ns = numbered g.K.Validate.shape c.args.engine.now.nodes.now in
       let p = steps_to c.args.question.now.place.now in
       let parts = λ (es : List (Entry g.row.K.Denot)). parts_say g.K.Validate.words ns x c.args.node.0 (path_of c.args.question.now.path.now) p (busy_at p c.args.context.now.in_progress) (map (shaped_part g.K.Validate.shape) (map entry_of es)) in
-      let says = (rw (c.loop-entry.invariant.kept, c.loop-entry.invariant.assumes) at (subst (λ v. FormSays (setting g.K.Validate.words g.K.Validate.is_whole g.K.Validate.shape g.M.Matcher.matching c.args.engine.now) (asking c.args.question.now) c.loop-entry.context c.args.node.0 (string_bytes c.entry-item.result.name) (shaped_form g.K.Validate.shape (form_of c.entry-item.result.form)) (told.Truth v)) c.if-not-valid.false c.in_ok-valid.ensures.says)) x reads l in
+      let says = (rw (c.loop-entry.invariant.kept, c.loop-entry.invariant.assumes) at (subst (λ v. FormSays (setting g.K.Validate.words g.K.Validate.is_whole g.K.Validate.shape g.M.Matcher.matching c.args.engine.now) (asking c.args.question.now) c.loop-entry.context c.args.node.0 c.entry-item.result.name (shaped_form g.K.Validate.shape (form_of c.entry-item.result.form)) (told.Truth v)) c.if-not-valid.false c.in_ok-valid.ensures.says)) x reads l in
       let split = ap parts (drop_at c.args.entries.now c.loop-entry.entry-index c.entry-item.result c.loop-entry-test.true c.entry-item.is) in
       one_entry g.K.Validate.words g.K.Validate.is_whole ns (length c.args.engine.now.nodes.now) (settling (g.M.Matcher.matching c.args.engine.now.matcher.now) c.args.context.now.remembered.assumptions) (mode_of c.args.question.now.mode) x (told.Truth true) (told.Truth true) (told.Truth true) _ _ (parts (drop (c.loop-entry.entry-index + 1) c.args.entries.now)) _ split
       (joins_verdict true) (λ root h k. k) says (c.loop-entry.invariant.so_far x reads l);
@@ -995,7 +995,7 @@ verdict::verdict_entries-returns-then-not-valid g t c = record {
       let ns = numbered g.K.Validate.shape c.args.engine.now.nodes.now in
       let p = steps_to c.args.question.now.place.now in
       let parts = λ (es : List (Entry g.row.K.Denot)). parts_say g.K.Validate.words ns x c.args.node.0 (path_of c.args.question.now.path.now) p (busy_at p c.args.context.now.in_progress) (map (shaped_part g.K.Validate.shape) (map entry_of es)) in
-      let says = (rw (c.loop-entry.invariant.kept, c.loop-entry.invariant.assumes) at (subst (λ v. FormSays (setting g.K.Validate.words g.K.Validate.is_whole g.K.Validate.shape g.M.Matcher.matching c.args.engine.now) (asking c.args.question.now) c.loop-entry.context c.args.node.0 (string_bytes c.entry-item.result.name) (shaped_form g.K.Validate.shape (form_of c.entry-item.result.form)) (told.Truth v)) c.if-not-valid.true c.in_ok-valid.ensures.says)) x reads l in
+      let says = (rw (c.loop-entry.invariant.kept, c.loop-entry.invariant.assumes) at (subst (λ v. FormSays (setting g.K.Validate.words g.K.Validate.is_whole g.K.Validate.shape g.M.Matcher.matching c.args.engine.now) (asking c.args.question.now) c.loop-entry.context c.args.node.0 c.entry-item.result.name (shaped_form g.K.Validate.shape (form_of c.entry-item.result.form)) (told.Truth v)) c.if-not-valid.true c.in_ok-valid.ensures.says)) x reads l in
       let split = ap parts (drop_at c.args.entries.now c.loop-entry.entry-index c.entry-item.result c.loop-entry-test.true c.entry-item.is) in
       let next = one_entry g.K.Validate.words g.K.Validate.is_whole ns (length c.args.engine.now.nodes.now) (settling (g.M.Matcher.matching c.args.engine.now.matcher.now) c.args.context.now.remembered.assumptions) (mode_of c.args.question.now.mode) x (told.Truth true) (told.Truth false) (told.Truth false) _ _ (parts (drop (c.loop-entry.entry-index + 1) c.args.entries.now)) _ split
       (joins_verdict false) (λ root h k. k) says (c.loop-entry.invariant.so_far x reads l) in
@@ -1009,7 +1009,7 @@ verdict::verdict_entries-returns-then-not-valid g t c = record {
       let part = shaped_part g.K.Validate.shape (entry_of c.entry-item.result) in
       let looked = λ (es : List (Entry g.row.K.Denot)). parts_looked g.K.Validate.words ns w texts root depth c.args.node.0 (path_of c.args.question.now.path.now) p busy (map (shaped_part g.K.Validate.shape) (map entry_of es)) in
       let here = meets_same w.matcher _ _ _ _ (other_entry mode (part_looked g.K.Validate.words ns w texts root depth c.args.node.0 (path_of c.args.question.now.path.now) p busy part) (λ no less. absurd (no c.requires.verdict))) (moved (λ es as'. FormMeets g.K.Validate.words g.K.Validate.is_whole ns (length c.args.engine.now.nodes.now) (settling (g.M.Matcher.matching c.args.engine.now.matcher.now) as') mode (path_of c.args.question.now.path.now) p (busy_at p es) (subject_of c.args.question.now.instance) c.loop-entry.context.remembered c.verdict_form.new.context.remembered c.args.node.0 part.name part.form) c.loop-entry.invariant.kept c.loop-entry.invariant.assumes c.in_ok-valid.ensures.meets texts root depth reads l) in
-      let says = (rw (c.loop-entry.invariant.kept, c.loop-entry.invariant.assumes) at (subst (λ v. FormSays (setting g.K.Validate.words g.K.Validate.is_whole g.K.Validate.shape g.M.Matcher.matching c.args.engine.now) (asking c.args.question.now) c.loop-entry.context c.args.node.0 (string_bytes c.entry-item.result.name) (shaped_form g.K.Validate.shape (form_of c.entry-item.result.form)) (told.Truth v)) c.if-not-valid.true c.in_ok-valid.ensures.says)) (reading w texts root depth) reads l in
+      let says = (rw (c.loop-entry.invariant.kept, c.loop-entry.invariant.assumes) at (subst (λ v. FormSays (setting g.K.Validate.words g.K.Validate.is_whole g.K.Validate.shape g.M.Matcher.matching c.args.engine.now) (asking c.args.question.now) c.loop-entry.context c.args.node.0 c.entry-item.result.name (shaped_form g.K.Validate.shape (form_of c.entry-item.result.form)) (told.Truth v)) c.if-not-valid.true c.in_ok-valid.ensures.says)) (reading w texts root depth) reads l in
       let so_far = c.loop-entry.invariant.so_far (reading w texts root depth) reads l in
       let met = c.loop-entry.invariant.met texts root depth reads l in
       let split = ap (λ es. plan_met mode (looked es)) (drop_at c.args.entries.now c.loop-entry.entry-index c.entry-item.result c.loop-entry-test.true c.entry-item.is) in
@@ -1402,7 +1402,7 @@ verdict_turns::keyword_verdict-returns-in-Ok g t c = record {
       let es = map (option_map edge_of) c.args.keyword.now.children.now in
       let answer = c.take_turns-turned.new.answer in
       let right = finds_moved set (asking c.args.question.now) c.args.context.now c.set_aside-aside.new.self c.set_aside-aside.ensures.frame.in_progress (ap (λ (r : Remembered). r.assumptions) c.set_aside-aside.ensures.frame.remembered) c.args.node.0 es m answer (rw c.in-Ok.is at c.take_turns-turned.ensures.right) in
-      keyword_replies mode c.requires.verdict g.K.Validate.words g.K.Validate.is_whole ns (length c.args.engine.now.nodes.now) w path p busy s c.args.node.0 (string_bytes c.args.keyword.now.name.now) m es c.verdict_of.result (λ x reads l.
+      keyword_replies mode c.requires.verdict g.K.Validate.words g.K.Validate.is_whole ns (length c.args.engine.now.nodes.now) w path p busy s c.args.node.0 c.args.keyword.now.name.now m es c.verdict_of.result (λ x reads l.
       let answers = child_says g.K.Validate.words ns x path p busy es in
       let units = child_unit g.K.Validate.words ns x path p busy es in
       c.verdict_of.ensures.verdict x.texts ∙ subst (λ z. IsRight (g.K.Validate.words x.texts) m s (matching x.matcher x.completion) answers units (same_edge es) z (answer_of x.texts answer)) c.requires.verdict (right x reads l));
@@ -1418,7 +1418,7 @@ verdict_turns::keyword_verdict-returns-in-Ok g t c = record {
 pub verdict_turns::take_turns-turns-init : goal.verdict_turns::take_turns-turns-init
 verdict_turns::take_turns-turns-init g t c =
     let w = settling (g.M.Matcher.matching c.args.engine.now.matcher.now) c.args.context.now.remembered.assumptions in
-    let name = string_bytes c.args.keyword.now.name.now in
+    let name = c.args.keyword.now.name.now in
     let ns = numbered g.K.Validate.shape c.args.engine.now.nodes.now in
     let p = steps_to c.args.question.now.place.now in
     let s = subject_of c.args.question.now.instance in
@@ -1499,7 +1499,7 @@ verdict_turns::take_turns-returns-in-Done g t c = record {
       = λ texts tells. stepped_by (g.K.Validate.words texts) m (g.K.Validate.absorbed m) (g.K.Validate.remaining m) (g.K.Validate.can_be texts m) (g.K.Validate.ends texts m) (g.K.Validate.fits texts m) (g.met.K.Validate.turn_laws texts m) s (c.turns.run, answer_of texts c.turns.answer) (reply_of texts c.reply_with-reply.result) (told_reply c.turns.told) (turn_of c.in_ok-step.step) (c.reply_with-reply.ensures.told texts) (c.in_ok-step.ensures.steps texts tells) in
       let es = map (option_map edge_of) c.args.keyword.now.children.now in
       let busy = busy_at p c.args.context.now.in_progress in
-      let name = string_bytes c.args.keyword.now.name.now in
+      let name = c.args.keyword.now.name.now in
       let told = told_reply c.turns.told in
       let turn = turned false (tells_nothing (g.K.Validate.is_whole m) s) in
       let tells = tells_keyword g.K.Validate.is_whole ns (length c.args.engine.now.nodes.now) w p s (reading w texts root depth) c.args.node.0 m es c.requires.asked.may.known reads c.requires.asked.stands in
@@ -1529,7 +1529,7 @@ verdict_turns::take_turns-turns-smaller-in-Ask g t c =
 pub verdict_turns::take_turns-turns-preserved-in-Ask : goal.verdict_turns::take_turns-turns-preserved-in-Ask
 verdict_turns::take_turns-turns-preserved-in-Ask g t c =
     let w = settling (g.M.Matcher.matching c.args.engine.now.matcher.now) c.args.context.now.remembered.assumptions in
-    let name = string_bytes c.args.keyword.now.name.now in
+    let name = c.args.keyword.now.name.now in
     let ns = numbered g.K.Validate.shape c.args.engine.now.nodes.now in
     let p = steps_to c.args.question.now.place.now in
     let s = subject_of c.args.question.now.instance in
@@ -1587,7 +1587,7 @@ verdict_turns::take_turns-turns-smaller-in-Match g t c =
     = λ texts tells. stepped_by (g.K.Validate.words texts) m (g.K.Validate.absorbed m) (g.K.Validate.remaining m) (g.K.Validate.can_be texts m) (g.K.Validate.ends texts m) (g.K.Validate.fits texts m) (g.met.K.Validate.turn_laws texts m) s (c.turns.run, answer_of texts c.turns.answer) (reply_of texts c.reply_with-reply.result) (told_reply c.turns.told) (turn_of c.in_ok-step.step) (c.reply_with-reply.ensures.told texts) (c.in_ok-step.ensures.steps texts tells) in
     let es = map (option_map edge_of) c.args.keyword.now.children.now in
     let busy = busy_at p c.args.context.now.in_progress in
-    let name = string_bytes c.args.keyword.now.name.now in
+    let name = c.args.keyword.now.name.now in
     let told = told_reply c.turns.told in
     let turn = turned false (tells_nothing (g.K.Validate.is_whole m) s) in
     let asked = step_asks c.in_ok-step.step c.in-Match.is in
@@ -1609,7 +1609,7 @@ verdict_turns::take_turns-turns-smaller-in-Ecma g t c =
     = λ texts tells. stepped_by (g.K.Validate.words texts) m (g.K.Validate.absorbed m) (g.K.Validate.remaining m) (g.K.Validate.can_be texts m) (g.K.Validate.ends texts m) (g.K.Validate.fits texts m) (g.met.K.Validate.turn_laws texts m) s (c.turns.run, answer_of texts c.turns.answer) (reply_of texts c.reply_with-reply.result) (told_reply c.turns.told) (turn_of c.in_ok-step.step) (c.reply_with-reply.ensures.told texts) (c.in_ok-step.ensures.steps texts tells) in
     let es = map (option_map edge_of) c.args.keyword.now.children.now in
     let busy = busy_at p c.args.context.now.in_progress in
-    let name = string_bytes c.args.keyword.now.name.now in
+    let name = c.args.keyword.now.name.now in
     let told = told_reply c.turns.told in
     let turn = turned false (tells_nothing (g.K.Validate.is_whole m) s) in
     let step = rw c.in-Ecma.is at (stepped false (tells_nothing (g.K.Validate.is_whole m) s)) in
@@ -1628,7 +1628,7 @@ verdict_turns::take_turns-step_match-requires g t c =
     = λ texts tells. stepped_by (g.K.Validate.words texts) m (g.K.Validate.absorbed m) (g.K.Validate.remaining m) (g.K.Validate.can_be texts m) (g.K.Validate.ends texts m) (g.K.Validate.fits texts m) (g.met.K.Validate.turn_laws texts m) s (c.turns.run, answer_of texts c.turns.answer) (reply_of texts c.reply_with-reply.result) (told_reply c.turns.told) (turn_of c.in_ok-step.step) (c.reply_with-reply.ensures.told texts) (c.in_ok-step.ensures.steps texts tells) in
     let es = map (option_map edge_of) c.args.keyword.now.children.now in
     let busy = busy_at p c.args.context.now.in_progress in
-    let name = string_bytes c.args.keyword.now.name.now in
+    let name = c.args.keyword.now.name.now in
     let told = told_reply c.turns.told in
     let turn = turned false (tells_nothing (g.K.Validate.is_whole m) s) in
     record { present = λ a point is. matches_there (g.K.Validate.words false) m (g.K.Validate.absorbed m) (g.K.Validate.remaining m) (g.K.Validate.can_be false m) (g.K.Validate.ends false m) (g.K.Validate.fits false m) (g.met.K.Validate.turn_laws false m) s (c.turns.run, answer_of false c.turns.answer) told a point c.turns.invariant.can (stepped false (tells_nothing (g.K.Validate.is_whole m) s) ∙ is) }
@@ -1646,7 +1646,7 @@ verdict_turns::take_turns-turns-preserved-in-Match g t c =
     = λ texts tells. stepped_by (g.K.Validate.words texts) m (g.K.Validate.absorbed m) (g.K.Validate.remaining m) (g.K.Validate.can_be texts m) (g.K.Validate.ends texts m) (g.K.Validate.fits texts m) (g.met.K.Validate.turn_laws texts m) s (c.turns.run, answer_of texts c.turns.answer) (reply_of texts c.reply_with-reply.result) (told_reply c.turns.told) (turn_of c.in_ok-step.step) (c.reply_with-reply.ensures.told texts) (c.in_ok-step.ensures.steps texts tells) in
     let es = map (option_map edge_of) c.args.keyword.now.children.now in
     let busy = busy_at p c.args.context.now.in_progress in
-    let name = string_bytes c.args.keyword.now.name.now in
+    let name = c.args.keyword.now.name.now in
     let told = told_reply c.turns.told in
     let turn = turned false (tells_nothing (g.K.Validate.is_whole m) s) in
     let asked = step_asks c.in_ok-step.step c.in-Match.is in
@@ -1696,7 +1696,7 @@ verdict_turns::take_turns-turns-preserved-in-Ecma g t c =
     = λ texts tells. stepped_by (g.K.Validate.words texts) m (g.K.Validate.absorbed m) (g.K.Validate.remaining m) (g.K.Validate.can_be texts m) (g.K.Validate.ends texts m) (g.K.Validate.fits texts m) (g.met.K.Validate.turn_laws texts m) s (c.turns.run, answer_of texts c.turns.answer) (reply_of texts c.reply_with-reply.result) (told_reply c.turns.told) (turn_of c.in_ok-step.step) (c.reply_with-reply.ensures.told texts) (c.in_ok-step.ensures.steps texts tells) in
     let es = map (option_map edge_of) c.args.keyword.now.children.now in
     let busy = busy_at p c.args.context.now.in_progress in
-    let name = string_bytes c.args.keyword.now.name.now in
+    let name = c.args.keyword.now.name.now in
     let told = told_reply c.turns.told in
     let turn = turned false (tells_nothing (g.K.Validate.is_whole m) s) in
     let text = c.in-Ecma.text.now in
@@ -1750,7 +1750,7 @@ verdict_turns::take_turns-turns-preserved-in-Mark g t c =
     = λ texts tells. stepped_by (g.K.Validate.words texts) m (g.K.Validate.absorbed m) (g.K.Validate.remaining m) (g.K.Validate.can_be texts m) (g.K.Validate.ends texts m) (g.K.Validate.fits texts m) (g.met.K.Validate.turn_laws texts m) s (c.turns.run, answer_of texts c.turns.answer) (reply_of texts c.reply_with-reply.result) (told_reply c.turns.told) (turn_of c.in_ok-step.step) (c.reply_with-reply.ensures.told texts) (c.in_ok-step.ensures.steps texts tells) in
     let es = map (option_map edge_of) c.args.keyword.now.children.now in
     let busy = busy_at p c.args.context.now.in_progress in
-    let name = string_bytes c.args.keyword.now.name.now in
+    let name = c.args.keyword.now.name.now in
     let told = told_reply c.turns.told in
     let turn = turned false (tells_nothing (g.K.Validate.is_whole m) s) in
     let step = rw c.in-Mark.is at (stepped false (tells_nothing (g.K.Validate.is_whole m) s)) in
@@ -1802,7 +1802,7 @@ verdict_turns::take_turns-turns-preserved g t c =
     = λ texts tells. stepped_by (g.K.Validate.words texts) m (g.K.Validate.absorbed m) (g.K.Validate.remaining m) (g.K.Validate.can_be texts m) (g.K.Validate.ends texts m) (g.K.Validate.fits texts m) (g.met.K.Validate.turn_laws texts m) s (c.turns.run, answer_of texts c.turns.answer) (reply_of texts c.reply_with-reply.result) (told_reply c.turns.told) (turn_of c.in_ok-step.step) (c.reply_with-reply.ensures.told texts) (c.in_ok-step.ensures.steps texts tells) in
     let es = map (option_map edge_of) c.args.keyword.now.children.now in
     let busy = busy_at p c.args.context.now.in_progress in
-    let name = string_bytes c.args.keyword.now.name.now in
+    let name = c.args.keyword.now.name.now in
     let told = told_reply c.turns.told in
     let turn = turned false (tells_nothing (g.K.Validate.is_whole m) s) in
     let step = rw c.in-Unmark.is at (stepped false (tells_nothing (g.K.Validate.is_whole m) s)) in

@@ -1,4 +1,4 @@
-use Rattle.std.proofs.Common.{◌≡◌, ◌≤◌, ◌<◌, ◌+◌, ◌*◌, ◌++◌, ℕ, Bool, List, false, true, length, map, drop, option_map, string_bytes}
+use Rattle.std.proofs.Common.{◌≡◌, ◌≤◌, ◌<◌, ◌+◌, ◌*◌, ◌++◌, ℕ, Bool, List, false, true, length, map, drop, option_map}
 use Rattle.serde_json.specs.Data.{Data}
 use Rattle.schema_reports.specs.InstanceViews.{subject_of}
 use Rattle.schema_definitions.specs.Reports.{Outcome}
@@ -198,8 +198,8 @@ invariant-verdict_turns::take_turns-turns g l =
           → EvaluatesOn (g.K.Validate.words x.texts) m (g.K.Validate.can_be x.texts m) (g.K.Validate.ends x.texts m) (g.K.Validate.fits x.texts m) s x (mode_of l.fn.question.mode)
           (child_says g.K.Validate.words ns x (path_of l.question.path.now) (steps_to l.question.place.now) busy es) (child_unit g.K.Validate.words ns x (path_of l.question.path.now) (steps_to l.question.place.now) busy es) (same_edge es) l.context.marking (l.run, answer_of x.texts l.answer) (told_reply l.told);
       met : (texts : Bool) (root : Data) (depth : ℕ) → Reads g.K.Validate.is_whole ns (length l.engine.nodes.now) w (steps_to l.question.place.now) s (reading w texts root depth) → left ns (length l.engine.nodes.now) l.node.0 s busy ≤ depth
-          → MeetsSoFar (g.K.Validate.words texts) w.matcher w.assumptions (node_at (g.K.Validate.words texts) w.matcher ns (subject_in root) l.node.0 (path_of l.question.path.now) (steps_to l.question.place.now)) s (child_run g.K.Validate.words ns w texts root depth (path_of l.question.path.now) (steps_to l.question.place.now) busy es) (same_edge es) (string_bytes l.keyword.name.now) m (g.K.Validate.remaining m s) l.initial.context.remembered
-          (keyword_met (g.K.Validate.words texts) w.matcher w.assumptions (node_at (g.K.Validate.words texts) w.matcher ns (subject_in root) l.node.0 (path_of l.question.path.now) (steps_to l.question.place.now)) s (child_run g.K.Validate.words ns w texts root depth (path_of l.question.path.now) (steps_to l.question.place.now) busy es) (same_edge es) (string_bytes l.keyword.name.now) m (mode_of l.fn.question.mode))
+          → MeetsSoFar (g.K.Validate.words texts) w.matcher w.assumptions (node_at (g.K.Validate.words texts) w.matcher ns (subject_in root) l.node.0 (path_of l.question.path.now) (steps_to l.question.place.now)) s (child_run g.K.Validate.words ns w texts root depth (path_of l.question.path.now) (steps_to l.question.place.now) busy es) (same_edge es) l.keyword.name.now m (g.K.Validate.remaining m s) l.initial.context.remembered
+          (keyword_met (g.K.Validate.words texts) w.matcher w.assumptions (node_at (g.K.Validate.words texts) w.matcher ns (subject_in root) l.node.0 (path_of l.question.path.now) (steps_to l.question.place.now)) s (child_run g.K.Validate.words ns w texts root depth (path_of l.question.path.now) (steps_to l.question.place.now) busy es) (same_edge es) l.keyword.name.now m (mode_of l.fn.question.mode))
           l.context.remembered l.context.marking (l.run, answer_of texts l.answer) (told_reply l.told);
     }
 
