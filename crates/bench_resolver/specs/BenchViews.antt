@@ -2,7 +2,6 @@
 use Rattle.std.specs.Prelude.{List, Option, flat_map, map, option_map, string_bytes, ◌++◌}
 use Rattle.std.specs.Rc.{rc_str_bytes}
 use Rattle.std.proofs.Common.{Bor}
-use Rattle.serde_json.specs.Data.{Data}
 use Rattle.serde_json.specs.View.{view}
 use Rattle.serde_json.specs.declared.value.Value.{Value}
 use Rattle.schema_definitions.specs.Instance.{Place, Subject, Text, a_value}
@@ -28,16 +27,9 @@ held d = documents_from (string_bytes d.uri) d.root.now (map given_of d.others.i
 abbrev pub visited_of : walk.Visited.Visited → Visited
 visited_of v = record { path = v.path; base = string_bytes v.base; draft = draft_of v.draft; schema = view v.schema.now }
 
--- what was read
-abbrev pub value_read : Option (Bor Value) → Option Data
-value_read o = option_map (λ v. view v.now) o
-
--- as what a schema is asked about
+-- what was read, as what a schema is asked about
 abbrev pub subject_read : Option (Bor Value) → Option Subject
 subject_read o = option_map (λ v. a_value (view v.now)) o
-
-abbrev pub text_read : Option (Bor Text) → Option Text
-text_read o = option_map (λ t. t.now) o
 
 -- a document that is given under a URI
 abbrev pub document_under : Text → Value → Document

@@ -2,7 +2,8 @@
 ghost use Rattle.std.specs.Prelude.{◌≡◌, option_map, slice_get};
 ghost use Rattle.schema_parts.specs.ResolverViews.{place_of};
 ghost use Rattle.bench_resolver.specs.BenchDocuments.{value_in};
-ghost use Rattle.bench_resolver.specs.BenchViews.{held, value_read, text_read};
+ghost use Rattle.bench_resolver.specs.BenchViews.{held};
+ghost use Rattle.schema_parts.specs.Readings.{text_read, value_read};
 
 use crate::resolver::places::value_after;
 use schema_parts::schema_place::SchemaPlace;

@@ -4,7 +4,8 @@ ghost use Rattle.std.specs.HashMap.{get_by_text};
 ghost use Rattle.bench_resolver.specs.BenchKeys.{IsNumbered};
 ghost use Rattle.bench_resolver.specs.BenchResources.{dynamic_key, dynamic_number, name_if, name_key, name_number, names_at, names_in};
 ghost use Rattle.bench_resolver.specs.BenchNameViews.{name_of};
-ghost use Rattle.bench_resolver.specs.BenchViews.{visited_of, text_read};
+ghost use Rattle.bench_resolver.specs.BenchViews.{visited_of};
+ghost use Rattle.schema_parts.specs.Readings.{text_read};
 ghost use Rattle.schema_parts.specs.Showing.{Yields};
 ghost use Rattle.bench_resolver.specs.BenchShowing.{Appends};
 

@@ -1,7 +1,7 @@
 //! Elements of a list that are found by a text.
 ghost use Rattle.std.specs.Prelude.{IfOk};
 ghost use Rattle.std.specs.HashMap.{get_by_text};
-ghost use Rattle.bench_resolver.specs.BenchViews.{text_read};
+ghost use Rattle.schema_parts.specs.Readings.{text_read};
 ghost use Rattle.bench_resolver.specs.BenchKeys.{NumbersNext};
 
 use schema_reports::location::OutOfMemory;

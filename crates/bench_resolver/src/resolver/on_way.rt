@@ -8,7 +8,7 @@ ghost use Rattle.schema_parts.specs.SchemaViews.{schema_step_of};
 ghost use Rattle.bench_subschemas.specs.BenchResolving.{below_list, below_object, below_value};
 ghost use Rattle.bench_resolver.specs.BenchLookups.{is_subschema};
 ghost use Rattle.bench_resolver.specs.OnWay.{leads_to_item, leads_to_member, pairs_below, schema_found, singles_below};
-ghost use Rattle.bench_resolver.specs.BenchViews.{value_read};
+ghost use Rattle.schema_parts.specs.Readings.{value_read};
 ghost use Rattle.bench_resolver.specs.OnWay.{pair_among, step_among, below_each};
 
 use bench_subschemas::rules::Rule;

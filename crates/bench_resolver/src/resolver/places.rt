@@ -6,11 +6,11 @@ ghost use Rattle.schema_definitions.specs.Instance.{after_step, a_value, subject
 ghost use Rattle.schema_parts.specs.SchemaViews.{schema_step_of};
 ghost use Rattle.schema_parts.specs.ResolverViews.{place_of};
 ghost use Rattle.bench_subschemas.specs.BenchResolving.{root_place};
-ghost use Rattle.bench_resolver.specs.BenchViews.{held, value_read, subject_read};
+ghost use Rattle.bench_resolver.specs.BenchViews.{held, subject_read};
 ghost use Rattle.bench_resolver.specs.BenchAnswers.{RefusesWith};
 ghost use Rattle.schema_parts.specs.Showing.{Shows};
 ghost use Rattle.bench_resolver.specs.BenchDocuments.{StandsInside};
-ghost use Rattle.schema_parts.specs.Readings.{fields};
+ghost use Rattle.schema_parts.specs.Readings.{fields, value_read};
 
 use crate::resolver::documents::Documents;
 use schema_parts::resolver::LookupError;

@@ -7,7 +7,8 @@ ghost use Rattle.schema_parts.specs.ResolverViews.{place_of};
 ghost use Rattle.bench_resolver.specs.BenchAnswers.{RefusesWith};
 ghost use Rattle.bench_resolver.specs.BenchStates.{enter, entered, entered_below, entered_by, entered_root, no_identified};
 ghost use Rattle.bench_resolver.specs.BenchStates.{uri_of_document};
-ghost use Rattle.bench_resolver.specs.BenchViews.{held, point_of, value_read};
+ghost use Rattle.bench_resolver.specs.BenchViews.{held, point_of};
+ghost use Rattle.schema_parts.specs.Readings.{value_read};
 ghost use Rattle.schema_parts.specs.Showing.{Shows, Agrees};
 
 use crate::resolver::BenchState;
