@@ -334,16 +334,20 @@ def growth(counts, before):
 # times beside those of the peers
 
 
+# this engine, asked as the peers are, and once with the building of the schema
+OURS = {"ours": "this engine", "ours once": "this engine, once"}
+
+
 def times_of(path):
     """What peers/run.py printed: names, versions and times, ours first, and what it says of the case and of ours."""
     rows, about = [], []
     for row in pathlib.Path(path).read_text(encoding="utf-8").splitlines():
         words = row.split("\t")
-        if row.startswith(("# the case ", "# ours: ")):
+        if row.startswith(("# the case ", "# ours: ", "# ours once: ")):
             about.append(row[2].upper() + row[3:] + ".")
         elif not row.startswith("#") and len(words) == 5:
             rows.append((words[0], words[1], *map(float, words[2:])))
-    return sorted(rows, key=lambda row: (row[0] != "ours", row[2])), about
+    return sorted(rows, key=lambda row: (row[0] not in OURS, row[2])), about
 
 
 def times_ours(ratio):
@@ -370,7 +374,7 @@ def peers(rows, about):
     most = max(row[4] for row in near) * (1.25 if is_cut else 1)
     if is_cut:
         captions[-1] += " A bar with a gap goes on."
-    left = MARGIN + 10 + max([SMALL_LETTER * len(row[1]) for row in rows] + [width_of(row[0]) for row in rows])
+    left = MARGIN + 10 + max([SMALL_LETTER * len(row[1]) for row in rows] + [width_of(OURS.get(row[0], row[0])) for row in rows])
     right, top = WIDTH - 190, 50 + 18 * len(captions)
     bottom = top + len(rows) * (BAR_HEIGHT + BAR_GAP) + BAR_GAP / 2
     step = rounded(most)
@@ -387,8 +391,8 @@ def peers(rows, about):
         name, version, median, lowest, highest = row
         y = top + BAR_GAP + number * (BAR_HEIGHT + BAR_GAP)
         middle = y + BAR_HEIGHT / 2
-        fill, edge = ("#1f5fa8", "#0b2a4f") if name == "ours" else ("#b8c4d3", "#66768a")
-        parts.append(text(left - 10, middle - 1, "this engine" if name == "ours" else name, "name end"))
+        fill, edge = ("#1f5fa8", "#0b2a4f") if name in OURS else ("#b8c4d3", "#66768a")
+        parts.append(text(left - 10, middle - 1, OURS.get(name, name), "name end"))
         parts.append(text(left - 10, middle + 13, version, "tick end"))
         end = x(median) if row in near else right
         parts.append(
@@ -408,8 +412,8 @@ def peers(rows, about):
                 f'fill="#ffffff"/>'
             )
             beside += f" ({lowest:.0f} to {highest:.0f})"
-        parts.append(text(end + 9, middle + (4 if name == "ours" else -2), beside, "key"))
-        if name != "ours" and rows[0][0] == "ours":
+        parts.append(text(end + 9, middle + (4 if name in OURS else -2), beside, "key"))
+        if name not in OURS and rows[0][0] == "ours":
             parts.append(text(end + 9, middle + 12, times_ours(median / rows[0][2]), "tick"))
     parts.append(line(left, top, left, bottom, FRAME))
     parts.append(text((left + right) / 2, bottom + 34, "milliseconds of processor time", "tick middle"))

@@ -8,8 +8,12 @@ line is printed for each of the C++ peers, with the instructions that an instanc
 
 COMMAND is the built engine_bench, or a command among whose words are {repeats}, and {schema} and {instance} for the texts or {schema_file}
 and {instance_file}. A command with {repeats} validates so often, and ends with 0 where the instance is accepted and with 1 where it is
-refused. engine_bench validates once: the time with the schema `true` is subtracted from the time with the schema, so the
-reading of the instance is set aside, and the reading and the building of the schema are in what is shown.
+refused. engine_bench is measured in two ways:
+- `ours` as the peers are, whose instance is read once and validated many times: the schema is the `allOf` of so many references to the
+  case's, and what one reference takes is subtracted. A schema that refers to itself, or a large one, is left out: the engine remembers
+  what it has said of it at a place (docs/PERFORMANCE.md, "Verdicts on reference cycles").
+- `ours once` validates once: the time with the schema `true` is subtracted from the time with the schema, so the reading of the instance
+  is set aside, and the reading and the building of the schema are in what is shown.
 
 The peers:
 - valijson, in C++, with rapidjson (Debian: libvalijson-dev, rapidjson-dev); it is built by `g++ -O2 -DNDEBUG` in a temporary folder.
@@ -25,6 +29,7 @@ over all peers in turn. --python may be given several times: the first interpret
 """
 
 import argparse
+import json
 import os
 import pathlib
 import platform
@@ -48,6 +53,11 @@ REFUSED = "{}-refused"
 ENOUGH = 0.6
 # how often a process that validates once is run in a round
 PAIRS = 25
+# how many references to the schema a process follows that validates many times, and how often it is run in a round
+REFERENCES = 100
+PAIRS_OF_MANY = 3
+# the engine may remember what it has said of a schema of 255 nodes; one of so many objects is far from that
+FEW_OBJECTS = 100
 
 
 class NotFound(Exception):
@@ -152,6 +162,49 @@ class Once:
         return 1000 * statistics.median(pairs)
 
 
+def objects_in(value):
+    """The objects in a value, itself among them."""
+    if isinstance(value, dict):
+        yield value
+    for inner in value.values() if isinstance(value, dict) else value if isinstance(value, list) else ():
+        yield from objects_in(inner)
+
+
+def is_asked_again(schema):
+    """Whether the engine asks a schema of this text again wherever it is referred to again: it is small, and does not refer to itself."""
+    whole = json.loads(schema)
+    named = {"#": whole, **{f"#/definitions/{name}": inner for name, inner in whole.get("definitions", {}).items()}}
+    below = {name: {one["$ref"] for one in objects_in(inner) if "$ref" in one} for name, inner in named.items()}
+    for _ in below:
+        below = {name: leads.union(*(below.get(one, ()) for one in leads)) for name, leads in below.items()}
+    return len(list(objects_in(whole))) < FEW_OBJECTS and not any(name in leads for name, leads in below.items())
+
+
+def referred_to(schema, times):
+    """The schema that is all of so many references to this one, whose definitions stay where they are."""
+    whole = json.loads(schema)
+    definitions = whole.pop("definitions", {})
+    many = {"allOf": [{"$ref": "#/definitions/whole"}] * times, "definitions": {**definitions, "whole": whole}}
+    return json.dumps(many, separators=(",", ":"))
+
+
+class Referred(Once):
+    """engine_bench, whose process validates as often as a schema refers to the case's."""
+
+    said = f"the schema is built once, and the instance is validated {REFERENCES} times, by so many references"
+
+    def accepts(self, texts):
+        if not is_asked_again(texts.schema):
+            raise NotFound("the engine remembers what it has said of this schema")
+        return ended(self.command(referred_to(texts.schema, 2), texts))[1] == 0
+
+    def measure(self, texts):
+        """Milliseconds per instance: the median of some runs."""
+        few, many = (self.command(referred_to(texts.schema, times), texts) for times in (1, 1 + REFERENCES))
+        pairs = (ended(many)[0] - ended(few)[0] for _ in range(PAIRS_OF_MANY))
+        return 1000 * statistics.median(pairs) / REFERENCES
+
+
 def output(command):
     """What the command prints, or nothing where it fails or is not there."""
     try:
@@ -161,10 +214,20 @@ def output(command):
     return done.stdout.decode(errors="replace").strip() if done.returncode == 0 else ""
 
 
+def version_of(given):
+    return given.ours_version or output(["git", "-C", str(HERE), "describe", "--always", "--dirty"]) or "-"
+
+
 def ours(given, folder):
     words = shlex.split(given.ours)
-    version = given.ours_version or output(["git", "-C", str(HERE), "describe", "--always", "--dirty"]) or "-"
-    return (Repeating if "{repeats}" in words else Once)("ours", version, words)
+    return (Repeating if "{repeats}" in words else Referred)("ours", version_of(given), words)
+
+
+def ours_once(given, folder):
+    words = shlex.split(given.ours)
+    if "{repeats}" in words:
+        raise NotFound("the command repeats")
+    return Once("ours once", version_of(given), words)
 
 
 def package(name):
@@ -213,6 +276,7 @@ def in_python(name, module):
 
 PEERS = {
     "ours": ours,
+    "ours once": ours_once,
     "valijson": in_cpp("valijson", "libvalijson-dev", "rapidjson-dev"),
     "rapidjson": in_cpp("rapidjson", "rapidjson-dev"),
     "ajv": ajv,
@@ -225,7 +289,7 @@ def found(given, folder, texts, refused):
     """The peers that are there and that answer."""
     peers = []
     for name, make in PEERS.items():
-        if name == "ours" and not given.ours:
+        if name.startswith("ours") and not given.ours:
             continue
         try:
             peer = make(given, folder)
