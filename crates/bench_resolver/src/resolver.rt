@@ -69,9 +69,8 @@ impl Model for StatePoint {
     ghost view = { λ _. record { base = []; entered = [] } };
 }
 
-/// A resolver of some documents. It finds a resource by its URI, and in it what a pointer or a name leads to. Resources are the
-/// documents, and the subschemas that have an identifier of their own. By the narrow rule references that are neither a fragment nor a
-/// URI with its scheme are refused; by the standard's they are resolved against the base.
+/// A resolver of documents. It finds a resource, a document or a subschema with an identifier, by its URI, and in it what a pointer or a
+/// name leads to. By the narrow rule a reference is a fragment or a URI with its scheme; by the standard's it is resolved against the base.
 #[derive(Drop)]
 pub struct BenchResolver<'a> {
     rule: Rule,
@@ -189,10 +188,9 @@ impl<'a> BenchResolver<'a> {
         BenchResolver::by_rule(alloc, Rule::Narrow, draft, root, others, vocabularies)
     }
 
-    /// A resolver of this document by the standard's rule, in a default draft: the one that the document and the way to a target are
-    /// read by, where no `$schema` says otherwise. The document is handed in under `json-schema:///`, and found under its root's
-    /// identifier too: build with `json-schema:///` as the base. The vocabularies are required ones: they are in force in every draft,
-    /// beside the draft's own.
+    /// A resolver of this document by the standard's rule, in a default draft, which it and the way to a target are read by where no
+    /// `$schema` says otherwise. The document is handed in under `json-schema:///`, and found under its root's identifier too: build with
+    /// `json-schema:///` as the base. The vocabularies are in force in every draft, beside the draft's own.
     ///
     /// # Errors
     ///

@@ -65,8 +65,7 @@ fn not_at_hand(alloc: Global, rule: Rule, reference: &str, uri: &str) -> LookupE
     }
 }
 
-/// The target at the end of a path below a resource's root. Each subschema on the way that has an identifier is entered, and the
-/// draft is taken on each of them and on the target.
+/// The target at the end of a path below a resource's root. Identifiers on the way are entered, and the draft is taken on each schema.
 fn arrived(
     alloc: Global,
     resources: &Resources,
@@ -191,8 +190,7 @@ fn first_dynamic(
     Ok(None)
 }
 
-/// The target of a name in a resource. A dynamic reference to a dynamic name leads to the first resource that was entered and has
-/// that dynamic name.
+/// The target of a name in a resource. A dynamic reference to a dynamic name leads to the first resource entered that has the name.
 fn target_by_name(
     alloc: Global,
     resources: &Resources,
@@ -268,9 +266,8 @@ fn target_by_fragment(
 ///
 /// # Errors
 ///
-/// A refusal, which names the reference, of one that cannot be resolved, that leads to no resource (the standard's rule names the
-/// URI), or in it to nothing; one of a subschema on the way whose identifier no resource at its place has; and `OutOfMemory` if
-/// memory cannot be allocated.
+/// A refusal, which names the reference, of one that cannot be resolved, that leads to no resource (the standard's rule names the URI), or
+/// in it to nothing; one of a subschema on the way whose identifier no resource at its place has; and `OutOfMemory`.
 pub fn looked_up(
     alloc: Global,
     documents: &Documents<'_>,

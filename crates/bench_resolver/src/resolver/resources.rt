@@ -29,8 +29,7 @@ use std::alloc::Global;
 use std::collections::HashMap;
 use std::marker::Model;
 
-/// A resource: the URI that it is found under, the base inside it, where it begins, the draft there, whether its root has
-/// `$recursiveAnchor` true, and its names.
+/// A resource: its URI, the base inside it, where it begins, the draft there, whether its root has `$recursiveAnchor` true, its names.
 #[derive(Drop)]
 pub struct Resource {
     pub uri: String,
@@ -347,8 +346,7 @@ fn add_all_embedded(
     Ok(())
 }
 
-/// The resources of documents, found by a rule: the documents themselves, and then what is embedded in them. Each document is walked
-/// once, and each resource once more for its names.
+/// The resources of documents, by a rule: the documents, each walked once, and what is embedded, each walked once more for its names.
 ///
 /// # Errors
 ///

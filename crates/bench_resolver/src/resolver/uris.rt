@@ -114,8 +114,7 @@ pub fn root_base(
     }
 }
 
-/// What a reference stands for from a base by the narrow rule: the base without its fragment, this base followed by a fragment, or a
-/// URI with its scheme.
+/// What a reference stands for by the narrow rule: the base without its fragment, this followed by a fragment, or a URI with its scheme.
 fn resolve_narrowly(alloc: Global, base: &str, reference: &str) -> Result<String, LookupError>
     ensures resolved { Agrees string_bytes result (resolve_narrowly base.now reference.now) }
 {
@@ -138,8 +137,7 @@ fn resolve_narrowly(alloc: Global, base: &str, reference: &str) -> Result<String
 ///
 /// # Errors
 ///
-/// By the narrow rule a refusal of a reference that is neither empty, nor a fragment, nor a URI with its scheme; and `OutOfMemory` if
-/// memory cannot be allocated.
+/// By the narrow rule a refusal of a reference that is not empty, a fragment or a URI with its scheme; and `OutOfMemory`.
 pub fn resolve_uri(
     alloc: Global,
     rule: Rule,

@@ -97,8 +97,7 @@ fn keep<'a>(
     Ok(())
 }
 
-/// Adds the schemas below a schema that have what the walk looks for. The schema lies at a path and then on the way, and the base is
-/// the one inside it.
+/// Adds the schemas below a schema that have what the walk looks for. It lies at a path and then on the way; the base is that inside it.
 fn visit_below<'a>(
     alloc: Global,
     aim: Aim,
