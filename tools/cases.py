@@ -2,7 +2,7 @@
 """The schemas and instances that docs/PERFORMANCE.md counts and measures: python3 tools/cases.py [NAME SIZE]
 
 Without words it lists the names and the sizes that are counted. With a name and a size it prints the schema, the instance and, where
-there is one, the fourth word of engine_bench, a line each. The cases of STANDARD_CASES are for check_rows: their keywords are the
+there is one, the fourth word of engine_bench, a line each. The cases of STANDARD_CASES are for test_check_rows: their keywords are the
 standard's, which engine_bench has not. Those of REAL_CASES are written from what people validate, and for the command.
 """
 

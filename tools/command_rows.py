@@ -5,8 +5,8 @@ Prints a line for each call that goes otherwise, then how many there were and ho
 wanted is written from the command's manual (`--help`, docs/USING.md), the standard's meaning of the schemas and the texts of the crate
 `jsonschema`, not from what it printed.
 
-Usage: python3 tools/command_rows.py crates/jsonschema/out/jsonschema
-       python3 tools/command_rows.py crates/jsonschema/out/jsonschema --lines 1000 100000 1000000
+Usage: python3 tools/command_rows.py crates/jsonschema_cli/out/jsonschema_cli
+       python3 tools/command_rows.py crates/jsonschema_cli/out/jsonschema_cli --lines 1000 100000 1000000
 
 The second measures: so many lines of some 300 bytes, by a schema of ten keywords and by the schema `true`, which asks nothing, so that
 the time of its run is that of reading and parsing alone; and how much memory each took at most. It prints the least of three runs.

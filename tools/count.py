@@ -12,10 +12,10 @@ PROGRAM is the built engine_bench. Every case of CASES in cases.py is counted in
 What the program takes for the same instance with the schema `true` is subtracted in each, so the reading of the instance is set aside;
 the reading and the building of the schema are counted. A mode that a case is not counted in has no line.
 
-With --standard PROGRAM is the built check_rows, and the cases are those of STANDARD_CASES, whose keywords engine_bench has not. Each is a
+With --standard PROGRAM is the built test_check_rows, and the cases are those of STANDARD_CASES, whose keywords engine_bench has not. Each is a
 file of one row with the table `standard`, which has to be accepted; the mode list is not counted then.
 
-With --command PROGRAM is the built jsonschema, and the cases are those of REAL_CASES, whose patterns are regular expressions. The schema
+With --command PROGRAM is the built jsonschema_cli, and the cases are those of REAL_CASES, whose patterns are regular expressions. The schema
 is not checked by its meta-schema; valid, errors and list are its outputs flag, text and list. Requests for memory are not counted then.
 
 BEFORE is what an earlier run printed; the ratio to it is noted. Notes go to standard error: the ratio to the size before and to BEFORE.
@@ -155,11 +155,11 @@ def note(count, other, what):
 
 def arguments():
     parser = argparse.ArgumentParser(description=__doc__, formatter_class=argparse.RawDescriptionHelpFormatter)
-    parser.add_argument("program", help="the built engine_bench, or with --standard check_rows, or with --command jsonschema")
+    parser.add_argument("program", help="the built engine_bench, or with --standard test_check_rows, or with --command jsonschema_cli")
     parser.add_argument("before", nargs="?", help="what an earlier run printed")
     kinds = parser.add_mutually_exclusive_group()
-    kinds.add_argument("--standard", action="store_true", help="count the standard's keywords, by check_rows")
-    kinds.add_argument("--command", action="store_true", help="count what people validate, by jsonschema")
+    kinds.add_argument("--standard", action="store_true", help="count the standard's keywords, by test_check_rows")
+    kinds.add_argument("--command", action="store_true", help="count what people validate, by jsonschema_cli")
     parser.add_argument("--only", action="append", choices=sorted(ALL_CASES), metavar="NAME", help="count this case alone")
     parser.add_argument("--mode", action="append", choices=MODES, metavar="MODE", help="count in this mode alone")
     return parser.parse_args()

@@ -1,7 +1,7 @@
 #!/usr/bin/env python3
 """Counts the instructions of a call over k unfinished matches, with the smallest run limit that decides it, k from 4 to 10.
 
-`count_pairs.py PROGRAM`: PROGRAM is out/check_rows, the program of the rows, as `rt run` leaves it in crates/check_rows. Each row is the
+`count_pairs.py PROGRAM`: PROGRAM is out/test_check_rows, the program of the rows, as `rt run` leaves it in crates/test_check_rows. Each row is the
 verdict of `allOf` of k times `{"anyOf":[{"pattern":P},{"type":"string"}]}`, with k patterns that stay unfinished, on a text, under the
 run limit 2 ^ (k + 1) - 1: its cover has 2 ^ k members, and the call makes that many runs. What the same row takes on a number, where no
 match is asked for, is subtracted. Needs valgrind. The counts are of one compiler: compare within one kit (`rt version`)."""

@@ -35,9 +35,9 @@ WAYS = [
         "#1f5fa8",
         "left",
         [
-            ("schema_keywords", "schema_reports"),
-            "schema_parts",
-            "node_table",
+            ("schema_drafts", "schema_reports"),
+            "schema_traits",
+            "schema_node_table",
             "schema_keys",
             "schema_compiler",
             "schema_validator",
@@ -50,12 +50,12 @@ WAYS = [
         [
             "schema_engine",
             "schema_validator",
-            "schema_answers",
+            "schema_compiled",
             "schema_node",
-            "run_steps",
-            "schema_contexts",
-            "schema_matches",
-            "schema_search",
+            "schema_run_steps",
+            "schema_run_context",
+            "unfinished_matches",
+            "unfinished_search",
             "schema_reports",
             "schema_output",
         ],
@@ -108,9 +108,9 @@ def layers_of(direct):
 
 def kind_of(name):
     """Which of the three tints a crate has."""
-    if name.startswith("schema_") or name in ("node_table", "run_steps"):
+    if name.startswith("schema_") or name in ("schema_node_table", "schema_run_steps"):
         return "engine"
-    if name == "law_tests":  # keyword types that others take
+    if name == "test_laws":  # keyword types that others take
         return "bench"
     is_program = (ROOT / "crates" / name / "src" / "main.rt").exists()
     if is_program or name.endswith(("_tests", "_rows", "_cases")):

@@ -119,7 +119,7 @@ def link_faults(document, line):
 
 
 def count_faults(line):
-    rows = list((ROOT / "crates" / "check_rows" / "data").glob("*.jsonl"))
+    rows = list((ROOT / "crates" / "test_check_rows" / "data").glob("*.jsonl"))
     number = sum(len(file.read_text(encoding="utf-8").splitlines()) for file in rows)
     edits = len(list((ROOT / "crates").glob("*/must-fail/*.edit")))
     for said in re.findall(r"([\d,]+) rows in (\d+) files", line):

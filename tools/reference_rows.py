@@ -1,5 +1,5 @@
 #!/usr/bin/env python3
-"""Rows of check_rows whose builds are counted: python3 tools/reference_rows.py KIND N [unchecked|map]
+"""Rows of test_check_rows whose builds are counted: python3 tools/reference_rows.py KIND N [unchecked|map]
 
 It prints a row, on one line, of a schema with N definitions, spelled out. Each is referred to once from a member of `properties`: by a
 `pointer`, by a `name`, each definition having an `$anchor`, or by an `identifier`, each having an `$id` and an `$anchor`. In a `chain` each

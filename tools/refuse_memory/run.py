@@ -3,7 +3,7 @@
 
     python3 tools/refuse_memory/run.py PROGRAM [PROGRAM_OF_ROWS] [--jobs N] [--only WORD]
 
-PROGRAM is engine_bench, PROGRAM_OF_ROWS is check_rows, both as `rt run` leaves them in out/ (a program with an allocator of its own, as
+PROGRAM is engine_bench, PROGRAM_OF_ROWS is test_check_rows, both as `rt run` leaves them in out/ (a program with an allocator of its own, as
 one with an address sanitizer, is not reached: that is said). It needs glibc, and `cc`, which compiles refuse.c beside this file.
 
 Each case is run plainly first, which gives its answer and the number of its requests. Then each request is refused, once alone and once
@@ -12,7 +12,7 @@ It prints a line for each case, and at last how many runs there were and how man
 It ends with 1 if any was, or if a case is not what it is meant to be.
 
 A case of the bench is a schema, an instance, patterns that stay unfinished, and the status of its plain answer; it is asked in the four
-modes. A case of the rows is a row of crates/check_rows/data by its name, in a file of its own.
+modes. A case of the rows is a row of crates/test_check_rows/data by its name, in a file of its own.
 """
 
 import argparse
@@ -26,7 +26,7 @@ import sys
 import tempfile
 
 HERE = os.path.dirname(os.path.abspath(__file__))
-ROWS = os.path.join(HERE, "..", "..", "crates", "check_rows", "data")
+ROWS = os.path.join(HERE, "..", "..", "crates", "test_check_rows", "data")
 MODES = ("valid", "first", "errors", "list")
 SECONDS = 60
 
@@ -141,7 +141,7 @@ def wants_memory(end):
 
 
 def rows_want_memory(end):
-    """Whether check_rows has ended for want of memory: it prints its error, and nothing of a row."""
+    """Whether test_check_rows has ended for want of memory: it prints its error, and nothing of a row."""
     status, out, err = end
     return status == 1 and out == b"" and any(text in err for text in (b"out of memory", b"memory allocation failed"))
 
@@ -155,7 +155,7 @@ def bench_cases(program):
 
 
 def row_cases(program, folder):
-    """The cases of check_rows, each with a file of its own."""
+    """The cases of test_check_rows, each with a file of its own."""
     for file, name in ROW_CASES:
         with open(os.path.join(ROWS, f"{file}.jsonl"), encoding="utf-8") as rows:
             found = [line for line in rows if line.strip() and json.loads(line)["name"] == name]
@@ -205,7 +205,7 @@ def as_commands(case, number, further):
     if case.row is not None:
         file, name = case.row
         words[-1] = f"/tmp/{name}.jsonl"
-        lines.append(f"""grep '"name":"{name}"' crates/check_rows/data/{file}.jsonl > {words[-1]}""")
+        lines.append(f"""grep '"name":"{name}"' crates/test_check_rows/data/{file}.jsonl > {words[-1]}""")
     settings = f"LD_PRELOAD=/tmp/refuse.so REFUSE_AT={number} REFUSE_ON={int(further)}"
     lines.append(f"{settings} {' '.join(shlex.quote(word) for word in words)}")
     return "\n  ".join(lines)

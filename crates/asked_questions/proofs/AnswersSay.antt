@@ -3,16 +3,16 @@ use Rattle.std.proofs.Common.{◌≡◌, ◌∙◌, ◌||◌, ◌&&◌, not, Boo
 use Rattle.std.proofs.Math.Bool.{beq}
 use Rattle.std.specs.Prelude.{IfSome, None, Option, Some, is_some, option_and_then}
 use Rattle.std.specs.List.{list_all, list_any}
-use Rattle.schema_definitions.specs.Instance.{Subject, after_step, subject_from}
-use Rattle.schema_definitions.specs.Keywords.{Keywords, Question}
-use Rattle.schema_definitions.specs.Laws.{IsPresent, steps_below}
+use Rattle.theory_definitions.specs.Instance.{Subject, after_step, subject_from}
+use Rattle.theory_definitions.specs.Keywords.{Keywords, Question}
+use Rattle.theory_definitions.specs.Laws.{IsPresent, steps_below}
 use Rattle.schema_reports.specs.InstanceViews.{step_of, subject_of}
 use Rattle.schema_reports.specs.declared.instance.Instance.{Instance}
 use Rattle.schema_reports.specs.declared.instance.InstanceStep.{InstanceStep}
-use Rattle.schema_parts.specs.AskedAtOnce.{HoldsAsTold, asked_holds, tells_at_once}
-use Rattle.schema_parts.specs.KeywordViews.{Tells}
-use Rattle.schema_parts.specs.declared.asking.Asking.{Asking}
-use Rattle.schema_parts.specs.declared.asking.Asking.TheVariants as asking
+use Rattle.schema_traits.specs.AskedAtOnce.{HoldsAsTold, asked_holds, tells_at_once}
+use Rattle.schema_traits.specs.KeywordViews.{Tells}
+use Rattle.schema_traits.specs.declared.asking.Asking.{Asking}
+use Rattle.schema_traits.specs.declared.asking.Asking.TheVariants as asking
 use Rattle.asked_questions.specs.Questions.{SaysByQuestions, StandsThere, answers_say, asks_for_all, below_in, puts_questions, question_in, questions_of}
 use Rattle.asked_questions.specs.declared.AskedQuestion.{AskedQuestion}
 use Rattle.asked_questions.proofs.AskedAtOnceBy.{asked_all, asked_one}

@@ -2,12 +2,12 @@
 use Rattle.std.proofs.Common.{[], ap, cond, false, is_some, length, min, not, refl, string_bytes, sym, true, ℕ, Bool, List, ◌&&◌, ◌+◌, ◌-◌, ◌||◌, ◌∷◌, ◌≡◌}
 use Rattle.std.proofs.lemmas.List.Folds.{list_all-map}
 use Rattle.std.specs.List.{list_all, list_any}
-use Rattle.schema_definitions.specs.Instance.{Subject, Text, after_step, to_member}
-use Rattle.schema_definitions.specs.Keywords.{Question}
-use Rattle.schema_definitions.specs.Matching.{Matching}
-use Rattle.schema_parts.specs.AskedAtOnce.{all_at_names, asked_holds, child_at, child_below, first_at_name, numbers_from}
-use Rattle.schema_parts.specs.declared.asking.Asking.{Asking}
-use Rattle.schema_parts.specs.declared.asking.Asking.TheVariants as asking
+use Rattle.theory_definitions.specs.Instance.{Subject, Text, after_step, to_member}
+use Rattle.theory_definitions.specs.Keywords.{Question}
+use Rattle.theory_definitions.specs.Matching.{Matching}
+use Rattle.schema_traits.specs.AskedAtOnce.{all_at_names, asked_holds, child_at, child_below, first_at_name, numbers_from}
+use Rattle.schema_traits.specs.declared.asking.Asking.{Asking}
+use Rattle.schema_traits.specs.declared.asking.Asking.TheVariants as asking
 use Rattle.asked_questions.specs.Questions.{asks_for_all, at_names, puts_questions, questions_of}
 
 names_alike : (accepts : Question → Bool) (s : Subject) (i : ℕ) (ks : List Text) → all_at_names accepts s i ks ≡ list_all accepts (at_names s i ks)

@@ -15,9 +15,9 @@ use Rattle.std.specs.declared.alloc.Global.{Global}
 use Rattle.serde_json.specs.Data.{object}
 use Rattle.serde_json.specs.View.{members_view, view}
 use Rattle.serde_json.specs.declared.value.Value.{Value}
-use Rattle.schema_definitions.specs.Instance.{Subject, Text, a_value, after_step, member_of, to_member}
-use Rattle.schema_parts.specs.AskedAtOnce.{child_below}
-use Rattle.schema_parts.specs.Ascending.{place_from}
+use Rattle.theory_definitions.specs.Instance.{Subject, Text, a_value, after_step, member_of, to_member}
+use Rattle.schema_traits.specs.AskedAtOnce.{child_below}
+use Rattle.schema_traits.specs.Ascending.{place_from}
 use Rattle.asked_questions.specs.Members.{Entries, HaveAllOf}
 use Rattle.asked_questions.specs.Questions.{at_names}
 

@@ -6,7 +6,7 @@ use Rattle.std.specs.declared.alloc.Global.{Global}
 use Rattle.serde_json.specs.Data.{Data, object}
 use Rattle.serde_json.specs.View.{members_view, view}
 use Rattle.serde_json.specs.declared.value.Value.{Value}
-use Rattle.schema_definitions.specs.Instance.{Text, a_name, a_value, after_step, member_of, to_name}
+use Rattle.theory_definitions.specs.Instance.{Text, a_name, a_value, after_step, member_of, to_name}
 use Rattle.asked_questions.specs.Members.{AreNamed, Entries}
 
 -- a name that other members have, members with one more before them have

@@ -2,8 +2,8 @@
 use Rattle.std.proofs.Common.{[], ap, arith, get_or, length, sym, zero, suc, ℕ, List, Some, ◌+◌, ◌-◌, ◌<◌, ◌≤◌, ◌∷◌, ◌≡◌}
 use Rattle.serde_json.specs.View.{items_view, view}
 use Rattle.serde_json.specs.declared.value.Value.{Value}
-use Rattle.schema_definitions.specs.Instance.{item_of}
-use Rattle.schema_parts.specs.AskedAtOnce.{numbers_from}
+use Rattle.theory_definitions.specs.Instance.{item_of}
+use Rattle.schema_traits.specs.AskedAtOnce.{numbers_from}
 
 pub more_numbers : (k e : ℕ) → k < e → numbers_from k (e - k) ≡ k ∷ numbers_from (k + 1) (e - (k + 1))
 more_numbers k e h =

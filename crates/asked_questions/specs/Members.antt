@@ -8,9 +8,9 @@ use Rattle.std.specs.declared.alloc.Global.{Global}
 use Rattle.serde_json.specs.Data.{object}
 use Rattle.serde_json.specs.View.{members_view}
 use Rattle.serde_json.specs.declared.value.Value.{Value}
-use Rattle.schema_definitions.specs.Instance.{Subject, Text, a_name, a_value, after_step, to_member, to_name}
-use Rattle.schema_definitions.specs.Keywords.{Question}
-use Rattle.schema_parts.specs.AskedAtOnce.{first_at_name}
+use Rattle.theory_definitions.specs.Instance.{Subject, Text, a_name, a_value, after_step, to_member, to_name}
+use Rattle.theory_definitions.specs.Keywords.{Question}
+use Rattle.schema_traits.specs.AskedAtOnce.{first_at_name}
 
 -- members, in their order
 abbrev pub Entries : Type 0

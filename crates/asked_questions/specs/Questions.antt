@@ -1,16 +1,16 @@
 -- The questions that a keyword tells at once, one by one, and where each of them is asked.
 use Rattle.std.specs.List.{list_all, list_any}
 use Rattle.std.specs.Prelude.{Bool, IfSome, List, MatchOption, None, Option, Some, [], cond, false, is_some, length, map, min, string_bytes, true, ℕ, ◌+◌, ◌-◌, ◌∷◌, ◌≡◌}
-use Rattle.schema_definitions.specs.Instance.{Subject, Text, after_step, to_member}
-use Rattle.schema_definitions.specs.Keywords.{Below, Keywords, Question, down, here}
-use Rattle.schema_definitions.specs.Matching.{Matching}
+use Rattle.theory_definitions.specs.Instance.{Subject, Text, after_step, to_member}
+use Rattle.theory_definitions.specs.Keywords.{Below, Keywords, Question, down, here}
+use Rattle.theory_definitions.specs.Matching.{Matching}
 use Rattle.schema_reports.specs.InstanceViews.{step_of, subject_of}
 use Rattle.schema_reports.specs.declared.instance.Instance.{Instance}
 use Rattle.schema_reports.specs.declared.instance.InstanceStep.{InstanceStep}
-use Rattle.schema_parts.specs.AskedAtOnce.{child_at, child_below, child_here, first_at_name, numbers_from}
-use Rattle.schema_parts.specs.KeywordViews.{Tells}
-use Rattle.schema_parts.specs.declared.asking.Asking.{Asking}
-use Rattle.schema_parts.specs.declared.asking.Asking.TheVariants as asking
+use Rattle.schema_traits.specs.AskedAtOnce.{child_at, child_below, child_here, first_at_name, numbers_from}
+use Rattle.schema_traits.specs.KeywordViews.{Tells}
+use Rattle.schema_traits.specs.declared.asking.Asking.{Asking}
+use Rattle.schema_traits.specs.declared.asking.Asking.TheVariants as asking
 use Rattle.asked_questions.specs.declared.AskedQuestion.{AskedQuestion}
 
 -- the children, from this number on, whose name is a member, at it

@@ -2,10 +2,10 @@
 use Rattle.std.specs.Prelude.{List, length, map, ◌-◌, ◌≤◌}
 use Rattle.serde_json.specs.Data.{array}
 use Rattle.serde_json.specs.View.{items_view}
-use Rattle.schema_definitions.specs.Instance.{Subject, a_value}
-use Rattle.schema_definitions.specs.Keywords.{Question}
+use Rattle.theory_definitions.specs.Instance.{Subject, a_value}
+use Rattle.theory_definitions.specs.Keywords.{Question}
 use Rattle.schema_reports.specs.InstanceViews.{subject_of}
-use Rattle.schema_parts.specs.AskedAtOnce.{child_at, child_here, numbers_from}
+use Rattle.schema_traits.specs.AskedAtOnce.{child_at, child_here, numbers_from}
 use Rattle.asked_questions.specs.declared.counted.Walk.{Walk}
 use Rattle.asked_questions.specs.declared.counted.Walk.TheVariants as walk
 

@@ -2,9 +2,9 @@
 ghost use Rattle.std.specs.Prelude.{◌≡◌, ◌∷◌, ◌-◌, ◌≤◌, [], IfSome, MatchOption, length, map, min};
 ghost use Rattle.serde_json.specs.Data.{array};
 ghost use Rattle.serde_json.specs.View.{items_view};
-ghost use Rattle.schema_definitions.specs.Instance.{Subject, a_value};
+ghost use Rattle.theory_definitions.specs.Instance.{Subject, a_value};
 ghost use Rattle.schema_reports.specs.InstanceViews.{subject_of};
-ghost use Rattle.schema_parts.specs.AskedAtOnce.{child_at, child_here, numbers_from};
+ghost use Rattle.schema_traits.specs.AskedAtOnce.{child_at, child_here, numbers_from};
 ghost use Rattle.asked_questions.specs.Questions.{AsksFirst, StandsThere, question_in};
 
 use crate::AskedQuestion;

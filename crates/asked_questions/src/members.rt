@@ -2,13 +2,13 @@
 ghost use Rattle.std.specs.Prelude.{◌≡◌, ◌∷◌, [], IfSome, MatchOption, drop};
 ghost use Rattle.serde_json.specs.Data.{object};
 ghost use Rattle.serde_json.specs.View.{members_view};
-ghost use Rattle.schema_definitions.specs.Instance.{Subject, a_value};
+ghost use Rattle.theory_definitions.specs.Instance.{Subject, a_value};
 ghost use Rattle.asked_questions.specs.Members.{HaveAllOf};
 ghost use Rattle.asked_questions.specs.Questions.{AsksFirst, StandsThere, at_names, question_in};
 
 use crate::AskedQuestion;
-use schema_parts::ascending::AscendingNames;
 use schema_reports::instance::{Instance, InstanceStep};
+use schema_traits::ascending::AscendingNames;
 use serde_json::{Map, Value};
 use std::collections::btree_map::Iter;
 use std::marker::Model;
@@ -29,7 +29,7 @@ impl<'s, 'i> Model for MembersQuestions<'s, 'i> {
     ghost use Rattle.serde_json.specs.Data.{object};
     ghost use Rattle.serde_json.specs.View.{members_view};
     ghost use Rattle.std.specs.Prelude.{drop};
-    ghost use Rattle.schema_definitions.specs.Instance.{a_value};
+    ghost use Rattle.theory_definitions.specs.Instance.{a_value};
     ghost use Rattle.asked_questions.specs.Members.{HaveAllOf};
     ghost use Rattle.asked_questions.specs.Questions.{QuestionsLeft, at_names};
 

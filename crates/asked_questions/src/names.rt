@@ -2,7 +2,7 @@
 ghost use Rattle.std.specs.Prelude.{◌≡◌, ◌∷◌, [], IfSome, MatchOption};
 ghost use Rattle.serde_json.specs.Data.{object};
 ghost use Rattle.serde_json.specs.View.{members_view};
-ghost use Rattle.schema_definitions.specs.Instance.{Subject, a_value};
+ghost use Rattle.theory_definitions.specs.Instance.{Subject, a_value};
 ghost use Rattle.asked_questions.specs.Members.{AreNamed, at_their_names};
 ghost use Rattle.asked_questions.specs.Questions.{AsksFirst, StandsThere, question_in};
 
@@ -25,7 +25,7 @@ impl<'i> Model for NamesQuestions<'i> {
     ghost use Rattle.json_values.specs.Coding.{data_code};
     ghost use Rattle.serde_json.specs.Data.{object};
     ghost use Rattle.serde_json.specs.View.{members_view};
-    ghost use Rattle.schema_definitions.specs.Instance.{a_value};
+    ghost use Rattle.theory_definitions.specs.Instance.{a_value};
     ghost use Rattle.asked_questions.specs.Members.{AreNamed, at_their_names};
     ghost use Rattle.asked_questions.specs.Questions.{QuestionsLeft};
 

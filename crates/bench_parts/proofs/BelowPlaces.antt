@@ -13,8 +13,8 @@ use Rattle.serde_json.specs.Data.{Data, Items, Members, array, object}
 use Rattle.serde_json.specs.View.{items_view, members_view, view}
 use Rattle.serde_json.specs.declared.value.Value.{Value}
 use Rattle.serde_json.proofs.Views.{Entry}
-use Rattle.schema_definitions.specs.Instance.{Place, Text, a_value, item_of, member_of, subject_at, subject_from, to_item, to_member}
-use Rattle.schema_parts.proofs.Replies.{stands_below}
+use Rattle.theory_definitions.specs.Instance.{Place, Text, a_value, item_of, member_of, subject_at, subject_from, to_item, to_member}
+use Rattle.schema_traits.proofs.Replies.{stands_below}
 
 -- the item of a number
 pub item_there : (k : ℕ) (es : List Value) (e : Value) → k < length es → get_or es k e ≡ e → item_of k (items_view es) ≡ Some (view e)

@@ -4,9 +4,9 @@ use Rattle.std.specs.Prelude.{option_map}
 use Rattle.std.proofs.lemmas.Bool.{or_parts}
 use Rattle.serde_json.specs.Data.{Data, Items, Members, item, member}
 use Rattle.serde_json.specs.Written.{has_float, items_have_float, members_have_float}
-use Rattle.schema_definitions.specs.Drafts.{Draft}
-use Rattle.schema_definitions.specs.Instance.{Place, Text, to_item, to_member}
-use Rattle.schema_definitions.specs.Reports.{Error}
+use Rattle.theory_definitions.specs.Drafts.{Draft}
+use Rattle.theory_definitions.specs.Instance.{Place, Text, to_item, to_member}
+use Rattle.theory_definitions.specs.Reports.{Error}
 use Rattle.schema_reports.specs.ReportViews.{error_of}
 use Rattle.schema_reports.specs.declared.reports.ValidationError.{ValidationError}
 use Rattle.bench_parts.specs.BenchMeta.{earlier, fault_in, fault_in_items, fault_in_members, member_fault}

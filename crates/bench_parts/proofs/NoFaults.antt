@@ -3,8 +3,8 @@ use Rattle.std.proofs.Common.{◌≡◌, ◌∙◌, ◌&&◌, Bool, None, Some, 
 use Rattle.std.specs.Prelude.{bytes_eq, codes, if◌then◌else◌, is_some}
 use Rattle.serde_json.specs.Data.{Data}
 use Rattle.serde_json.specs.Find.{as_array}
-use Rattle.schema_definitions.specs.Drafts.{Draft}
-use Rattle.schema_definitions.specs.Instance.{Text}
+use Rattle.theory_definitions.specs.Drafts.{Draft}
+use Rattle.theory_definitions.specs.Instance.{Text}
 use Rattle.bench_parts.specs.BenchMeta.{HasNoFaultItself, is_2020_12, is_list_of_items, is_no_length, mistyped, number_type, schema_types}
 
 none_false : (a b : Bool) → (a && b && false) ≡ false

@@ -1,6 +1,6 @@
 -- Texts within texts.
 use Rattle.std.proofs.Common.{ℕ, zero, suc, ◌≡◌, ◌∙◌, ◌<◌, ◌+◌, ◌==◌, ◌&&◌, ◌||◌, Bool, true, false, [], ◌∷◌, length, drop, ap, sym, refl, add-one, arith}
-use Rattle.schema_definitions.specs.Instance.{Text}
+use Rattle.theory_definitions.specs.Instance.{Text}
 use Rattle.bench_parts.specs.BenchMatching.{begins_with, contains_text}
 
 and-false : (b c : Bool) → c ≡ false → (b && c) ≡ false

@@ -1,8 +1,8 @@
 -- A matcher that leaves the patterns of a list unfinished, and finds the others as texts.
 use Rattle.std.specs.List.{list_any}
 use Rattle.std.specs.Prelude.{Bool, List, [], bytes_eq, codes, false, if◌then◌else◌, true, ◌&&◌, ◌==◌, ◌||◌, ◌∷◌}
-use Rattle.schema_definitions.specs.Instance.{Text}
-use Rattle.schema_definitions.specs.Matching.{Matcher, finished, limit, unfinished}
+use Rattle.theory_definitions.specs.Instance.{Text}
+use Rattle.theory_definitions.specs.Matching.{Matcher, finished, limit, unfinished}
 
 abbrev pub begins_with : Text → Text → Bool
 begins_with [] xs = true

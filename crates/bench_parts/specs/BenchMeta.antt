@@ -4,9 +4,9 @@ use Rattle.std.specs.Prelude.{Bool, None, Option, Some, [], bytes_eq, codes, fal
 use Rattle.serde_json.specs.Data.{Data, Items, Members, array, boolean, item, member, no_items, no_members, null, number, object, string}
 use Rattle.serde_json.specs.Find.{as_array, as_number}
 use Rattle.serde_json.specs.Written.{compact_text}
-use Rattle.schema_definitions.specs.Instance.{Place, Text, to_item, to_member}
-use Rattle.schema_definitions.specs.Drafts.{Draft, draft_2020_12, draft_unknown}
-use Rattle.schema_definitions.specs.Reports.{Error}
+use Rattle.theory_definitions.specs.Instance.{Place, Text, to_item, to_member}
+use Rattle.theory_definitions.specs.Drafts.{Draft, draft_2020_12, draft_unknown}
+use Rattle.theory_definitions.specs.Reports.{Error}
 use Rattle.schema_reports.specs.ReportViews.{spoken}
 
 -- what the text says that a value is not of

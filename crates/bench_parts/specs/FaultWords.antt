@@ -1,8 +1,8 @@
 -- What the contracts say of a fault that was found in a document, and of none.
 use Rattle.std.specs.Prelude.{Bool, IfSome, Option, Some, false, option_map, true, ◌≡◌}
 use Rattle.serde_json.specs.Data.{Data}
-use Rattle.schema_definitions.specs.Instance.{Place, a_value, subject_at}
-use Rattle.schema_definitions.specs.Reports.{Error}
+use Rattle.theory_definitions.specs.Instance.{Place, a_value, subject_at}
+use Rattle.theory_definitions.specs.Reports.{Error}
 use Rattle.schema_reports.specs.ReportViews.{BorrowsItsPlace, error_of}
 use Rattle.schema_reports.specs.declared.reports.ValidationError.{ValidationError}
 

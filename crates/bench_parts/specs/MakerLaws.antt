@@ -3,30 +3,30 @@ use Rattle.std.proofs.Common.{ap}
 use Rattle.std.specs.Prelude.{Bool, List, None, Option, Some, [], bytes_eq, codes, false, if◌then◌else◌, not, option_map, refl, true, ℕ, ◌≡◌}
 use Rattle.serde_json.specs.Data.{Data, Members, array, boolean, null, number, object, string}
 use Rattle.serde_json.specs.Find.{get_member}
-use Rattle.schema_definitions.specs.Instance.{Text}
-use Rattle.schema_definitions.specs.Drafts.{Draft, Vocabularies}
-use Rattle.schema_definitions.specs.Making.{Script, a_keyword}
-use Rattle.schema_parts.specs.MakerViews.{MakesRightly}
+use Rattle.theory_definitions.specs.Instance.{Text}
+use Rattle.theory_definitions.specs.Drafts.{Draft, Vocabularies}
+use Rattle.theory_definitions.specs.Making.{Script, a_keyword}
+use Rattle.schema_traits.specs.MakerViews.{MakesRightly}
 use Rattle.schema_applicators.specs.ApplicatorShape.{has_all_of, has_any_of, has_if, has_one_of}
 use Rattle.keyword_makers.specs.Branches.{has_branch}
 use Rattle.keyword_makers.specs.BranchLaws.{if_rightly}
 use Rattle.keyword_makers.specs.Making.{makes_if}
 use Rattle.keyword_makers.specs.MakingLaws.{IsPlainIf, asked_rightly, either_rightly, list_rightly, made_rightly, member_whole}
-use Rattle.bench_keywords.specs.BenchShape.{BenchShape, applies, has_count, has_prefix_items, has_properties, has_type, has_types, is_whole, requires}
-use Rattle.bench_keywords.specs.declared.counts.CountKind.{CountKind}
-use Rattle.bench_keywords.specs.TypeNames.{type_named, types_of}
-use Rattle.bench_keywords.specs.declared.type_names.TypeName.{TypeName}
-use Rattle.bench_keywords.specs.declared.counts.CountKind.TheVariants.{MaxLength, MinLength, MinProperties}
-use Rattle.bench_keywords.specs.Laws.{none_absorbed}
+use Rattle.standard_basics.specs.BasicShape.{BasicShape, applies, has_count, has_prefix_items, has_properties, has_type, has_types, is_whole, requires}
+use Rattle.standard_basics.specs.declared.counts.CountKind.{CountKind}
+use Rattle.standard_basics.specs.TypeNames.{type_named, types_of}
+use Rattle.standard_basics.specs.declared.type_names.TypeName.{TypeName}
+use Rattle.standard_basics.specs.declared.counts.CountKind.TheVariants.{MaxLength, MinLength, MinProperties}
+use Rattle.standard_basics.specs.Laws.{none_absorbed}
 use Rattle.keyword_makers.specs.ByValue.{values_lie_below}
 use Rattle.keyword_makers.specs.Members.{names_of, values_below}
-use Rattle.bench_parts.specs.Makers.{bench_script, count_shape, is_older_list, items_script, member_script, pattern_shape, properties_script, required_shape, schema_script, texts_of, type_shape, value_script}
+use Rattle.bench_parts.specs.Makers.{basic_script, count_shape, is_older_list, items_script, member_script, pattern_shape, properties_script, required_shape, schema_script, texts_of, type_shape, value_script}
 
-abbrev pub Rightly : Members → Script BenchShape → Type 0
+abbrev pub Rightly : Members → Script BasicShape → Type 0
 Rightly = MakesRightly none_absorbed is_whole
 
 -- a shape that holds no value of the schema
-abbrev pub IsWholeIf : Option BenchShape → Type 0
+abbrev pub IsWholeIf : Option BasicShape → Type 0
 IsWholeIf = IsPlainIf none_absorbed is_whole
 
 type_whole : (o : Option TypeName) → IsWholeIf (option_map has_type o)
@@ -77,10 +77,10 @@ properties_rightly owner name (number n) = λ h. refl
 properties_rightly owner name (string t) = λ h. refl
 properties_rightly owner name (array ds) = λ h. refl
 
-one_of : (owner : Members) (b : Bool) (x y : Script BenchShape) → Rightly owner x → Rightly owner y → Rightly owner (if b then x else y)
+one_of : (owner : Members) (b : Bool) (x y : Script BasicShape) → Rightly owner x → Rightly owner y → Rightly owner (if b then x else y)
 one_of = either_rightly none_absorbed is_whole
 
-whole_rightly : (owner : Members) (name : Text) (d : Data) (m : Option BenchShape) → IsWholeIf m → Rightly owner (makes_if name d m)
+whole_rightly : (owner : Members) (name : Text) (d : Data) (m : Option BasicShape) → IsWholeIf m → Rightly owner (makes_if name d m)
 whole_rightly = made_rightly none_absorbed is_whole
 
 items_made_rightly : (owner : Members) (draft : Draft) (ms : Members) (name : Text) (d : Data) → Rightly owner (items_script draft ms name d)
@@ -113,6 +113,6 @@ member_rightly : (owner : Members) (draft : Draft) (name : Text) (o : Option Dat
 member_rightly owner draft name None here = tt
 member_rightly owner draft name (Some d) here = value_rightly owner draft name d here
 
-pub makes_rightly : (own : Bool) (name : Text) (owner : Members) (draft : Draft) (vocabularies : Vocabularies) (formats : Bool) → Rightly owner (bench_script own name owner draft vocabularies formats)
+pub makes_rightly : (own : Bool) (name : Text) (owner : Members) (draft : Draft) (vocabularies : Vocabularies) (formats : Bool) → Rightly owner (basic_script own name owner draft vocabularies formats)
 makes_rightly true name owner draft vocabularies formats = tt
 makes_rightly false name owner draft vocabularies formats = member_rightly owner draft name (get_member name owner) refl

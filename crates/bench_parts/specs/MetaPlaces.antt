@@ -1,6 +1,6 @@
 -- The place of a value in a schema under the meta check, as its steps.
 use Rattle.std.specs.Prelude.{◌++◌, ◌∷◌, []}
-use Rattle.schema_definitions.specs.Instance.{Place}
+use Rattle.theory_definitions.specs.Instance.{Place}
 use Rattle.schema_reports.specs.InstanceViews.{step_of}
 use Rattle.bench_parts.specs.declared.meta_place.MetaPlace.{MetaPlace, Root, Below'}
 

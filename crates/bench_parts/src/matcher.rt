@@ -2,14 +2,14 @@
 ghost use Rattle.std.specs.Prelude.{◌≡◌, ◌≤◌, bytes_eq, drop, length, map, string_bytes};
 ghost use Rattle.std.specs.List.{list_any};
 ghost use Rattle.bench_parts.specs.BenchMatching.{begins_with, contains_text};
-ghost use Rattle.schema_parts.specs.Readings.{AddsTexts};
+ghost use Rattle.schema_traits.specs.Readings.{AddsTexts};
 
-use schema_matches::site::{Match, Reason};
-use schema_parts::matcher::Matcher;
 use schema_reports::location::OutOfMemory;
 use schema_reports::text::Text;
+use schema_traits::matcher::Matcher;
 use std::alloc::{AllocError, Global};
 use std::marker::Model;
+use unfinished_matches::site::{Match, Reason};
 
 /// A matcher that leaves some patterns unfinished, whatever the subject, and finds any other pattern as a text.
 #[derive(Drop)]
@@ -19,7 +19,7 @@ pub struct BenchMatcher {
 
 impl Model for BenchMatcher {
     ghost use Rattle.std.specs.Prelude.{List, map, string_bytes};
-    ghost use Rattle.schema_definitions.specs.Instance.{Text};
+    ghost use Rattle.theory_definitions.specs.Instance.{Text};
 
     ghost Value = { List Text };
 

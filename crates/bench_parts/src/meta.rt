@@ -4,22 +4,22 @@ ghost use Rattle.serde_json.specs.Data.{Data, array, object};
 ghost use Rattle.serde_json.specs.Find.{as_array};
 ghost use Rattle.serde_json.specs.Written.{has_float, items_have_float, members_have_float};
 ghost use Rattle.serde_json.specs.View.{items_view, view};
-ghost use Rattle.schema_definitions.specs.Instance.{a_value, subject_at};
-ghost use Rattle.schema_keywords.specs.KeywordViews.{draft_of};
+ghost use Rattle.theory_definitions.specs.Instance.{a_value, subject_at};
+ghost use Rattle.schema_drafts.specs.KeywordViews.{draft_of};
 ghost use Rattle.schema_reports.specs.ReportViews.{BorrowsItsPlace, error_of};
 ghost use Rattle.bench_parts.specs.BenchMeta.{HasNoFaultInside, HasNoFaultItself};
 ghost use Rattle.bench_parts.specs.BenchMeta.{fault_in, fault_in_items, fault_in_members, is_2020_12, is_schema, member_fault};
 ghost use Rattle.bench_parts.specs.BenchMeta.{is_list_of_items, is_no_length, mistyped, type_text};
 ghost use Rattle.bench_parts.specs.FaultWords.{FaultBorrows, FaultIs};
 ghost use Rattle.bench_parts.specs.MetaPlaces.{steps_to};
-ghost use Rattle.schema_parts.specs.Readings.{fields};
+ghost use Rattle.schema_traits.specs.Readings.{fields};
 
 use crate::meta_place::MetaPlace;
-use schema_keywords::keywords::Draft;
-use schema_parts::meta::MetaValidators;
+use schema_drafts::keywords::Draft;
 use schema_reports::instance::{Instance, InstanceStep, Place};
 use schema_reports::location::{Location, OutOfMemory};
 use schema_reports::reports::ValidationError;
+use schema_traits::meta::MetaValidators;
 use serde_json::{Map, Value};
 use std::alloc::Global;
 

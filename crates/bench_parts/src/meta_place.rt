@@ -2,7 +2,7 @@
 ghost use Rattle.std.specs.Prelude.{◌≡◌, ◌++◌, ◌∷◌, []};
 ghost use Rattle.schema_reports.specs.InstanceViews.{step_of};
 ghost use Rattle.bench_parts.specs.MetaPlaces.{steps_to};
-ghost use Rattle.schema_parts.specs.Showing.{Yields};
+ghost use Rattle.schema_traits.specs.Showing.{Yields};
 
 use schema_reports::instance::{InstanceStep, Place};
 use schema_reports::location::OutOfMemory;

@@ -2,11 +2,11 @@
 ghost use Rattle.std.specs.Prelude.{IfOk};
 ghost use Rattle.serde_json.specs.Find.{get_member};
 ghost use Rattle.serde_json.specs.View.{view};
-ghost use Rattle.schema_keywords.specs.KeywordViews.{draft_of};
+ghost use Rattle.schema_drafts.specs.KeywordViews.{draft_of};
 ghost use Rattle.keyword_makers.specs.MakerViews.{Begins, waiting_of};
 ghost use Rattle.bench_parts.specs.Makers.{items_script, later_script, member_script, properties_script, schema_script, value_script};
-ghost use Rattle.bench_keywords.specs.Shapes.{shape_of};
-ghost use Rattle.schema_parts.specs.Readings.{fields};
+ghost use Rattle.standard_basics.specs.Shapes.{shape_of};
+ghost use Rattle.schema_traits.specs.Readings.{fields};
 
 pub mod keyword_values;
 pub mod schema_values;
@@ -15,19 +15,19 @@ use crate::table::keyword_values::{
     count_keyword, pattern_keyword, required_keyword, type_keyword,
 };
 use crate::table::schema_values::{is_older_list, items_before};
-use bench_keywords::counts::CountKind;
-use bench_keywords::keyword::BenchKeyword;
 use keyword_makers::branches::branches_of;
 use keyword_makers::lists::{each_schema, list_length};
 use keyword_makers::maker::{Ending, PathsMaker, asks_for, ends, only_child};
 use keyword_makers::members::values_of;
 use keyword_makers::paths::value_in;
 use keyword_makers::refusals::{makes_if, malformed};
-use schema_keywords::keywords::{Draft, VocabularySet};
-use schema_parts::ascending::AscendingNames;
-use schema_parts::table::{KeywordOrigin, KeywordTable, MakerReply, MakerStep};
+use schema_drafts::keywords::{Draft, VocabularySet};
 use schema_reports::location::OutOfMemory;
+use schema_traits::ascending::AscendingNames;
+use schema_traits::table::{KeywordOrigin, KeywordTable, MakerReply, MakerStep};
 use serde_json::{Map, Value};
+use standard_basics::counts::CountKind;
+use standard_basics::keyword::BasicKeyword;
 use std::alloc::Global;
 
 /// A table of some built-in keywords. No name is its own.
@@ -42,14 +42,14 @@ fn properties_maker(
     alloc: Global,
     name: &str,
     value: &Value,
-) -> Result<PathsMaker<BenchKeyword>, OutOfMemory>
+) -> Result<PathsMaker<BasicKeyword>, OutOfMemory>
     ensures maker { IfOk result (Begins shape_of (properties_script name.now (view value.now))) }
 {
     match value.as_object() {
         Some(members) => {
             let names = AscendingNames::of_members(alloc, members)?;
             let paths = values_of(alloc, name, names.as_slice())?;
-            Ok(asks_for(paths, BenchKeyword::Properties(names)))
+            Ok(asks_for(paths, BasicKeyword::Properties(names)))
         }
         None => malformed(alloc, name, value),
     }
@@ -62,14 +62,14 @@ fn items_maker(
     value: &Value,
     object: &Map<String, Value>,
     draft: Draft,
-) -> Result<PathsMaker<BenchKeyword>, OutOfMemory>
+) -> Result<PathsMaker<BasicKeyword>, OutOfMemory>
     ensures maker { IfOk result (Begins shape_of (items_script (draft_of draft) (fields object.now) name.now (view value.now))) }
 {
     if is_older_list(draft, value) {
         return Ok(ends(alloc, Ending::Nothing));
     }
     let before = items_before(draft, object);
-    only_child(alloc, name, BenchKeyword::Items(before))
+    only_child(alloc, name, BasicKeyword::Items(before))
 }
 
 /// The maker of a keyword with this value.
@@ -79,7 +79,7 @@ fn value_maker(
     value: &Value,
     object: &Map<String, Value>,
     draft: Draft,
-) -> Result<PathsMaker<BenchKeyword>, OutOfMemory>
+) -> Result<PathsMaker<BasicKeyword>, OutOfMemory>
     ensures maker { IfOk result (Begins shape_of (value_script (draft_of draft) (fields object.now) name.now (view value.now))) }
 {
     if name == "type" {
@@ -103,7 +103,7 @@ fn later_maker(
     value: &Value,
     object: &Map<String, Value>,
     draft: Draft,
-) -> Result<PathsMaker<BenchKeyword>, OutOfMemory>
+) -> Result<PathsMaker<BasicKeyword>, OutOfMemory>
     ensures maker { IfOk result (Begins shape_of (later_script (draft_of draft) (fields object.now) name.now (view value.now))) }
 {
     if name == "minLength" {
@@ -144,34 +144,34 @@ fn schema_maker(
     value: &Value,
     object: &Map<String, Value>,
     draft: Draft,
-) -> Result<PathsMaker<BenchKeyword>, OutOfMemory>
+) -> Result<PathsMaker<BasicKeyword>, OutOfMemory>
     ensures maker { IfOk result (Begins shape_of (schema_script (draft_of draft) (fields object.now) name.now (view value.now))) }
 {
     if name == "allOf" {
-        return each_schema(alloc, name, value, BenchKeyword::AllOf(list_length(value)));
+        return each_schema(alloc, name, value, BasicKeyword::AllOf(list_length(value)));
     }
     if name == "anyOf" {
-        return each_schema(alloc, name, value, BenchKeyword::AnyOf(list_length(value)));
+        return each_schema(alloc, name, value, BasicKeyword::AnyOf(list_length(value)));
     }
     if name == "oneOf" {
-        return each_schema(alloc, name, value, BenchKeyword::OneOf(list_length(value)));
+        return each_schema(alloc, name, value, BasicKeyword::OneOf(list_length(value)));
     }
     if name == "prefixItems" {
-        let keyword = BenchKeyword::PrefixItems(list_length(value));
+        let keyword = BasicKeyword::PrefixItems(list_length(value));
         return each_schema(alloc, name, value, keyword);
     }
     if name == "items" {
         return items_maker(alloc, name, value, object, draft);
     }
     if name == "not" {
-        return only_child(alloc, name, BenchKeyword::Not(value.clone()?));
+        return only_child(alloc, name, BasicKeyword::Not(value.clone()?));
     }
     if name == "propertyNames" {
-        return only_child(alloc, name, BenchKeyword::PropertyNames);
+        return only_child(alloc, name, BasicKeyword::PropertyNames);
     }
     if name == "if" {
         let branches = branches_of(alloc, name, object)?;
-        let keyword = BenchKeyword::If(branches.accepted, branches.refused);
+        let keyword = BasicKeyword::If(branches.accepted, branches.refused);
         return Ok(asks_for(branches.paths, keyword));
     }
     Ok(ends(alloc, Ending::Nothing))
@@ -183,7 +183,7 @@ fn member_maker(
     name: &str,
     object: &Map<String, Value>,
     draft: Draft,
-) -> Result<PathsMaker<BenchKeyword>, OutOfMemory>
+) -> Result<PathsMaker<BasicKeyword>, OutOfMemory>
     ensures maker { IfOk result (Begins shape_of (member_script (draft_of draft) (fields object.now) name.now (get_member name.now
         (fields object.now)))) }
 {
@@ -193,16 +193,16 @@ fn member_maker(
     }
 }
 
-impl KeywordTable<BenchKeyword> for BenchTable {
+impl KeywordTable<BasicKeyword> for BenchTable {
     ghost use Rattle.std.specs.Prelude.{false};
-    ghost use Rattle.bench_parts.specs.Makers.{bench_script};
+    ghost use Rattle.bench_parts.specs.Makers.{basic_script};
     ghost use Rattle.bench_parts.specs.MakerLaws.{makes_rightly};
 
-    type Maker = PathsMaker<BenchKeyword>;
+    type Maker = PathsMaker<BasicKeyword>;
 
     ghost owned = { λ _ name. false };
 
-    ghost script = { λ _. bench_script };
+    ghost script = { λ _. basic_script };
 
     ghost waiting = { waiting_of shape_of };
 
@@ -218,7 +218,7 @@ impl KeywordTable<BenchKeyword> for BenchTable {
         draft: Draft,
         _vocabularies: &VocabularySet,
         _formats: bool,
-    ) -> Result<PathsMaker<BenchKeyword>, OutOfMemory> {
+    ) -> Result<PathsMaker<BasicKeyword>, OutOfMemory> {
         match origin {
             KeywordOrigin::Own(_) => Ok(ends(alloc, Ending::Nothing)),
             KeywordOrigin::Builtin(name) => member_maker(alloc, name, object, draft),
@@ -228,9 +228,9 @@ impl KeywordTable<BenchKeyword> for BenchTable {
     fn turn(
         &self,
         alloc: Global,
-        maker: &mut PathsMaker<BenchKeyword>,
+        maker: &mut PathsMaker<BasicKeyword>,
         reply: MakerReply,
-    ) -> Result<MakerStep<BenchKeyword>, OutOfMemory> {
+    ) -> Result<MakerStep<BasicKeyword>, OutOfMemory> {
         maker.turn(alloc, reply)
     }
 

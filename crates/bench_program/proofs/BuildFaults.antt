@@ -1,6 +1,6 @@
 -- The fault of a schema that is refused stands, where a cause of it stands or the meta validators refuse a document of it.
 use Rattle.std.proofs.Common.{List, refl}
-use Rattle.schema_definitions.specs.Instance.{Text}
+use Rattle.theory_definitions.specs.Instance.{Text}
 use Rattle.schema_keys.specs.declared.error.BuildError.{BuildError}
 use Rattle.schema_keys.specs.declared.error.BuildError.TheVariants.{KeywordRefused, Lookup, MetaSchema, MissingRoot, NodeLimit, NotASchema, OutOfMemory, ReferenceNotText, UnsupportedVocabulary}
 use Rattle.bench_program.specs.ProgramFaults.{FaultStands, fault_of}

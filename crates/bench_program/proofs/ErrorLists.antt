@@ -1,9 +1,9 @@
 -- Errors that are printed one after the other, until none is left.
 use Rattle.std.proofs.Common.{Bool, List, [], ap, append-nil, false, map, refl, sym, true, ◌&&◌, ◌++◌, ◌∙◌, ◌≡◌}
-use Rattle.schema_definitions.specs.Instance.{Text}
+use Rattle.theory_definitions.specs.Instance.{Text}
 use Rattle.schema_reports.specs.ReportViews.{error_of}
 use Rattle.schema_reports.specs.declared.reports.ValidationError.{ValidationError}
-use Rattle.schema_parts.specs.KeywordViews.{is_nil}
+use Rattle.schema_traits.specs.KeywordViews.{is_nil}
 use Rattle.bench_program.specs.ProgramTexts.{errors_text}
 
 pub all_printed : (all left : List ValidationError) (text : Text) → errors_text (map (error_of true) all) ≡ text ++ errors_text (map (error_of true) left) → left ≡ []

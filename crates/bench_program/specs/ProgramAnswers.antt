@@ -1,14 +1,14 @@
 -- What the program prints of an instance, and what that says by what the validator's nodes mean.
 use Rattle.std.specs.Prelude.{Bool, List, Option, is_none, map, option_map, true, ℕ, ◌≡◌}
-use Rattle.schema_definitions.specs.Instance.{Text}
-use Rattle.schema_definitions.specs.Cover.{Sense, is_valid}
-use Rattle.schema_meaning.specs.Headline.{VerdictSays}
+use Rattle.theory_definitions.specs.Instance.{Text}
+use Rattle.theory_definitions.specs.Cover.{Sense, is_valid}
+use Rattle.theory_meaning.specs.Headline.{VerdictSays}
 use Rattle.schema_reports.specs.ReportViews.{error_of}
-use Rattle.schema_definitions.specs.Reports.{report_of}
+use Rattle.theory_definitions.specs.Reports.{report_of}
 use Rattle.schema_reports.specs.UnitViews.{unit_of}
 use Rattle.schema_reports.specs.declared.evaluation.EvaluationNode.{EvaluationNode}
 use Rattle.schema_reports.specs.declared.reports.ValidationError.{ValidationError}
-use Rattle.schema_parts.specs.KeywordViews.{is_nil}
+use Rattle.schema_traits.specs.KeywordViews.{is_nil}
 use Rattle.schema_output.specs.Output.{output_list}
 use Rattle.schema_calls.specs.Evaluated.{EvaluationAnswered}
 use Rattle.schema_calls.specs.Spoken.{ErrorsAnswered, FirstAnswered}

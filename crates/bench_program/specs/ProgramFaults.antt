@@ -1,7 +1,7 @@
 -- Why the program answers nothing: a fault in the words, in the order in which faults are found, a refused schema, or want
 -- of memory; and what is printed of it.
 use Rattle.std.specs.Prelude.{List, None, Some, [], codes, decimal, ◌++◌, ◌∷◌, ◌≡◌, ◌⊎◌}
-use Rattle.schema_definitions.specs.Instance.{Text}
+use Rattle.theory_definitions.specs.Instance.{Text}
 use Rattle.schema_keys.specs.Refusing.{number_of}
 use Rattle.schema_keys.specs.declared.error.BuildError.{BuildError}
 use Rattle.schema_keys.specs.declared.error.BuildError.TheVariants as build

@@ -2,41 +2,41 @@
 use Rattle.std.specs.Prelude.{Bool, IfOk, List, Result, [], false, string_bytes, ℕ, ◌≡◌, ◌⊎◌}
 use Rattle.serde_json.specs.Data.{Data}
 use Rattle.serde_json.specs.View.{view}
-use Rattle.schema_definitions.specs.Drafts.{draft_2020_12}
-use Rattle.schema_keywords.specs.KeywordTable.{builtin_in}
-use Rattle.schema_definitions.specs.Instance.{Text}
-use Rattle.schema_definitions.specs.Cover.{Sense}
-use Rattle.schema_meaning.specs.Headline.{Plainly, PlainlyWithUnits}
-use Rattle.schema_definitions.specs.Making.{Table}
-use Rattle.schema_definitions.specs.Matching.{Matcher}
-use Rattle.schema_definitions.specs.Resolving.{Resolver}
+use Rattle.theory_definitions.specs.Drafts.{draft_2020_12}
+use Rattle.schema_drafts.specs.KeywordTable.{builtin_in}
+use Rattle.theory_definitions.specs.Instance.{Text}
+use Rattle.theory_definitions.specs.Cover.{Sense}
+use Rattle.theory_meaning.specs.Headline.{Plainly, PlainlyWithUnits}
+use Rattle.theory_definitions.specs.Making.{Table}
+use Rattle.theory_definitions.specs.Matching.{Matcher}
+use Rattle.theory_definitions.specs.Resolving.{Resolver}
 use Rattle.schema_reports.specs.declared.evaluation.EvaluationNode.{EvaluationNode}
 use Rattle.schema_keys.specs.declared.error.BuildError.{BuildError}
 use Rattle.schema_validator.specs.Checked.{FailsCheck, PassesCheck}
 use Rattle.schema_validator.specs.Handed.{default_nested, default_runs, Options, default_options, parts_of, table_of}
 use Rattle.schema_calls.specs.Evaluated.{UnitsAnswered}
-use Rattle.schema_answers.specs.Program.{FromSomeDepth, HasUnits, OfEveryEvaluation, OfEverySense, Program}
+use Rattle.schema_compiled.specs.Program.{FromSomeDepth, HasUnits, OfEveryEvaluation, OfEverySense, Program}
 use Rattle.schema_validator.specs.ProgramOf.{IsProgramOf}
 use Rattle.schema_validator.specs.Promised.{HasSchemasUnits, MeansSchema, OfSchema}
 use Rattle.schema_validator.specs.Roots.{Builds, RefusesBuild}
-use Rattle.bench_resolver.specs.BenchAnswers.{bench_resolving}
-use Rattle.bench_subschemas.specs.declared.rules.Rule.TheVariants.{Narrow}
-use Rattle.bench_subschemas.specs.BenchResolving.{document_uri}
-use Rattle.bench_resolver.specs.BenchDocuments.{BenchDocument, HasCustom, HasDrafts}
+use Rattle.standard_resolver.specs.ResolverAnswers.{document_resolving}
+use Rattle.standard_subschemas.specs.declared.rules.Rule.TheVariants.{Narrow}
+use Rattle.standard_subschemas.specs.SubschemaRules.{document_uri}
+use Rattle.standard_resolver.specs.ResolverDocuments.{HeldDocuments, HasCustom, HasDrafts}
 use Rattle.bench_parts.specs.BenchMatching.{bench_matcher}
 use Rattle.bench_parts.specs.BenchMeta.{document_fault}
-use Rattle.bench_resolver.specs.BenchStates.{Point}
-use Rattle.bench_parts.specs.Makers.{bench_script}
-use Rattle.bench_keywords.specs.BenchShape.{BenchShape, is_whole}
+use Rattle.standard_resolver.specs.DocumentStates.{Point}
+use Rattle.bench_parts.specs.Makers.{basic_script}
+use Rattle.standard_basics.specs.BasicShape.{BasicShape, is_whole}
 use Rattle.bench_program.specs.ProgramAnswers.{Answers}
 use Rattle.bench_program.specs.ProgramWords.{Holds}
-use Rattle.bench_keywords.specs.Shapes.{shape_of}
-use Rattle.bench_keywords.specs.Words.{words}
-use Rattle.bench_keywords.specs.declared.keyword.BenchKeyword.{BenchKeyword}
+use Rattle.standard_basics.specs.Shapes.{shape_of}
+use Rattle.standard_basics.specs.Words.{words}
+use Rattle.standard_basics.specs.declared.keyword.BasicKeyword.{BasicKeyword}
 use Rattle.bench_program.specs.declared.program.answers.Answer.{Answer}
 use Rattle.bench_program.specs.declared.program.requests.Call.{Call}
 
-module _ (resolver : Resolver Point) (table : Table BenchShape) (matcher : Matcher) (options : Options) (schema : Data) where
+module _ (resolver : Resolver Point) (table : Table BasicShape) (matcher : Matcher) (options : Options) (schema : Data) where
   -- said of the plain meaning for each root key of the schema, of texts too where they are spoken rightly
   abbrev pub OfPlainMeaning : Data → (Bool → Sense → Type 0) → Type 0
   OfPlainMeaning instance fact = OfSchema resolver table matcher words options schema instance (λ spoken w root. Plainly w root instance (fact spoken))
@@ -50,15 +50,15 @@ module _ (resolver : Resolver Point) (table : Table BenchShape) (matcher : Match
   AnswersPlainly most instance call accepted text = Answers most (OfPlainMeaning instance) (PlainUnitsOf instance) call accepted text
 
   -- the validator means schema and parts
-  abbrev pub BenchMeans : Program BenchKeyword (List Text) → Type 0
+  abbrev pub BenchMeans : Program BasicKeyword (List Text) → Type 0
   BenchMeans p = MeansSchema resolver table matcher words options schema shape_of is_whole bench_matcher p
 
   -- it has the units of their plain meaning
-  abbrev pub BenchHasUnits : Program BenchKeyword (List Text) → Type 0
+  abbrev pub BenchHasUnits : Program BasicKeyword (List Text) → Type 0
   BenchHasUnits p = HasSchemasUnits resolver table matcher words options schema shape_of is_whole bench_matcher p
 
 -- what a validator's nodes say of an instance
-module _ (p : Program BenchKeyword (List Text)) (instance : Data) where
+module _ (p : Program BasicKeyword (List Text)) (instance : Data) where
   -- in every sense that they mean, with all units that they have
   abbrev pub AnswersInEverySense : Call → Bool → Text → Type 0
   AnswersInEverySense = Answers p.runs (OfEverySense shape_of words is_whole bench_matcher p instance)
@@ -76,12 +76,12 @@ module _ (p : Program BenchKeyword (List Text)) (instance : Data) where
   FromDepth call result = IfOk result (λ a. AnswersFromSomeDepth call a.accepted (string_bytes a.text))
 
 -- the bench table with the standard's names
-abbrev pub bench_table : Table BenchShape
-bench_table = table_of (λ name. false) builtin_in bench_script
+abbrev pub bench_table : Table BasicShape
+bench_table = table_of (λ name. false) builtin_in basic_script
 
 -- a resolver of this document alone by the narrow rule, under its own URI, in 2020-12, where no vocabulary is required beside the
 -- draft's own
-pub record Resolves (schema : Data) (r : BenchDocument) : Type 0 where
+pub record Resolves (schema : Data) (r : HeldDocuments) : Type 0 where
   pub rule : r.rule ≡ Narrow
   pub document : view r.document ≡ schema
   pub uri : r.uri ≡ document_uri draft_2020_12 schema
@@ -97,26 +97,26 @@ pub record Asked (ts : List Text) : Type 0 where
   pub instance : Data
   pub unfinished : List Text
   pub holds : Holds ts call schema instance unfinished
-  pub resolver : BenchDocument
+  pub resolver : HeldDocuments
   pub resolves : Resolves schema resolver
 
 module _ {ts : List Text} (a : Asked ts) where
   -- the schema builds with the bench's parts and default options
   abbrev pub IsBuilt : Type 0
-  IsBuilt = (texts : Bool) → Builds (parts_of (bench_resolving a.resolver) bench_table (bench_matcher a.unfinished) (words texts) default_options) a.schema default_options.limit
+  IsBuilt = (texts : Bool) → Builds (parts_of (document_resolving a.resolver) bench_table (bench_matcher a.unfinished) (words texts) default_options) a.schema default_options.limit
 
   -- each of its documents is accepted by the bench's meta validators
   abbrev pub IsPassed : Type 0
-  IsPassed = PassesCheck (bench_resolving a.resolver) document_fault default_options a.schema
+  IsPassed = PassesCheck (document_resolving a.resolver) document_fault default_options a.schema
 
   -- it is refused, by a cause that stands, or as the meta validators refuse one of its documents
   abbrev pub IsRefused : BuildError → Type 0
-  IsRefused e = ((texts : Bool) → RefusesBuild (parts_of (bench_resolving a.resolver) bench_table (bench_matcher a.unfinished) (words texts) default_options) a.schema default_options.limit e)
-      ⊎ FailsCheck (bench_resolving a.resolver) document_fault default_options a.schema e
+  IsRefused e = ((texts : Bool) → RefusesBuild (parts_of (document_resolving a.resolver) bench_table (bench_matcher a.unfinished) (words texts) default_options) a.schema default_options.limit e)
+      ⊎ FailsCheck (document_resolving a.resolver) document_fault default_options a.schema e
 
   -- a validator is compiled from it
-  abbrev pub IsCompiledFrom : Program BenchKeyword (List Text) → Type 0
-  IsCompiledFrom p = IsProgramOf (bench_resolving a.resolver) bench_table (bench_matcher a.unfinished) default_options default_nested a.schema shape_of bench_matcher p
+  abbrev pub IsCompiledFrom : Program BasicKeyword (List Text) → Type 0
+  IsCompiledFrom p = IsProgramOf (document_resolving a.resolver) bench_table (bench_matcher a.unfinished) default_options default_nested a.schema shape_of bench_matcher p
 
 -- what the words ask for, of a schema that builds and that the meta validators accept: answered by the plain meaning of their
 -- schema with the bench's parts and default options, and, where chains of references return, by what the nodes compiled from it
@@ -125,7 +125,7 @@ pub record AnswersWords (ts : List Text) (accepted : Bool) (text : Text) : Type 
   pub asked : Asked ts
   pub builds : IsBuilt asked
   pub passes : IsPassed asked
-  pub plain : AnswersPlainly (bench_resolving asked.resolver) bench_table (bench_matcher asked.unfinished) default_options asked.schema default_runs asked.instance asked.call accepted text
-  pub program : Program BenchKeyword (List Text)
+  pub plain : AnswersPlainly (document_resolving asked.resolver) bench_table (bench_matcher asked.unfinished) default_options asked.schema default_runs asked.instance asked.call accepted text
+  pub program : Program BasicKeyword (List Text)
   pub compiled : IsCompiledFrom asked program
   pub guarded : AnswersFromSomeDepth program asked.instance asked.call accepted text

@@ -5,8 +5,8 @@ use Rattle.json.specs.Print.{print}
 use Rattle.serde_json.specs.Data.{Data, depth}
 use Rattle.serde_json.specs.Read.{max_depth, read}
 use Rattle.serde_json.specs.Written.{IsInOrder, compact_text, has_float}
-use Rattle.schema_definitions.specs.Instance.{Text}
-use Rattle.schema_definitions.specs.Reports.{Error, instance_path}
+use Rattle.theory_definitions.specs.Instance.{Text}
+use Rattle.theory_definitions.specs.Reports.{Error, instance_path}
 
 abbrev pub verdict_text : Bool → Text
 verdict_text true = codes "true" ++ 10 ∷ []

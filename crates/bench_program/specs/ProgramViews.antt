@@ -2,7 +2,7 @@
 use Rattle.std.specs.Prelude.{List, map, ℕ}
 use Rattle.std.specs.declared.alloc.Global.{Global}
 use Rattle.std.specs.declared.vec.Vec.{Vec}
-use Rattle.schema_definitions.specs.Instance.{Text}
+use Rattle.theory_definitions.specs.Instance.{Text}
 use Rattle.bench_program.specs.declared.program.requests.Words.{Words}
 use Rattle.bench_program.specs.ProgramWords.{FourWords}
 

@@ -1,7 +1,7 @@
 //! The program: from words to what is printed, and a status.
 ghost use Rattle.std.specs.Prelude.{◌≡◌, Bool, IfOk, IfErr, OnErr, OnOk, string_bytes};
 ghost use Rattle.std.specs.Io.KnownBytes.{Appends, Keeps};
-ghost use Rattle.schema_definitions.specs.Instance.{Text};
+ghost use Rattle.theory_definitions.specs.Instance.{Text};
 ghost use Rattle.bench_program.specs.declared.program.faults.Fault.{Fault};
 ghost use Rattle.bench_program.specs.ProgramFaults.{FaultStands, fault_line};
 ghost use Rattle.bench_program.specs.ProgramMeaning.{AnswersWords};
@@ -17,13 +17,13 @@ pub mod requests;
 use crate::program::answers::{Answer, ask};
 use crate::program::faults::Fault;
 use crate::program::requests::{Request, request_in};
-use bench_keywords::keyword::BenchKeyword;
 use bench_parts::matcher::BenchMatcher;
 use bench_parts::meta::BenchMeta;
 use bench_parts::table::BenchTable;
-use bench_resolver::resolver::BenchResolver;
+use schema_drafts::keywords::VocabularySet;
 use schema_engine::validator::Validator;
-use schema_keywords::keywords::VocabularySet;
+use standard_basics::keyword::BasicKeyword;
+use standard_resolver::resolver::DocumentResolver;
 use std::alloc::Global;
 use std::io;
 use std::io::Write;
@@ -74,9 +74,9 @@ fn answer_to(alloc: Global, words: &[Vec<u8>]) -> Result<Answer, Fault>
         instance,
         unfinished,
     } = request_in(alloc, words)?;
-    let resolver = BenchResolver::new(alloc, &schema, VocabularySet::new(alloc))?;
+    let resolver = DocumentResolver::new(alloc, &schema, VocabularySet::new(alloc))?;
     let matcher = BenchMatcher::new(unfinished);
-    let validator = Validator::<BenchKeyword, BenchMatcher>::new(
+    let validator = Validator::<BasicKeyword, BenchMatcher>::new(
         alloc,
         &schema,
         &BenchTable {},

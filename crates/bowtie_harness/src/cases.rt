@@ -1,13 +1,13 @@
 //! Cases: a schema, documents that its references may lead to, and instances.
 
-use harness_commands::cases::{Case, Engine, Judge};
-use schema_engine::keywords::Draft;
-use schema_engine::location::OutOfMemory;
-use serde_json::Value;
-use standard_validator::{
+use bowtie_protocol::cases::{Case, Engine, Judge};
+use jsonschema::{
     BuildError, MetaDocuments, PatternError, Patterns, Sources, StandardMeta, StandardValidator,
     ValidationOptions, build,
 };
+use schema_engine::keywords::Draft;
+use schema_engine::location::OutOfMemory;
+use serde_json::Value;
 use std::alloc::Global;
 
 /// The meta-schemas, and the check by them.

@@ -8,9 +8,9 @@ mod cases;
 
 use crate::cases::Harness;
 use anyhow::Result;
-use harness_commands::lines::answer_lines;
+use bowtie_protocol::lines::answer_lines;
+use jsonschema::{MetaDocuments, StandardMeta};
 use schema_engine::keywords::Draft;
-use standard_validator::{MetaDocuments, StandardMeta};
 
 /// Compiles the meta-schemas, and answers the lines.
 fn serve(rt: &HostRuntime, documents: &MetaDocuments) -> Result<()> {

@@ -1,7 +1,7 @@
 -- What the words of a call choose.
 use Rattle.std.specs.Prelude.{None, Option, Some, bytes_eq, codes, if◌then◌else◌}
-use Rattle.schema_definitions.specs.Drafts.{Draft, draft_2019_09, draft_2020_12, draft_4, draft_6, draft_7}
-use Rattle.schema_definitions.specs.Instance.{Text}
+use Rattle.theory_definitions.specs.Drafts.{Draft, draft_2019_09, draft_2020_12, draft_4, draft_6, draft_7}
+use Rattle.theory_definitions.specs.Instance.{Text}
 use Rattle.command_line.specs.declared.options.Output.{Output}
 use Rattle.command_line.specs.declared.options.Output.TheVariants as output
 

@@ -1,7 +1,7 @@
 -- The objects in JSON that are printed of instances and lines, one on a line.
 use Rattle.std.specs.Prelude.{None, Option, Some, [], codes, decimal, ◌++◌, ◌∷◌, ℕ}
 use Rattle.json.specs.Print.{quoted}
-use Rattle.schema_definitions.specs.Instance.{Text}
+use Rattle.theory_definitions.specs.Instance.{Text}
 use Rattle.command_line.specs.Choices.{name_of}
 use Rattle.command_line.specs.declared.options.Output.{Output}
 

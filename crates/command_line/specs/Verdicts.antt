@@ -1,6 +1,6 @@
 -- The words for verdicts, as they are printed.
 use Rattle.std.specs.Prelude.{Bool, codes, false, true, ◌++◌, ◌∷◌}
-use Rattle.schema_definitions.specs.Instance.{Text}
+use Rattle.theory_definitions.specs.Instance.{Text}
 use Rattle.command_line.specs.declared.reports.Paint.{Paint}
 use Rattle.command_line.specs.declared.reports.Paint.TheVariants.{Coloured, Plain}
 

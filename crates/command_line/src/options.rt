@@ -1,9 +1,9 @@
 //! What the words of a call ask for.
 ghost use Rattle.std.specs.Prelude.{◌≡◌, ◌++◌, ◌∷◌, IfSome, option_map};
-ghost use Rattle.schema_keywords.specs.KeywordViews.{draft_of};
+ghost use Rattle.schema_drafts.specs.KeywordViews.{draft_of};
 ghost use Rattle.command_line.specs.Choices.{draft_named, name_of, output_named};
 
-use schema_keywords::keywords::Draft;
+use schema_drafts::keywords::Draft;
 
 /// The word for standard input.
 pub const STANDARD_INPUT: &str = "-";

@@ -2,14 +2,14 @@
 use Rattle.std.specs.Prelude.{None, Option, Some, bytes_eq, codes, decimal, if◌then◌else◌, nat_le, option_and_then, refl, true, ℕ, ◌++◌}
 use Rattle.serde_json.specs.Data.{Data}
 use Rattle.serde_json.specs.Find.{as_number, as_u64}
-use Rattle.schema_definitions.specs.Instance.{Subject, Text}
-use Rattle.schema_definitions.specs.Meaning.{subject_text}
-use Rattle.keyword_ways.specs.Items.{is_list, item_count}
-use Rattle.keyword_ways.specs.Plans.{either_says_monotone}
-use Rattle.keyword_ways.specs.WayGrows.{PlansGrow}
-use Rattle.keyword_ways.specs.declared.planned.Asks.TheVariants as asks
-use Rattle.keyword_ways.specs.declared.planned.Plan.{Plan}
-use Rattle.keyword_ways.specs.declared.planned.Plan.TheVariants.{AtLeast, Holds}
+use Rattle.theory_definitions.specs.Instance.{Subject, Text}
+use Rattle.theory_definitions.specs.Meaning.{subject_text}
+use Rattle.keyword_authoring.specs.Items.{is_list, item_count}
+use Rattle.keyword_authoring.specs.Plans.{either_says_monotone}
+use Rattle.keyword_authoring.specs.WayGrows.{PlansGrow}
+use Rattle.keyword_authoring.specs.declared.planned.Asks.TheVariants as asks
+use Rattle.keyword_authoring.specs.declared.planned.Plan.{Plan}
+use Rattle.keyword_authoring.specs.declared.planned.Plan.TheVariants.{AtLeast, Holds}
 use Rattle.keyword_makers.specs.ByValue.{MadeMember}
 use Rattle.keyword_makers.specs.declared.by_value.Children.TheVariants as children
 use Rattle.keyword_makers.specs.declared.by_value.MemberKeyword.TheVariants.{Keyword, Malformed, Nothing}

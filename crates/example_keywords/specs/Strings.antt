@@ -4,13 +4,13 @@ use Rattle.std.specs.declared.alloc.Global.{Global}
 use Rattle.std.specs.List.{ends_with}
 use Rattle.serde_json.specs.Data.{Data}
 use Rattle.serde_json.specs.Find.{as_number, as_str, as_u64, get}
-use Rattle.schema_definitions.specs.Instance.{Subject, Text, a_value}
-use Rattle.schema_definitions.specs.Meaning.{subject_text}
-use Rattle.keyword_ways.specs.Items.{is_list, item_count}
-use Rattle.keyword_ways.specs.Texts.{as_text}
-use Rattle.keyword_ways.specs.declared.planned.Asks.TheVariants as asks
-use Rattle.keyword_ways.specs.declared.planned.Plan.{Plan}
-use Rattle.keyword_ways.specs.declared.planned.Plan.TheVariants.{Holds, PassesOn, Within}
+use Rattle.theory_definitions.specs.Instance.{Subject, Text, a_value}
+use Rattle.theory_definitions.specs.Meaning.{subject_text}
+use Rattle.keyword_authoring.specs.Items.{is_list, item_count}
+use Rattle.keyword_authoring.specs.Texts.{as_text}
+use Rattle.keyword_authoring.specs.declared.planned.Asks.TheVariants as asks
+use Rattle.keyword_authoring.specs.declared.planned.Plan.{Plan}
+use Rattle.keyword_authoring.specs.declared.planned.Plan.TheVariants.{Holds, PassesOn, Within}
 use Rattle.keyword_makers.specs.ByValue.{MadeMember, made_if}
 use Rattle.keyword_makers.specs.declared.by_value.Children.TheVariants as children
 use Rattle.keyword_makers.specs.declared.by_value.MemberKeyword.TheVariants.{Nothing}

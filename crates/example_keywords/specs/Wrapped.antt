@@ -1,10 +1,10 @@
 -- `x-no-text`, `x-one-of` and `x-all-of`.
 use Rattle.std.specs.Prelude.{Bool, bytes_eq, codes, if◌then◌else◌, is_some, not, ⊤, ℕ, ◌==◌}
 use Rattle.serde_json.specs.Data.{Data}
-use Rattle.schema_definitions.specs.Instance.{Subject, Text, a_value}
-use Rattle.keyword_ways.specs.Items.{child_here, each_from, item_count}
-use Rattle.keyword_ways.specs.Texts.{as_text}
-use Rattle.keyword_ways.specs.Ways.{Way, passes_on}
+use Rattle.theory_definitions.specs.Instance.{Subject, Text, a_value}
+use Rattle.keyword_authoring.specs.Items.{child_here, each_from, item_count}
+use Rattle.keyword_authoring.specs.Texts.{as_text}
+use Rattle.keyword_authoring.specs.Ways.{Way, passes_on}
 use Rattle.keyword_makers.specs.ByValue.{MadeMember}
 use Rattle.keyword_makers.specs.declared.by_value.Children.TheVariants as children
 use Rattle.keyword_makers.specs.declared.by_value.MemberKeyword.TheVariants.{Keyword, Nothing}

@@ -1,7 +1,7 @@
 //! `minItems` and `contains`, and the table that makes them: an example of keywords of one's own.
+use keyword_authoring::items::{is_list, item_count};
+use keyword_authoring::planned::{Asks, Plan, Planned, PlannedKeyword};
 use keyword_makers::by_value::{Children, MakesByValue, MemberKeyword};
-use keyword_ways::items::{is_list, item_count};
-use keyword_ways::planned::{Asks, Plan, Planned, PlannedKeyword};
 use schema_reports::instance::Instance;
 use schema_reports::location::OutOfMemory;
 use serde_json::Value;

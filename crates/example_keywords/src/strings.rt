@@ -3,10 +3,10 @@ ghost use Rattle.std.specs.Prelude.{◌≡◌, option_map};
 ghost use Rattle.serde_json.specs.View.{view};
 ghost use Rattle.example_keywords.specs.Strings.{by_members, shape_of};
 
+use keyword_authoring::items::{is_list, item_count};
+use keyword_authoring::planned::{Asks, Plan, Planned, PlannedKeyword};
+use keyword_authoring::texts::as_text;
 use keyword_makers::by_value::{Children, MakesByValue, MemberKeyword};
-use keyword_ways::items::{is_list, item_count};
-use keyword_ways::planned::{Asks, Plan, Planned, PlannedKeyword};
-use keyword_ways::texts::as_text;
 use schema_reports::instance::Instance;
 use schema_reports::location::OutOfMemory;
 use serde_json::Value;
@@ -30,7 +30,7 @@ pub struct KnownText {}
 
 impl Model for KnownText {
     ghost use Rattle.std.specs.Prelude.{[]};
-    ghost use Rattle.schema_definitions.specs.Instance.{Text};
+    ghost use Rattle.theory_definitions.specs.Instance.{Text};
 
     ghost Value = { Text };
 

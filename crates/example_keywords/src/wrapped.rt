@@ -1,22 +1,22 @@
 //! Three keywords without a plan, each by the wrapper that its trait has, and the table that makes them: `x-no-text` asks nothing,
 //! `x-one-of` judges, and `x-all-of` takes turns of its own.
 ghost use Rattle.std.specs.Prelude.{◌≡◌};
-ghost use Rattle.keyword_ways.specs.Items.{item_count};
-ghost use Rattle.schema_definitions.specs.Instance.{a_value};
+ghost use Rattle.keyword_authoring.specs.Items.{item_count};
+ghost use Rattle.theory_definitions.specs.Instance.{a_value};
 ghost use Rattle.serde_json.specs.View.{view};
 
+use keyword_authoring::items::item_count;
+use keyword_authoring::judge::{JudgeKeyword, Judged};
+use keyword_authoring::judging::Judge;
+use keyword_authoring::leaf::{Leaf, LeafKeyword};
+use keyword_authoring::own::{ByTurns, OwnKeyword};
+use keyword_authoring::passing::{ask_here, next_number};
+use keyword_authoring::run::Progress;
+use keyword_authoring::texts::as_text;
 use keyword_makers::by_value::{Children, MakesByValue, MemberKeyword};
-use keyword_ways::items::item_count;
-use keyword_ways::judge::{JudgeKeyword, Judged};
-use keyword_ways::judging::Judge;
-use keyword_ways::leaf::{Leaf, LeafKeyword};
-use keyword_ways::own::{ByTurns, OwnKeyword};
-use keyword_ways::passing::{ask_here, next_number};
-use keyword_ways::run::Progress;
-use keyword_ways::texts::as_text;
-use schema_parts::keyword::{Answer, Below, Mode, Reply, Step};
 use schema_reports::instance::Instance;
 use schema_reports::location::OutOfMemory;
+use schema_traits::keyword::{Answer, Below, Mode, Reply, Step};
 use serde_json::Value;
 use std::alloc::Global;
 
@@ -62,8 +62,8 @@ pub struct OneOf {
 
 impl JudgeKeyword for OneOf {
     ghost use Rattle.std.specs.Prelude.{codes, false, true};
-    ghost use Rattle.keyword_ways.specs.Items.{child_here};
-    ghost use Rattle.keyword_ways.specs.Places.{children_present};
+    ghost use Rattle.keyword_authoring.specs.Items.{child_here};
+    ghost use Rattle.keyword_authoring.specs.Places.{children_present};
     ghost use Rattle.example_keywords.specs.Wrapped.{count_told, is_one};
 
     type Shape = OneOf;
@@ -137,8 +137,8 @@ pub struct AllOf {
 
 impl OwnKeyword for AllOf {
     ghost use Rattle.std.specs.Prelude.{refl, true};
-    ghost use Rattle.keyword_ways.specs.Places.{children_present};
-    ghost use Rattle.keyword_ways.specs.WayGrows.{way_grows};
+    ghost use Rattle.keyword_authoring.specs.Places.{children_present};
+    ghost use Rattle.keyword_authoring.specs.WayGrows.{way_grows};
     ghost use Rattle.example_keywords.specs.Wrapped.{all_of_way};
 
     type Shape = AllOf;

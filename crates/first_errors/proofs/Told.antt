@@ -1,21 +1,21 @@
 -- With a matcher that finishes every match, the first error that a call answers is a function of the instance.
 use Rattle.std.proofs.Common.{◌≡◌, ◌≤◌, ◌∙◌, ◌+◌, ℕ, suc, List, [], ◌∷◌, refl, sym, ap, subst, arith}
 use Rattle.std.specs.Prelude.{None, Option, Some, find, is_some, not}
-use Rattle.schema_definitions.specs.Cover.{Decides, Sense, branch_at, validate, whole}
-use Rattle.schema_definitions.specs.Guarded.{guarded_sense}
-use Rattle.schema_definitions.specs.Instance.{a_value}
-use Rattle.schema_definitions.specs.Keywords.{Keywords}
-use Rattle.schema_definitions.specs.Matching.{assumed}
-use Rattle.schema_definitions.specs.Reports.{Error}
-use Rattle.schema_definitions.specs.Runs.{Met, first_error}
-use Rattle.schema_meaning.specs.Headline as h
-use Rattle.schema_meaning.specs.Members.{Follows}
-use Rattle.schema_meaning.specs.Numbered.{left, subject_in}
-use Rattle.schema_meaning.specs.Shared.{errors_of}
-use Rattle.schema_meaning.proofs.Finishing.{nodes_decide}
-use Rattle.schema_meaning.proofs.GuardedSense.{all_nodes_follow}
-use Rattle.schema_meaning.proofs.NodeRuns.{guarded_sense_settles}
-use Rattle.schema_meaning.proofs.Sentences.{first_says, listed_alone}
+use Rattle.theory_definitions.specs.Cover.{Decides, Sense, branch_at, validate, whole}
+use Rattle.theory_definitions.specs.Guarded.{guarded_sense}
+use Rattle.theory_definitions.specs.Instance.{a_value}
+use Rattle.theory_definitions.specs.Keywords.{Keywords}
+use Rattle.theory_definitions.specs.Matching.{assumed}
+use Rattle.theory_definitions.specs.Reports.{Error}
+use Rattle.theory_definitions.specs.Runs.{Met, first_error}
+use Rattle.theory_meaning.specs.Headline as h
+use Rattle.theory_meaning.specs.Members.{Follows}
+use Rattle.theory_meaning.specs.Numbered.{left, subject_in}
+use Rattle.theory_meaning.specs.Shared.{errors_of}
+use Rattle.theory_meaning.proofs.Finishing.{nodes_decide}
+use Rattle.theory_meaning.proofs.GuardedSense.{all_nodes_follow}
+use Rattle.theory_meaning.proofs.NodeRuns.{guarded_sense_settles}
+use Rattle.theory_meaning.proofs.Sentences.{first_says, listed_alone}
 use Rattle.first_errors.specs.FirstErrors.{FirstAlone, FirstIsTold, enough, first_told}
 
 any_error : Error

@@ -3,17 +3,17 @@
 -- also where chains of references return. (Core 2020-12, 4.3.5 and 8.1)
 use Rattle.std.specs.Prelude.{None, Option, [], suc, ℕ, ◌<◌, ◌≡◌, ◌≤◌}
 use Rattle.serde_json.specs.Data.{Data}
-use Rattle.schema_definitions.specs.Cover.{Sense, branch_at, validate}
-use Rattle.schema_definitions.specs.Guarded.{Nodes, guarded_sense}
-use Rattle.schema_definitions.specs.Instance.{a_value}
-use Rattle.schema_definitions.specs.Keywords.{Keywords}
-use Rattle.schema_definitions.specs.Laws.{EachKeeps}
-use Rattle.schema_definitions.specs.Matching.{Matcher, completion_of}
-use Rattle.schema_definitions.specs.Reports.{Error}
-use Rattle.schema_definitions.specs.Runs.{first_error}
-use Rattle.schema_meaning.specs.Headline.{FirstSays, Guardedly}
-use Rattle.schema_meaning.specs.Members.{Finishes}
-use Rattle.schema_meaning.specs.Numbered.{Ranked, left, subject_in}
+use Rattle.theory_definitions.specs.Cover.{Sense, branch_at, validate}
+use Rattle.theory_definitions.specs.Guarded.{Nodes, guarded_sense}
+use Rattle.theory_definitions.specs.Instance.{a_value}
+use Rattle.theory_definitions.specs.Keywords.{Keywords}
+use Rattle.theory_definitions.specs.Laws.{EachKeeps}
+use Rattle.theory_definitions.specs.Matching.{Matcher, completion_of}
+use Rattle.theory_definitions.specs.Reports.{Error}
+use Rattle.theory_definitions.specs.Runs.{first_error}
+use Rattle.theory_meaning.specs.Headline.{FirstSays, Guardedly}
+use Rattle.theory_meaning.specs.Members.{Finishes}
+use Rattle.theory_meaning.specs.Numbered.{Ranked, left, subject_in}
 
 module _ {K R : Type 0} (keywords : Keywords K R) (matcher : Matcher) (nodes : Nodes K) (count root : ℕ) (instance : Data) where
   -- from this depth on, more depth changes nothing

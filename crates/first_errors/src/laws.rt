@@ -2,7 +2,7 @@
 ghost use Rattle.std.specs.Prelude.{Bool};
 ghost use Rattle.first_errors.specs.FirstErrors.{FirstIsTold};
 
-use schema_parts::keyword::Validate;
+use schema_traits::keyword::Validate;
 
 /// With a matcher that finishes every match, what a call answers first of an instance is what the numbered nodes tell first of it, at
 /// the depth from which on more depth changes nothing: one error or none, determined by nodes and instance, also where chains of

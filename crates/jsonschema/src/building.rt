@@ -1,224 +1,124 @@
-//! Builds the validator of the schema.
+//! Builds of validators.
+ghost use Rattle.std.specs.Prelude.{◌≡◌, ◌⊎◌, [], IfErr, IfOk};
+ghost use Rattle.serde_json.specs.View.{view};
+ghost use Rattle.standard_subschemas.specs.declared.rules.Rule.TheVariants.{Standard};
+ghost use Rattle.schema_keys.specs.declared.error.BuildError.TheVariants.{OutOfMemory};
+ghost use Rattle.schema_traits.specs.Showing.{Yields};
+ghost use Rattle.jsonschema.specs.Built.{IsBuilt, IsBuiltOf, IsRefused, IsRefusedOf};
+ghost use Rattle.jsonschema.specs.Sources.{default_draft_of, options_by, uri_of};
+ghost use Rattle.standard_resolver.specs.ResolverHolds.{Customs, Defaults, Drafts, GoesBy, Holds, IsUnder, Others};
 
-use crate::validating::Validating;
-use command_line::answerer::answer_by;
-use command_line::desk::{Desk, Stop};
-use command_line::documents::Document;
-use command_line::engine::Engine;
-use command_line::options::Options;
-use command_line::outcomes::Outcome;
-use command_line::telling::tell;
-use schema_engine::keywords::Draft;
+use crate::sources::Sources;
+use regex_matcher::matcher::RegexMatcher;
+use regex_matcher::patterns::Patterns;
+use schema_engine::compiler::BuildError;
+use schema_engine::context::{KeywordTable, MetaValidators, Resolver, Validate};
+use schema_engine::keywords::{Draft, VocabularySet};
 use schema_engine::location::OutOfMemory;
+use schema_engine::options::ValidationOptions;
+use schema_engine::validator::Validator;
 use serde_json::Value;
-use standard_validator::{
-    BuildError, MetaDocuments, MetaError, PatternError, Patterns, Sources, StandardMeta,
-    ValidationOptions, build,
-};
+use standard_keywords::table::{StandardKeyword, StandardTable};
+use standard_resolver::resolver::StandardResolver;
+use standard_resolver::resolver::documents::Document;
 use std::alloc::Global;
 
-/// Options with this limit of runs, if there is one that lets a run be made.
-fn with_runs(options: ValidationOptions, limit: Option<u32>) -> ValidationOptions {
-    match limit {
-        Some(limit) if limit >= 1 => options.with_run_limit(limit),
-        _ => options,
+/// A validator of the standard's keywords, which borrows the patterns that its schema has.
+pub type StandardValidator<'p> = Validator<StandardKeyword, RegexMatcher<'p>>;
+
+/// The URI that the schema is found under: the one that is set, or else `json-schema:///`.
+fn uri_of<'s>(sources: &'s Sources<'_>) -> &'s str
+    ensures uri { result.now ≡ uri_of sources.now }
+{
+    match &sources.uri {
+        Some(uri) => uri.as_str(),
+        None => "json-schema:///",
     }
 }
 
-/// Options with this limit of steps, if there is one.
-fn with_work(options: ValidationOptions, limit: Option<u64>) -> ValidationOptions {
-    match limit {
-        Some(limit) => options.with_work_limit(limit),
-        None => options,
-    }
-}
-
-/// Options with this limit of targets one inside another, if there is one.
-fn with_nested(options: ValidationOptions, limit: Option<usize>) -> ValidationOptions {
-    match limit {
-        Some(limit) => options.with_nested_limit(limit),
-        None => options,
-    }
-}
-
-/// What the engine is told of the options.
-fn engine_options(alloc: Global, options: &Options<'_>) -> ValidationOptions {
-    let chosen = ValidationOptions::new(alloc).should_validate_schema(options.checked);
-    let chosen = with_runs(chosen, options.run_limit);
-    let chosen = with_work(chosen, options.work_limit);
-    with_nested(chosen, options.nested_limit)
-}
-
-/// Sources with these documents too.
-fn with_documents<'a>(
+/// The options, with the default draft where the schema does not say its own, and with the URI that it is found under.
+fn options_for(
     alloc: Global,
-    sources: Sources<'a>,
-    documents: &'a [Document<'_>],
-) -> Result<Sources<'a>, OutOfMemory> {
-    let mut sources = sources;
-    for document in documents {
-        sources = sources.with_document(alloc, document.uri, &document.value)?;
+    options: ValidationOptions,
+    sources: &Sources<'_>,
+) -> Result<ValidationOptions, OutOfMemory>
+    ensures options { Yields result (options_by sources.now options) }
+{
+    let mut options = options;
+    if let Some(draft) = sources.draft {
+        if sources.schema.get("$schema").is_none() {
+            options = options.with_draft(draft);
+        }
     }
-    Ok(sources)
+    options.with_base_uri(alloc, uri_of(sources))
 }
 
-/// Sources that are read in this draft where they name none, if there is one.
-fn with_draft<'a>(sources: Sources<'a>, draft: Option<Draft>) -> Sources<'a> {
-    match draft {
-        Some(draft) => sources.with_default_draft(draft),
-        None => sources,
-    }
+/// The resolver of the schema and the documents.
+fn resolver_of<'a>(alloc: Global, sources: Sources<'a>) -> Result<StandardResolver<'a>, OutOfMemory>
+    ensures rule { GoesBy result Standard }
+    ensures uri { IsUnder result (uri_of sources.entry) }
+    ensures document { Holds result sources.entry.schema }
+    ensures others { Others result sources.entry.documents }
+    ensures draft { Defaults result (default_draft_of sources.entry) }
+    ensures drafts { Drafts result [] }
+    ensures custom { Customs result [] }
+{
+    let draft = sources.draft.unwrap_or(Draft::Draft202012);
+    let root = Document {
+        uri: String::from_str(alloc, uri_of(&sources))?,
+        value: sources.schema,
+    };
+    StandardResolver::of_documents(
+        alloc,
+        draft,
+        root,
+        sources.documents,
+        VocabularySet::new(alloc),
+    )
 }
 
-/// What the validator is built from.
-fn sources_of<'a>(
+/// Builds a validator of a schema that a resolver has, by the standard's keywords and by the patterns.
+fn build_by<'p, V: MetaValidators>(
     alloc: Global,
-    options: &Options<'_>,
-    schema: &'a Value,
-    documents: &'a [Document<'_>],
-    metas: &'a MetaDocuments,
-) -> Result<Sources<'a>, OutOfMemory> {
-    let sources = with_draft(Sources::new(alloc, schema), options.draft);
-    with_documents(alloc, sources, documents)?.with_meta_schemas(alloc, metas)
-}
-
-/// What may be done about a refusal of the schema.
-fn hint_of(refused: &BuildError) -> &'static str {
-    match refused {
-        BuildError::NotASchema(_) => "a schema is an object, true or false",
-        BuildError::ReferenceNotText(_) => "write the reference as a string",
-        BuildError::Lookup(_) | BuildError::MissingRoot(_) => {
-            "mend the reference; a document that it leads to is handed over by --resource URI=FILE"
-        }
-        BuildError::KeywordRefused(_) => "write this keyword otherwise, or leave it out",
-        BuildError::UnsupportedVocabulary(_) => {
-            "have the meta-schema require the standard's vocabularies alone"
-        }
-        BuildError::MetaSchema(_) =>
-            "mend the keyword there; --no-check builds the schema unchecked",
-        BuildError::NodeLimit(_) => "split the schema, or leave out what no reference needs",
-        BuildError::OutOfMemory => "give the process more memory",
-    }
-}
-
-/// Tells why the schema is refused.
-fn refuse(rt: &HostRuntime, options: &Options<'_>, refused: &BuildError) -> Stop {
-    match refused {
-        BuildError::OutOfMemory => Stop::OutOfMemory,
-        _ => tell(rt, options.schema, "is refused", refused, hint_of(refused)),
-    }
-}
-
-/// Tells which pattern is too big.
-fn refuse_pattern(rt: &HostRuntime, options: &Options<'_>, fault: &PatternError) -> Stop {
-    match fault {
-        PatternError::OutOfMemory => Stop::OutOfMemory,
-        PatternError::TooBig(_) => tell(
-            rt,
-            options.schema,
-            "is refused",
-            fault,
-            "write the pattern with fewer or smaller repetitions",
-        ),
-    }
-}
-
-/// Tells why the meta-schemas are not to be had.
-fn refuse_metas(rt: &HostRuntime, fault: &MetaError) -> Stop {
-    match fault {
-        MetaError::OutOfMemory => Stop::OutOfMemory,
-        _ => tell(
-            rt,
-            "jsonschema",
-            "cannot check schemas",
-            fault,
-            "this is a fault of the command; tell those who maintain it",
-        ),
-    }
-}
-
-/// Answers by the validator of the sources and their patterns.
-fn answer_built(
-    rt: &HostRuntime,
-    desk: &mut Desk,
-    options: &Options<'_>,
-    sources: Sources<'_>,
-    patterns: &Patterns,
-    metas: &StandardMeta<'_>,
-) -> Result<Outcome, Stop> {
-    let chosen = engine_options(rt.alloc(), options);
-    match build(rt.alloc(), sources, patterns, metas, chosen) {
-        Ok(validator) => {
-            let asked = Validating {
-                validator: &validator,
-            };
-            let answered = answer_by(rt, desk, options, &asked);
-            drop(validator);
-            answered
-        }
-        Err(refused) => Err(refuse(rt, options, &refused)),
-    }
-}
-
-/// Answers by the validator of the sources.
-fn answer_by_sources(
-    rt: &HostRuntime,
-    desk: &mut Desk,
-    options: &Options<'_>,
-    sources: Sources<'_>,
-    metas: &StandardMeta<'_>,
-) -> Result<Outcome, Stop> {
-    match sources.patterns(rt.alloc()) {
-        Ok(patterns) => {
-            let answered = answer_built(rt, desk, options, sources, &patterns, metas);
-            drop(patterns);
-            answered
-        }
-        Err(fault) => Err(refuse_pattern(rt, options, &fault)),
-    }
-}
-
-/// Answers by the validator of a schema, with the meta-schemas at hand.
-fn answer_by_metas(
-    rt: &HostRuntime,
-    desk: &mut Desk,
-    options: &Options<'_>,
     schema: &Value,
-    documents: &[Document<'_>],
-    metas: &MetaDocuments,
-) -> Result<Outcome, Stop> {
-    match StandardMeta::new(rt.alloc(), metas) {
-        Ok(checks) => {
-            let answered = match sources_of(rt.alloc(), options, schema, documents, metas) {
-                Ok(sources) => answer_by_sources(rt, desk, options, sources, &checks),
-                Err(_refused) => Err(Stop::OutOfMemory),
-            };
-            drop(checks);
-            answered
-        }
-        Err(fault) => Err(refuse_metas(rt, &fault)),
-    }
+    resolver: &StandardResolver<'_>,
+    patterns: &'p Patterns,
+    metas: &V,
+    options: &ValidationOptions,
+) -> Result<StandardValidator<'p>, BuildError>
+    ensures built { IfOk result (λ p. IsBuilt ⟦<StandardResolver<'p> as Resolver>⟧ ⟦<StandardTable as KeywordTable<StandardKeyword>>⟧
+        ⟦<StandardKeyword as Validate>⟧ resolver.now patterns.now (V.checked metas.now) options.now (view schema.now) p) }
+    ensures refused { IfErr result (λ e. (e ≡ OutOfMemory) ⊎ IsRefused ⟦<StandardResolver<'p> as Resolver>⟧
+        ⟦<StandardTable as KeywordTable<StandardKeyword>>⟧ ⟦<StandardKeyword as Validate>⟧ resolver.now patterns.now (V.checked metas.now)
+        options.now (view schema.now) e) }
+{
+    let matcher = RegexMatcher::new(alloc, patterns)?;
+    let table = StandardTable::new();
+    options.build(alloc, schema, &table, resolver, &matcher, metas)
 }
 
-/// The engine with the standard's keywords.
-pub(crate) struct Standard;
-
-impl Engine for Standard {
-    fn answer(
-        &self,
-        rt: &HostRuntime,
-        desk: &mut Desk,
-        options: &Options<'_>,
-        schema: &Value,
-        documents: &[Document<'_>],
-    ) -> Result<Outcome, Stop> {
-        match MetaDocuments::new(rt.alloc()) {
-            Ok(metas) => {
-                let answered = answer_by_metas(rt, desk, options, schema, documents, &metas);
-                drop(metas);
-                answered
-            }
-            Err(fault) => Err(refuse_metas(rt, &fault)),
-        }
-    }
+/// Builds a validator of a schema by the standard's keywords. Patterns are those of the sources (`Sources::patterns`); the meta
+/// validators check the schema first, unless the options have it unchecked.
+///
+/// # Errors
+///
+/// Fails if the schema, or one that it reaches, is refused, if the meta validators refuse it, if more keys are reached than the
+/// limit, or out of memory.
+pub fn build<'p, V: MetaValidators>(
+    alloc: Global,
+    sources: Sources<'_>,
+    patterns: &'p Patterns,
+    metas: &V,
+    options: ValidationOptions,
+) -> Result<StandardValidator<'p>, BuildError>
+    ensures built { IfOk result (λ p. IsBuiltOf ⟦<StandardResolver<'p> as Resolver>⟧ ⟦<StandardTable as KeywordTable<StandardKeyword>>⟧
+        ⟦<StandardKeyword as Validate>⟧ (V.checked metas.now) options sources.entry patterns.now p) }
+    ensures refused { IfErr result (λ e. (e ≡ OutOfMemory) ⊎ IsRefusedOf ⟦<StandardResolver<'p> as Resolver>⟧
+        ⟦<StandardTable as KeywordTable<StandardKeyword>>⟧ ⟦<StandardKeyword as Validate>⟧ (V.checked metas.now)
+        options sources.entry patterns.now e) }
+{
+    let schema = sources.schema;
+    let options = options_for(alloc, options, &sources)?;
+    let resolver = resolver_of(alloc, sources)?;
+    build_by(alloc, schema, &resolver, patterns, metas, &options)
 }

@@ -1,8 +1,8 @@
 -- The maker of `if` asks for what lies strictly below the object, and ends rightly.
 use Rattle.std.specs.Prelude.{Bool, List, None, Option, Some, false, true, ℕ}
 use Rattle.serde_json.specs.Data.{Members}
-use Rattle.schema_definitions.specs.Instance.{Text}
-use Rattle.schema_parts.specs.MakerViews.{MakesRightly}
+use Rattle.theory_definitions.specs.Instance.{Text}
+use Rattle.schema_traits.specs.MakerViews.{MakesRightly}
 use Rattle.keyword_makers.specs.Branches.{if_script}
 use Rattle.keyword_makers.specs.MakingLaws.{IsPlain}
 

@@ -2,8 +2,8 @@
 use Rattle.std.specs.Prelude.{Bool, List, None, Option, Some, [], codes, false, is_some, true, ℕ, ◌++◌, ◌+◌, ◌∷◌}
 use Rattle.serde_json.specs.Data.{Members}
 use Rattle.serde_json.specs.Find.{get_member}
-use Rattle.schema_definitions.specs.Instance.{Place, Text, to_member}
-use Rattle.schema_definitions.specs.Making.{Script, a_keyword}
+use Rattle.theory_definitions.specs.Instance.{Place, Text, to_member}
+use Rattle.theory_definitions.specs.Making.{Script, a_keyword}
 use Rattle.keyword_makers.specs.Making.{asks_for}
 
 abbrev pub has_branch : Text → Members → Bool

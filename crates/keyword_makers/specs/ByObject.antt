@@ -5,10 +5,10 @@ use Rattle.std.specs.Global.{Global, Vec}
 use Rattle.serde_json.specs.Data.{Data, Members}
 use Rattle.serde_json.specs.Find.{get_member}
 use Rattle.serde_json.specs.Written.{has_float, members_have_float}
-use Rattle.schema_definitions.specs.Instance.{Place, Text}
-use Rattle.schema_definitions.specs.Drafts.{Draft, Vocabularies}
-use Rattle.schema_definitions.specs.Making.{Script, a_keyword, nothing, refused, then_end}
-use Rattle.schema_parts.specs.MakerViews.{IsStrictlyBelow, MakesRightly}
+use Rattle.theory_definitions.specs.Instance.{Place, Text}
+use Rattle.theory_definitions.specs.Drafts.{Draft, Vocabularies}
+use Rattle.theory_definitions.specs.Making.{Script, a_keyword, nothing, refused, then_end}
+use Rattle.schema_traits.specs.MakerViews.{IsStrictlyBelow, MakesRightly}
 use Rattle.keyword_makers.specs.declared.by_object.ObjectKeyword.{ObjectKeyword}
 use Rattle.keyword_makers.specs.declared.by_object.ObjectKeyword.TheVariants as here
 use Rattle.keyword_makers.specs.declared.by_value.Children.{Children}

@@ -5,10 +5,10 @@ use Rattle.std.proofs.lemmas.List.Elements.{All-cons, All-nil}
 use Rattle.serde_json.specs.Data.{Data, Members, array, boolean, null, number, object, string}
 use Rattle.serde_json.specs.Find.{get_member}
 use Rattle.serde_json.specs.Written.{has_float}
-use Rattle.schema_definitions.specs.Instance.{Place, Text, to_member}
-use Rattle.schema_definitions.specs.Drafts.{Draft, Vocabularies}
-use Rattle.schema_definitions.specs.Making.{Script, a_keyword, nothing, then_end}
-use Rattle.schema_parts.specs.MakerViews.{IsStrictlyBelow, MakesRightly}
+use Rattle.theory_definitions.specs.Instance.{Place, Text, to_member}
+use Rattle.theory_definitions.specs.Drafts.{Draft, Vocabularies}
+use Rattle.theory_definitions.specs.Making.{Script, a_keyword, nothing, then_end}
+use Rattle.schema_traits.specs.MakerViews.{IsStrictlyBelow, MakesRightly}
 use Rattle.keyword_makers.specs.declared.by_value.Children.{Children}
 use Rattle.keyword_makers.specs.declared.by_value.Children.TheVariants as children
 use Rattle.keyword_makers.specs.declared.by_value.MemberKeyword.{MemberKeyword}

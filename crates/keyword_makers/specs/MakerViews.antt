@@ -1,8 +1,8 @@
 -- The code's makers, as the definitions have them.
 use Rattle.std.specs.Prelude.{option_map, [], true, ◌≡◌}
-use Rattle.schema_definitions.specs.Making.{Made, Script, a_keyword, nothing, refused}
+use Rattle.theory_definitions.specs.Making.{Made, Script, a_keyword, nothing, refused}
 use Rattle.schema_reports.specs.ReportViews.{owned_error_of}
-use Rattle.schema_parts.specs.MakerViews.{Waiting, begun}
+use Rattle.schema_traits.specs.MakerViews.{Waiting, begun}
 use Rattle.keyword_makers.specs.Making.{waiting_in}
 use Rattle.keyword_makers.specs.declared.maker.Ending.{Ending}
 use Rattle.keyword_makers.specs.declared.maker.Ending.TheVariants as ending

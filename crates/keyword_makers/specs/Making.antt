@@ -2,12 +2,12 @@
 use Rattle.std.specs.Prelude.{List, None, Option, Some, [], codes, drop, suc, true, zero, ℕ, ◌++◌, ◌+◌, ◌∷◌}
 use Rattle.serde_json.specs.Data.{Data, Items, array, item, no_items}
 use Rattle.serde_json.specs.Find.{as_array}
-use Rattle.keyword_ways.specs.Items.{count_in}
-use Rattle.schema_definitions.specs.Instance.{Place, Text, to_item, to_member}
-use Rattle.schema_definitions.specs.Pointer.{pointer_to}
-use Rattle.schema_definitions.specs.Reports.{OwnedError}
-use Rattle.schema_definitions.specs.Making.{Made, Script, a_keyword, refused, then_compile, then_end}
-use Rattle.schema_parts.specs.MakerViews.{Waiting, begun, ended, waits}
+use Rattle.keyword_authoring.specs.Items.{count_in}
+use Rattle.theory_definitions.specs.Instance.{Place, Text, to_item, to_member}
+use Rattle.theory_definitions.specs.Pointer.{pointer_to}
+use Rattle.theory_definitions.specs.Reports.{OwnedError}
+use Rattle.theory_definitions.specs.Making.{Made, Script, a_keyword, refused, then_compile, then_end}
+use Rattle.schema_traits.specs.MakerViews.{Waiting, begun, ended, waits}
 
 -- the children in order, and then the end
 abbrev pub asks_for : {K : Type 0} → List Place → Made K → Script K

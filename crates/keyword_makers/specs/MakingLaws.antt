@@ -9,10 +9,10 @@ use Rattle.std.proofs.lemmas.List.Elements.{All-cons, All-head, All-nil, All-tai
 use Rattle.serde_json.specs.Written.{has_float, members_have_float}
 use Rattle.serde_json.specs.Data.{Data, Items, Members, array, boolean, item, member, no_items, no_members, null, number, object, string}
 use Rattle.serde_json.specs.Find.{get_member}
-use Rattle.schema_definitions.specs.Instance.{Place, Text}
-use Rattle.schema_definitions.specs.Making.{Made, Script, a_keyword}
-use Rattle.schema_parts.specs.MakerViews.{IsMade, IsStrictlyBelow, MakesRightly}
-use Rattle.keyword_ways.specs.Items.{items_count}
+use Rattle.theory_definitions.specs.Instance.{Place, Text}
+use Rattle.theory_definitions.specs.Making.{Made, Script, a_keyword}
+use Rattle.schema_traits.specs.MakerViews.{IsMade, IsStrictlyBelow, MakesRightly}
+use Rattle.keyword_authoring.specs.Items.{items_count}
 use Rattle.keyword_makers.specs.Making.{asks_for, items_from, list_script, makes_if, only_child}
 
 -- the text of a member's value holds no fraction where the object holds none

@@ -1,7 +1,7 @@
 -- The names of an object's members, and the places of their values below a keyword.
 use Rattle.std.specs.Prelude.{List, [], ◌∷◌}
 use Rattle.serde_json.specs.Data.{Members, member, no_members}
-use Rattle.schema_definitions.specs.Instance.{Place, Text, to_member}
+use Rattle.theory_definitions.specs.Instance.{Place, Text, to_member}
 
 abbrev pub names_of : Members → List Text
 names_of no_members = []

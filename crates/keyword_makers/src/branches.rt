@@ -1,12 +1,12 @@
 //! The children of `if`.
 ghost use Rattle.std.specs.Prelude.{◌≡◌, ◌++◌, IfOk, codes};
 ghost use Rattle.keyword_makers.specs.Branches.{after_branch, branch_child, branch_places, has_branch, if_places};
-ghost use Rattle.schema_parts.specs.Showing.{Yields};
-ghost use Rattle.schema_parts.specs.Readings.{fields};
+ghost use Rattle.schema_traits.specs.Showing.{Yields};
+ghost use Rattle.schema_traits.specs.Readings.{fields};
 
 use crate::paths::{value_in, value_of};
-use schema_parts::schema_place::SchemaPath;
 use schema_reports::location::OutOfMemory;
+use schema_traits::schema_place::SchemaPath;
 use serde_json::{Map, Value};
 use std::alloc::Global;
 

@@ -3,20 +3,20 @@ ghost use Rattle.std.specs.Prelude.{◌≡◌, Bool, IfOk};
 ghost use Rattle.serde_json.specs.Data.{Data};
 ghost use Rattle.serde_json.specs.Find.{get_member};
 ghost use Rattle.serde_json.specs.View.{view};
-ghost use Rattle.schema_definitions.specs.Instance.{Text};
+ghost use Rattle.theory_definitions.specs.Instance.{Text};
 ghost use Rattle.keyword_makers.specs.ByValue.{IsRightMember, MadeMember, children_of, named, script_at, script_of, shaped};
 ghost use Rattle.keyword_makers.specs.MakerViews.{Begins, waiting_of};
-ghost use Rattle.schema_parts.specs.Readings.{Lists, fields};
+ghost use Rattle.schema_traits.specs.Readings.{Lists, fields};
 
 use crate::maker::{Ending, PathsMaker, asks_for, ends};
 use crate::members::{member_below, names_of, values_below};
 use crate::paths::{items_below, value_in, value_of};
 use crate::refusals::malformed;
-use schema_keywords::keywords::{Draft, VocabularySet};
-use schema_parts::keyword::Validate;
-use schema_parts::schema_place::SchemaPath;
-use schema_parts::table::{KeywordOrigin, KeywordTable, MakerReply, MakerStep};
+use schema_drafts::keywords::{Draft, VocabularySet};
 use schema_reports::location::OutOfMemory;
+use schema_traits::keyword::Validate;
+use schema_traits::schema_place::SchemaPath;
+use schema_traits::table::{KeywordOrigin, KeywordTable, MakerReply, MakerStep};
 use serde_json::{Map, Value};
 use std::alloc::Global;
 

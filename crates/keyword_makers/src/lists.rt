@@ -2,19 +2,19 @@
 ghost use Rattle.std.specs.Prelude.{◌≡◌, IfOk};
 ghost use Rattle.serde_json.specs.Find.{as_array};
 ghost use Rattle.serde_json.specs.View.{view};
-ghost use Rattle.keyword_ways.specs.Items.{count_in};
+ghost use Rattle.keyword_authoring.specs.Items.{count_in};
 ghost use Rattle.keyword_makers.specs.Making.{each_schema};
 ghost use Rattle.keyword_makers.specs.MakerViews.{Begins};
 
 use crate::maker::{PathsMaker, each_item};
 use crate::refusals::malformed;
-use schema_parts::keyword::Validate;
 use schema_reports::location::OutOfMemory;
+use schema_traits::keyword::Validate;
 use serde_json::Value;
 use std::alloc::Global;
 
 /// How many items a value has, which is none where it is no list.
-#[tactic(auto, using(keyword_ways::proofs::MemberCounts::items_count_length))]
+#[tactic(auto, using(keyword_authoring::proofs::MemberCounts::items_count_length))]
 pub fn list_length(value: &Value) -> usize
     ensures length { result ≡ count_in (as_array (view value.now)) }
 {

@@ -1,17 +1,17 @@
 //! The makers.
 ghost use Rattle.std.specs.Prelude.{◌≡◌, [], Some, IfOk};
 ghost use Rattle.serde_json.specs.View.{items_view};
-ghost use Rattle.schema_definitions.specs.Making.{a_keyword, then_end};
-ghost use Rattle.schema_parts.specs.MakerViews.{begun, maker_reply_of, TakesTurn};
+ghost use Rattle.theory_definitions.specs.Making.{a_keyword, then_end};
+ghost use Rattle.schema_traits.specs.MakerViews.{begun, maker_reply_of, TakesTurn};
 ghost use Rattle.keyword_makers.specs.Making.{asks_for, each_item, only_child};
 ghost use Rattle.keyword_makers.specs.MakerViews.{Begins, made_of, waiting_of};
 
 use crate::paths::{items_below, value_of};
-use schema_parts::keyword::Validate;
-use schema_parts::schema_place::SchemaPath;
-use schema_parts::table::{MakerReply, MakerStep};
 use schema_reports::location::OutOfMemory;
 use schema_reports::reports::OwnedError;
+use schema_traits::keyword::Validate;
+use schema_traits::schema_place::SchemaPath;
+use schema_traits::table::{MakerReply, MakerStep};
 use serde_json::Value;
 use std::alloc::Global;
 use std::mem;

@@ -1,14 +1,14 @@
 //! The members of an object that is a keyword's value: their names, and the places of their values.
 ghost use Rattle.std.specs.Prelude.{◌∷◌, [], map, string_bytes};
 ghost use Rattle.std.specs.Rc.{rc_str_bytes};
-ghost use Rattle.schema_definitions.specs.Instance.{to_member};
+ghost use Rattle.theory_definitions.specs.Instance.{to_member};
 ghost use Rattle.keyword_makers.specs.Members.{names_of, values_below};
-ghost use Rattle.schema_parts.specs.Readings.{AddsTexts, Lists, ListsTexts, fields};
-ghost use Rattle.schema_parts.specs.Showing.{Yields};
+ghost use Rattle.schema_traits.specs.Readings.{AddsTexts, Lists, ListsTexts, fields};
+ghost use Rattle.schema_traits.specs.Showing.{Yields};
 
 use crate::paths::step_below;
-use schema_parts::schema_place::{SchemaPath, SchemaStep};
 use schema_reports::location::OutOfMemory;
+use schema_traits::schema_place::{SchemaPath, SchemaStep};
 use serde_json::{Map, Value};
 use std::alloc::Global;
 use std::rc::RcStr;

@@ -1,18 +1,18 @@
 //! Refusals: of a value of another shape than its keyword's, and others.
 ghost use Rattle.std.specs.Prelude.{◌∷◌, [], IfOk, option_map, string_bytes, true};
-ghost use Rattle.schema_definitions.specs.Making.{refused, then_end};
+ghost use Rattle.theory_definitions.specs.Making.{refused, then_end};
 ghost use Rattle.serde_json.specs.View.{view};
-ghost use Rattle.schema_definitions.specs.Instance.{to_member};
-ghost use Rattle.schema_definitions.specs.Pointer.{pointer_to};
+ghost use Rattle.theory_definitions.specs.Instance.{to_member};
+ghost use Rattle.theory_definitions.specs.Pointer.{pointer_to};
 ghost use Rattle.schema_reports.specs.ReportViews.{owned_error_of};
 ghost use Rattle.keyword_makers.specs.Making.{makes_if, malformed, malformed_text, refused_error};
 ghost use Rattle.keyword_makers.specs.MakerViews.{Begins};
-ghost use Rattle.schema_parts.specs.Showing.{Shows, Yields};
+ghost use Rattle.schema_traits.specs.Showing.{Shows, Yields};
 
 use crate::maker::{Ending, PathsMaker, ends};
-use schema_parts::keyword::Validate;
 use schema_reports::location::{Location, LocationSegment, OutOfMemory};
 use schema_reports::reports::OwnedError;
+use schema_traits::keyword::Validate;
 use serde_json::Value;
 use std::alloc::Global;
 

@@ -1,7 +1,7 @@
 -- The URIs of the meta-schemas, without fragments. (Core 2020-12, 8.1.1 and 8.1.2; Core 2019-09, 8.1; drafts 4, 6 and 7, `$schema`)
 use Rattle.std.specs.Prelude.{List, [], codes, ◌∷◌}
-use Rattle.schema_definitions.specs.Drafts.{Draft, draft_2019_09, draft_2020_12, draft_4, draft_6, draft_7, draft_unknown}
-use Rattle.schema_definitions.specs.Instance.{Text}
+use Rattle.theory_definitions.specs.Drafts.{Draft, draft_2019_09, draft_2020_12, draft_4, draft_6, draft_7, draft_unknown}
+use Rattle.theory_definitions.specs.Instance.{Text}
 
 -- a draft that is not known counts as 2020-12
 abbrev pub uri_of : Draft → Text

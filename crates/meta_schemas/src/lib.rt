@@ -4,7 +4,7 @@
 #![tactic(auto)]
 
 ghost use Rattle.std.specs.Prelude.{◌≡◌, map};
-ghost use Rattle.schema_keywords.specs.KeywordViews.{draft_of};
+ghost use Rattle.schema_drafts.specs.KeywordViews.{draft_of};
 ghost use Rattle.meta_schemas.specs.declared.MetaSchema.{MetaSchema};
 ghost use Rattle.meta_schemas.specs.MetaUris.{uri_of, vocabulary_uris};
 
@@ -14,7 +14,7 @@ mod draft4;
 mod draft6;
 mod draft7;
 
-use schema_keywords::keywords::Draft;
+use schema_drafts::keywords::Draft;
 
 /// A meta-schema, or the meta-schema of a vocabulary.
 #[derive(Clone, Copy)]

@@ -18,7 +18,7 @@ use Rattle.regex.specs.declared.error.Error.{Error}
 use Rattle.regex.specs.declared.error.Error.TheVariants.{Syntax}
 use Rattle.regex_syntax.specs.declared.error.Error as parser
 use Rattle.regex.specs.declared.string.regex.Regex.{Regex}
-use Rattle.schema_definitions.specs.Instance.{Text}
+use Rattle.theory_definitions.specs.Instance.{Text}
 use Rattle.regex_hir.specs.Meaning.{meaning}
 use Rattle.regex_hir.specs.declared.hir.Hir.{Hir}
 use Rattle.regex_matcher.specs.CompiledViews.{AnswersAs}

@@ -8,7 +8,7 @@ use Rattle.std.proofs.lemmas.Option.{get_or_from_slice_get, slice_get-map, slice
 use Rattle.std.proofs.lemmas.Slice.Eq.{bytes_eq-Decides}
 use Rattle.regex.specs.Patterns.{Re}
 use Rattle.regex.specs.declared.string.regex.Regex.{Regex}
-use Rattle.schema_definitions.specs.Instance.{Text}
+use Rattle.theory_definitions.specs.Instance.{Text}
 use Rattle.regex_matcher.specs.CompiledViews.{AnswersAs, regex_finds}
 use Rattle.regex_matcher.specs.RegexMatching.{TellsUnreadable, answer_of, careful, first_unreadable, found_in, is_readable, pattern_in, regex_matcher}
 use Rattle.regex_matcher.specs.declared.unreadable.Unreadable.{Unreadable}

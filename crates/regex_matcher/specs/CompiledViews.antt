@@ -4,7 +4,7 @@ use Rattle.regex.specs.Patterns.{Re, find_str}
 use Rattle.regex.specs.Strings.{matcher_pattern, regex_pattern}
 use Rattle.regex.specs.declared.string.regex.Regex.{Regex}
 use Rattle.regex.specs.declared.string.matcher.Matcher as searcher
-use Rattle.schema_definitions.specs.Instance.{Text}
+use Rattle.theory_definitions.specs.Instance.{Text}
 use Rattle.regex_matcher.specs.RegexMatching.{found_in}
 
 abbrev pub regex_finds : Option Regex → Text → Option Bool

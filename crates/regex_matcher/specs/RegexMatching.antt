@@ -5,8 +5,8 @@ use Rattle.std.specs.List.{list_any}
 use Rattle.regex_syntax.specs.Brackets.{Nested}
 use Rattle.regex_syntax.specs.Grammar.{Names, read}
 use Rattle.regex.specs.Patterns.{Re, default_config, find_str}
-use Rattle.schema_definitions.specs.Instance.{Text}
-use Rattle.schema_definitions.specs.Matching.{Match, Matcher, engine, finished, unfinished}
+use Rattle.theory_definitions.specs.Instance.{Text}
+use Rattle.theory_definitions.specs.Matching.{Match, Matcher, engine, finished, unfinished}
 use Rattle.regex_matcher.specs.declared.unreadable.Unreadable.{Unreadable}
 use Rattle.regex_matcher.specs.declared.unreadable.Unreadable.TheVariants.{LeftUnfinished, MatchesNothing}
 use Rattle.regex_matcher.specs.Ecma.{translated}

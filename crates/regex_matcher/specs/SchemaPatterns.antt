@@ -3,7 +3,7 @@
 use Rattle.std.specs.Prelude.{Bool, List, [], bytes_eq, codes, if◌then◌else◌, string_bytes, true, ◌++◌, ◌∷◌, ◌≡◌, ◌||◌}
 use Rattle.std.specs.List.{flat_map, list_any}
 use Rattle.serde_json.specs.Data.{Data, Items, Members, array, boolean, item, member, no_items, no_members, null, number, object, string}
-use Rattle.schema_definitions.specs.Instance.{Text}
+use Rattle.theory_definitions.specs.Instance.{Text}
 use Rattle.regex_matcher.specs.declared.error.PatternError.{PatternError}
 use Rattle.regex_matcher.specs.declared.error.PatternError.TheVariants.{OutOfMemory, TooBig}
 use Rattle.regex_matcher.specs.RegexMatching.{is_readable}

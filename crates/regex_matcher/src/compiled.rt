@@ -3,7 +3,7 @@ ghost use Rattle.std.specs.Prelude.{◌≡◌, IfErr, IfOk, [], bytes_eq, is_som
 ghost use Rattle.regex_matcher.specs.CompiledViews.{AnswersAs, regex_finds};
 ghost use Rattle.regex_matcher.specs.RegexMatching.{found_in, is_readable, pattern_in};
 ghost use Rattle.regex_matcher.specs.SchemaPatterns.{IsFaultOf};
-ghost use Rattle.schema_parts.specs.Showing.{Yields};
+ghost use Rattle.schema_traits.specs.Showing.{Yields};
 
 use crate::ecma::translate;
 use crate::error::PatternError;
@@ -21,7 +21,7 @@ pub struct Compiled {
 
 impl Model for Compiled {
     ghost use Rattle.std.specs.Prelude.{string_bytes};
-    ghost use Rattle.schema_definitions.specs.Instance.{Text};
+    ghost use Rattle.theory_definitions.specs.Instance.{Text};
     ghost use Rattle.regex_matcher.specs.CompiledViews.{AnswersAs, regex_finds};
     ghost use Rattle.regex_matcher.specs.RegexMatching.{pattern_in};
 
@@ -105,7 +105,7 @@ pub struct Search<'r> {
 }
 
 impl<'r> Model for Search<'r> {
-    ghost use Rattle.schema_definitions.specs.Instance.{Text};
+    ghost use Rattle.theory_definitions.specs.Instance.{Text};
     ghost use Rattle.regex_matcher.specs.CompiledViews.{AnswersAs, searcher_finds};
     ghost use Rattle.regex_matcher.specs.RegexMatching.{pattern_in};
 

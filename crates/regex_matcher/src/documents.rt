@@ -3,7 +3,7 @@ ghost use Rattle.std.specs.Prelude.{◌∷◌, [], map};
 ghost use Rattle.serde_json.specs.View.{items_view, view};
 ghost use Rattle.regex_matcher.specs.SchemaPatterns.{given_by, member_names_of, names_of, patterns_in, patterns_in_items};
 ghost use Rattle.regex_matcher.specs.SchemaPatterns.{patterns_in_members, patterns_of, text_of};
-ghost use Rattle.schema_parts.specs.Readings.{AddsTexts, ListsTexts, fields};
+ghost use Rattle.schema_traits.specs.Readings.{AddsTexts, ListsTexts, fields};
 
 use schema_reports::location::OutOfMemory;
 use serde_json::{Map, Value};

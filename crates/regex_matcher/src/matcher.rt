@@ -1,19 +1,19 @@
 //! The matcher.
 ghost use Rattle.std.specs.Prelude.{◌≡◌, ◌<◌, IfOk, IfSome, length};
-ghost use Rattle.schema_matches.specs.MatchViews.{match_of};
+ghost use Rattle.unfinished_matches.specs.MatchViews.{match_of};
 ghost use Rattle.regex_matcher.specs.RegexMatching.{TellsUnreadable, careful, found_in, pattern_in, regex_matcher};
-ghost use Rattle.schema_parts.specs.Showing.{Yields};
+ghost use Rattle.schema_traits.specs.Showing.{Yields};
 
 use crate::compiled::{Compiled, Search};
 use crate::patterns::Patterns;
 use crate::reading::is_readable;
 use crate::unreadable::Unreadable;
-use schema_matches::site::Match;
-use schema_parts::matcher::Matcher;
 use schema_reports::location::OutOfMemory;
+use schema_traits::matcher::Matcher;
 use std::alloc::{AllocError, Global};
 use std::cell::RefCell;
 use std::marker::Model;
+use unfinished_matches::site::Match;
 
 /// A matcher of regular expressions. It keeps a search for each pattern of its table, whose caches change behind a `&`; its
 /// answers do not.

@@ -3,7 +3,7 @@ ghost use Rattle.std.specs.Prelude.{◌≡◌, ◌++◌, ◌∷◌, [], IfErr, I
 ghost use Rattle.serde_json.specs.View.{view};
 ghost use Rattle.regex_matcher.specs.RegexMatching.{first_unreadable};
 ghost use Rattle.regex_matcher.specs.SchemaPatterns.{IsAdded, IsFaultOf, patterns_of};
-ghost use Rattle.schema_parts.specs.Readings.{text_read};
+ghost use Rattle.schema_traits.specs.Readings.{text_read};
 
 use crate::compiled::Compiled;
 use crate::documents::patterns_of;
@@ -23,7 +23,7 @@ pub struct Patterns {
 
 impl Model for Patterns {
     ghost use Rattle.std.specs.Prelude.{List};
-    ghost use Rattle.schema_definitions.specs.Instance.{Text};
+    ghost use Rattle.theory_definitions.specs.Instance.{Text};
 
     ghost Value = { List Text };
 

@@ -1,7 +1,7 @@
 //! Whether a text is a pattern, by reading it alone.
 ghost use Rattle.std.specs.Prelude.{is_some};
 ghost use Rattle.regex_matcher.specs.RegexMatching.{is_readable, read_in};
-ghost use Rattle.schema_parts.specs.Showing.{Yields};
+ghost use Rattle.schema_traits.specs.Showing.{Yields};
 
 use crate::ecma::translate;
 use regex_syntax::{Config, ErrorKind};

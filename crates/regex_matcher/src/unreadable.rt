@@ -1,9 +1,9 @@
 //! What becomes of a pattern that cannot be read.
 ghost use Rattle.std.specs.Prelude.{◌≡◌};
-ghost use Rattle.schema_matches.specs.MatchViews.{match_of};
+ghost use Rattle.unfinished_matches.specs.MatchViews.{match_of};
 ghost use Rattle.regex_matcher.specs.RegexMatching.{answer_of};
 
-use schema_matches::site::{Match, Reason};
+use unfinished_matches::site::{Match, Reason};
 
 /// What is answered for a pattern that cannot be read: one that looks around or refers back, or that is none.
 #[derive(Clone, Copy)]

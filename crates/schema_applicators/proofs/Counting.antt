@@ -2,8 +2,8 @@
 use Rattle.std.proofs.Common.{◌≡◌, ◌∙◌, ℕ, zero, suc, ◌+◌, ◌<◌, ◌++◌, ◌∷◌, [], List, Bool, true, false, ap, arith, inl, inr, map, refl, slice_index_or}
 use Rattle.std.specs.Prelude.{Contains}
 use Rattle.std.proofs.lemmas.List.Elements.{All-cons, All-head, All-nil, All-tail, Contains-append_cases, Contains-append_right}
-use Rattle.schema_definitions.specs.Keywords.{Question}
-use Rattle.keyword_ways.specs.Tallies.{counted, yes_count}
+use Rattle.theory_definitions.specs.Keywords.{Question}
+use Rattle.keyword_authoring.specs.Tallies.{counted, yes_count}
 use Rattle.schema_applicators.specs.OneOf.{AllRefuse, OneAcceptsAlone}
 
 abbrev pub trues : List Bool → ℕ

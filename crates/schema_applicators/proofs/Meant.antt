@@ -4,12 +4,12 @@ use Rattle.std.specs.List.{list_all}
 use Rattle.std.specs.Prelude.{◌↔◌, flat_map, option_map}
 use Rattle.std.proofs.lemmas.List.{append-nil, map-append}
 use Rattle.std.proofs.lemmas.List.Elements.{All-cons, All-head, All-nil, All-tail}
-use Rattle.schema_definitions.specs.Instance.{Text}
-use Rattle.schema_definitions.specs.Keywords.{Answers, Question, own, passed}
-use Rattle.schema_parts.specs.KeywordViews.{is_nil, option_list}
-use Rattle.keyword_ways.specs.Items.{child_here}
-use Rattle.keyword_ways.specs.Tallies.{counted, yes_count}
-use Rattle.keyword_ways.specs.Ways.{branch, plain}
+use Rattle.theory_definitions.specs.Instance.{Text}
+use Rattle.theory_definitions.specs.Keywords.{Answers, Question, own, passed}
+use Rattle.schema_traits.specs.KeywordViews.{is_nil, option_list}
+use Rattle.keyword_authoring.specs.Items.{child_here}
+use Rattle.keyword_authoring.specs.Tallies.{counted, yes_count}
+use Rattle.keyword_authoring.specs.Ways.{branch, plain}
 use Rattle.schema_applicators.specs.AllOf.{AllAccept, all_errors}
 use Rattle.schema_applicators.specs.AnyOf.{OneAccepts}
 use Rattle.schema_applicators.specs.If.{branch_accepts, branch_errors, picked}

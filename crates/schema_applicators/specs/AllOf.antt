@@ -1,7 +1,7 @@
 -- `allOf` accepts an instance where all its schemas accept it (Core 2020-12, 10.2.1.1). What the schemas say of the instance comes
 -- in their order.
 use Rattle.std.specs.Prelude.{All, Bool, List, flat_map, true, ◌≡◌}
-use Rattle.schema_definitions.specs.Reports.{Error}
+use Rattle.theory_definitions.specs.Reports.{Error}
 
 abbrev pub AllAccept : List Bool → Type 0
 AllAccept verdicts = All (λ accepts. accepts ≡ true) verdicts

@@ -1,6 +1,6 @@
 -- What is known of an applicator apart from its representation.
 use Rattle.std.specs.Prelude.{Bool, Option, false, not, true, ℕ}
-use Rattle.schema_definitions.specs.Instance.{Text}
+use Rattle.theory_definitions.specs.Instance.{Text}
 
 pub data ApplicatorShape : Type 0 where
   -- how many schemas there are

@@ -1,7 +1,7 @@
 -- `if` has the verdict and the errors of the branch that its condition picks: that under `then` where the condition accepts, and that
 -- under `else` where it refuses (Core 2020-12, 10.2.2). A branch that is missing accepts.
 use Rattle.std.specs.Prelude.{Bool, List, None, Option, Some, [], false, true}
-use Rattle.schema_definitions.specs.Reports.{Error}
+use Rattle.theory_definitions.specs.Reports.{Error}
 
 abbrev pub picked : {A : Type 0} → Bool → Option A → Option A → Option A
 picked true under_then under_else = under_then

@@ -2,16 +2,16 @@
 use Rattle.std.proofs.Common.{◌≡◌, Bool, refl, true}
 use Rattle.std.proofs.lemmas.List.Elements.{All-append, All-cons}
 use Rattle.std.specs.Prelude.{option_map}
-use Rattle.schema_definitions.specs.Instance.{Subject}
-use Rattle.schema_definitions.specs.Laws.{IsPresent, steps_below}
-use Rattle.schema_definitions.specs.Turns.{FunctionLaws, TurnLaws}
-use Rattle.schema_meaning.specs.Greatest.{IsMonotone}
-use Rattle.schema_parts.specs.KeywordViews.{option_list}
-use Rattle.keyword_ways.specs.Items.{child_here}
-use Rattle.keyword_ways.specs.Places.{branch_present, children_present}
-use Rattle.keyword_ways.specs.WayGrows.{Grows, way_grows, ways_grow}
-use Rattle.keyword_ways.specs.WayLaws.{AllPresent, SameQuestions, function_laws, turn_laws}
-use Rattle.keyword_ways.specs.WayWords.{any_state, left_at_most, nothing_absorbed, run_ends, run_fits}
+use Rattle.theory_definitions.specs.Instance.{Subject}
+use Rattle.theory_definitions.specs.Laws.{IsPresent, steps_below}
+use Rattle.theory_definitions.specs.Turns.{FunctionLaws, TurnLaws}
+use Rattle.theory_meaning.specs.Greatest.{IsMonotone}
+use Rattle.schema_traits.specs.KeywordViews.{option_list}
+use Rattle.keyword_authoring.specs.Items.{child_here}
+use Rattle.keyword_authoring.specs.Places.{branch_present, children_present}
+use Rattle.keyword_authoring.specs.WayGrows.{Grows, way_grows, ways_grow}
+use Rattle.keyword_authoring.specs.WayLaws.{AllPresent, SameQuestions, function_laws, turn_laws}
+use Rattle.keyword_authoring.specs.WayWords.{any_state, left_at_most, nothing_absorbed, run_ends, run_fits}
 use Rattle.schema_applicators.specs.ApplicatorShape.{ApplicatorShape, has_all_of, has_any_of, has_if, has_not, has_one_of, says_monotone}
 use Rattle.schema_applicators.specs.Words.{way, words}
 

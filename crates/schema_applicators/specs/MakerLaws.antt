@@ -4,11 +4,11 @@ use Rattle.std.specs.Prelude.{Bool, None, Option, Some, bytes_eq, codes, false, 
 use Rattle.serde_json.specs.Written.{compact_text, has_float}
 use Rattle.serde_json.specs.Data.{Data, Members}
 use Rattle.serde_json.specs.Find.{get_member}
-use Rattle.schema_definitions.specs.Instance.{Text}
-use Rattle.schema_definitions.specs.Drafts.{Draft, Vocabularies}
-use Rattle.schema_definitions.specs.Making.{Script}
-use Rattle.schema_parts.specs.MakerViews.{MakesRightly}
-use Rattle.keyword_ways.specs.WayWords.{nothing_absorbed}
+use Rattle.theory_definitions.specs.Instance.{Text}
+use Rattle.theory_definitions.specs.Drafts.{Draft, Vocabularies}
+use Rattle.theory_definitions.specs.Making.{Script}
+use Rattle.schema_traits.specs.MakerViews.{MakesRightly}
+use Rattle.keyword_authoring.specs.WayWords.{nothing_absorbed}
 use Rattle.schema_applicators.specs.ApplicatorShape.{ApplicatorShape, has_all_of, has_any_of, has_if, has_not, has_one_of, is_whole}
 use Rattle.keyword_makers.specs.Branches.{has_branch}
 use Rattle.keyword_makers.specs.BranchLaws.{if_rightly}

@@ -1,10 +1,10 @@
 -- The applicators mean what the definitions of the five say.
 use Rattle.std.specs.Prelude.{Bool, List, Option, codes, map, option_map, true, ℕ, ◌↔◌, ◌≡◌}
-use Rattle.schema_definitions.specs.Instance.{Subject, Text}
-use Rattle.schema_definitions.specs.Keywords.{Answers, Question, here, passed}
-use Rattle.schema_definitions.specs.Matching.{Matching}
-use Rattle.schema_definitions.specs.Reports.{Error}
-use Rattle.keyword_ways.specs.Items.{each_from}
+use Rattle.theory_definitions.specs.Instance.{Subject, Text}
+use Rattle.theory_definitions.specs.Keywords.{Answers, Question, here, passed}
+use Rattle.theory_definitions.specs.Matching.{Matching}
+use Rattle.theory_definitions.specs.Reports.{Error}
+use Rattle.keyword_authoring.specs.Items.{each_from}
 use Rattle.schema_applicators.specs.AllOf.{AllAccept, all_errors}
 use Rattle.schema_applicators.specs.AnyOf.{OneAccepts}
 use Rattle.schema_applicators.specs.ApplicatorShape.{has_all_of, has_any_of, has_if, has_not, has_one_of}

@@ -1,7 +1,7 @@
 -- Errors of a keyword's own.
 use Rattle.std.specs.Prelude.{List, None, [], ◌∷◌, ◌≡◌}
-use Rattle.schema_definitions.specs.Instance.{Text}
-use Rattle.schema_definitions.specs.Keywords.{Fault, own}
+use Rattle.theory_definitions.specs.Instance.{Text}
+use Rattle.theory_definitions.specs.Keywords.{Fault, own}
 
 -- one error, of this name and at the keyword itself, whatever its text
 abbrev pub IsOneOwn : Text → List Fault → Type 0

@@ -2,14 +2,14 @@
 use Rattle.std.specs.Prelude.{Bool, ℕ}
 use Rattle.serde_json.specs.Data.{Data}
 use Rattle.serde_json.specs.Written.{compact_text}
-use Rattle.schema_definitions.specs.Instance.{Subject}
+use Rattle.theory_definitions.specs.Instance.{Subject}
 use Rattle.schema_reports.specs.declared.instance.Instance.{Instance}
-use Rattle.schema_parts.specs.declared.keyword.Answer.{Answer}
-use Rattle.schema_parts.specs.declared.keyword.Mode.{Mode}
-use Rattle.keyword_ways.specs.AnswerWords.{BecomesTold}
-use Rattle.keyword_ways.specs.Items.{child_here, each_from}
-use Rattle.keyword_ways.specs.Tallies.{Tally}
-use Rattle.keyword_ways.specs.Ways.{Way, judges, noted}
+use Rattle.schema_traits.specs.declared.keyword.Answer.{Answer}
+use Rattle.schema_traits.specs.declared.keyword.Mode.{Mode}
+use Rattle.keyword_authoring.specs.AnswerWords.{BecomesTold}
+use Rattle.keyword_authoring.specs.Items.{child_here, each_from}
+use Rattle.keyword_authoring.specs.Tallies.{Tally}
+use Rattle.keyword_authoring.specs.Ways.{Way, judges, noted}
 use Rattle.schema_applicators.specs.Words.{any_of_tally, not_tally, one_of_tally}
 
 -- by the answers of so many schemas

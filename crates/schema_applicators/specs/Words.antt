@@ -1,14 +1,14 @@
 -- What each applicator asks and says of an instance.
 use Rattle.std.specs.Prelude.{Bool, List, [], codes, false, option_map, suc, true, zero, ℕ, ◌++◌, ◌∷◌}
-use Rattle.schema_definitions.specs.Instance.{Subject, Text}
+use Rattle.theory_definitions.specs.Instance.{Subject, Text}
 use Rattle.schema_reports.specs.ReportViews.{spoken}
-use Rattle.schema_definitions.specs.Keywords.{Answer, Keywords}
-use Rattle.schema_definitions.specs.Meaning.{subject_text}
-use Rattle.keyword_ways.specs.declared.run.Progress.{Progress}
-use Rattle.keyword_ways.specs.Items.{child_here, each_from}
-use Rattle.keyword_ways.specs.Tallies.{Tally}
-use Rattle.keyword_ways.specs.Ways.{Way, branches, judges, passes_on}
-use Rattle.keyword_ways.specs.WayWords.{words_of}
+use Rattle.theory_definitions.specs.Keywords.{Answer, Keywords}
+use Rattle.theory_definitions.specs.Meaning.{subject_text}
+use Rattle.keyword_authoring.specs.declared.run.Progress.{Progress}
+use Rattle.keyword_authoring.specs.Items.{child_here, each_from}
+use Rattle.keyword_authoring.specs.Tallies.{Tally}
+use Rattle.keyword_authoring.specs.Ways.{Way, branches, judges, passes_on}
+use Rattle.keyword_authoring.specs.WayWords.{words_of}
 use Rattle.schema_applicators.specs.ApplicatorShape.{ApplicatorShape, has_all_of, has_any_of, has_if, has_not, has_one_of}
 
 -- ---- not

@@ -1,13 +1,13 @@
 //! `allOf`.
-ghost use Rattle.keyword_ways.specs.Items.{child_here, each_from};
-ghost use Rattle.keyword_ways.specs.Ways.{passes_on};
-ghost use Rattle.keyword_ways.specs.TurnWords.{Steps, Turns};
-ghost use Rattle.keyword_ways.specs.Borrowing.{Borrows};
+ghost use Rattle.keyword_authoring.specs.Items.{child_here, each_from};
+ghost use Rattle.keyword_authoring.specs.Ways.{passes_on};
+ghost use Rattle.keyword_authoring.specs.TurnWords.{Steps, Turns};
+ghost use Rattle.keyword_authoring.specs.Borrowing.{Borrows};
 
-use keyword_ways::passing::{ask_here, next_number};
-use keyword_ways::run::Progress;
-use schema_parts::keyword::{Answer, Reply, Step};
+use keyword_authoring::passing::{ask_here, next_number};
+use keyword_authoring::run::Progress;
 use schema_reports::location::OutOfMemory;
+use schema_traits::keyword::{Answer, Reply, Step};
 use std::alloc::Global;
 
 /// `allOf`: asks each child at the keyword's own place.

@@ -5,11 +5,11 @@ use crate::all_of::turn_all_of;
 use crate::any_of::turn_any_of;
 use crate::not::turn_not;
 use crate::one_of::turn_one_of;
-use keyword_ways::branching::branch_on;
-use keyword_ways::run::Progress;
-use schema_parts::keyword::{Answer, Mode, Reply, Step, Validate};
+use keyword_authoring::branching::branch_on;
+use keyword_authoring::run::Progress;
 use schema_reports::instance::Instance;
 use schema_reports::location::OutOfMemory;
+use schema_traits::keyword::{Answer, Mode, Reply, Step, Validate};
 use serde_json::Value;
 use std::alloc::Global;
 use std::marker::Model;
@@ -43,10 +43,10 @@ impl Model for Shape {
 }
 
 impl Validate for Applicator {
-    ghost use Rattle.keyword_ways.specs.WayHandsOn.{ways_hand_units_on};
-    ghost use Rattle.keyword_ways.specs.WayUnits.{ways_ask_no_units};
-    ghost use Rattle.keyword_ways.specs.WayVerdicts.{ways_ask_verdicts};
-    ghost use Rattle.keyword_ways.specs.WayWords.{any_state, left_at_most, nothing_absorbed, run_ends, run_fits};
+    ghost use Rattle.keyword_authoring.specs.WayHandsOn.{ways_hand_units_on};
+    ghost use Rattle.keyword_authoring.specs.WayUnits.{ways_ask_no_units};
+    ghost use Rattle.keyword_authoring.specs.WayVerdicts.{ways_ask_verdicts};
+    ghost use Rattle.keyword_authoring.specs.WayWords.{any_state, left_at_most, nothing_absorbed, run_ends, run_fits};
     ghost use Rattle.schema_applicators.specs.ApplicatorShape.{is_whole, says_monotone};
     ghost use Rattle.schema_applicators.specs.Laws.{applicators_grow, functions_keep, turns_keep};
     ghost use Rattle.schema_applicators.specs.Shapes.{shape_of};

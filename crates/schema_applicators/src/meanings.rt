@@ -2,7 +2,7 @@
 
 ghost use Rattle.schema_applicators.specs.Meanings.{AllOfFaults, AllOfHolds, AnyOfFaults, AnyOfHolds, IfFaults, IfHolds};
 ghost use Rattle.schema_applicators.specs.Meanings.{NotFaults, NotHolds, OneOfFaults, OneOfHolds};
-ghost use Rattle.keyword_ways.specs.MeaningWords.{Always};
+ghost use Rattle.keyword_authoring.specs.MeaningWords.{Always};
 
 /// `allOf` holds exactly where all its schemas accept, and its errors are theirs, in their order.
 pub fn all_of_means()

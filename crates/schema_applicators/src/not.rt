@@ -3,17 +3,17 @@ ghost use Rattle.std.specs.Prelude.{◌≡◌, false, not, IfOk};
 ghost use Rattle.serde_json.specs.View.{view};
 ghost use Rattle.serde_json.specs.Written.{compact_text, has_float};
 ghost use Rattle.schema_applicators.specs.Words.{not_text};
-ghost use Rattle.keyword_ways.specs.TextWords.{ShowsText};
-ghost use Rattle.keyword_ways.specs.TurnWords.{StepsBy, TellsTurnBy};
+ghost use Rattle.keyword_authoring.specs.TextWords.{ShowsText};
+ghost use Rattle.keyword_authoring.specs.TurnWords.{StepsBy, TellsTurnBy};
 ghost use Rattle.schema_applicators.specs.RunWays.{TellsTally, judges_not, tally_of_not};
-ghost use Rattle.keyword_ways.specs.Borrowing.{Borrows, Retains};
+ghost use Rattle.keyword_authoring.specs.Borrowing.{Borrows, Retains};
 
-use keyword_ways::answers::{note, refuse};
-use keyword_ways::judging::{Judge, Judging, judge_children};
-use keyword_ways::run::Progress;
-use schema_parts::keyword::{Answer, Below, Mode, Reply, Step};
+use keyword_authoring::answers::{note, refuse};
+use keyword_authoring::judging::{Judge, Judging, judge_children};
+use keyword_authoring::run::Progress;
 use schema_reports::instance::Instance;
 use schema_reports::location::OutOfMemory;
+use schema_traits::keyword::{Answer, Below, Mode, Reply, Step};
 use serde_json::Value;
 use std::alloc::Global;
 

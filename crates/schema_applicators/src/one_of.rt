@@ -1,18 +1,18 @@
 //! `oneOf`.
 ghost use Rattle.std.specs.Prelude.{true, IfOk};
 ghost use Rattle.schema_applicators.specs.Words.{many_text, one_of_tally};
-ghost use Rattle.keyword_ways.specs.TextWords.{ShowsText};
-ghost use Rattle.keyword_ways.specs.TurnWords.{StepsBy, TellsTurnBy};
+ghost use Rattle.keyword_authoring.specs.TextWords.{ShowsText};
+ghost use Rattle.keyword_authoring.specs.TurnWords.{StepsBy, TellsTurnBy};
 ghost use Rattle.schema_applicators.specs.RunWays.{TellsTally, judges_one_of};
-ghost use Rattle.keyword_ways.specs.Borrowing.{Borrows, Retains};
+ghost use Rattle.keyword_authoring.specs.Borrowing.{Borrows, Retains};
 
 use crate::texts::none_text;
-use keyword_ways::answers::{note, refuse};
-use keyword_ways::judging::{Judge, Judging, judge_children};
-use keyword_ways::run::Progress;
-use schema_parts::keyword::{Answer, Below, Mode, Reply, Step};
+use keyword_authoring::answers::{note, refuse};
+use keyword_authoring::judging::{Judge, Judging, judge_children};
+use keyword_authoring::run::Progress;
 use schema_reports::instance::Instance;
 use schema_reports::location::OutOfMemory;
+use schema_traits::keyword::{Answer, Below, Mode, Reply, Step};
 use std::alloc::Global;
 
 /// The error's text where more than one accepts.

@@ -5,16 +5,16 @@ ghost use Rattle.serde_json.specs.View.{view};
 ghost use Rattle.schema_applicators.specs.Makers.{member_script, value_script};
 ghost use Rattle.keyword_makers.specs.MakerViews.{waiting_of, Begins};
 ghost use Rattle.schema_applicators.specs.Shapes.{shape_of};
-ghost use Rattle.schema_parts.specs.Readings.{fields};
+ghost use Rattle.schema_traits.specs.Readings.{fields};
 
 use crate::applicator::Applicator;
 use keyword_makers::branches::branches_of;
 use keyword_makers::lists::{each_schema, list_length};
 use keyword_makers::maker::{Ending, PathsMaker, asks_for, ends, only_child};
 use keyword_makers::paths::value_in;
-use schema_keywords::keywords::{Draft, VocabularySet};
-use schema_parts::table::{KeywordOrigin, KeywordTable, MakerReply, MakerStep};
+use schema_drafts::keywords::{Draft, VocabularySet};
 use schema_reports::location::OutOfMemory;
+use schema_traits::table::{KeywordOrigin, KeywordTable, MakerReply, MakerStep};
 use serde_json::{Map, Value};
 use std::alloc::Global;
 

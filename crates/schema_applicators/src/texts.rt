@@ -1,7 +1,7 @@
 //! The text of an error.
 ghost use Rattle.std.specs.Prelude.{IfOk};
 ghost use Rattle.schema_applicators.specs.Words.{none_text};
-ghost use Rattle.keyword_ways.specs.TextWords.{ShowsText};
+ghost use Rattle.keyword_authoring.specs.TextWords.{ShowsText};
 
 use schema_reports::instance::Instance;
 use schema_reports::location::OutOfMemory;

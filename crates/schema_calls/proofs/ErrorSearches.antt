@@ -4,38 +4,38 @@ use Rattle.std.specs.Prelude.{All, Contains, IfSome, Option, find, is_none, is_s
 use Rattle.std.specs.Global.{Vec}
 use Rattle.std.proofs.lemmas.List.Elements.{All-cons, All-contains, All-contains_itself, All-head, All-nil, All-tail, All-weaker}
 use Rattle.serde_json.specs.Data.{Data}
-use Rattle.schema_definitions.specs.Instance.{Place, Subject, Text, a_value, subject_at}
+use Rattle.theory_definitions.specs.Instance.{Place, Subject, Text, a_value, subject_at}
 use Rattle.schema_reports.specs.InstanceViews.{subject_of}
-use Rattle.schema_definitions.specs.Reports.{Error, Outcome, report_of}
-use Rattle.schema_definitions.specs.Matching.{Assumptions, Completion, Extends, Matcher, assumed, completion_of}
-use Rattle.schema_definitions.specs.Keywords.{Keywords, for_all, for_first, for_units}
-use Rattle.schema_definitions.specs.Runs.{Met, Run, first_error}
-use Rattle.schema_definitions.specs.Unfinished.{Failure, Remembered, starting}
-use Rattle.schema_definitions.specs.Cover.{Call, Cover, Decides, Sense, branch_at, evaluate, is_valid, iter_errors, mode_of, validate, whole}
-use Rattle.schema_meaning.specs.Headline.{ErrorsOf, ErrorsSay, FirstSays, IsFailure, OneFailure, VerdictSays, shown_at}
-use Rattle.schema_definitions.specs.Laws.{Agrees, EachKeeps}
-use Rattle.schema_meaning.specs.Members.{Finishes, Follows, Speaks, is_nil, verdict_of}
-use Rattle.schema_meaning.specs.Shared.{errors_of}
-use Rattle.schema_search.specs.SharedResults.{is_empty}
-use Rattle.schema_search.specs.Outcomes.{errors_in, none_in}
-use Rattle.schema_meaning.specs.Searched.{IsRunOf, WantsAllLater}
-use Rattle.schema_search.specs.SearchGives.{FailureAlone, GivesErrors, OfRun}
-use Rattle.schema_definitions.specs.Guarded.{Nodes, guarded_within, node_unit, yes_unit}
-use Rattle.schema_meaning.specs.Numbered.{subject_in}
+use Rattle.theory_definitions.specs.Reports.{Error, Outcome, report_of}
+use Rattle.theory_definitions.specs.Matching.{Assumptions, Completion, Extends, Matcher, assumed, completion_of}
+use Rattle.theory_definitions.specs.Keywords.{Keywords, for_all, for_first, for_units}
+use Rattle.theory_definitions.specs.Runs.{Met, Run, first_error}
+use Rattle.theory_definitions.specs.Unfinished.{Failure, Remembered, starting}
+use Rattle.theory_definitions.specs.Cover.{Call, Cover, Decides, Sense, branch_at, evaluate, is_valid, iter_errors, mode_of, validate, whole}
+use Rattle.theory_meaning.specs.Headline.{ErrorsOf, ErrorsSay, FirstSays, IsFailure, OneFailure, VerdictSays, shown_at}
+use Rattle.theory_definitions.specs.Laws.{Agrees, EachKeeps}
+use Rattle.theory_meaning.specs.Members.{Finishes, Follows, Speaks, is_nil, verdict_of}
+use Rattle.theory_meaning.specs.Shared.{errors_of}
+use Rattle.unfinished_search.specs.SharedResults.{is_empty}
+use Rattle.unfinished_search.specs.Outcomes.{errors_in, none_in}
+use Rattle.theory_meaning.specs.Searched.{IsRunOf, WantsAllLater}
+use Rattle.unfinished_search.specs.SearchGives.{FailureAlone, GivesErrors, OfRun}
+use Rattle.theory_definitions.specs.Guarded.{Nodes, guarded_within, node_unit, yes_unit}
+use Rattle.theory_meaning.specs.Numbered.{subject_in}
 use Rattle.schema_reports.specs.UnitViews.{unit_of}
 use Rattle.schema_reports.specs.declared.evaluation.EvaluationNode.{EvaluationNode}
-use Rattle.schema_meaning.proofs.GuardedSense.{guarded_speaks}
+use Rattle.theory_meaning.proofs.GuardedSense.{guarded_speaks}
 use Rattle.schema_output.specs.ErrorUnits.{errors_unit}
 use Rattle.schema_calls.specs.Evaluated.{EvaluationAnswered}
 use Rattle.schema_reports.specs.ReportViews.{BorrowsItsPlace, error_of}
 use Rattle.schema_reports.specs.declared.reports.ValidationError.{ValidationError}
-use Rattle.schema_meaning.proofs.CoverCounts.{pairs_differ}
-use Rattle.schema_meaning.proofs.ErrorsLead.{Stands}
-use Rattle.schema_meaning.proofs.Finishing.{nodes_decide}
-use Rattle.schema_meaning.proofs.ShownPlaces.{shown_stands}
-use Rattle.schema_meaning.proofs.Sentences.{errors_say, evaluate_later, first_says, listed_alone, validate_later, verdict_says}
-use Rattle.schema_meaning.proofs.SitesInside.{MetInside, sites_inside}
-use Rattle.schema_contexts.specs.Matches.{MeetsEach}
+use Rattle.theory_meaning.proofs.CoverCounts.{pairs_differ}
+use Rattle.theory_meaning.proofs.ErrorsLead.{Stands}
+use Rattle.theory_meaning.proofs.Finishing.{nodes_decide}
+use Rattle.theory_meaning.proofs.ShownPlaces.{shown_stands}
+use Rattle.theory_meaning.proofs.Sentences.{errors_say, evaluate_later, first_says, listed_alone, validate_later, verdict_says}
+use Rattle.theory_meaning.proofs.SitesInside.{MetInside, sites_inside}
+use Rattle.schema_run_context.specs.Matches.{MeetsEach}
 use Rattle.schema_calls.specs.Spoken.{ErrorsAnswered, FirstAnswered, IsGiven}
 use Rattle.schema_calls.proofs.Remembers.{remembers_of}
 use Rattle.schema_calls.proofs.Searches.{follows, outcome, reached_has, run_with, search_runs, sense}

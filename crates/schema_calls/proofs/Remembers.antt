@@ -2,12 +2,12 @@
 use Rattle.std.proofs.Common.{◌≡◌, ◌∙◌, zero, suc, Bool, true, false, cond, not, List, [], ◌∷◌, ◌++◌, ◌⊎◌, inl, inr, refl, sym, ap, subst, arith}
 use Rattle.std.specs.Prelude.{Contains, Option, Some, None, find, is_some, option_map}
 use Rattle.std.proofs.lemmas.List.Elements.{Contains-append_cases}
-use Rattle.schema_definitions.specs.Matching.{Assumptions, Matcher, assumed, unfinished}
-use Rattle.schema_definitions.specs.Runs.{Met}
-use Rattle.schema_definitions.specs.Unfinished.{Failure, Remembered, first_unassumed, meet, noted, site_of, starting}
-use Rattle.schema_definitions.specs.Cover.{Call, Sense}
-use Rattle.schema_meaning.specs.Searched.{Remembers}
-use Rattle.schema_contexts.specs.Matches.{MeetsEach}
+use Rattle.theory_definitions.specs.Matching.{Assumptions, Matcher, assumed, unfinished}
+use Rattle.theory_definitions.specs.Runs.{Met}
+use Rattle.theory_definitions.specs.Unfinished.{Failure, Remembered, first_unassumed, meet, noted, site_of, starting}
+use Rattle.theory_definitions.specs.Cover.{Call, Sense}
+use Rattle.theory_meaning.specs.Searched.{Remembers}
+use Rattle.schema_run_context.specs.Matches.{MeetsEach}
 
 module _ (matcher : Matcher) where
   -- ---- the first one that is not assumed

@@ -2,24 +2,24 @@
 use Rattle.std.proofs.Common.{◌≡◌, ◌≤◌, ◌∙◌, ℕ, Bool, true, false, ◌&&◌, List, [], ◌∷◌, refl, sym, ap, subst, arith, IfOk, Ok, Err, Result}
 use Rattle.std.specs.Prelude.{Option, Some, None, is_some, option_map}
 use Rattle.serde_json.specs.Data.{Data}
-use Rattle.schema_definitions.specs.Reports.{Error, Outcome}
-use Rattle.schema_definitions.specs.Matching.{Assumptions, Extends, Match, Matcher, completion_of, finished, unfinished}
-use Rattle.schema_definitions.specs.Keywords.{Keywords, Mode, all_of_it, first_of_it, for_verdict, truth}
-use Rattle.schema_definitions.specs.Runs.{Run}
-use Rattle.schema_definitions.specs.Unfinished.{Failure, Remembered, starting}
-use Rattle.schema_definitions.specs.Cover.{Call, Cover, Sense, branch_at, is_valid, mode_of, whole}
-use Rattle.schema_meaning.specs.Headline.{VerdictSays}
-use Rattle.schema_meaning.specs.Members.{Finishes, Follows, verdict_of}
-use Rattle.schema_meaning.specs.Searched.{IsRunOf, Reaches, here, next}
-use Rattle.schema_definitions.specs.Laws.{EachKeeps}
-use Rattle.schema_definitions.specs.Guarded.{Nodes, guarded_node, guarded_sense, guarded_within, yes_run}
-use Rattle.schema_meaning.specs.Numbered.{subject_in}
-use Rattle.schema_meaning.proofs.CoverCounts.{pairs_differ}
-use Rattle.schema_meaning.proofs.GuardedSense.{all_nodes_follow}
-use Rattle.schema_meaning.proofs.NodeRuns.{runs_say_outcomes}
-use Rattle.schema_meaning.proofs.Sentences.{verdict_says}
-use Rattle.schema_contexts.specs.Matches.{MeetsEach}
-use Rattle.schema_parts.specs.MatcherViews.{FinishesEach}
+use Rattle.theory_definitions.specs.Reports.{Error, Outcome}
+use Rattle.theory_definitions.specs.Matching.{Assumptions, Extends, Match, Matcher, completion_of, finished, unfinished}
+use Rattle.theory_definitions.specs.Keywords.{Keywords, Mode, all_of_it, first_of_it, for_verdict, truth}
+use Rattle.theory_definitions.specs.Runs.{Run}
+use Rattle.theory_definitions.specs.Unfinished.{Failure, Remembered, starting}
+use Rattle.theory_definitions.specs.Cover.{Call, Cover, Sense, branch_at, is_valid, mode_of, whole}
+use Rattle.theory_meaning.specs.Headline.{VerdictSays}
+use Rattle.theory_meaning.specs.Members.{Finishes, Follows, verdict_of}
+use Rattle.theory_meaning.specs.Searched.{IsRunOf, Reaches, here, next}
+use Rattle.theory_definitions.specs.Laws.{EachKeeps}
+use Rattle.theory_definitions.specs.Guarded.{Nodes, guarded_node, guarded_sense, guarded_within, yes_run}
+use Rattle.theory_meaning.specs.Numbered.{subject_in}
+use Rattle.theory_meaning.proofs.CoverCounts.{pairs_differ}
+use Rattle.theory_meaning.proofs.GuardedSense.{all_nodes_follow}
+use Rattle.theory_meaning.proofs.NodeRuns.{runs_say_outcomes}
+use Rattle.theory_meaning.proofs.Sentences.{verdict_says}
+use Rattle.schema_run_context.specs.Matches.{MeetsEach}
+use Rattle.schema_traits.specs.MatcherViews.{FinishesEach}
 use Rattle.schema_calls.proofs.Remembers.{remembers_of}
 
 module _ {K R : Type 0} (keywords : Keywords K R) (each : EachKeeps keywords) (matcher : Matcher) (nodes : Nodes K) (instance : Data) (root n : ℕ) where

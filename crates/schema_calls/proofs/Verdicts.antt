@@ -1,15 +1,15 @@
 -- The verdict in a first error and in a list of errors: there is none exactly where the call says yes.
 use Rattle.std.proofs.Common.{false, refl, true, Bool, List, [], map, ℕ, ◌∷◌, ◌≡◌}
 use Rattle.std.specs.Prelude.{None, Option, Some, is_none, option_map}
-use Rattle.schema_definitions.specs.Cover.{Sense, iter_errors, validate}
-use Rattle.schema_meaning.specs.Deciding.{none_where_accepted}
-use Rattle.schema_meaning.specs.Headline.{VerdictSays}
-use Rattle.schema_meaning.specs.Members.{Follows}
+use Rattle.theory_definitions.specs.Cover.{Sense, iter_errors, validate}
+use Rattle.theory_meaning.specs.Deciding.{none_where_accepted}
+use Rattle.theory_meaning.specs.Headline.{VerdictSays}
+use Rattle.theory_meaning.specs.Members.{Follows}
 use Rattle.schema_reports.specs.ReportViews.{error_of}
-use Rattle.schema_definitions.specs.Reports.{Error}
-use Rattle.schema_search.specs.SharedResults.{is_empty}
+use Rattle.theory_definitions.specs.Reports.{Error}
+use Rattle.unfinished_search.specs.SharedResults.{is_empty}
 use Rattle.schema_reports.specs.declared.reports.ValidationError.{ValidationError}
-use Rattle.schema_meaning.proofs.Sentences.{listed_none}
+use Rattle.theory_meaning.proofs.Sentences.{listed_none}
 use Rattle.schema_calls.specs.Spoken.{ErrorsAnswered, FirstAnswered}
 
 none_mapped : (f : ValidationError → Error) (o : Option ValidationError) → is_none o ≡ true → option_map f o ≡ None

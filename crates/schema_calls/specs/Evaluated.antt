@@ -1,10 +1,10 @@
 -- What `evaluate` is said to answer: the verdict of its outermost unit; its units, where the first run meets no unfinished match; and
 -- the errors that its units are made of, where it meets one. (Core 2020-12, 12.4)
 use Rattle.std.specs.Prelude.{All, Bool, List, None, [], map, true, ℕ, ◌≡◌, ◌≤◌, ◌⊎◌}
-use Rattle.schema_definitions.specs.Cover.{Decides, Sense, branch_at, evaluate}
-use Rattle.schema_meaning.specs.Headline.{ErrorsOf, OneFailure, VerdictSays}
-use Rattle.schema_definitions.specs.Matching.{Completion}
-use Rattle.schema_definitions.specs.Reports.{Unit_, report_of}
+use Rattle.theory_definitions.specs.Cover.{Decides, Sense, branch_at, evaluate}
+use Rattle.theory_meaning.specs.Headline.{ErrorsOf, OneFailure, VerdictSays}
+use Rattle.theory_definitions.specs.Matching.{Completion}
+use Rattle.theory_definitions.specs.Reports.{Unit_, report_of}
 use Rattle.schema_reports.specs.ReportViews.{error_of}
 use Rattle.schema_reports.specs.UnitViews.{unit_of}
 use Rattle.schema_reports.specs.declared.evaluation.EvaluationNode.{EvaluationNode}

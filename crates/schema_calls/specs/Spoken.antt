@@ -3,12 +3,12 @@
 -- share: then the verdict is said, where each error comes from, and the sentences where the first run meets no unfinished match.
 -- Where errors come from is said by itself too: what is known of all errors of a sense is then known of those that are given.
 use Rattle.std.specs.Prelude.{All, Bool, Contains, IfSome, List, None, Option, Some, [], false, is_none, map, option_map, true, ℕ, ◌≡◌, ◌⊎◌}
-use Rattle.schema_definitions.specs.Reports.{Error}
-use Rattle.schema_definitions.specs.Matching.{Completion}
-use Rattle.schema_definitions.specs.Cover.{Decides, Sense, branch_at, iter_errors, validate}
-use Rattle.schema_meaning.specs.Headline.{Either, ErrorsSay, FirstSays, IsFailure, OneFailure, VerdictSays}
+use Rattle.theory_definitions.specs.Reports.{Error}
+use Rattle.theory_definitions.specs.Matching.{Completion}
+use Rattle.theory_definitions.specs.Cover.{Decides, Sense, branch_at, iter_errors, validate}
+use Rattle.theory_meaning.specs.Headline.{Either, ErrorsSay, FirstSays, IsFailure, OneFailure, VerdictSays}
 use Rattle.schema_reports.specs.ReportViews.{error_of}
-use Rattle.schema_search.specs.SharedResults.{is_empty}
+use Rattle.unfinished_search.specs.SharedResults.{is_empty}
 use Rattle.schema_reports.specs.declared.reports.ValidationError.{ValidationError}
 
 module _ (v : Sense) where

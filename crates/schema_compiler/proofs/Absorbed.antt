@@ -7,8 +7,8 @@ use Rattle.std.proofs.lemmas.Map.Text.{is_eq-slice_cmp}
 use Rattle.serde_json.specs.Data.{member}
 use Rattle.serde_json.specs.View.{view, members_view}
 use Rattle.serde_json.proofs.Views.{Entry}
-use Rattle.schema_definitions.specs.Instance.{Text}
-use Rattle.schema_definitions.specs.Units.{without_name}
+use Rattle.theory_definitions.specs.Instance.{Text}
+use Rattle.theory_definitions.specs.Units.{without_name}
 
 pub without_entry : (name : Text) (es : List Entry) → members_view (remove_entry (is_at (λ (k : String Global). slice_cmp nat_cmp name (string_bytes k))) es) ≡ without_name name (members_view es)
 without_entry name [] = refl

@@ -1,12 +1,12 @@
 -- Two plans of nodes that are one key's plan are alike, where a rule says of each number whether edges to it are guarded.
 use Rattle.std.proofs.Common.{◌≡◌, ℕ, List, [], ◌∷◌, refl, sym, ◌∙◌, inl}
 use Rattle.std.specs.Prelude.{Bool, None, Option, Some}
-use Rattle.schema_definitions.specs.Instance.{Text}
-use Rattle.schema_definitions.specs.Parts.{Parts}
-use Rattle.schema_definitions.specs.Plan.{Edge, Form, Key, Part, Plan, always, child, keyword, never, reference, reference_edge, these}
-use Rattle.schema_definitions.specs.Guarded.{NodeEdge, NodeForm, NodePart, NodePlan, Nodes, form_edges, node_always, node_child, node_edges, node_keyword, node_never, node_reference, node_these}
-use Rattle.schema_meaning.specs.Numbered.{IsNumber, Numbers, SameEdge, SameForm, SamePart, SameParts, SamePlan}
-use Rattle.schema_meaning.proofs.Settles.{picked}
+use Rattle.theory_definitions.specs.Instance.{Text}
+use Rattle.theory_definitions.specs.Parts.{Parts}
+use Rattle.theory_definitions.specs.Plan.{Edge, Form, Key, Part, Plan, always, child, keyword, never, reference, reference_edge, these}
+use Rattle.theory_definitions.specs.Guarded.{NodeEdge, NodeForm, NodePart, NodePlan, Nodes, form_edges, node_always, node_child, node_edges, node_keyword, node_never, node_reference, node_these}
+use Rattle.theory_meaning.specs.Numbered.{IsNumber, Numbers, SameEdge, SameForm, SamePart, SameParts, SamePlan}
+use Rattle.theory_meaning.proofs.Settles.{picked}
 use Rattle.schema_keys.specs.Compiling.{In}
 use Rattle.schema_compiler.specs.Agreeing.{AlikeForm, AlikePart, AlikeParts, AlikePlan}
 use Rattle.schema_keys.proofs.Lists.{in_left, in_of, in_right, some_is}

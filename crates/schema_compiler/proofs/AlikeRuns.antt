@@ -2,15 +2,15 @@
 use Rattle.std.proofs.Common.{◌≡◌, ℕ, List, [], ◌∷◌, refl}
 use Rattle.std.specs.Prelude.{None, Some}
 use Rattle.std.proofs.Math.Path.{fun_ext}
-use Rattle.schema_definitions.specs.Instance.{Place, Subject, Text}
-use Rattle.schema_definitions.specs.Reports.{Outcome, Unit_, accepted}
-use Rattle.schema_definitions.specs.Matching.{Assumptions, Completion, Matcher, completion_of, matching}
-use Rattle.schema_definitions.specs.Keywords.{Below, Keywords, Marked, Mode, a_child, a_reservation, here}
-use Rattle.schema_definitions.specs.Meaning.{both, false_outcome, keyword_outcome, reference_outcome}
-use Rattle.schema_definitions.specs.Units.{false_unit, keyword_units, no_unit, plan_unit, reference_units, true_unit}
-use Rattle.schema_definitions.specs.Runs.{Met, Run, keyword_met, no_run, plan_met}
-use Rattle.schema_definitions.specs.Cover.{mode_of}
-use Rattle.schema_definitions.specs.Guarded.{Children, NodeEdge, NodeForm, NodePart, NodePlan, Nodes, guarded_node, guarded_sense, guarded_within, node_always, node_asked, node_at, node_child, node_entries_of, node_keyword, node_looked, node_never, node_outcome, node_part, node_part_met, node_part_units, node_parts, node_reference, node_these, node_unit, same_edge, yes_outcome, yes_run}
+use Rattle.theory_definitions.specs.Instance.{Place, Subject, Text}
+use Rattle.theory_definitions.specs.Reports.{Outcome, Unit_, accepted}
+use Rattle.theory_definitions.specs.Matching.{Assumptions, Completion, Matcher, completion_of, matching}
+use Rattle.theory_definitions.specs.Keywords.{Below, Keywords, Marked, Mode, a_child, a_reservation, here}
+use Rattle.theory_definitions.specs.Meaning.{both, false_outcome, keyword_outcome, reference_outcome}
+use Rattle.theory_definitions.specs.Units.{false_unit, keyword_units, no_unit, plan_unit, reference_units, true_unit}
+use Rattle.theory_definitions.specs.Runs.{Met, Run, keyword_met, no_run, plan_met}
+use Rattle.theory_definitions.specs.Cover.{mode_of}
+use Rattle.theory_definitions.specs.Guarded.{Children, NodeEdge, NodeForm, NodePart, NodePlan, Nodes, guarded_node, guarded_sense, guarded_within, node_always, node_asked, node_at, node_child, node_entries_of, node_keyword, node_looked, node_never, node_outcome, node_part, node_part_met, node_part_units, node_parts, node_reference, node_these, node_unit, same_edge, yes_outcome, yes_run}
 use Rattle.schema_compiler.specs.Agreeing.{AlikeForm, AlikeParts, AlikePlan}
 
 module _ {K R : Type 0} (keywords : Keywords K R) (matcher : Matcher) (nodes nodes' : Nodes K) (subject_of : Place → Subject)

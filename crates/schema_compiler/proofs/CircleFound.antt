@@ -2,9 +2,9 @@
 -- as a subschema, and the third for the first: with targets nested, and with none.
 use Rattle.std.proofs.Common.{◌≡◌, ◌≢◌, ℕ, zero, suc, true, false, [], ◌∷◌, ◌++◌, length, refl, ap, sym, ◌∙◌, subst, arith, true≢false}
 use Rattle.std.specs.Prelude.{Bool, Some, slice_get}
-use Rattle.schema_definitions.specs.Parts.{Parts}
-use Rattle.schema_definitions.specs.Plan.{Edge, Key}
-use Rattle.schema_meaning.specs.Reach.{asked_edges}
+use Rattle.theory_definitions.specs.Parts.{Parts}
+use Rattle.theory_definitions.specs.Plan.{Edge, Key}
+use Rattle.theory_meaning.specs.Reach.{asked_edges}
 use Rattle.schema_compiler.specs.Finding.{Course, Finds, FindsAll, and_then, at_end, at_root, begun, closed, formed, in_a_round, is_formed, is_opened, is_put, nests, no_more, passed, passes_over, put, round_begun, waits, was_found}
 use Rattle.schema_keys.proofs.Lists.{some_is}
 

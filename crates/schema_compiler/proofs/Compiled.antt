@@ -5,23 +5,23 @@ use Rattle.std.specs.Prelude.{AllPairs, Option, Some, None, slice_get, slice_ind
 use Rattle.std.proofs.lemmas.Bool.{eqb-true}
 use Rattle.std.proofs.lemmas.Slice.Eq.{bytes_eq-Decides}
 use Rattle.std.proofs.lemmas.Option.{slice_get-map, slice_get_within}
-use Rattle.schema_definitions.specs.Instance.{Text}
-use Rattle.schema_definitions.specs.Drafts.{Draft}
-use Rattle.schema_definitions.specs.Resolving.{Resolver}
-use Rattle.schema_definitions.specs.Matching.{Matcher}
-use Rattle.schema_definitions.specs.Making.{Request, Table}
-use Rattle.schema_definitions.specs.Keywords.{Keywords}
-use Rattle.schema_definitions.specs.Parts.{Parts}
-use Rattle.schema_definitions.specs.Plan.{Edge, Form, Key, Part, Plan, absolute_of, always, child, encoded, keyword, never, plan, reference, requested, same_key, these, without_fragment}
+use Rattle.theory_definitions.specs.Instance.{Text}
+use Rattle.theory_definitions.specs.Drafts.{Draft}
+use Rattle.theory_definitions.specs.Resolving.{Resolver}
+use Rattle.theory_definitions.specs.Matching.{Matcher}
+use Rattle.theory_definitions.specs.Making.{Request, Table}
+use Rattle.theory_definitions.specs.Keywords.{Keywords}
+use Rattle.theory_definitions.specs.Parts.{Parts}
+use Rattle.theory_definitions.specs.Plan.{Edge, Form, Key, Part, Plan, absolute_of, always, child, encoded, keyword, never, plan, reference, requested, same_key, these, without_fragment}
 use Rattle.serde_json.specs.View.{view}
-use Rattle.schema_meaning.specs.Reach.{Reached, asked_by, asked_edges, asked_for, at_first, different}
-use Rattle.schema_meaning.specs.MapPointers as alone
-use Rattle.schema_meaning.specs.MapPointers.{required_in, stands_in}
-use Rattle.schema_meaning.specs.Refusals.{Cause, Stands, is_required, referred_by, stands_at, the_root, undeclared}
-use Rattle.schema_definitions.specs.Guarded.{Children, NodeEdge, NodeForm, NodePart, NodePlan, Nodes, node_always, node_child, node_keyword, node_never, node_reference, node_these}
-use Rattle.schema_meaning.specs.Numbered.{IsNumber, Ranked, SameEdge, SameForm, SameParts, SamePlan, StandsFor}
-use Rattle.node_table.specs.NodeTable.{IsOrdered, NodeEntry, absolute_in, numbered, shaped, shaped_form, plan_in}
-use Rattle.node_table.proofs.RankedTable.{ranked_table}
+use Rattle.theory_meaning.specs.Reach.{Reached, asked_by, asked_edges, asked_for, at_first, different}
+use Rattle.theory_meaning.specs.MapPointers as alone
+use Rattle.theory_meaning.specs.MapPointers.{required_in, stands_in}
+use Rattle.theory_meaning.specs.Refusals.{Cause, Stands, is_required, referred_by, stands_at, the_root, undeclared}
+use Rattle.theory_definitions.specs.Guarded.{Children, NodeEdge, NodeForm, NodePart, NodePlan, Nodes, node_always, node_child, node_keyword, node_never, node_reference, node_these}
+use Rattle.theory_meaning.specs.Numbered.{IsNumber, Ranked, SameEdge, SameForm, SameParts, SamePlan, StandsFor}
+use Rattle.schema_node_table.specs.NodeTable.{IsOrdered, NodeEntry, absolute_in, numbered, shaped, shaped_form, plan_in}
+use Rattle.schema_node_table.proofs.RankedTable.{ranked_table}
 use Rattle.schema_keys.specs.Compiling.{Each, In, Settled, StandsBelow, parts_of}
 use Rattle.schema_keys.specs.Refusing.{AreDistinct, IsRefusal}
 use Rattle.schema_compiler.specs.Finding.{FindsAll, GuardsByStanding, standing_of}

@@ -3,12 +3,12 @@ use Rattle.std.proofs.Common.{◌≡◌, ℕ, zero, suc, ◌+◌, List, [], ◌�
 use Rattle.std.specs.Prelude.{Bool, None, Option, Some, slice_get}
 use Rattle.serde_json.specs.declared.value.Value.{Value}
 use Rattle.std.proofs.lemmas.Option.{slice_get_within}
-use Rattle.schema_definitions.specs.Instance.{Text}
-use Rattle.schema_definitions.specs.Guarded.{NodePlan}
-use Rattle.schema_definitions.specs.Parts.{Parts}
-use Rattle.schema_definitions.specs.Plan.{Edge, Key}
-use Rattle.schema_meaning.specs.Reach.{asked_edges}
-use Rattle.node_table.specs.NodeTable.{NodeEntry, filled_count}
+use Rattle.theory_definitions.specs.Instance.{Text}
+use Rattle.theory_definitions.specs.Guarded.{NodePlan}
+use Rattle.theory_definitions.specs.Parts.{Parts}
+use Rattle.theory_definitions.specs.Plan.{Edge, Key}
+use Rattle.theory_meaning.specs.Reach.{asked_edges}
+use Rattle.schema_node_table.specs.NodeTable.{NodeEntry, filled_count}
 use Rattle.schema_keys.specs.Refusing.{AreDistinct}
 use Rattle.schema_compiler.specs.Finding.{Course, Finds, FindsAll, Standing, Visits, WorksOff, and_then, at_end, at_root, begun, closed, formed, formed_count, in_a_round, is_opened, is_put, no_more, passed, passes_over, put, round_begun, standing_of, waits, was_found}
 use Rattle.schema_keys.proofs.Lists.{length-more, set-length, some_is}

@@ -3,13 +3,13 @@ use Rattle.std.proofs.Common.{◌≡◌, ℕ, Bool, true, false, cond, List, [],
 use Rattle.std.specs.Prelude.{Option, Some, None, nat_le}
 use Rattle.std.proofs.lemmas.List.{append-nil}
 use Rattle.serde_json.specs.Data.{Data, Members, member, no_members}
-use Rattle.schema_definitions.specs.Instance.{Text}
-use Rattle.schema_definitions.specs.Parts.{Parts}
-use Rattle.schema_definitions.specs.Plan.{Edge, Key, Part, option_list, part, parts, sorted}
-use Rattle.schema_meaning.specs.Reach.{members_edges}
-use Rattle.schema_meaning.specs.Refusals.{Cause, members_causes}
-use Rattle.schema_definitions.specs.Guarded.{NodeEdge, NodePart, form_edges, node_edges, node_these}
-use Rattle.node_table.specs.NodeTable.{NodeEntry}
+use Rattle.theory_definitions.specs.Instance.{Text}
+use Rattle.theory_definitions.specs.Parts.{Parts}
+use Rattle.theory_definitions.specs.Plan.{Edge, Key, Part, option_list, part, parts, sorted}
+use Rattle.theory_meaning.specs.Reach.{members_edges}
+use Rattle.theory_meaning.specs.Refusals.{Cause, members_causes}
+use Rattle.theory_definitions.specs.Guarded.{NodeEdge, NodePart, form_edges, node_edges, node_these}
+use Rattle.schema_node_table.specs.NodeTable.{NodeEntry}
 use Rattle.schema_keys.specs.Compiling.{Each, member_causes, member_edges}
 use Rattle.schema_compiler.specs.Ordering.{placed_after}
 use Rattle.schema_keys.specs.Refusing.{Refused}

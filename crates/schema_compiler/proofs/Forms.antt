@@ -2,14 +2,14 @@
 use Rattle.std.proofs.Common.{◌≡◌, ◌∙◌, ℕ, Bool, true, false, List, [], ◌∷◌, refl, ap, sym, subst}
 use Rattle.std.specs.Prelude.{Option, Some, None}
 use Rattle.serde_json.specs.Data.{Data, Members, array, boolean, null, number, object, string}
-use Rattle.schema_definitions.specs.Parts.{Parts}
-use Rattle.schema_definitions.specs.Plan.{Edge, Key, Plan, plan, plan_of, schema_of}
-use Rattle.schema_meaning.specs.Reach.{asked_edges}
-use Rattle.schema_meaning.specs.Refusals.{Cause, causes, not_a_schema, schema_causes}
-use Rattle.schema_definitions.specs.Units.{annotations_of, object_annotations}
-use Rattle.schema_definitions.specs.Guarded.{NodePlan, node_edges}
-use Rattle.node_table.specs.NodeTable.{NodeEntry}
-use Rattle.node_table.specs.NodeViews.{boolean_plan}
+use Rattle.theory_definitions.specs.Parts.{Parts}
+use Rattle.theory_definitions.specs.Plan.{Edge, Key, Plan, plan, plan_of, schema_of}
+use Rattle.theory_meaning.specs.Reach.{asked_edges}
+use Rattle.theory_meaning.specs.Refusals.{Cause, causes, not_a_schema, schema_causes}
+use Rattle.theory_definitions.specs.Units.{annotations_of, object_annotations}
+use Rattle.theory_definitions.specs.Guarded.{NodePlan, node_edges}
+use Rattle.schema_node_table.specs.NodeTable.{NodeEntry}
+use Rattle.schema_node_table.specs.NodeViews.{boolean_plan}
 use Rattle.schema_keys.specs.Compiling.{object_edges}
 use Rattle.schema_keys.specs.Refusing.{Names, Refused}
 use Rattle.schema_compiler.specs.Filling.{IsPlan, IsTable}

@@ -3,14 +3,14 @@ use Rattle.std.proofs.Common.{◌≡◌, ℕ, ◌<◌, ◌≤◌, inl, inr, List
 use Rattle.std.specs.Prelude.{Option, Some, None, slice_get, flat_map}
 use Rattle.std.proofs.lemmas.List.{append-nil}
 use Rattle.std.proofs.lemmas.Option.{slice_get_within}
-use Rattle.schema_definitions.specs.Instance.{Text}
-use Rattle.schema_definitions.specs.Parts.{Parts}
-use Rattle.schema_definitions.specs.Making.{Request}
-use Rattle.schema_definitions.specs.Plan.{Edge, Form, Key, Part, Plan, always, keyword, never, plan, reference, these, requested}
-use Rattle.schema_meaning.specs.Reach.{Reached, asked_by, asked_edges, asked_for, at_first}
-use Rattle.schema_meaning.specs.Refusals.{Cause, causes, undeclared}
-use Rattle.schema_definitions.specs.Guarded.{NodeEdge, NodeForm, NodePart, NodePlan, Children, node_always, node_keyword, node_never, node_reference, node_these}
-use Rattle.node_table.specs.NodeTable.{NodeEntry}
+use Rattle.theory_definitions.specs.Instance.{Text}
+use Rattle.theory_definitions.specs.Parts.{Parts}
+use Rattle.theory_definitions.specs.Making.{Request}
+use Rattle.theory_definitions.specs.Plan.{Edge, Form, Key, Part, Plan, always, keyword, never, plan, reference, these, requested}
+use Rattle.theory_meaning.specs.Reach.{Reached, asked_by, asked_edges, asked_for, at_first}
+use Rattle.theory_meaning.specs.Refusals.{Cause, causes, undeclared}
+use Rattle.theory_definitions.specs.Guarded.{NodeEdge, NodeForm, NodePart, NodePlan, Children, node_always, node_keyword, node_never, node_reference, node_these}
+use Rattle.schema_node_table.specs.NodeTable.{NodeEntry}
 use Rattle.schema_keys.specs.Compiling.{Blames, Each, In, ReachedFrom, Settled, StandsBelow}
 use Rattle.schema_keys.specs.Refusing.{AreDistinct, IsRefusal, Names, Refused}
 use Rattle.schema_compiler.specs.Filling.{AreChildren, AreParts, HasFormOrWaits, IsForm, IsGrown, IsNode, IsPart, IsPlan, IsPlanned, IsStep, IsTable, LeadsTo}

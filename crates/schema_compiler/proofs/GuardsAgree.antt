@@ -2,9 +2,9 @@
 use Rattle.std.proofs.Common.{◌≡◌, ℕ, ◌<◌, List, [], length, map, refl, ap, sym, ◌∙◌, subst, arith}
 use Rattle.std.specs.Prelude.{Bool, Contains, None, Option, Some, option_map, slice_get, unwrap_or}
 use Rattle.std.proofs.lemmas.Option.{slice_get-map}
-use Rattle.schema_definitions.specs.Guarded.{NodeEdge, NodePlan, node_always, node_edges}
-use Rattle.node_table.specs.NodeTable.{NodeEntry, plan_in, shaped}
-use Rattle.node_table.proofs.RankedTable.{node_edges-shaped}
+use Rattle.theory_definitions.specs.Guarded.{NodeEdge, NodePlan, node_always, node_edges}
+use Rattle.schema_node_table.specs.NodeTable.{NodeEntry, plan_in, shaped}
+use Rattle.schema_node_table.proofs.RankedTable.{node_edges-shaped}
 use Rattle.schema_compiler.specs.Finding.{GuardsByStanding, Standing, guards_edge, standing_of, waits}
 use Rattle.schema_compiler.specs.UnderWay.{EdgesWithin}
 use Rattle.schema_keys.proofs.Lists.{in_of, there}

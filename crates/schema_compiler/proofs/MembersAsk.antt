@@ -3,18 +3,18 @@ use Rattle.std.proofs.Common.{◌≡◌, ℕ, Bool, true, false, List, [], ◌�
 use Rattle.std.specs.Prelude.{Option, Some, None, codes, option_map}
 use Rattle.serde_json.specs.Data.{Data, Members, array, boolean, null, number, object, string}
 use Rattle.serde_json.specs.Find.{as_str}
-use Rattle.schema_definitions.specs.Instance.{Text}
-use Rattle.schema_definitions.specs.Making.{Builtin}
-use Rattle.schema_definitions.specs.Parts.{Parts}
-use Rattle.schema_definitions.specs.Pointer.{joined}
-use Rattle.schema_definitions.specs.Plan.{Edge, Key, Part, Plan, Reference, found, is_self, making, part, part_made, builtin_part, parts, plan_alone, plan_of, reference, reference_edge, reference_named, reference_part, sorted, these, to_ref, option_list}
-use Rattle.schema_meaning.specs.Reach.{builtin_edges, lone_ref, maker_edges, members_edges, reference_edges}
-use Rattle.schema_meaning.specs.Refusals.{Cause, builtin_causes, lookup_causes, maker_causes, members_causes, reference_causes, reference_not_text, schema_causes}
-use Rattle.schema_definitions.specs.Units.{absorbed_by, annotating, object_annotations, object_of}
-use Rattle.schema_definitions.specs.Guarded.{NodeEdge, NodePart, NodePlan, form_edges, node_edges, node_reference, node_these}
+use Rattle.theory_definitions.specs.Instance.{Text}
+use Rattle.theory_definitions.specs.Making.{Builtin}
+use Rattle.theory_definitions.specs.Parts.{Parts}
+use Rattle.theory_definitions.specs.Pointer.{joined}
+use Rattle.theory_definitions.specs.Plan.{Edge, Key, Part, Plan, Reference, found, is_self, making, part, part_made, builtin_part, parts, plan_alone, plan_of, reference, reference_edge, reference_named, reference_part, sorted, these, to_ref, option_list}
+use Rattle.theory_meaning.specs.Reach.{builtin_edges, lone_ref, maker_edges, members_edges, reference_edges}
+use Rattle.theory_meaning.specs.Refusals.{Cause, builtin_causes, lookup_causes, maker_causes, members_causes, reference_causes, reference_not_text, schema_causes}
+use Rattle.theory_definitions.specs.Units.{absorbed_by, annotating, object_annotations, object_of}
+use Rattle.theory_definitions.specs.Guarded.{NodeEdge, NodePart, NodePlan, form_edges, node_edges, node_reference, node_these}
 use Rattle.serde_json.specs.View.{view}
 use Rattle.serde_json.specs.declared.value.Value.{Value}
-use Rattle.node_table.specs.NodeTable.{NodeEntry}
+use Rattle.schema_node_table.specs.NodeTable.{NodeEntry}
 use Rattle.schema_keys.specs.Compiling.{member_causes, member_edges, object_edges, reference_asked}
 use Rattle.schema_keys.specs.Refusing.{Names, Refused}
 use Rattle.schema_compiler.specs.Filling.{IsMadePart, IsPlan, LeadsTo}

@@ -1,8 +1,8 @@
 -- At each step no more targets that nest are open than may; and what the edges of a key led to says whether its number is settled.
 use Rattle.std.proofs.Common.{◌≡◌, ◌≤◌, ◌<◌, ◌∙◌, ℕ, suc, Bool, true, false, ◌||◌, not, List, [], ◌∷◌, ◌++◌, length, refl, sym, ap, ap₂, subst, arith}
 use Rattle.std.specs.Prelude.{◌↔◌, if◌then◌else◌, slice_get, slice_set}
-use Rattle.schema_definitions.specs.Parts.{Parts}
-use Rattle.schema_definitions.specs.Plan.{Edge}
+use Rattle.theory_definitions.specs.Parts.{Parts}
+use Rattle.theory_definitions.specs.Plan.{Edge}
 use Rattle.schema_compiler.specs.Finding.{Course, Finds, Standing, Visits, and_then, formed_count, is_formed, is_open, is_opened, is_put, is_settled, nests, no_more, waits, was_found}
 use Rattle.schema_compiler.specs.Nesting.{ComesTo, LedToSettled, NestsWithin, SettledByEdges, comes_here, comes_inside, comes_past, nesting_count}
 use Rattle.schema_keys.proofs.Lists.{get-set_same, length-more, set-length}

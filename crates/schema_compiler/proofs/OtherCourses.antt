@@ -1,8 +1,8 @@
 -- Parts whose keys ask for the same find them in the same order.
 use Rattle.std.proofs.Common.{◌≡◌, ℕ, List, subst}
-use Rattle.schema_definitions.specs.Parts.{Parts}
-use Rattle.schema_definitions.specs.Plan.{Edge, Key}
-use Rattle.schema_meaning.specs.Reach.{asked_edges}
+use Rattle.theory_definitions.specs.Parts.{Parts}
+use Rattle.theory_definitions.specs.Plan.{Edge, Key}
+use Rattle.theory_meaning.specs.Reach.{asked_edges}
 use Rattle.schema_compiler.specs.Finding.{Course, Finds, FindsAll, Standing, Visits, WorksOff, and_then, at_end, in_a_round, is_opened, is_put, no_more, passes_over, was_found, begun, round_begun}
 
 module _ {S K K' R R' : Type 0} (w : Parts S K R) (w' : Parts S K' R') (same : (k : Key S) → asked_edges w k ≡ asked_edges w' k) (nested : ℕ) where

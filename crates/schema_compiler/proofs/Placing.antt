@@ -5,11 +5,11 @@ use Rattle.std.specs.List.{position_or_len}
 use Rattle.std.proofs.lemmas.List.Sums.{prefix_len-le-length}
 use Rattle.std.proofs.lemmas.Bool.{leb-true, le-leb, ltb-false, ltb-true}
 use Rattle.std.proofs.lemmas.Bool.Decides.{leb_tells}
-use Rattle.schema_definitions.specs.Parts.{Parts}
-use Rattle.schema_definitions.specs.Plan.{Key, Part, placed, sorted}
-use Rattle.schema_definitions.specs.Guarded.{NodePart}
-use Rattle.node_table.specs.NodeViews.{entry_of}
-use Rattle.node_table.specs.declared.node.Entry.{Entry}
+use Rattle.theory_definitions.specs.Parts.{Parts}
+use Rattle.theory_definitions.specs.Plan.{Key, Part, placed, sorted}
+use Rattle.theory_definitions.specs.Guarded.{NodePart}
+use Rattle.schema_node_table.specs.NodeViews.{entry_of}
+use Rattle.schema_node_table.specs.declared.node.Entry.{Entry}
 use Rattle.schema_compiler.specs.Ordering.{placed_after}
 use Rattle.schema_compiler.specs.Filling.{AreParts, IsPart}
 

@@ -2,18 +2,18 @@
 use Rattle.std.proofs.Common.{◌≡◌, ℕ, Bool, true, false, cond, List, [], ◌∷◌, refl, ap, sym, ◌∙◌, subst, true≢false}
 use Rattle.std.specs.Prelude.{Option, Some, None, Result, Ok, Err, flat_map, option_map, unwrap_or}
 use Rattle.serde_json.specs.Data.{string}
-use Rattle.schema_definitions.specs.Instance.{Text, Place}
-use Rattle.schema_definitions.specs.Parts.{Parts}
-use Rattle.schema_definitions.specs.Making.{Request, compile, refer}
-use Rattle.schema_definitions.specs.Plan.{Edge, Key, Reference, fails, found, is_refused, is_self, ok_of, reference_edge, subschema, to_ref, to_dynamic, to_recursive, option_list}
-use Rattle.schema_meaning.specs.Reach.{Reached, reference_edges}
-use Rattle.schema_meaning.specs.Refusals.{Cause, lookup_causes, request_causes, undeclared}
-use Rattle.node_table.specs.NodeTable.{NodeEntry}
+use Rattle.theory_definitions.specs.Instance.{Text, Place}
+use Rattle.theory_definitions.specs.Parts.{Parts}
+use Rattle.theory_definitions.specs.Making.{Request, compile, refer}
+use Rattle.theory_definitions.specs.Plan.{Edge, Key, Reference, fails, found, is_refused, is_self, ok_of, reference_edge, subschema, to_ref, to_dynamic, to_recursive, option_list}
+use Rattle.theory_meaning.specs.Reach.{Reached, reference_edges}
+use Rattle.theory_meaning.specs.Refusals.{Cause, lookup_causes, request_causes, undeclared}
+use Rattle.schema_node_table.specs.NodeTable.{NodeEntry}
 use Rattle.schema_keys.specs.Compiling.{IsDeclared, Settled, reference_asked, StandsBelow}
 use Rattle.schema_keys.specs.Refusing.{IsRefusal, Names, Refused}
 use Rattle.schema_compiler.specs.Filling.{IsGrown, IsStep, IsTable, LeadsTo}
 use Rattle.schema_compiler.specs.Steps.{IsAnswered, IsEdgeTo}
-use Rattle.schema_definitions.specs.Guarded.{NodeEdge}
+use Rattle.theory_definitions.specs.Guarded.{NodeEdge}
 use Rattle.schema_keys.specs.declared.error.BuildError.{BuildError}
 use Rattle.schema_compiler.proofs.Growing.{edge_refused, step_edge, step_none, vocabulary_refused}
 

@@ -1,10 +1,10 @@
 -- What a maker is told of reserved numbers, as its script has it.
 use Rattle.std.proofs.Common.{◌≡◌, ℕ, ◌⊎◌, inl, inr, List, None, Some, refl}
-use Rattle.schema_definitions.specs.Drafts.{SchemaPlace}
-use Rattle.schema_definitions.specs.Making.{Purpose}
-use Rattle.schema_parts.specs.MakerViews.{a_reserved, maker_reply_of, none_pending, one_pending}
-use Rattle.schema_parts.specs.declared.table.MakerReply.{MakerReply}
-use Rattle.schema_parts.specs.declared.table.MakerReply.TheVariants as reply
+use Rattle.theory_definitions.specs.Drafts.{SchemaPlace}
+use Rattle.theory_definitions.specs.Making.{Purpose}
+use Rattle.schema_traits.specs.MakerViews.{a_reserved, maker_reply_of, none_pending, one_pending}
+use Rattle.schema_traits.specs.declared.table.MakerReply.{MakerReply}
+use Rattle.schema_traits.specs.declared.table.MakerReply.TheVariants as reply
 use Rattle.schema_compiler.specs.Reserving.{Reserved}
 use Rattle.schema_compiler.specs.ReservedViews.{TellsPending, TellsReserved}
 

@@ -2,8 +2,8 @@
 use Rattle.std.proofs.Common.{◌≡◌, ℕ, suc, zero, ◌<◌, Bool, true, false, List, [], ◌∷◌, ◌++◌, length, map, refl, ap, sym, ◌∙◌, subst, append_assoc, arith, true≢false}
 use Rattle.std.specs.Prelude.{Some, if◌then◌else◌, slice_get, slice_set}
 use Rattle.std.proofs.lemmas.List.{append-nil}
-use Rattle.schema_definitions.specs.Instance.{Text}
-use Rattle.schema_definitions.specs.Drafts.{SchemaPlace}
+use Rattle.theory_definitions.specs.Instance.{Text}
+use Rattle.theory_definitions.specs.Drafts.{SchemaPlace}
 use Rattle.schema_keys.specs.Compiling.{Each}
 use Rattle.schema_compiler.specs.Carried.{Table}
 use Rattle.schema_compiler.specs.Reserving.{Ends, Holds, IsGivenUp, IsOwn, Reserved, ReservedNode, Reserves, is_in_force, with_node, with_nodes_from}

@@ -4,11 +4,11 @@ use Rattle.std.specs.Prelude.{Option, Some, None, option_map, slice_get}
 use Rattle.std.proofs.lemmas.Option.{slice_get_within}
 use Rattle.serde_json.specs.View.{view}
 use Rattle.serde_json.specs.declared.value.Value.{Value}
-use Rattle.schema_definitions.specs.Parts.{Parts}
-use Rattle.schema_definitions.specs.Units.{annotations_of}
-use Rattle.schema_definitions.specs.Plan.{Key}
-use Rattle.schema_definitions.specs.Guarded.{NodePlan}
-use Rattle.node_table.specs.NodeTable.{Begins, Fills, NodeEntry, Waits, begun_in, filled, filled_count}
+use Rattle.theory_definitions.specs.Parts.{Parts}
+use Rattle.theory_definitions.specs.Units.{annotations_of}
+use Rattle.theory_definitions.specs.Plan.{Key}
+use Rattle.theory_definitions.specs.Guarded.{NodePlan}
+use Rattle.schema_node_table.specs.NodeTable.{Begins, Fills, NodeEntry, Waits, begun_in, filled, filled_count}
 use Rattle.schema_keys.specs.Refusing.{AreDistinct}
 use Rattle.schema_keys.specs.ShownBases.{shown_base}
 use Rattle.schema_compiler.specs.Filling.{Finishes, HasFormOrWaits, IsGrown, IsNode, IsPlanned, IsTable}

@@ -4,13 +4,13 @@ use Rattle.std.specs.Prelude.{Contains, None, Option, Some, option_and_then, opt
 use Rattle.std.proofs.Math.Path.{fun_ext}
 use Rattle.std.proofs.lemmas.Option.{slice_get-map, slice_get_past, slice_get_within}
 use Rattle.serde_json.specs.View.{view}
-use Rattle.schema_definitions.specs.Instance.{Text}
-use Rattle.schema_definitions.specs.Parts.{Parts}
-use Rattle.schema_definitions.specs.Plan.{Key, plan}
-use Rattle.schema_definitions.specs.Guarded.{NodeEdge, NodePlan, Nodes, node_always, node_edges}
-use Rattle.schema_meaning.specs.Numbered.{IsNumber, StandsFor}
-use Rattle.node_table.proofs.RankedTable.{node_edges-shaped}
-use Rattle.node_table.specs.NodeTable.{NodeEntry, absolute_in, numbered, plan_in, shaped}
+use Rattle.theory_definitions.specs.Instance.{Text}
+use Rattle.theory_definitions.specs.Parts.{Parts}
+use Rattle.theory_definitions.specs.Plan.{Key, plan}
+use Rattle.theory_definitions.specs.Guarded.{NodeEdge, NodePlan, Nodes, node_always, node_edges}
+use Rattle.theory_meaning.specs.Numbered.{IsNumber, StandsFor}
+use Rattle.schema_node_table.proofs.RankedTable.{node_edges-shaped}
+use Rattle.schema_node_table.specs.NodeTable.{NodeEntry, absolute_in, numbered, plan_in, shaped}
 use Rattle.schema_keys.specs.Compiling.{In}
 use Rattle.schema_compiler.specs.Compilation.{IsCompilation}
 use Rattle.schema_compiler.specs.Finding.{Standing, standing_of}

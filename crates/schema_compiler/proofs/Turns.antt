@@ -3,28 +3,28 @@ use Rattle.std.proofs.Common.{◌≡◌, ◌<◌, arith, ℕ, suc, max, Bool, co
 use Rattle.std.specs.Prelude.{Option, Some, None, String, string_bytes, filter_map, flat_map, Vec}
 use Rattle.std.specs.declared.alloc.Global.{Global}
 use Rattle.std.proofs.lemmas.List.{append-nil}
-use Rattle.schema_definitions.specs.Instance.{Text, Place}
-use Rattle.schema_definitions.specs.Parts.{Parts}
-use Rattle.schema_definitions.specs.Making.{Made, Making, Request, Script, a_keyword, after_request, compile, followed, nothing, refer, refused, stopped, then_compile, then_end, then_pending, then_refer, then_reserve, until_refused}
-use Rattle.schema_definitions.specs.Plan.{Edge, Key, found, is_refused, is_self, part_made, requested, subschema, to_ref, option_list}
-use Rattle.schema_meaning.specs.Reach.{maker_edges}
-use Rattle.schema_definitions.specs.Units.{absorbed_by}
+use Rattle.theory_definitions.specs.Instance.{Text, Place}
+use Rattle.theory_definitions.specs.Parts.{Parts}
+use Rattle.theory_definitions.specs.Making.{Made, Making, Request, Script, a_keyword, after_request, compile, followed, nothing, refer, refused, stopped, then_compile, then_end, then_pending, then_refer, then_reserve, until_refused}
+use Rattle.theory_definitions.specs.Plan.{Edge, Key, found, is_refused, is_self, part_made, requested, subschema, to_ref, option_list}
+use Rattle.theory_meaning.specs.Reach.{maker_edges}
+use Rattle.theory_definitions.specs.Units.{absorbed_by}
 use Rattle.schema_keys.specs.declared.error.BuildError.{BuildError}
 use Rattle.schema_keys.specs.declared.error.BuildError.TheVariants.{KeywordRefused}
 use Rattle.schema_keys.specs.Refusing.{Refused}
 use Rattle.schema_compiler.proofs.References.{asked_not_self, leads_none, leads_some, not_refused, skipped_self}
-use Rattle.schema_meaning.specs.Refusals.{Cause, end_causes, keyword_refused, lookup_causes, maker_causes, request_causes}
+use Rattle.theory_meaning.specs.Refusals.{Cause, end_causes, keyword_refused, lookup_causes, maker_causes, request_causes}
 use Rattle.schema_keys.proofs.Lists.{in_right}
-use Rattle.schema_definitions.specs.Reports as reports
-use Rattle.schema_definitions.specs.Reports.{told_error}
+use Rattle.theory_definitions.specs.Reports as reports
+use Rattle.theory_definitions.specs.Reports.{told_error}
 use Rattle.schema_reports.specs.ReportViews.{owned_error_of}
 use Rattle.schema_reports.specs.declared.reports.OwnedError.{OwnedError}
-use Rattle.schema_definitions.specs.Guarded.{Children, NodeEdge, form_edges, node_keyword}
-use Rattle.node_table.specs.NodeTable.{NodeEntry}
-use Rattle.schema_parts.specs.MakerViews.{IsStepOf, MakesRightly, PendingChangesNothing, TakesTurn, Told, Waiting, a_reserved, a_skip, begun, ended, none_pending, nothing_yet, one_pending, purpose_of, the_number, waits, wants_pending, wants_reserved}
-use Rattle.schema_parts.specs.declared.table.MakerStep.{MakerStep}
-use Rattle.schema_parts.specs.declared.table.MakerStep.TheVariants.{Compile, Refer, Pending, Reserve, Keyword, Nothing, Refuse}
-use Rattle.schema_parts.specs.declared.table.PendingKind.{PendingKind}
+use Rattle.theory_definitions.specs.Guarded.{Children, NodeEdge, form_edges, node_keyword}
+use Rattle.schema_node_table.specs.NodeTable.{NodeEntry}
+use Rattle.schema_traits.specs.MakerViews.{IsStepOf, MakesRightly, PendingChangesNothing, TakesTurn, Told, Waiting, a_reserved, a_skip, begun, ended, none_pending, nothing_yet, one_pending, purpose_of, the_number, waits, wants_pending, wants_reserved}
+use Rattle.schema_traits.specs.declared.table.MakerStep.{MakerStep}
+use Rattle.schema_traits.specs.declared.table.MakerStep.TheVariants.{Compile, Refer, Pending, Reserve, Keyword, Nothing, Refuse}
+use Rattle.schema_traits.specs.declared.table.PendingKind.{PendingKind}
 use Rattle.serde_json.specs.Data.{Members}
 use Rattle.schema_compiler.specs.Reserving.{Holds, Reserved, Reserves}
 use Rattle.schema_compiler.proofs.Reserving.{having, holds_none, holds_one, holds_then, reserves_none}

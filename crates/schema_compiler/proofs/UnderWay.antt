@@ -6,12 +6,12 @@ use Rattle.std.proofs.lemmas.Bool.{eq-eqb, eqb-true, eqb-false, leb-true, le-leb
 use Rattle.std.proofs.lemmas.List.{map-append, map-set}
 use Rattle.std.proofs.lemmas.Option.{slice_get_within}
 use Rattle.serde_json.specs.declared.value.Value.{Value}
-use Rattle.schema_definitions.specs.Guarded.{NodeEdge, NodePlan, node_edges}
-use Rattle.schema_definitions.specs.Plan.{Edge, Key}
-use Rattle.schema_meaning.specs.Reach.{asked_edges}
-use Rattle.node_table.specs.NodeTable.{Begins, Fills, IsNewRound, MayBeFilled, MayLead, MayPass, NodeEntry, Waits, begun_in, filled, filled_count, guards_at, is_settled_entry}
-use Rattle.node_table.proofs.NodeCounts.{count_begun, count_filled, count_more}
-use Rattle.node_table.proofs.NodesFilled.{in_map}
+use Rattle.theory_definitions.specs.Guarded.{NodeEdge, NodePlan, node_edges}
+use Rattle.theory_definitions.specs.Plan.{Edge, Key}
+use Rattle.theory_meaning.specs.Reach.{asked_edges}
+use Rattle.schema_node_table.specs.NodeTable.{Begins, Fills, IsNewRound, MayBeFilled, MayLead, MayPass, NodeEntry, Waits, begun_in, filled, filled_count, guards_at, is_settled_entry}
+use Rattle.schema_node_table.proofs.NodeCounts.{count_begun, count_filled, count_more}
+use Rattle.schema_node_table.proofs.NodesFilled.{in_map}
 use Rattle.schema_keys.specs.Compiling.{Each, In}
 use Rattle.schema_compiler.specs.Filling.{HasFormOrWaits}
 use Rattle.schema_compiler.specs.Finding.{Course, Finds, GuardsByStanding, IsNew, Standing, WorksOff, and_then, begun, closed, formed, formed_count, guards_edge, in_a_round, is_formed, is_open, is_opened, is_put, is_settled, nests, no_more, passed, put, round_begun, standing_of, waits, was_found}

@@ -11,11 +11,11 @@ use Rattle.std.proofs.lemmas.List.{append-nil}
 use Rattle.serde_json.specs.Data.{Data, Members, no_members, member, put}
 use Rattle.serde_json.specs.View.{view, members_view}
 use Rattle.serde_json.proofs.Views.{Entry}
-use Rattle.schema_definitions.specs.Instance.{Text}
-use Rattle.schema_definitions.specs.Parts.{Parts}
-use Rattle.schema_definitions.specs.Plan.{Key, Part, part}
-use Rattle.schema_definitions.specs.Units.{absorbed_by, absorbed_in, unknown}
-use Rattle.schema_definitions.specs.Guarded.{NodePart}
+use Rattle.theory_definitions.specs.Instance.{Text}
+use Rattle.theory_definitions.specs.Parts.{Parts}
+use Rattle.theory_definitions.specs.Plan.{Key, Part, part}
+use Rattle.theory_definitions.specs.Units.{absorbed_by, absorbed_in, unknown}
+use Rattle.theory_definitions.specs.Guarded.{NodePart}
 use Rattle.schema_compiler.specs.Filling.{IsMadePart}
 
 above_all : (first : Entry) (es : List Entry) (e : Entry) (more : List Entry) → AllByRecursion (λ y. string_cmp first.0 y ≡ Less) (keys_of (es ++ e ∷ more)) → string_cmp first.0 e.0 ≡ Less

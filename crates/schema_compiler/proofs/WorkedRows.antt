@@ -8,12 +8,12 @@ use Rattle.std.specs.Str.Lossy.{utf8_lossy, utf8_valid_len}
 use Rattle.std.specs.Str.{chars, is_utf8}
 use lib.Utf8.{encode}
 use Rattle.percent_encoding.specs.Percent.{percent_decode}
-use Rattle.schema_definitions.specs.Instance.{Text}
-use Rattle.schema_definitions.specs.Plan.{Key}
-use Rattle.schema_meaning.specs.Reach.{asked_edges}
-use Rattle.schema_definitions.specs.Guarded.{NodeEdge, NodePlan, node_edges}
-use Rattle.schema_meaning.specs.RowsBench.{Word}
-use Rattle.node_table.specs.NodeTable.{NodeEntry}
+use Rattle.theory_definitions.specs.Instance.{Text}
+use Rattle.theory_definitions.specs.Plan.{Key}
+use Rattle.theory_meaning.specs.Reach.{asked_edges}
+use Rattle.theory_definitions.specs.Guarded.{NodeEdge, NodePlan, node_edges}
+use Rattle.theory_meaning.specs.RowsWorked.{Word}
+use Rattle.schema_node_table.specs.NodeTable.{NodeEntry}
 use Rattle.schema_keys.specs.Compiling.{In}
 use Rattle.schema_compiler.specs.Finding.{GuardsByStanding, Standing, guards_edge, nests, standing_of, waits}
 use Rattle.schema_compiler.specs.Rows as row

@@ -3,11 +3,11 @@ use Rattle.std.proofs.Common.{◌≡◌, ◌≢◌, ℕ, suc, zero, ◌<◌, ◌
 use Rattle.std.specs.Prelude.{Option, Some, None, false, option_map, slice_get, not, unwrap_or}
 use Rattle.std.proofs.lemmas.Option.{slice_get-map, slice_get_within}
 use Rattle.serde_json.specs.declared.value.Value.{Value}
-use Rattle.schema_definitions.specs.Plan.{Edge, Key}
-use Rattle.schema_meaning.specs.Reach.{Reached, asked_edges, at_first}
-use Rattle.schema_meaning.specs.Refusals.{causes}
-use Rattle.schema_definitions.specs.Guarded.{NodePlan, node_edges}
-use Rattle.node_table.specs.NodeTable.{Begins, Fills, IsBegun, IsFilled, MayBeFilled, NodeEntry, Waits, begun_in, filled, filled_count}
+use Rattle.theory_definitions.specs.Plan.{Edge, Key}
+use Rattle.theory_meaning.specs.Reach.{Reached, asked_edges, at_first}
+use Rattle.theory_meaning.specs.Refusals.{causes}
+use Rattle.theory_definitions.specs.Guarded.{NodePlan, node_edges}
+use Rattle.schema_node_table.specs.NodeTable.{Begins, Fills, IsBegun, IsFilled, MayBeFilled, NodeEntry, Waits, begun_in, filled, filled_count}
 use Rattle.schema_keys.specs.Compiling.{Blames, Each, ReachedFrom, StandsBelow}
 use Rattle.schema_keys.specs.Refusing.{Refused}
 use Rattle.schema_compiler.specs.Filling.{HasFormOrWaits, IsGrown}

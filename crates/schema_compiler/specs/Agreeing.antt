@@ -1,12 +1,12 @@
 -- Two compilations of one schema agree: whichever keywords were made for them and however their nodes are stored, the same keys
 -- have the same numbers, and a number runs alike in both, so that it has the same sense.
 use Rattle.std.specs.Prelude.{List, [], map, ℕ, ◌≡◌, ◌∷◌}
-use Rattle.schema_definitions.specs.Instance.{Place, Subject, Text}
-use Rattle.schema_definitions.specs.Matching.{Assumptions}
-use Rattle.schema_definitions.specs.Parts.{Parts}
-use Rattle.schema_definitions.specs.Plan.{Key}
-use Rattle.schema_definitions.specs.Guarded.{NodeForm, NodePart, NodePlan, Nodes, guarded_node, guarded_sense, guarded_within, node_always, node_child, node_keyword, node_never, node_reference, node_these, yes_run}
-use Rattle.node_table.specs.NodeTable.{NodeEntry, numbered}
+use Rattle.theory_definitions.specs.Instance.{Place, Subject, Text}
+use Rattle.theory_definitions.specs.Matching.{Assumptions}
+use Rattle.theory_definitions.specs.Parts.{Parts}
+use Rattle.theory_definitions.specs.Plan.{Key}
+use Rattle.theory_definitions.specs.Guarded.{NodeForm, NodePart, NodePlan, Nodes, guarded_node, guarded_sense, guarded_within, node_always, node_child, node_keyword, node_never, node_reference, node_these, yes_run}
+use Rattle.schema_node_table.specs.NodeTable.{NodeEntry, numbered}
 use Rattle.schema_compiler.specs.Compilation.{IsCompilation}
 use Rattle.schema_compiler.specs.Finding.{FindsAll, Standing, standing_of}
 

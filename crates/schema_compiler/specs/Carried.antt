@@ -2,18 +2,18 @@
 -- functions answers, over the two.
 use Rattle.std.specs.Prelude.{Bool, List, MatchOption, Option, Some, [], false, flat_map, map, true, ℕ, ◌≡◌}
 use Rattle.serde_json.specs.Data.{Data, Members, object}
-use Rattle.schema_definitions.specs.Instance.{Place, Text}
-use Rattle.schema_definitions.specs.Drafts.{Draft, Vocabularies}
-use Rattle.schema_definitions.specs.Pointer.{joined}
-use Rattle.schema_definitions.specs.Making.{Script, compile}
-use Rattle.schema_definitions.specs.Resolving.{Resolver}
-use Rattle.schema_definitions.specs.Parts.{Parts}
-use Rattle.schema_definitions.specs.Plan.{Edge, Key, Reference, found, is_self, making, part, part_made, parts, plan, plan_of as plan_of_schema, reference_edge, reference_part, sorted, subschema, option_list, is_recursive_ref}
-use Rattle.schema_meaning.specs.Reach.{Reached, asked_edges, maker_edges, members_edges, reference_edges}
-use Rattle.schema_meaning.specs.Refusals.{Cause, causes, lookup_causes, maker_causes, members_causes, reference_causes, request_causes, schema_causes, undeclared}
-use Rattle.schema_definitions.specs.Units.{absorbed_by, annotating, annotations_of, object_annotations}
-use Rattle.schema_definitions.specs.Guarded.{NodeEdge, NodePart, NodePlan}
-use Rattle.node_table.specs.NodeTable.{NodeEntry}
+use Rattle.theory_definitions.specs.Instance.{Place, Text}
+use Rattle.theory_definitions.specs.Drafts.{Draft, Vocabularies}
+use Rattle.theory_definitions.specs.Pointer.{joined}
+use Rattle.theory_definitions.specs.Making.{Script, compile}
+use Rattle.theory_definitions.specs.Resolving.{Resolver}
+use Rattle.theory_definitions.specs.Parts.{Parts}
+use Rattle.theory_definitions.specs.Plan.{Edge, Key, Reference, found, is_self, making, part, part_made, parts, plan, plan_of as plan_of_schema, reference_edge, reference_part, sorted, subschema, option_list, is_recursive_ref}
+use Rattle.theory_meaning.specs.Reach.{Reached, asked_edges, maker_edges, members_edges, reference_edges}
+use Rattle.theory_meaning.specs.Refusals.{Cause, causes, lookup_causes, maker_causes, members_causes, reference_causes, request_causes, schema_causes, undeclared}
+use Rattle.theory_definitions.specs.Units.{absorbed_by, annotating, annotations_of, object_annotations}
+use Rattle.theory_definitions.specs.Guarded.{NodeEdge, NodePart, NodePlan}
+use Rattle.schema_node_table.specs.NodeTable.{NodeEntry}
 use Rattle.schema_keys.specs.KeyViews.{key_of}
 use Rattle.schema_compiler.specs.Options.{given_parts}
 use Rattle.schema_keys.specs.Compiling.{StandsBelow, member_causes, member_edges, object_edges, reference_asked}

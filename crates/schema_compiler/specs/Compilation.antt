@@ -2,22 +2,22 @@
 -- refusal says. The root is a schema's, or a subschema that is compiled by itself: then a vocabulary is asked for only where a
 -- reference leads.
 use Rattle.std.specs.Prelude.{All, Bool, List, Option, Some, [], flat_map, length, map, slice_get, string_bytes, ℕ, ◌≡◌, ◌≤◌, ◌⊎◌}
-use Rattle.schema_definitions.specs.Instance.{Text}
-use Rattle.schema_definitions.specs.Drafts.{Draft}
-use Rattle.schema_definitions.specs.Resolving.{Resolver}
-use Rattle.schema_definitions.specs.Matching.{Matcher}
-use Rattle.schema_definitions.specs.Making.{Table}
-use Rattle.schema_definitions.specs.Keywords.{Keywords}
-use Rattle.schema_definitions.specs.Parts.{Parts}
-use Rattle.schema_definitions.specs.Reports.{told_error}
-use Rattle.schema_definitions.specs.Plan.{Key}
-use Rattle.schema_meaning.specs.Reach.{Reached, ReachesMoreThan}
-use Rattle.schema_meaning.specs.MapPointers.{StandsBelow}
-use Rattle.schema_meaning.specs.Refusals.{Cause, Stands, keyword_refused, lookup_refuses, not_a_schema, reference_not_text, undeclared, unsupported_vocabulary}
+use Rattle.theory_definitions.specs.Instance.{Text}
+use Rattle.theory_definitions.specs.Drafts.{Draft}
+use Rattle.theory_definitions.specs.Resolving.{Resolver}
+use Rattle.theory_definitions.specs.Matching.{Matcher}
+use Rattle.theory_definitions.specs.Making.{Table}
+use Rattle.theory_definitions.specs.Keywords.{Keywords}
+use Rattle.theory_definitions.specs.Parts.{Parts}
+use Rattle.theory_definitions.specs.Reports.{told_error}
+use Rattle.theory_definitions.specs.Plan.{Key}
+use Rattle.theory_meaning.specs.Reach.{Reached, ReachesMoreThan}
+use Rattle.theory_meaning.specs.MapPointers.{StandsBelow}
+use Rattle.theory_meaning.specs.Refusals.{Cause, Stands, keyword_refused, lookup_refuses, not_a_schema, reference_not_text, undeclared, unsupported_vocabulary}
 use Rattle.schema_reports.specs.ReportViews.{owned_error_of}
-use Rattle.schema_definitions.specs.Guarded.{NodePlan}
-use Rattle.schema_meaning.specs.Numbered.{AreNumbered, Ranked}
-use Rattle.node_table.specs.NodeTable.{NodeEntry, numbered}
+use Rattle.theory_definitions.specs.Guarded.{NodePlan}
+use Rattle.theory_meaning.specs.Numbered.{AreNumbered, Ranked}
+use Rattle.schema_node_table.specs.NodeTable.{NodeEntry, numbered}
 use Rattle.schema_compiler.specs.Finding.{FindsAll, GuardsByStanding, standing_of}
 use Rattle.schema_keys.specs.Alone.{RefusesVocabularies}
 use Rattle.schema_keys.specs.declared.error.BuildError.{BuildError}

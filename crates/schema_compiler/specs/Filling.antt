@@ -1,15 +1,15 @@
 -- The table of keys and nodes while it is filled: what a number's node says of its key, and how the table grows.
 use Rattle.std.specs.Prelude.{List, None, Option, Some, [], length, option_map, slice_get, slice_set, ℕ, ◌++◌, ◌∷◌, ◌≡◌, ◌≤◌, ◌⊎◌}
-use Rattle.schema_definitions.specs.Instance.{Text}
-use Rattle.schema_definitions.specs.Parts.{Parts}
-use Rattle.schema_definitions.specs.Plan.{Edge, Form, Key, Part, Plan, always, keyword, never, plan, reference, reference_edge, these, requested}
-use Rattle.schema_definitions.specs.Making.{Request}
+use Rattle.theory_definitions.specs.Instance.{Text}
+use Rattle.theory_definitions.specs.Parts.{Parts}
+use Rattle.theory_definitions.specs.Plan.{Edge, Form, Key, Part, Plan, always, keyword, never, plan, reference, reference_edge, these, requested}
+use Rattle.theory_definitions.specs.Making.{Request}
 use Rattle.serde_json.specs.View.{view}
-use Rattle.schema_definitions.specs.Units.{annotations_of}
-use Rattle.schema_meaning.specs.Reach.{asked_edges}
-use Rattle.schema_meaning.specs.Refusals.{Cause, causes}
-use Rattle.schema_definitions.specs.Guarded.{NodeEdge, NodeForm, NodePart, NodePlan, node_always, node_keyword, node_never, node_reference, node_these, Children}
-use Rattle.node_table.specs.NodeTable.{NodeEntry}
+use Rattle.theory_definitions.specs.Units.{annotations_of}
+use Rattle.theory_meaning.specs.Reach.{asked_edges}
+use Rattle.theory_meaning.specs.Refusals.{Cause, causes}
+use Rattle.theory_definitions.specs.Guarded.{NodeEdge, NodeForm, NodePart, NodePlan, node_always, node_keyword, node_never, node_reference, node_these, Children}
+use Rattle.schema_node_table.specs.NodeTable.{NodeEntry}
 use Rattle.schema_keys.specs.Compiling.{Each, ReachedFrom, Settled}
 use Rattle.schema_keys.specs.ShownBases.{shown_base}
 use Rattle.schema_keys.specs.Refusing.{AreDistinct}

@@ -2,11 +2,11 @@
 -- their forms. At most so many targets of references are open one inside another; a new one that is found then waits, and
 -- each that waits is compiled in a round of its own, in the order of finding. A `$recursiveRef`'s target never waits.
 use Rattle.std.specs.Prelude.{Bool, List, None, Option, Some, [], false, if◌then◌else◌, length, nat_le, not, slice_get, slice_set, suc, true, unwrap_or, ℕ, ◌&&◌, ◌++◌, ◌<◌, ◌==◌, ◌||◌, ◌∷◌, ◌≡◌, ◌≢◌, ◌≤◌}
-use Rattle.schema_definitions.specs.Parts.{Parts}
-use Rattle.schema_definitions.specs.Plan.{Edge, Key}
-use Rattle.schema_meaning.specs.Reach.{asked_edges}
-use Rattle.schema_definitions.specs.Guarded.{NodeEdge, NodePlan, node_edges}
-use Rattle.node_table.specs.NodeTable.{NodeEntry}
+use Rattle.theory_definitions.specs.Parts.{Parts}
+use Rattle.theory_definitions.specs.Plan.{Edge, Key}
+use Rattle.theory_meaning.specs.Reach.{asked_edges}
+use Rattle.theory_definitions.specs.Guarded.{NodeEdge, NodePlan, node_edges}
+use Rattle.schema_node_table.specs.NodeTable.{NodeEntry}
 use Rattle.schema_keys.specs.Compiling.{In}
 
 -- how a number stands that was found: it waits; it is open, in the round that began with this number; or it has its form,

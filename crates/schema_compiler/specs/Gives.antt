@@ -3,19 +3,19 @@ use Rattle.std.specs.Prelude.{Bool, List, MatchResult, Option, Result, String, m
 use Rattle.std.specs.declared.alloc.Global.{Global}
 use Rattle.serde_json.specs.View.{members_view, view}
 use Rattle.serde_json.specs.declared.value.Value.{Value}
-use Rattle.schema_definitions.specs.Instance.{Place, Text}
-use Rattle.schema_definitions.specs.Making.{Script}
-use Rattle.schema_definitions.specs.Plan.{Key, Reference, checks_formats}
-use Rattle.schema_keywords.specs.KeywordViews.{draft_of}
-use Rattle.schema_parts.specs.EdgeViews.{edge_of}
-use Rattle.schema_parts.specs.ResolverViews.{place_of}
-use Rattle.schema_parts.specs.declared.keyword.Validate.{Ghosts as KeywordMembers}
-use Rattle.schema_parts.specs.declared.resolver.Resolver.{Ghosts as ResolverMembers}
-use Rattle.schema_parts.specs.declared.table.KeywordTable.{Ghosts as TableMembers}
-use Rattle.schema_parts.specs.declared.numbers.Edge.{Edge}
-use Rattle.schema_parts.specs.declared.numbers.SchemaNode.{SchemaNode}
-use Rattle.node_table.specs.NodeViews.{entry_of, plan_of}
-use Rattle.node_table.specs.declared.node.Entry.{Entry}
+use Rattle.theory_definitions.specs.Instance.{Place, Text}
+use Rattle.theory_definitions.specs.Making.{Script}
+use Rattle.theory_definitions.specs.Plan.{Key, Reference, checks_formats}
+use Rattle.schema_drafts.specs.KeywordViews.{draft_of}
+use Rattle.schema_traits.specs.EdgeViews.{edge_of}
+use Rattle.schema_traits.specs.ResolverViews.{place_of}
+use Rattle.schema_traits.specs.declared.keyword.Validate.{Ghosts as KeywordMembers}
+use Rattle.schema_traits.specs.declared.resolver.Resolver.{Ghosts as ResolverMembers}
+use Rattle.schema_traits.specs.declared.table.KeywordTable.{Ghosts as TableMembers}
+use Rattle.schema_traits.specs.declared.numbers.Edge.{Edge}
+use Rattle.schema_traits.specs.declared.numbers.SchemaNode.{SchemaNode}
+use Rattle.schema_node_table.specs.NodeViews.{entry_of, plan_of}
+use Rattle.schema_node_table.specs.declared.node.Entry.{Entry}
 use Rattle.schema_keys.specs.KeyViews.{key_of, kind_of}
 use Rattle.schema_keys.specs.declared.error.BuildError.{BuildError}
 use Rattle.schema_keys.specs.declared.key.SchemaKey.{SchemaKey}

@@ -2,9 +2,9 @@
 -- the key of the one around it, and no more of their edges nest than may. And a number gets its form settled exactly where each
 -- edge that its key asks for led to a number that was settled then.
 use Rattle.std.specs.Prelude.{List, [], if◌then◌else◌, length, slice_get, suc, true, ℕ, ◌<◌, ◌↔◌, ◌∷◌, ◌≡◌, ◌≤◌}
-use Rattle.schema_definitions.specs.Parts.{Parts}
-use Rattle.schema_definitions.specs.Plan.{Edge, Key}
-use Rattle.schema_meaning.specs.Reach.{asked_edges}
+use Rattle.theory_definitions.specs.Parts.{Parts}
+use Rattle.theory_definitions.specs.Plan.{Edge, Key}
+use Rattle.theory_meaning.specs.Reach.{asked_edges}
 use Rattle.schema_compiler.specs.Finding.{Course, Finds, IsNew, Visits, and_then, begun, closed, formed, is_settled, nests, no_more, passed, round_begun}
 
 -- how many of these edges nest

@@ -1,8 +1,8 @@
 -- What is so when a key that had no number has the next one.
 use Rattle.std.specs.Prelude.{Bool, None, Option, Some, [], false, if◌then◌else◌, length, map, suc, ℕ, ◌++◌, ◌∷◌, ◌≡◌}
-use Rattle.schema_definitions.specs.Plan.{Key}
-use Rattle.schema_definitions.specs.Resolving.{Resolver}
-use Rattle.node_table.specs.NodeTable.{NodeEntry}
+use Rattle.theory_definitions.specs.Plan.{Key}
+use Rattle.theory_definitions.specs.Resolving.{Resolver}
+use Rattle.schema_node_table.specs.NodeTable.{NodeEntry}
 use Rattle.schema_keys.specs.Compiling.{resolving_parts}
 use Rattle.schema_keys.specs.KeyViews.{key_of}
 use Rattle.schema_keys.specs.ShownBases.{shown_base}

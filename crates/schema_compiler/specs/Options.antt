@@ -1,11 +1,11 @@
 -- What a compilation is given, as parts.
 use Rattle.std.specs.Prelude.{Bool, map, string_bytes}
 use Rattle.serde_json.specs.Data.{Members}
-use Rattle.schema_definitions.specs.Instance.{Text}
-use Rattle.schema_definitions.specs.Drafts.{Draft, Vocabularies}
-use Rattle.schema_definitions.specs.Making.{Script}
-use Rattle.schema_definitions.specs.Resolving.{Resolver}
-use Rattle.schema_definitions.specs.Parts.{Parts}
+use Rattle.theory_definitions.specs.Instance.{Text}
+use Rattle.theory_definitions.specs.Drafts.{Draft, Vocabularies}
+use Rattle.theory_definitions.specs.Making.{Script}
+use Rattle.theory_definitions.specs.Resolving.{Resolver}
+use Rattle.theory_definitions.specs.Parts.{Parts}
 use Rattle.schema_keys.specs.Builtins.{builtin}
 use Rattle.schema_keys.specs.Compiling.{parts_of}
 use Rattle.schema_keys.specs.declared.options.CompileOptions.{CompileOptions}

@@ -1,6 +1,6 @@
 -- Keywords put into their places by priority, one after another.
 use Rattle.std.specs.Prelude.{List, [], if◌then◌else◌, nat_le, ◌∷◌}
-use Rattle.schema_definitions.specs.Guarded.{NodePart}
+use Rattle.theory_definitions.specs.Guarded.{NodePart}
 
 -- a keyword after all that stand in front with its priority or a lower one
 abbrev pub placed_after : {K : Type 0} → NodePart K → List (NodePart K) → List (NodePart K)

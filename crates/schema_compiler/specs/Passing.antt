@@ -1,6 +1,6 @@
 -- What one step does to the table: a number is added, and an edge is made.
 use Rattle.std.specs.Prelude.{Bool, List, None, Option, Some, [], not, slice_get, ℕ, ◌++◌, ◌||◌, ◌∷◌, ◌≡◌}
-use Rattle.node_table.specs.NodeTable.{NodeEntry, guards_at, is_settled_entry}
+use Rattle.schema_node_table.specs.NodeTable.{NodeEntry, guards_at, is_settled_entry}
 use Rattle.schema_compiler.specs.declared.compiler.compilation.Progress.{Progress}
 
 -- a node without a form has come at the end, in this round, or waiting

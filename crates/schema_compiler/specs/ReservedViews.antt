@@ -1,15 +1,15 @@
 -- Reserved numbers as data.
 use Rattle.std.specs.Prelude.{List, MatchOption, None, Option, Some, String, string_bytes, ℕ, ◌≡◌}
 use Rattle.std.specs.declared.alloc.Global.{Global}
-use Rattle.schema_definitions.specs.Drafts.{SchemaPlace}
-use Rattle.schema_definitions.specs.Making.{Purpose}
-use Rattle.schema_parts.specs.declared.numbers.PendingSchemaNode.{PendingSchemaNode}
-use Rattle.schema_parts.specs.declared.schema_place.SchemaPlace as code
-use Rattle.schema_parts.specs.declared.table.MakerReply.{MakerReply}
-use Rattle.schema_parts.specs.declared.table.MakerReply.TheVariants as reply
-use Rattle.schema_parts.specs.declared.table.PendingKind.{PendingKind}
-use Rattle.schema_parts.specs.MakerViews.{purpose_of}
-use Rattle.schema_parts.specs.ResolverViews.{place_of}
+use Rattle.theory_definitions.specs.Drafts.{SchemaPlace}
+use Rattle.theory_definitions.specs.Making.{Purpose}
+use Rattle.schema_traits.specs.declared.numbers.PendingSchemaNode.{PendingSchemaNode}
+use Rattle.schema_traits.specs.declared.schema_place.SchemaPlace as code
+use Rattle.schema_traits.specs.declared.table.MakerReply.{MakerReply}
+use Rattle.schema_traits.specs.declared.table.MakerReply.TheVariants as reply
+use Rattle.schema_traits.specs.declared.table.PendingKind.{PendingKind}
+use Rattle.schema_traits.specs.MakerViews.{purpose_of}
+use Rattle.schema_traits.specs.ResolverViews.{place_of}
 use Rattle.schema_compiler.specs.Reserving as spec
 use Rattle.schema_compiler.specs.declared.compiler.reservations.ReservedNode.{ReservedNode}
 use Rattle.schema_compiler.specs.declared.compiler.reservations.ReservedNode.TheVariants as node

@@ -1,10 +1,10 @@
 -- Numbers that makers reserve, each for an object and a purpose: it is in force until its maker ends, and then stands for a
 -- node of the keyword that was made alone, or of no entry. They are counted apart from the numbers of nodes.
 use Rattle.std.specs.Prelude.{Bool, List, None, Option, Some, [], false, if◌then◌else◌, map, slice_get, suc, true, zero, ℕ, ◌&&◌, ◌<◌, ◌≡◌, ◌++◌, ◌∷◌}
-use Rattle.schema_definitions.specs.Instance.{Text}
-use Rattle.schema_definitions.specs.Drafts.{SchemaPlace, same_schema_place}
-use Rattle.schema_definitions.specs.Making.{Purpose, for_items, for_properties}
-use Rattle.schema_definitions.specs.Guarded.{NodePart}
+use Rattle.theory_definitions.specs.Instance.{Text}
+use Rattle.theory_definitions.specs.Drafts.{SchemaPlace, same_schema_place}
+use Rattle.theory_definitions.specs.Making.{Purpose, for_items, for_properties}
+use Rattle.theory_definitions.specs.Guarded.{NodePart}
 use Rattle.schema_keys.specs.Compiling.{Each}
 
 -- what a reserved number stands for: nothing yet, as its maker goes on; a node of the maker's keyword alone; or one of no entry

@@ -3,13 +3,13 @@
 -- {"$ref": "#/$defs/a", "$defs": {"a": {"not": {"$ref": "#"}}}}
 use Rattle.std.specs.Prelude.{List, Some, [], codes, false, map, slice_get, suc, true, ℕ, ◌<◌, ◌≡◌, ◌∷◌}
 use Rattle.serde_json.specs.Data.{Data}
-use Rattle.schema_definitions.specs.Instance.{Text}
-use Rattle.schema_definitions.specs.Parts.{Parts}
-use Rattle.schema_definitions.specs.Plan.{Edge, Key}
-use Rattle.schema_meaning.specs.Reach.{asked_edges}
-use Rattle.schema_definitions.specs.Guarded.{NodeEdge, NodePlan, node_edges}
-use Rattle.schema_meaning.specs.RowsBench.{Running, Word, bench, one_member, ref_to, root_of, text, two_members}
-use Rattle.node_table.specs.NodeTable.{NodeEntry}
+use Rattle.theory_definitions.specs.Instance.{Text}
+use Rattle.theory_definitions.specs.Parts.{Parts}
+use Rattle.theory_definitions.specs.Plan.{Edge, Key}
+use Rattle.theory_meaning.specs.Reach.{asked_edges}
+use Rattle.theory_definitions.specs.Guarded.{NodeEdge, NodePlan, node_edges}
+use Rattle.theory_meaning.specs.RowsWorked.{Running, Word, worked_parts, one_member, ref_to, root_of, text, two_members}
+use Rattle.schema_node_table.specs.NodeTable.{NodeEntry}
 use Rattle.schema_keys.specs.Compiling.{In}
 use Rattle.schema_compiler.specs.Finding.{FindsAll, GuardsByStanding, Standing, is_formed, standing_of}
 
@@ -17,7 +17,7 @@ abbrev pub circle_schema : Data
 circle_schema = two_members (codes "$defs") (one_member (codes "a") (one_member (codes "not") (ref_to (codes "#")))) (codes "$ref") (text (codes "#/$defs/a"))
 
 abbrev pub circle : Parts Text Word Running
-circle = bench [] circle_schema
+circle = worked_parts [] circle_schema
 
 -- the edge that a key asks for first; where it asks for none, one to itself
 abbrev pub first_edge : Key Text → Edge Text

@@ -1,13 +1,13 @@
 -- What the compiler's functions answer where nothing is refused: the step that was made, and what came of it.
 use Rattle.std.specs.Prelude.{List, None, Option, Some, [], slice_get, ℕ, ◌≡◌, ◌∷◌}
 use Rattle.serde_json.specs.Data.{Data, Members}
-use Rattle.schema_definitions.specs.Instance.{Text}
-use Rattle.schema_definitions.specs.Parts.{Parts}
-use Rattle.schema_definitions.specs.Plan.{Edge, Key, Part, Plan, option_list}
-use Rattle.schema_meaning.specs.Reach.{Reached}
-use Rattle.schema_meaning.specs.Refusals.{Cause}
-use Rattle.schema_definitions.specs.Guarded.{NodeEdge, NodePart, NodePlan, form_edges, node_always, node_these}
-use Rattle.node_table.specs.NodeTable.{NodeEntry}
+use Rattle.theory_definitions.specs.Instance.{Text}
+use Rattle.theory_definitions.specs.Parts.{Parts}
+use Rattle.theory_definitions.specs.Plan.{Edge, Key, Part, Plan, option_list}
+use Rattle.theory_meaning.specs.Reach.{Reached}
+use Rattle.theory_meaning.specs.Refusals.{Cause}
+use Rattle.theory_definitions.specs.Guarded.{NodeEdge, NodePart, NodePlan, form_edges, node_always, node_these}
+use Rattle.schema_node_table.specs.NodeTable.{NodeEntry}
 use Rattle.schema_compiler.specs.Filling.{AreParts, IsGrown, IsMadePart, IsPlan, IsStep, IsTable, LeadsTo}
 
 -- the edges of a part, if there is one

@@ -1,11 +1,11 @@
 -- The table while keys are found: which rounds its numbers are of, what is open, and how the edges stand that were made.
 use Rattle.std.specs.Prelude.{Bool, List, None, Option, Some, [], false, length, map, slice_get, true, ℕ, ◌<◌, ◌∷◌, ◌≡◌, ◌≤◌}
 use Rattle.serde_json.specs.Data.{Data, Members}
-use Rattle.schema_definitions.specs.Instance.{Place, Text}
-use Rattle.schema_definitions.specs.Plan.{Edge, Key, Reference, making, option_list, subschema}
-use Rattle.schema_meaning.specs.Reach.{asked_edges, maker_edges, members_edges, reference_edges}
-use Rattle.schema_definitions.specs.Guarded.{NodeEdge, NodePart, NodePlan, node_edges, node_these}
-use Rattle.node_table.specs.NodeTable.{NodeEntry, filled_count, guards_at, is_settled_entry}
+use Rattle.theory_definitions.specs.Instance.{Place, Text}
+use Rattle.theory_definitions.specs.Plan.{Edge, Key, Reference, making, option_list, subschema}
+use Rattle.theory_meaning.specs.Reach.{asked_edges, maker_edges, members_edges, reference_edges}
+use Rattle.theory_definitions.specs.Guarded.{NodeEdge, NodePart, NodePlan, node_edges, node_these}
+use Rattle.schema_node_table.specs.NodeTable.{NodeEntry, filled_count, guards_at, is_settled_entry}
 use Rattle.schema_keys.specs.Compiling.{Each, In, member_edges, object_edges, reference_asked}
 use Rattle.schema_compiler.specs.Finding.{Course, Finds, GuardsByStanding, Visits, nests, standing_of}
 use Rattle.schema_compiler.specs.Carried.{Table, Task}

@@ -1,8 +1,8 @@
 -- How far the worklist is worked off: the numbers below one have their forms, each other one has its form or waits.
 use Rattle.std.specs.Prelude.{Some, [], length, slice_get, ℕ, ◌<◌, ◌≡◌, ◌≤◌}
-use Rattle.schema_definitions.specs.Plan.{Key}
-use Rattle.schema_meaning.specs.Reach.{Reached}
-use Rattle.node_table.specs.NodeTable.{IsFilled, NodeEntry}
+use Rattle.theory_definitions.specs.Plan.{Key}
+use Rattle.theory_meaning.specs.Reach.{Reached}
+use Rattle.schema_node_table.specs.NodeTable.{IsFilled, NodeEntry}
 use Rattle.schema_keys.specs.Compiling.{Each, StandsBelow}
 use Rattle.schema_compiler.specs.Reserving.{IsGivenUp}
 use Rattle.schema_keys.specs.Refusing.{IsRefusal}

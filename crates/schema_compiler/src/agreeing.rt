@@ -4,7 +4,7 @@
 ghost use Rattle.std.specs.Prelude.{ℕ};
 ghost use Rattle.schema_compiler.specs.Agreeing.{OneOrder, TablesAgree};
 ghost use Rattle.schema_compiler.specs.Nesting.{NestsWithin, SettledByEdges};
-ghost use Rattle.schema_definitions.specs.Parts.{Parts};
+ghost use Rattle.theory_definitions.specs.Parts.{Parts};
 
 /// The keys that a root reaches are found in one order, and how each number gets its form is determined too.
 pub fn keys_are_found_in_one_order<S, K, R>()

@@ -6,14 +6,14 @@ ghost use Rattle.schema_compiler.specs.Gives.{GivesReference};
 use crate::compiler::compilation::Compilation;
 use crate::compiler::entries::entry_named;
 use crate::compiler::setup::Compiler;
-use node_table::node::{Entry, EntryForm};
 use schema_keys::context::Context;
 use schema_keys::error::BuildError;
 use schema_keys::key::SchemaKey;
 pub use schema_keys::references::{RefTarget, ReferenceKind};
-use schema_parts::keyword::Validate;
-use schema_parts::resolver::Resolver;
-use schema_parts::table::KeywordTable;
+use schema_node_table::node::{Entry, EntryForm};
+use schema_traits::keyword::Validate;
+use schema_traits::resolver::Resolver;
+use schema_traits::table::KeywordTable;
 use serde_json::Value;
 
 impl<'p, R: Resolver, T> Compiler<'p, R, T> {

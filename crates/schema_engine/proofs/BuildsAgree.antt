@@ -8,15 +8,15 @@ use Rattle.std.proofs.lemmas.Map.Keys.{IsDistinct-from_apart}
 use Rattle.std.proofs.lemmas.Map.Made.{length-le_from_is_member}
 use Rattle.std.proofs.lemmas.Map.Views.{Contains-from_any}
 use Rattle.serde_json.specs.Data.{Data}
-use Rattle.schema_definitions.specs.Instance.{Text}
-use Rattle.schema_meaning.specs.Documents.{Document}
-use Rattle.schema_definitions.specs.Drafts.{Draft, SchemaPlace}
-use Rattle.schema_definitions.specs.Parts.{Parts}
-use Rattle.schema_definitions.specs.Plan.{Key, same_key}
-use Rattle.schema_meaning.specs.Reach.{IsReach, Reached, ReachesMoreThan, different}
-use Rattle.schema_meaning.specs.Refusals.{Cause, Stands}
-use Rattle.schema_definitions.specs.Resolving.{Resolver}
-use Rattle.schema_meaning.specs.Root.{base_of, root_draft}
+use Rattle.theory_definitions.specs.Instance.{Text}
+use Rattle.theory_meaning.specs.Documents.{Document}
+use Rattle.theory_definitions.specs.Drafts.{Draft, SchemaPlace}
+use Rattle.theory_definitions.specs.Parts.{Parts}
+use Rattle.theory_definitions.specs.Plan.{Key, same_key}
+use Rattle.theory_meaning.specs.Reach.{IsReach, Reached, ReachesMoreThan, different}
+use Rattle.theory_meaning.specs.Refusals.{Cause, Stands}
+use Rattle.theory_definitions.specs.Resolving.{Resolver}
+use Rattle.theory_meaning.specs.Root.{base_of, root_draft}
 use Rattle.schema_keys.specs.Checking.{EachAccepted, FollowsAccepted, IsAccepted, MetaChecks, RefusesOne, documents_at}
 use Rattle.schema_keys.specs.Compiling.{resolving_parts}
 use Rattle.schema_keys.specs.declared.error.BuildError.{BuildError}

@@ -3,24 +3,24 @@ use Rattle.std.proofs.Common.{arith, false, sym, Bool, List, [], ℕ, ◌+◌, �
 use Rattle.std.specs.Prelude.{None, Option, is_none}
 use Rattle.std.specs.Cmp.{both_ways}
 use Rattle.serde_json.specs.Data.{Data}
-use Rattle.schema_definitions.specs.Cover.{Call, Decides, Sense, branch_at, evaluate, is_valid, iter_errors, validate}
-use Rattle.schema_meaning.specs.Headline.{VerdictSays}
-use Rattle.schema_definitions.specs.Laws.{EachKeeps}
-use Rattle.schema_definitions.specs.Matching.{completion_of}
-use Rattle.schema_meaning.specs.Members.{Follows}
-use Rattle.schema_meaning.specs.Numbered.{subject_in}
-use Rattle.schema_search.specs.SharedResults.{is_empty}
+use Rattle.theory_definitions.specs.Cover.{Call, Decides, Sense, branch_at, evaluate, is_valid, iter_errors, validate}
+use Rattle.theory_meaning.specs.Headline.{VerdictSays}
+use Rattle.theory_definitions.specs.Laws.{EachKeeps}
+use Rattle.theory_definitions.specs.Matching.{completion_of}
+use Rattle.theory_meaning.specs.Members.{Follows}
+use Rattle.theory_meaning.specs.Numbered.{subject_in}
+use Rattle.unfinished_search.specs.SharedResults.{is_empty}
 use Rattle.schema_reports.specs.UnitViews.{unit_of}
 use Rattle.schema_reports.specs.declared.evaluation.EvaluationNode.{EvaluationNode}
 use Rattle.schema_reports.specs.declared.reports.ValidationError.{ValidationError}
-use Rattle.schema_meaning.proofs.GuardedSense.{all_nodes_follow}
-use Rattle.node_table.specs.NodeTable.{numbered}
-use Rattle.schema_parts.specs.declared.keyword.Validate.{Ghosts as KeywordMembers}
-use Rattle.schema_parts.specs.declared.matcher.Matcher.{Ghosts as MatcherMembers}
+use Rattle.theory_meaning.proofs.GuardedSense.{all_nodes_follow}
+use Rattle.schema_node_table.specs.NodeTable.{numbered}
+use Rattle.schema_traits.specs.declared.keyword.Validate.{Ghosts as KeywordMembers}
+use Rattle.schema_traits.specs.declared.matcher.Matcher.{Ghosts as MatcherMembers}
 use Rattle.schema_validator.specs.Called.{GuardedlyOf, IsCompiledFrom, UnitsGuardedly}
 use Rattle.schema_calls.specs.Evaluated.{EvaluationAnswered, verdict_in}
 use Rattle.schema_validator.specs.Handed.{Handed, Options}
-use Rattle.schema_answers.specs.Program.{FromSomeDepth, Program}
+use Rattle.schema_compiled.specs.Program.{FromSomeDepth, Program}
 use Rattle.schema_calls.specs.Spoken.{ErrorsAnswered, FirstAnswered}
 use Rattle.schema_engine.specs.FreeCalls as calls
 use Rattle.schema_engine.specs.FreeCalls.{OfAllCompiled}

@@ -3,20 +3,20 @@ use Rattle.std.proofs.Common.{◌≡◌, ◌+◌, Bool, true, arith, subst, sym}
 use Rattle.std.specs.Cmp.{both_ways}
 use Rattle.std.specs.Prelude.{◌↔◌, Decides as IsDecided}
 use Rattle.serde_json.specs.Data.{Data}
-use Rattle.schema_definitions.specs.Cover.{Call, Decides, is_valid}
-use Rattle.schema_definitions.specs.Guarded.{guarded_sense}
-use Rattle.schema_definitions.specs.Laws.{EachKeeps}
-use Rattle.schema_meaning.specs.Numbered.{subject_in}
-use Rattle.schema_meaning.proofs.Finishing.{nodes_decide}
-use Rattle.schema_parts.specs.declared.keyword.Validate.{Ghosts as KeywordMembers}
-use Rattle.schema_parts.specs.declared.matcher.Matcher.{Ghosts as MatcherMembers}
-use Rattle.schema_parts.specs.declared.resolver.Resolver.{Ghosts as ResolverMembers}
-use Rattle.schema_parts.specs.declared.table.KeywordTable.{Ghosts as TableMembers}
-use Rattle.node_table.specs.NodeTable.{numbered}
+use Rattle.theory_definitions.specs.Cover.{Call, Decides, is_valid}
+use Rattle.theory_definitions.specs.Guarded.{guarded_sense}
+use Rattle.theory_definitions.specs.Laws.{EachKeeps}
+use Rattle.theory_meaning.specs.Numbered.{subject_in}
+use Rattle.theory_meaning.proofs.Finishing.{nodes_decide}
+use Rattle.schema_traits.specs.declared.keyword.Validate.{Ghosts as KeywordMembers}
+use Rattle.schema_traits.specs.declared.matcher.Matcher.{Ghosts as MatcherMembers}
+use Rattle.schema_traits.specs.declared.resolver.Resolver.{Ghosts as ResolverMembers}
+use Rattle.schema_traits.specs.declared.table.KeywordTable.{Ghosts as TableMembers}
+use Rattle.schema_node_table.specs.NodeTable.{numbered}
 use Rattle.schema_validator.specs.Called.{IsCompiledFrom, MeansPlainly}
 use Rattle.schema_validator.specs.Greatest.{NodesAccept, NodesAreMonotone}
 use Rattle.schema_validator.specs.Handed.{Handed, Options}
-use Rattle.schema_answers.specs.Program.{FromSomeDepth, Program}
+use Rattle.schema_compiled.specs.Program.{FromSomeDepth, Program}
 use Rattle.schema_engine.specs.GreatestCalls.{FinishingAccepts, FinishingGreatest, GreatestAnswersAgree, GreatestVerdictsAgree, SaysGreatest}
 use Rattle.schema_validator.proofs.Greatest.{accepts_as_schema, through}
 

@@ -3,29 +3,29 @@
 use Rattle.std.proofs.Common.{◌≤◌, ℕ, Bool, List, [], ap, arith, false, inl, inr, map, refl, subst, sym, true, ◌∙◌, ◌∷◌, ◌≡◌, ◌⊎◌}
 use Rattle.std.specs.Prelude.{IfSome, None, Option, Some, is_none, option_map}
 use Rattle.serde_json.specs.Data.{Data}
-use Rattle.schema_definitions.specs.Cover.{Call, Decides, Sense, branch_at, evaluate, is_valid, iter_errors, validate, whole}
-use Rattle.schema_meaning.specs.Deciding.{decides_or_not, larger_decides}
-use Rattle.schema_meaning.specs.Headline as h
-use Rattle.schema_meaning.proofs.RunOrder.{failure_within}
-use Rattle.schema_definitions.specs.Keywords.{Answer}
-use Rattle.schema_definitions.specs.Matching.{all_match}
-use Rattle.schema_definitions.specs.Reports.{Error, Unit_}
+use Rattle.theory_definitions.specs.Cover.{Call, Decides, Sense, branch_at, evaluate, is_valid, iter_errors, validate, whole}
+use Rattle.theory_meaning.specs.Deciding.{decides_or_not, larger_decides}
+use Rattle.theory_meaning.specs.Headline as h
+use Rattle.theory_meaning.proofs.RunOrder.{failure_within}
+use Rattle.theory_definitions.specs.Keywords.{Answer}
+use Rattle.theory_definitions.specs.Matching.{all_match}
+use Rattle.theory_definitions.specs.Reports.{Error, Unit_}
 use Rattle.schema_reports.specs.ReportViews.{error_of}
-use Rattle.schema_meaning.specs.Shared.{Kept, keep, leave, none}
-use Rattle.schema_search.specs.SharedResults.{is_empty}
+use Rattle.theory_meaning.specs.Shared.{Kept, keep, leave, none}
+use Rattle.unfinished_search.specs.SharedResults.{is_empty}
 use Rattle.schema_reports.specs.UnitViews.{unit_of}
 use Rattle.schema_reports.specs.declared.evaluation.EvaluationNode.{EvaluationNode}
 use Rattle.schema_reports.specs.declared.reports.ValidationError.{ValidationError}
-use Rattle.schema_parts.specs.declared.keyword.Validate.{Ghosts as KeywordMembers}
-use Rattle.schema_parts.specs.declared.matcher.Matcher.{Ghosts as MatcherMembers}
-use Rattle.schema_parts.specs.declared.resolver.Resolver.{Ghosts as ResolverMembers}
-use Rattle.schema_parts.specs.declared.table.KeywordTable.{Ghosts as TableMembers}
+use Rattle.schema_traits.specs.declared.keyword.Validate.{Ghosts as KeywordMembers}
+use Rattle.schema_traits.specs.declared.matcher.Matcher.{Ghosts as MatcherMembers}
+use Rattle.schema_traits.specs.declared.resolver.Resolver.{Ghosts as ResolverMembers}
+use Rattle.schema_traits.specs.declared.table.KeywordTable.{Ghosts as TableMembers}
 use Rattle.schema_output.specs.ErrorUnits.{errors_unit}
-use Rattle.schema_answers.specs.Asked.{UnitsInEverySense}
+use Rattle.schema_compiled.specs.Asked.{UnitsInEverySense}
 use Rattle.schema_validator.specs.Called.{HasPlainUnits, MeansPlainly, PlainlyOf, UnitsPlainly}
 use Rattle.schema_calls.specs.Evaluated.{EvaluationAnswered, verdict_in}
 use Rattle.schema_validator.specs.Handed.{Handed, Options}
-use Rattle.schema_answers.specs.Program.{OfEverySense, Program}
+use Rattle.schema_compiled.specs.Program.{OfEverySense, Program}
 use Rattle.schema_calls.specs.Spoken.{ErrorsAnswered, FirstAnswered, IsGiven}
 use Rattle.schema_engine.specs.Nesting.{AllErrorsAgree, ErrorsAgree, EvaluationsAgree, EvaluationsOfBoth, FirstErrorsAgree, FirstsAgree, IsOfFailure, LargerErrors, LargerEvaluations, LargerFirstErrors, LargerVerdicts, SameErrors, SameFirst, SameUnits, UnitsOfBoth, VerdictsAgree, handed_to_both as both}
 use Rattle.schema_validator.proofs.PlainAnswers.{plainly_from}

@@ -2,19 +2,19 @@
 use Rattle.std.proofs.Common.{ap, ap₂, arith, length, map, refl, subst, sym, Bool, List, [], ℕ, ◌++◌, ◌∙◌, ◌∷◌, ◌≡◌}
 use Rattle.std.specs.Prelude.{All, Some, flat_map, slice_get, slice_index_or}
 use Rattle.serde_json.specs.Data.{Data}
-use Rattle.schema_definitions.specs.Parts.{Parts}
-use Rattle.schema_definitions.specs.Plan.{Key}
-use Rattle.schema_meaning.specs.Refusals.{Compiles}
-use Rattle.schema_meaning.specs.Fractions.{AreWhole, IsWholeWord, form_words, node_words}
-use Rattle.schema_definitions.specs.Guarded.{NodeForm, NodePart, NodePlan, Nodes, guarded_sense, guarded_within, node_unit, yes_unit}
-use Rattle.schema_definitions.specs.Guarded.{node_always, node_keyword, node_never, node_reference, node_these}
-use Rattle.schema_definitions.specs.Instance.{Place, Subject}
-use Rattle.schema_definitions.specs.Matching.{Assumptions, Matcher, completion_of}
-use Rattle.schema_meaning.specs.Numbered.{Ranked, subject_in}
-use Rattle.schema_definitions.specs.Reports.{Unit_}
-use Rattle.schema_definitions.specs.Runs.{Run}
-use Rattle.schema_meaning.proofs.NodeRuns.{runs_say_outcomes}
-use Rattle.node_table.specs.NodeTable.{NodeEntry, numbered}
+use Rattle.theory_definitions.specs.Parts.{Parts}
+use Rattle.theory_definitions.specs.Plan.{Key}
+use Rattle.theory_meaning.specs.Refusals.{Compiles}
+use Rattle.theory_meaning.specs.Fractions.{AreWhole, IsWholeWord, form_words, node_words}
+use Rattle.theory_definitions.specs.Guarded.{NodeForm, NodePart, NodePlan, Nodes, guarded_sense, guarded_within, node_unit, yes_unit}
+use Rattle.theory_definitions.specs.Guarded.{node_always, node_keyword, node_never, node_reference, node_these}
+use Rattle.theory_definitions.specs.Instance.{Place, Subject}
+use Rattle.theory_definitions.specs.Matching.{Assumptions, Matcher, completion_of}
+use Rattle.theory_meaning.specs.Numbered.{Ranked, subject_in}
+use Rattle.theory_definitions.specs.Reports.{Unit_}
+use Rattle.theory_definitions.specs.Runs.{Run}
+use Rattle.theory_meaning.proofs.NodeRuns.{runs_say_outcomes}
+use Rattle.schema_node_table.specs.NodeTable.{NodeEntry, numbered}
 use Rattle.schema_compiler.specs.Agreeing.{AlikeForm, AlikeParts, AlikePlan, AreAlike}
 use Rattle.schema_compiler.specs.Compilation.{IsCompilation}
 use Rattle.schema_keys.specs.Compiling.{no_keywords, no_matcher}
@@ -24,7 +24,7 @@ use Rattle.schema_compiler.proofs.TablesAgree.{tables_agree}
 use Rattle.schema_validator.specs.Called.{IsCompiledFrom}
 use Rattle.schema_validator.specs.Compiled.{IsWhole}
 use Rattle.schema_validator.specs.Handed.{Handed, Options, parts_of}
-use Rattle.schema_answers.specs.Program.{Program}
+use Rattle.schema_compiled.specs.Program.{Program}
 use Rattle.schema_engine.specs.FreeCalls.{SpeakAlike}
 use Rattle.schema_validator.proofs.Built.{in_map}
 use Rattle.schema_validator.proofs.Compilations.{whole_too}

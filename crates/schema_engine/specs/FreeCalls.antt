@@ -4,23 +4,23 @@
 -- sense. So do the calls of one validator, and one call of it that is made twice answers twice alike.
 use Rattle.std.specs.Prelude.{Bool, List, None, Option, [], is_none, ℕ, ◌≡◌}
 use Rattle.serde_json.specs.Data.{Data}
-use Rattle.schema_definitions.specs.Cover.{Decides, Sense, branch_at, evaluate, is_valid, iter_errors, validate}
-use Rattle.schema_definitions.specs.Guarded.{guarded_sense, guarded_within, node_unit, yes_unit}
-use Rattle.schema_definitions.specs.Matching.{Assumptions, completion_of}
-use Rattle.schema_meaning.specs.Numbered.{subject_in}
-use Rattle.schema_definitions.specs.Reports.{Unit_}
-use Rattle.schema_search.specs.SharedResults.{is_empty}
+use Rattle.theory_definitions.specs.Cover.{Decides, Sense, branch_at, evaluate, is_valid, iter_errors, validate}
+use Rattle.theory_definitions.specs.Guarded.{guarded_sense, guarded_within, node_unit, yes_unit}
+use Rattle.theory_definitions.specs.Matching.{Assumptions, completion_of}
+use Rattle.theory_meaning.specs.Numbered.{subject_in}
+use Rattle.theory_definitions.specs.Reports.{Unit_}
+use Rattle.unfinished_search.specs.SharedResults.{is_empty}
 use Rattle.schema_reports.specs.UnitViews.{unit_of}
 use Rattle.schema_reports.specs.declared.evaluation.EvaluationNode.{EvaluationNode}
 use Rattle.schema_reports.specs.declared.reports.ValidationError.{ValidationError}
-use Rattle.node_table.specs.NodeTable.{numbered}
-use Rattle.schema_parts.specs.declared.keyword.Validate.{Ghosts as KeywordMembers}
-use Rattle.schema_parts.specs.declared.matcher.Matcher.{Ghosts as MatcherMembers}
-use Rattle.schema_answers.specs.Asked.{DecidesFromSomeDepth, ErrorsFromSomeDepth, EvaluatesFromSomeDepth, FirstFromSomeDepth, UnitsFromSomeDepth}
+use Rattle.schema_node_table.specs.NodeTable.{numbered}
+use Rattle.schema_traits.specs.declared.keyword.Validate.{Ghosts as KeywordMembers}
+use Rattle.schema_traits.specs.declared.matcher.Matcher.{Ghosts as MatcherMembers}
+use Rattle.schema_compiled.specs.Asked.{DecidesFromSomeDepth, ErrorsFromSomeDepth, EvaluatesFromSomeDepth, FirstFromSomeDepth, UnitsFromSomeDepth}
 use Rattle.schema_validator.specs.Called.{DecidesGuardedly, ErrorsGuardedly, EvaluatesGuardedly, FirstGuardedly, IsCompiledFrom, UnitsGuardedly}
 use Rattle.schema_validator.specs.Handed.{Handed, Options}
 use Rattle.schema_calls.specs.Evaluated.{verdict_in}
-use Rattle.schema_answers.specs.Program.{FromSomeDepth, Program, Speaks}
+use Rattle.schema_compiled.specs.Program.{FromSomeDepth, Program, Speaks}
 use Rattle.schema_engine.specs.Nesting.{ErrorsAgree, EvaluationsAgree, FirstsAgree}
 
 -- what is handed in

@@ -3,29 +3,29 @@
 -- chains of references that return too, of two validators of one schema, and where the matcher finishes every match.
 use Rattle.std.specs.Prelude.{Bool, List, Option, is_none, true, ℕ, ◌↔◌, ◌≡◌, ◌≤◌}
 use Rattle.serde_json.specs.Data.{Data}
-use Rattle.schema_definitions.specs.Matching.{Matcher}
-use Rattle.schema_definitions.specs.Keywords.{Answer, Keywords}
-use Rattle.schema_definitions.specs.Plan.{Key}
-use Rattle.schema_definitions.specs.Cover.{Call, Decides, Sense, evaluate, is_valid, iter_errors, validate}
-use Rattle.schema_definitions.specs.Guarded.{guarded_sense}
-use Rattle.schema_meaning.specs.Members.{Finishes}
-use Rattle.schema_meaning.specs.Numbered.{subject_in}
-use Rattle.schema_meaning.specs.Root.{IsRoot}
-use Rattle.schema_greatest.specs.Solutions as by_targets
-use Rattle.schema_greatest.specs.Solutions.{AcceptsEach, EachIsMonotone}
-use Rattle.schema_search.specs.SharedResults.{is_empty}
+use Rattle.theory_definitions.specs.Matching.{Matcher}
+use Rattle.theory_definitions.specs.Keywords.{Answer, Keywords}
+use Rattle.theory_definitions.specs.Plan.{Key}
+use Rattle.theory_definitions.specs.Cover.{Call, Decides, Sense, evaluate, is_valid, iter_errors, validate}
+use Rattle.theory_definitions.specs.Guarded.{guarded_sense}
+use Rattle.theory_meaning.specs.Members.{Finishes}
+use Rattle.theory_meaning.specs.Numbered.{subject_in}
+use Rattle.theory_meaning.specs.Root.{IsRoot}
+use Rattle.theory_fixed_points.specs.Solutions as by_targets
+use Rattle.theory_fixed_points.specs.Solutions.{AcceptsEach, EachIsMonotone}
+use Rattle.unfinished_search.specs.SharedResults.{is_empty}
 use Rattle.schema_reports.specs.declared.evaluation.EvaluationNode.{EvaluationNode}
 use Rattle.schema_reports.specs.declared.reports.ValidationError.{ValidationError}
-use Rattle.schema_parts.specs.declared.keyword.Validate.{Ghosts as KeywordMembers}
-use Rattle.schema_parts.specs.declared.matcher.Matcher.{Ghosts as MatcherMembers}
-use Rattle.schema_parts.specs.declared.resolver.Resolver.{Ghosts as ResolverMembers}
-use Rattle.schema_parts.specs.declared.table.KeywordTable.{Ghosts as TableMembers}
-use Rattle.node_table.specs.NodeTable.{numbered}
+use Rattle.schema_traits.specs.declared.keyword.Validate.{Ghosts as KeywordMembers}
+use Rattle.schema_traits.specs.declared.matcher.Matcher.{Ghosts as MatcherMembers}
+use Rattle.schema_traits.specs.declared.resolver.Resolver.{Ghosts as ResolverMembers}
+use Rattle.schema_traits.specs.declared.table.KeywordTable.{Ghosts as TableMembers}
+use Rattle.schema_node_table.specs.NodeTable.{numbered}
 use Rattle.schema_validator.specs.Called.{PointingOf}
 use Rattle.schema_validator.specs.Greatest.{AcceptsAsSchema, DecidesAccepted, NodesAccept, NodesAreMonotone, SaysAccepted, parts}
 use Rattle.schema_validator.specs.Handed.{Handed, Options}
 use Rattle.schema_calls.specs.Evaluated.{verdict_in}
-use Rattle.schema_answers.specs.Program.{Program, Speaks}
+use Rattle.schema_compiled.specs.Program.{Program, Speaks}
 use Rattle.schema_engine.specs.Nesting.{handed_to_both}
 
 -- ---- a validator

@@ -6,29 +6,29 @@
 -- builds by the same meta validators, want of memory aside.
 use Rattle.std.specs.Prelude.{Bool, List, None, Option, Some, [], false, is_none, map, option_map, true, ℕ, ◌∷◌, ◌≡◌, ◌≤◌, ◌⊎◌}
 use Rattle.serde_json.specs.Data.{Data}
-use Rattle.schema_definitions.specs.Cover.{Call, Decides, Sense, branch_at, evaluate, is_valid, iter_errors, validate}
-use Rattle.schema_meaning.specs.Headline.{IsFailure, OneFailure}
-use Rattle.schema_definitions.specs.Keywords.{Answer}
+use Rattle.theory_definitions.specs.Cover.{Call, Decides, Sense, branch_at, evaluate, is_valid, iter_errors, validate}
+use Rattle.theory_meaning.specs.Headline.{IsFailure, OneFailure}
+use Rattle.theory_definitions.specs.Keywords.{Answer}
 use Rattle.schema_reports.specs.ReportViews.{error_of}
-use Rattle.schema_definitions.specs.Reports.{Error, Unit_}
-use Rattle.schema_search.specs.SharedResults.{is_empty}
+use Rattle.theory_definitions.specs.Reports.{Error, Unit_}
+use Rattle.unfinished_search.specs.SharedResults.{is_empty}
 use Rattle.schema_reports.specs.UnitViews.{unit_of}
 use Rattle.schema_reports.specs.declared.evaluation.EvaluationNode.{EvaluationNode}
 use Rattle.schema_reports.specs.declared.reports.ValidationError.{ValidationError}
-use Rattle.schema_parts.specs.declared.keyword.Validate.{Ghosts as KeywordMembers}
-use Rattle.schema_parts.specs.declared.matcher.Matcher.{Ghosts as MatcherMembers}
-use Rattle.schema_parts.specs.declared.resolver.Resolver.{Ghosts as ResolverMembers}
-use Rattle.schema_parts.specs.declared.table.KeywordTable.{Ghosts as TableMembers}
+use Rattle.schema_traits.specs.declared.keyword.Validate.{Ghosts as KeywordMembers}
+use Rattle.schema_traits.specs.declared.matcher.Matcher.{Ghosts as MatcherMembers}
+use Rattle.schema_traits.specs.declared.resolver.Resolver.{Ghosts as ResolverMembers}
+use Rattle.schema_traits.specs.declared.table.KeywordTable.{Ghosts as TableMembers}
 use Rattle.schema_output.specs.ErrorUnits.{errors_unit}
 use Rattle.schema_keys.specs.Checking.{MetaChecks}
 use Rattle.schema_keys.specs.declared.error.BuildError.{BuildError}
 use Rattle.schema_keys.specs.declared.error.BuildError.TheVariants.{OutOfMemory}
-use Rattle.schema_answers.specs.Asked.{DecidesInEverySense, ErrorsInEverySense, EvaluatesInEverySense, FirstInEverySense, UnitsInEverySense}
+use Rattle.schema_compiled.specs.Asked.{DecidesInEverySense, ErrorsInEverySense, EvaluatesInEverySense, FirstInEverySense, UnitsInEverySense}
 use Rattle.schema_validator.specs.Called.{BuildRefused, HasPlainUnits, MeansPlainly, PlainlyOf, SchemaBuilds}
 use Rattle.schema_validator.specs.Checked.{PassesCheck}
 use Rattle.schema_calls.specs.Evaluated.{verdict_in}
 use Rattle.schema_validator.specs.Handed.{Handed, Options, handed, limited}
-use Rattle.schema_answers.specs.Program.{Program}
+use Rattle.schema_compiled.specs.Program.{Program}
 
 -- ---- two answers about one sense
 

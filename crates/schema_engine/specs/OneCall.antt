@@ -3,12 +3,12 @@
 use Rattle.serde_json.specs.Data.{Data}
 use Rattle.serde_json.specs.View.{view}
 use Rattle.serde_json.specs.declared.value.Value.{Value}
-use Rattle.schema_definitions.specs.Keywords.{Answer}
-use Rattle.schema_definitions.specs.Resolving.{Resolver}
-use Rattle.schema_parts.specs.declared.keyword.Validate.{Ghosts as KeywordMembers}
-use Rattle.schema_parts.specs.declared.matcher.Matcher.{Ghosts as MatcherMembers}
-use Rattle.schema_parts.specs.declared.resolver.Resolver.{Ghosts as ResolverMembers}
-use Rattle.schema_parts.specs.declared.table.KeywordTable.{Ghosts as TableMembers}
+use Rattle.theory_definitions.specs.Keywords.{Answer}
+use Rattle.theory_definitions.specs.Resolving.{Resolver}
+use Rattle.schema_traits.specs.declared.keyword.Validate.{Ghosts as KeywordMembers}
+use Rattle.schema_traits.specs.declared.matcher.Matcher.{Ghosts as MatcherMembers}
+use Rattle.schema_traits.specs.declared.resolver.Resolver.{Ghosts as ResolverMembers}
+use Rattle.schema_traits.specs.declared.table.KeywordTable.{Ghosts as TableMembers}
 use Rattle.schema_keys.specs.Checking.{MetaChecks}
 use Rattle.schema_keys.specs.declared.error.BuildError.{BuildError}
 use Rattle.schema_validator.specs.Called.{SchemaBuilds}

@@ -2,7 +2,7 @@
 ghost use Rattle.std.specs.Prelude.{IfOk, IfErr, IfSome, All, OnOk};
 ghost use Rattle.serde_json.specs.View.{view};
 ghost use Rattle.schema_reports.specs.ReportViews.{BorrowsItsPlace};
-ghost use Rattle.schema_answers.specs.Answers.{refusal_of};
+ghost use Rattle.schema_compiled.specs.Answers.{refusal_of};
 ghost use Rattle.schema_validator.specs.Called.{DecidesGuardedly, DecidesPlainly, BuildRefused};
 ghost use Rattle.schema_validator.specs.Called.{EvaluatesGuardedly, EvaluatesPlainly, UnitsGuardedly, UnitsPlainly};
 ghost use Rattle.schema_validator.specs.Called.{ErrorsPlainly, ErrorsGuardedly, EachLeads, FirstPlainly, FirstGuardedly, FirstLeads};
@@ -13,12 +13,12 @@ ghost use Rattle.schema_engine.specs.OneCall.{Builds, Passes, Refuses, Says};
 
 use schema_keys::error::BuildError;
 use schema_output::evaluation::Evaluation;
-use schema_parts::keyword::Validate;
-use schema_parts::matcher::Matcher;
-use schema_parts::meta::MetaValidators;
-use schema_parts::resolver::Resolver;
-use schema_parts::table::KeywordTable;
 use schema_reports::reports::{ErrorIterator, ValidationError};
+use schema_traits::keyword::Validate;
+use schema_traits::matcher::Matcher;
+use schema_traits::meta::MetaValidators;
+use schema_traits::resolver::Resolver;
+use schema_traits::table::KeywordTable;
 use schema_validator::validator::Validator;
 use serde_json::Value;
 use std::alloc::Global;

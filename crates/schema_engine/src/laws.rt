@@ -10,10 +10,10 @@ ghost use Rattle.schema_engine.specs.Nesting.{AllErrorsAgree, BuildsAgree, First
 ghost use Rattle.schema_engine.specs.Nesting.{EvaluationsOfBoth, UnitsOfBoth};
 ghost use Rattle.schema_engine.specs.Nesting.{LargerErrors, LargerEvaluations, LargerFirstErrors, LargerVerdicts};
 
-use schema_parts::keyword::Validate;
-use schema_parts::matcher::Matcher;
-use schema_parts::resolver::Resolver;
-use schema_parts::table::KeywordTable;
+use schema_traits::keyword::Validate;
+use schema_traits::matcher::Matcher;
+use schema_traits::resolver::Resolver;
+use schema_traits::table::KeywordTable;
 
 /// Two validators that mean the plain meaning of one schema, and whose calls make equally many runs at most, answer alike of every
 /// instance, where no chain of references returns. `build` and `build_nested` give such validators whatever their limit on nested

@@ -1,5 +1,4 @@
 //! Locations and instances, errors, and evaluations with all that they show.
-pub use run_steps::evaluation_order::{AbsorbedUnit, EntryUnits, UnitsInOrder};
 pub use schema_output::error_units::unit_of_errors;
 pub use schema_output::errors::{ErrorEntry, EvaluationErrors};
 pub use schema_output::evaluation::Evaluation;
@@ -11,3 +10,4 @@ pub use schema_reports::location::{Location, LocationSegment, OutOfMemory};
 pub use schema_reports::reports::{ErrorIterator, OwnedError, ValidationError};
 pub use schema_reports::shared_location::SharedLocation;
 pub use schema_reports::text::Text;
+pub use schema_run_steps::evaluation_order::{AbsorbedUnit, EntryUnits, UnitsInOrder};

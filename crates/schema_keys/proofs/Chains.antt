@@ -4,8 +4,8 @@ use Rattle.std.specs.Prelude.{Option, Some, None, option_map, slice_get}
 use Rattle.std.proofs.lemmas.Bool.{eqb-true, eq-eqb}
 use Rattle.std.proofs.lemmas.List.{length-map}
 use Rattle.std.proofs.lemmas.Option.{slice_get-map, slice_get_within}
-use Rattle.schema_definitions.specs.Instance.{Text}
-use Rattle.schema_definitions.specs.Plan.{Key}
+use Rattle.theory_definitions.specs.Instance.{Text}
+use Rattle.theory_definitions.specs.Plan.{Key}
 use Rattle.schema_keys.specs.KeyViews.{key_of}
 use Rattle.schema_keys.specs.KeyHashes.{IsChained, IsLastBelow, hash_of, hash_of_parts}
 use Rattle.schema_keys.specs.declared.key.SchemaKey.{SchemaKey}

@@ -6,21 +6,21 @@ use Rattle.std.proofs.lemmas.Bool.{eqb-true}
 use Rattle.std.proofs.lemmas.List.{drop_all, drop_more}
 use Rattle.serde_json.specs.Data.{Data, depth, null}
 use Rattle.serde_json.specs.Written.{has_float}
-use Rattle.schema_definitions.specs.Instance.{a_value}
-use Rattle.schema_definitions.specs.Drafts as spec
-use Rattle.schema_definitions.specs.Drafts.{Draft, at_path, draft_unknown, same_draft}
-use Rattle.schema_definitions.specs.Resolving.{Resolver}
-use Rattle.schema_definitions.specs.Plan.{schema_at}
-use Rattle.schema_meaning.specs.Documents.{Cut, Document, masked, cuts, documents, embedded, passes_unseen}
-use Rattle.schema_definitions.specs.Reports as reports
+use Rattle.theory_definitions.specs.Instance.{a_value}
+use Rattle.theory_definitions.specs.Drafts as spec
+use Rattle.theory_definitions.specs.Drafts.{Draft, at_path, draft_unknown, same_draft}
+use Rattle.theory_definitions.specs.Resolving.{Resolver}
+use Rattle.theory_definitions.specs.Plan.{schema_at}
+use Rattle.theory_meaning.specs.Documents.{Cut, Document, masked, cuts, documents, embedded, passes_unseen}
+use Rattle.theory_definitions.specs.Reports as reports
 use Rattle.schema_reports.specs.Owned.{owned, prefixed}
 use Rattle.schema_reports.specs.ReportViews.{BorrowsItsPlace, error_of, owned_error_of, spoken}
 use Rattle.schema_reports.specs.InstanceViews.{subject_of}
 use Rattle.schema_reports.specs.declared.reports.ValidationError.{ValidationError}
 use Rattle.schema_reports.specs.declared.reports.OwnedError.{OwnedError}
-use Rattle.schema_meaning.proofs.Falls.{path_falls}
-use Rattle.schema_parts.specs.ResolverViews.{IsInside, KeepsDraft, Placed, StandsBelow, SubschemasStandBelow, place_of, placed_in, placed_of}
-use Rattle.schema_parts.specs.declared.resolver.PlacedSchema.{PlacedSchema}
+use Rattle.theory_meaning.proofs.Falls.{path_falls}
+use Rattle.schema_traits.specs.ResolverViews.{IsInside, KeepsDraft, Placed, StandsBelow, SubschemasStandBelow, place_of, placed_in, placed_of}
+use Rattle.schema_traits.specs.declared.resolver.PlacedSchema.{PlacedSchema}
 use Rattle.schema_keys.proofs.SameKeys.{draft_itself}
 use Rattle.schema_keys.specs.Compiling.{Each, resolving_parts}
 use Rattle.schema_keys.specs.Checking.{EachAccepted, FollowsAccepted, IsAccepted, IsErrorBelow, MetaChecks, RefusesOne, location_from, own_document}

@@ -2,10 +2,10 @@
 use Rattle.std.proofs.Common.{◌≡◌, Bool, List, [], ◌∷◌, ◌++◌, ◌||◌, map, refl, ap}
 use Rattle.std.specs.List.{list_any}
 use Rattle.std.specs.Prelude.{flat_map}
-use Rattle.schema_definitions.specs.Drafts.{Vocabularies, custom_vocabulary, core_vocabulary, applicator_vocabulary, unevaluated_vocabulary, validation_vocabulary, metadata_vocabulary, format_vocabulary, format_annotation_vocabulary, format_assertion_vocabulary, content_vocabulary}
-use Rattle.schema_definitions.specs.VocabularySets.{custom_of}
-use Rattle.schema_definitions.specs.Parts.{Parts}
-use Rattle.schema_meaning.specs.Refusals.{Cause, undeclared}
+use Rattle.theory_definitions.specs.Drafts.{Vocabularies, custom_vocabulary, core_vocabulary, applicator_vocabulary, unevaluated_vocabulary, validation_vocabulary, metadata_vocabulary, format_vocabulary, format_annotation_vocabulary, format_assertion_vocabulary, content_vocabulary}
+use Rattle.theory_definitions.specs.VocabularySets.{custom_of}
+use Rattle.theory_definitions.specs.Parts.{Parts}
+use Rattle.theory_meaning.specs.Refusals.{Cause, undeclared}
 
 module _ {S K R : Type 0} (w : Parts S K R) where
   pub of_custom : (vs : Vocabularies) → flat_map (undeclared w) vs ≡ flat_map (undeclared w) (map custom_vocabulary (custom_of vs))

@@ -3,9 +3,9 @@ use Rattle.std.proofs.Common.{◌≡◌, ◌∙◌, ◌+◌, ◌++◌, ◌∷◌
 use Rattle.std.specs.Prelude.{None, Option, Some, bytes_eq, option_and_then}
 use Rattle.std.proofs.lemmas.Slice.Eq.{bytes_eq-Decides}
 use Rattle.serde_json.specs.Data.{Data, Items, Members, array, boolean, item, member, no_items, no_members, null, number, object, string}
-use Rattle.schema_definitions.specs.Instance.{Place, Step, Text, a_name, a_value, item_of, member_of, subject_at, subject_from, to_item, to_member, to_name}
-use Rattle.schema_meaning.specs.MapPointers.{is_schema}
-use Rattle.schema_definitions.specs.Parts.{Parts}
+use Rattle.theory_definitions.specs.Instance.{Place, Step, Text, a_name, a_value, item_of, member_of, subject_at, subject_from, to_item, to_member, to_name}
+use Rattle.theory_meaning.specs.MapPointers.{is_schema}
+use Rattle.theory_definitions.specs.Parts.{Parts}
 use Rattle.schema_keys.specs.Compiling.{In}
 use Rattle.schema_keys.proofs.Lists.{in_left, in_right}
 use Rattle.schema_keys.specs.DocumentSchemas.{IndicesFit, schemas_in, schemas_in_items, schemas_in_members}

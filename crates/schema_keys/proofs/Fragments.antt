@@ -1,7 +1,7 @@
 -- What stands before the first `#` of a text, and after it.
 use Rattle.std.proofs.Common.{◌≡◌, ℕ, suc, ◌+◌, ◌==◌, Bool, true, false, cond, not, List, [], ◌∷◌, length, take, drop, refl, ◌∙◌, ap, arith}
 use Rattle.std.specs.List.{before_first, after_first, position_or_len}
-use Rattle.schema_definitions.specs.Plan.{fragment, without_fragment}
+use Rattle.theory_definitions.specs.Plan.{fragment, without_fragment}
 
 abbrev before : List ℕ → ℕ
 before xs = position_or_len (λ b. b == 35) xs

@@ -12,10 +12,10 @@ use Rattle.serde_json.specs.Data.{Data, Items, Members, array, boolean, item, me
 use Rattle.serde_json.specs.View.{items_view, members_view, view}
 use Rattle.serde_json.specs.declared.value.Value.{Value}
 use Rattle.serde_json.proofs.Views.{Entry}
-use Rattle.schema_definitions.specs.Instance.{Step, to_item, to_member}
-use Rattle.schema_definitions.specs.Drafts.{SchemaPlace}
-use Rattle.schema_definitions.specs.Parts.{Parts}
-use Rattle.schema_meaning.specs.Documents.{Cut, masked, masked_items, masked_members, is_cut, passes_unseen}
+use Rattle.theory_definitions.specs.Instance.{Step, to_item, to_member}
+use Rattle.theory_definitions.specs.Drafts.{SchemaPlace}
+use Rattle.theory_definitions.specs.Parts.{Parts}
+use Rattle.theory_meaning.specs.Documents.{Cut, masked, masked_items, masked_members, is_cut, passes_unseen}
 
 -- items as a list
 abbrev pub items_of : List Data → Items

@@ -5,8 +5,8 @@ use Rattle.std.specs.Prelude.{None, Option, Some, option_and_then}
 use Rattle.std.proofs.lemmas.Bool.{eqb-false, eqb-true}
 use Rattle.std.proofs.lemmas.Fmt.{decimal_by_steps, decimal_injective}
 use Rattle.serde_json.specs.Data.{Data, Items, Members, array, boolean, null, number, object, string}
-use Rattle.schema_definitions.specs.Instance.{Place, Step, Text, a_name, a_value, item_of, member_of, subject_at, subject_from, to_item, to_member, to_name}
-use Rattle.schema_definitions.specs.Pointer.{escaped, pointer_to}
+use Rattle.theory_definitions.specs.Instance.{Place, Step, Text, a_name, a_value, item_of, member_of, subject_at, subject_from, to_item, to_member, to_name}
+use Rattle.theory_definitions.specs.Pointer.{escaped, pointer_to}
 use Rattle.schema_keys.specs.DocumentSchemas.{IndicesFit}
 use Rattle.schema_keys.proofs.DocumentPlaces.{no_value_named}
 

@@ -5,9 +5,9 @@ use Rattle.std.proofs.lemmas.Bool.{eqb-true, eq-eqb}
 use Rattle.std.proofs.lemmas.List.{length-map}
 use Rattle.std.proofs.lemmas.Slice.Eq.{bytes_eq-Decides}
 use Rattle.std.proofs.lemmas.Option.{slice_get-map, slice_get_read}
-use Rattle.schema_definitions.specs.Instance.{Place, Step, same_place, same_step, to_member, to_item, to_name}
-use Rattle.schema_definitions.specs.Drafts as spec
-use Rattle.schema_definitions.specs.Plan.{Key}
+use Rattle.theory_definitions.specs.Instance.{Place, Step, same_place, same_step, to_member, to_item, to_name}
+use Rattle.theory_definitions.specs.Drafts as spec
+use Rattle.theory_definitions.specs.Plan.{Key}
 
 pub and_parts : (a b : Bool) → (a && b) ≡ true → (a ≡ true) × (b ≡ true)
 and_parts true true h = (refl, refl)

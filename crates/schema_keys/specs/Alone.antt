@@ -1,9 +1,9 @@
 -- A subschema that is compiled by itself: its key, why it has none, and what is said of its root's own vocabularies.
 use Rattle.std.specs.Prelude.{List, None, Option, Some, [], flat_map, option_map, slice_get, string_bytes, ◌≡◌}
-use Rattle.schema_definitions.specs.Instance.{Place}
-use Rattle.schema_definitions.specs.Parts.{Parts}
-use Rattle.schema_definitions.specs.Plan.{Key, subschema}
-use Rattle.schema_meaning.specs.Refusals.{Cause, undeclared, unsupported_vocabulary}
+use Rattle.theory_definitions.specs.Instance.{Place}
+use Rattle.theory_definitions.specs.Parts.{Parts}
+use Rattle.theory_definitions.specs.Plan.{Key, subschema}
+use Rattle.theory_meaning.specs.Refusals.{Cause, undeclared, unsupported_vocabulary}
 use Rattle.schema_keys.specs.declared.error.BuildError.{BuildError}
 use Rattle.schema_keys.specs.declared.error.BuildError.TheVariants.{KeywordRefused, Lookup, MetaSchema, MissingRoot, NodeLimit, NotASchema, OutOfMemory, ReferenceNotText, UnsupportedVocabulary}
 

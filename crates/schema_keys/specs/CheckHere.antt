@@ -4,16 +4,16 @@ use Rattle.std.specs.declared.alloc.Global.{Global}
 use Rattle.serde_json.specs.Data.{Data, Items, Members, depth}
 use Rattle.serde_json.specs.View.{items_view, members_view, view}
 use Rattle.serde_json.specs.declared.value.Value.{Value}
-use Rattle.schema_definitions.specs.Parts.{Parts}
-use Rattle.schema_definitions.specs.Plan.{schema_at}
-use Rattle.schema_meaning.specs.Documents as documents
-use Rattle.schema_meaning.specs.Documents.{is_cut, masked, masked_items, masked_members}
-use Rattle.schema_keywords.specs.KeywordViews.{draft_of}
-use Rattle.schema_keywords.specs.declared.keywords.Draft.{Draft}
-use Rattle.schema_parts.specs.ResolverViews.{place_of}
-use Rattle.schema_parts.specs.declared.meta.MetaValidators.{Ghosts as MetaMembers}
-use Rattle.schema_parts.specs.declared.resolver.Resolver.{Ghosts as ResolverMembers}
-use Rattle.schema_parts.specs.declared.schema_place.SchemaPlace.{SchemaPlace}
+use Rattle.theory_definitions.specs.Parts.{Parts}
+use Rattle.theory_definitions.specs.Plan.{schema_at}
+use Rattle.theory_meaning.specs.Documents as documents
+use Rattle.theory_meaning.specs.Documents.{is_cut, masked, masked_items, masked_members}
+use Rattle.schema_drafts.specs.KeywordViews.{draft_of}
+use Rattle.schema_drafts.specs.declared.keywords.Draft.{Draft}
+use Rattle.schema_traits.specs.ResolverViews.{place_of}
+use Rattle.schema_traits.specs.declared.meta.MetaValidators.{Ghosts as MetaMembers}
+use Rattle.schema_traits.specs.declared.resolver.Resolver.{Ghosts as ResolverMembers}
+use Rattle.schema_traits.specs.declared.schema_place.SchemaPlace.{SchemaPlace}
 use Rattle.schema_keys.specs.Checking.{EachAccepted, RefusesOne, own_document}
 use Rattle.schema_keys.specs.Compiling.{resolving_parts}
 use Rattle.schema_keys.specs.CutViews.{cut_of}

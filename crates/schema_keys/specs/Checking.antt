@@ -4,18 +4,18 @@
 use Rattle.std.specs.Prelude.{Bool, List, MatchOption, None, Option, Some, [], false, if◌then◌else◌, true, ◌∷◌, ◌≡◌, ◌⊎◌}
 use Rattle.serde_json.specs.Data.{Data}
 use Rattle.serde_json.specs.Written.{has_float}
-use Rattle.schema_definitions.specs.Instance.{Subject, Text, subject_at}
-use Rattle.schema_definitions.specs.Pointer.{pointer_to}
-use Rattle.schema_definitions.specs.Reports as reports
-use Rattle.schema_definitions.specs.Reports.{Error}
+use Rattle.theory_definitions.specs.Instance.{Subject, Text, subject_at}
+use Rattle.theory_definitions.specs.Pointer.{pointer_to}
+use Rattle.theory_definitions.specs.Reports as reports
+use Rattle.theory_definitions.specs.Reports.{Error}
 use Rattle.schema_reports.specs.Owned.{owned, prefixed}
 use Rattle.schema_reports.specs.ReportViews.{owned_error_of, spoken}
 use Rattle.schema_reports.specs.declared.reports.OwnedError.{OwnedError}
-use Rattle.schema_definitions.specs.Drafts.{Draft, SchemaPlace}
-use Rattle.schema_definitions.specs.Resolving.{Resolver}
-use Rattle.schema_definitions.specs.Parts.{Parts}
-use Rattle.schema_definitions.specs.Plan.{schema_at, without_prefix}
-use Rattle.schema_meaning.specs.Documents.{Cut, Document, masked, checked, passes_unseen}
+use Rattle.theory_definitions.specs.Drafts.{Draft, SchemaPlace}
+use Rattle.theory_definitions.specs.Resolving.{Resolver}
+use Rattle.theory_definitions.specs.Parts.{Parts}
+use Rattle.theory_definitions.specs.Plan.{schema_at, without_prefix}
+use Rattle.theory_meaning.specs.Documents.{Cut, Document, masked, checked, passes_unseen}
 use Rattle.schema_keys.specs.Compiling.{Each, resolving_parts}
 use Rattle.schema_keys.specs.declared.error.BuildError.{BuildError}
 use Rattle.schema_keys.specs.declared.error.BuildError.TheVariants.{KeywordRefused, Lookup, MetaSchema, MissingRoot, NodeLimit, NotASchema, OutOfMemory, ReferenceNotText, UnsupportedVocabulary}

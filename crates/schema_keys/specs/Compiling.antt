@@ -1,18 +1,18 @@
 -- What a compilation asks, step by step: the keys that a step reaches, and the causes that stand for what it asks.
 use Rattle.std.specs.Prelude.{Bool, List, None, Option, Some, [], codes, false, flat_map, if◌then◌else◌, slice_get, true, ℕ, ◌≡◌, ◌⊎◌, ◌∷◌}
 use Rattle.serde_json.specs.Data.{Data, Members}
-use Rattle.schema_definitions.specs.Instance.{Text}
-use Rattle.schema_definitions.specs.Matching.{Matcher, finished}
-use Rattle.schema_definitions.specs.Resolving.{Resolver}
-use Rattle.schema_definitions.specs.Making.{Table, nothing, then_end}
-use Rattle.schema_definitions.specs.Keywords.{Keywords, done, for_verdict}
-use Rattle.schema_definitions.specs.Parts.{Parts}
-use Rattle.schema_definitions.specs.Guarded.{NodeEdge}
-use Rattle.schema_parts.specs.MakerViews.{Told, a_skip, the_number}
-use Rattle.schema_definitions.specs.Plan.{Edge, Key, Reference, is_self, making, reference_edge, to_dynamic, to_recursive, to_ref}
-use Rattle.schema_definitions.specs.Drafts.{SchemaPlace, same_schema_place}
-use Rattle.schema_meaning.specs.Reach.{Reached, asked_edges, builtin_edges, lone_ref, maker_edges, members_edges, reference_edges}
-use Rattle.schema_meaning.specs.Refusals.{Cause, builtin_causes, causes, maker_causes, undeclared}
+use Rattle.theory_definitions.specs.Instance.{Text}
+use Rattle.theory_definitions.specs.Matching.{Matcher, finished}
+use Rattle.theory_definitions.specs.Resolving.{Resolver}
+use Rattle.theory_definitions.specs.Making.{Table, nothing, then_end}
+use Rattle.theory_definitions.specs.Keywords.{Keywords, done, for_verdict}
+use Rattle.theory_definitions.specs.Parts.{Parts}
+use Rattle.theory_definitions.specs.Guarded.{NodeEdge}
+use Rattle.schema_traits.specs.MakerViews.{Told, a_skip, the_number}
+use Rattle.theory_definitions.specs.Plan.{Edge, Key, Reference, is_self, making, reference_edge, to_dynamic, to_recursive, to_ref}
+use Rattle.theory_definitions.specs.Drafts.{SchemaPlace, same_schema_place}
+use Rattle.theory_meaning.specs.Reach.{Reached, asked_edges, builtin_edges, lone_ref, maker_edges, members_edges, reference_edges}
+use Rattle.theory_meaning.specs.Refusals.{Cause, builtin_causes, causes, maker_causes, undeclared}
 
 -- P of each element
 abbrev pub Each : {A : Type 0} → (A → Type 0) → List A → Type 0

@@ -1,7 +1,7 @@
 -- The code's cuts, as the definitions have them.
-use Rattle.schema_meaning.specs.Documents.{Cut}
-use Rattle.schema_keywords.specs.KeywordViews.{draft_of}
-use Rattle.schema_parts.specs.ResolverViews.{place_of}
+use Rattle.theory_meaning.specs.Documents.{Cut}
+use Rattle.schema_drafts.specs.KeywordViews.{draft_of}
+use Rattle.schema_traits.specs.ResolverViews.{place_of}
 use Rattle.schema_keys.specs.declared.check.embedded.Cut as code
 
 abbrev pub cut_of : code.Cut → Cut

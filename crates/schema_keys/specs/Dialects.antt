@@ -1,6 +1,6 @@
 -- What drafts and vocabularies decide of a schema's keywords.
 use Rattle.std.specs.Prelude.{Bool, false, true, ◌||◌}
-use Rattle.schema_definitions.specs.Drafts.{Draft, Vocabularies, draft_4, format_assertion_vocabulary, format_vocabulary, has_vocabulary}
+use Rattle.theory_definitions.specs.Drafts.{Draft, Vocabularies, draft_4, format_assertion_vocabulary, format_vocabulary, has_vocabulary}
 
 -- a number with an integer's value, such as 1.0, is an integer, but not in draft 4 (section 3.5 of draft-zyp-json-schema,
 -- version 4; section 6.25 of draft-wright-json-schema-validation, version 1)

@@ -2,7 +2,7 @@
 -- are made for all of them. (section 4.3 of Core 2020-12, sections 3 and 4 of RFC 6901)
 use Rattle.std.specs.Prelude.{List, None, Option, Some, [], ℕ, ◌+◌, ◌++◌, ◌<◌, ◌∷◌, ◌^◌}
 use Rattle.serde_json.specs.Data.{Data, Items, Members, array, boolean, item, member, no_items, no_members, null, number, object, string}
-use Rattle.schema_definitions.specs.Instance.{Place, to_item, to_member}
+use Rattle.theory_definitions.specs.Instance.{Place, to_item, to_member}
 use Rattle.schema_keys.specs.Compiling.{Each}
 
 abbrev mutual

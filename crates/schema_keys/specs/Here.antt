@@ -4,19 +4,19 @@ use Rattle.std.specs.declared.alloc.Global.{Global}
 use Rattle.serde_json.specs.Data.{object}
 use Rattle.serde_json.specs.View.{members_view}
 use Rattle.serde_json.specs.declared.value.Value.{Value}
-use Rattle.schema_definitions.specs.Instance.{Place, Text}
-use Rattle.schema_definitions.specs.Pointer.{joined, pointer_to}
-use Rattle.schema_definitions.specs.Drafts.{Draft, SchemaPlace, Vocabularies, at_path, same_draft}
-use Rattle.schema_definitions.specs.Resolving.{Found, Resolver}
-use Rattle.schema_definitions.specs.Making.{compile}
-use Rattle.schema_definitions.specs.Parts.{Parts}
-use Rattle.schema_definitions.specs.Plan.{Key, Reference, absolute_of, found, inside, location_by, looked_up, referred_at, resolved, schema_at, start_by, subschema, without_prefix}
-use Rattle.schema_meaning.specs.Refusals.{lookup_causes, reference_not_text, request_causes}
-use Rattle.schema_keywords.specs.KeywordViews.{draft_of}
-use Rattle.schema_parts.specs.ResolverViews.{found_of, place_of}
-use Rattle.schema_parts.specs.declared.resolver.Resolver.{Ghosts as ResolverMembers}
-use Rattle.schema_parts.specs.declared.resolver.Target.{Target}
-use Rattle.schema_parts.specs.declared.schema_place.SchemaPlace as code
+use Rattle.theory_definitions.specs.Instance.{Place, Text}
+use Rattle.theory_definitions.specs.Pointer.{joined, pointer_to}
+use Rattle.theory_definitions.specs.Drafts.{Draft, SchemaPlace, Vocabularies, at_path, same_draft}
+use Rattle.theory_definitions.specs.Resolving.{Found, Resolver}
+use Rattle.theory_definitions.specs.Making.{compile}
+use Rattle.theory_definitions.specs.Parts.{Parts}
+use Rattle.theory_definitions.specs.Plan.{Key, Reference, absolute_of, found, inside, location_by, looked_up, referred_at, resolved, schema_at, start_by, subschema, without_prefix}
+use Rattle.theory_meaning.specs.Refusals.{lookup_causes, reference_not_text, request_causes}
+use Rattle.schema_drafts.specs.KeywordViews.{draft_of}
+use Rattle.schema_traits.specs.ResolverViews.{found_of, place_of}
+use Rattle.schema_traits.specs.declared.resolver.Resolver.{Ghosts as ResolverMembers}
+use Rattle.schema_traits.specs.declared.resolver.Target.{Target}
+use Rattle.schema_traits.specs.declared.schema_place.SchemaPlace as code
 use Rattle.schema_keys.specs.Alone.{key_alone}
 use Rattle.schema_keys.specs.Compiling.{resolving_parts}
 use Rattle.schema_keys.specs.KeyViews.{key_of}

@@ -3,7 +3,7 @@ use Rattle.std.specs.Prelude.{List, None, Option, Some, length, slice_get, ℕ, 
 use Rattle.std.specs.List.{fold}
 use Rattle.std.specs.Hash.{usize}
 use Rattle.std.specs.Hash.FoldHasher.{finish, initial, write}
-use Rattle.schema_definitions.specs.Instance.{Text}
+use Rattle.theory_definitions.specs.Instance.{Text}
 use Rattle.schema_keys.specs.declared.key.SchemaKey.{SchemaKey}
 
 -- the hash of a document's number, a location, a base, and what a state gives to hashes

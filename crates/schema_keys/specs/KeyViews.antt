@@ -1,8 +1,8 @@
 -- The code's keys and kinds of references, as the definitions have them.
 use Rattle.std.specs.Prelude.{List, MatchOption, Option, Some, slice_get, ℕ, ◌≡◌, ◌≢◌}
-use Rattle.schema_definitions.specs.Plan as plan
-use Rattle.schema_keywords.specs.KeywordViews.{draft_of}
-use Rattle.schema_parts.specs.ResolverViews.{place_of}
+use Rattle.theory_definitions.specs.Plan as plan
+use Rattle.schema_drafts.specs.KeywordViews.{draft_of}
+use Rattle.schema_traits.specs.ResolverViews.{place_of}
 use Rattle.schema_keys.specs.declared.key.SchemaKey.{SchemaKey}
 use Rattle.schema_keys.specs.declared.references.ReferenceKind.{ReferenceKind}
 use Rattle.schema_keys.specs.declared.references.ReferenceKind.TheVariants as kind

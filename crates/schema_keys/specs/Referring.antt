@@ -1,10 +1,10 @@
 -- How a reference's target is reached by the URI that the reference stands for. (Core 2020-12, 8.2.3; section 3.5 of RFC 3986)
 use Rattle.std.specs.Prelude.{Bool, false, true, ◌≡◌, MatchOption, Option, Some, []}
-use Rattle.schema_definitions.specs.Instance.{Text}
-use Rattle.schema_definitions.specs.Parts.{Parts}
-use Rattle.schema_definitions.specs.Plan.{Key, Reference, fragment, location_by, referred, referred_at, start_by, to_dynamic, to_ref, is_self, reference_edge, is_recursive_ref}
-use Rattle.schema_definitions.specs.Resolving.{Found}
-use Rattle.schema_definitions.specs.Pointer.{joined}
+use Rattle.theory_definitions.specs.Instance.{Text}
+use Rattle.theory_definitions.specs.Parts.{Parts}
+use Rattle.theory_definitions.specs.Plan.{Key, Reference, fragment, location_by, referred, referred_at, start_by, to_dynamic, to_ref, is_self, reference_edge, is_recursive_ref}
+use Rattle.theory_definitions.specs.Resolving.{Found}
+use Rattle.theory_definitions.specs.Pointer.{joined}
 use Rattle.schema_keys.specs.KeyViews.{key_of}
 use Rattle.schema_keys.specs.declared.key.SchemaKey.{SchemaKey}
 

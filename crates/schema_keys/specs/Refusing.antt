@@ -1,12 +1,12 @@
 -- What a refusal of the compiler says: a cause that stands, or more keys than the limit.
 use Rattle.std.specs.Prelude.{Bool, List, Some, codes, decimal, length, slice_get, string_bytes, ℕ, ◌++◌, ◌<◌, ◌≡◌}
-use Rattle.schema_definitions.specs.Parts.{Parts}
-use Rattle.schema_definitions.specs.Reports.{told_error}
-use Rattle.schema_definitions.specs.Plan.{Edge, Key}
-use Rattle.schema_meaning.specs.Refusals.{Cause, keyword_refused, lookup_refuses, not_a_schema, reference_not_text, unsupported_vocabulary}
+use Rattle.theory_definitions.specs.Parts.{Parts}
+use Rattle.theory_definitions.specs.Reports.{told_error}
+use Rattle.theory_definitions.specs.Plan.{Edge, Key}
+use Rattle.theory_meaning.specs.Refusals.{Cause, keyword_refused, lookup_refuses, not_a_schema, reference_not_text, unsupported_vocabulary}
 use Rattle.schema_reports.specs.ReportViews.{owned_error_of}
-use Rattle.schema_parts.specs.declared.resolver.LookupError.{LookupError}
-use Rattle.schema_parts.specs.declared.resolver.LookupError.TheVariants as lookup
+use Rattle.schema_traits.specs.declared.resolver.LookupError.{LookupError}
+use Rattle.schema_traits.specs.declared.resolver.LookupError.TheVariants as lookup
 use Rattle.schema_keys.specs.Compiling.{Blames, Each, In, ReachedFrom}
 use Rattle.schema_keys.specs.declared.error.BuildError.{BuildError}
 use Rattle.schema_keys.specs.declared.error.BuildError.TheVariants.{KeywordRefused, Lookup, MetaSchema, MissingRoot, NodeLimit, NotASchema, OutOfMemory, ReferenceNotText, UnsupportedVocabulary}

@@ -1,9 +1,9 @@
 -- The URI that absolute locations in a schema's resource begin with.
 use Rattle.std.specs.List.{starts_with}
 use Rattle.std.specs.Prelude.{None, Option, Some, codes, if◌then◌else◌, ◌==◌}
-use Rattle.schema_definitions.specs.Instance.{Text}
-use Rattle.schema_definitions.specs.Parts.{Parts}
-use Rattle.schema_definitions.specs.Plan.{Key, without_fragment}
+use Rattle.theory_definitions.specs.Instance.{Text}
+use Rattle.theory_definitions.specs.Parts.{Parts}
+use Rattle.theory_definitions.specs.Plan.{Key, without_fragment}
 
 module _ {S K R : Type 0} (w : Parts S K R) where
   -- the URI that absolute locations begin with; a base of scheme `json-schema` gives none

@@ -4,29 +4,29 @@
 //! finds where these resources lie, `masked` copies a document without them.
 ghost use Rattle.std.specs.Prelude.{◌≡◌, IfErr, IfOk, OnOk};
 ghost use Rattle.serde_json.specs.View.{view};
-ghost use Rattle.schema_definitions.specs.Plan.{schema_at};
-ghost use Rattle.schema_meaning.specs.Documents as documents;
-ghost use Rattle.schema_keywords.specs.KeywordViews.{draft_of};
+ghost use Rattle.theory_definitions.specs.Plan.{schema_at};
+ghost use Rattle.theory_meaning.specs.Documents as documents;
+ghost use Rattle.schema_drafts.specs.KeywordViews.{draft_of};
 ghost use Rattle.schema_reports.specs.Owned.{prefixed};
 ghost use Rattle.schema_reports.specs.ReportViews.{owned_error_of};
-ghost use Rattle.schema_parts.specs.ResolverViews.{place_of};
+ghost use Rattle.schema_traits.specs.ResolverViews.{place_of};
 ghost use Rattle.schema_keys.specs.Checking.{AcceptsSchema, RefusesSchema, IsVerdict};
 ghost use Rattle.schema_keys.specs.Checking.{location_from};
 ghost use Rattle.schema_keys.specs.CheckHere.{parts_asked, masked_at, AcceptsOwn};
 ghost use Rattle.schema_keys.specs.CheckHere.{RefusesOwn, AcceptsAll, RefusesFirst};
-ghost use Rattle.schema_parts.specs.Showing.{Shows};
+ghost use Rattle.schema_traits.specs.Showing.{Shows};
 
 mod embedded;
 mod masked;
 
 use crate::check::embedded::Cut;
 use crate::error::BuildError;
-use schema_keywords::keywords::Draft;
-use schema_parts::meta::MetaValidators;
-use schema_parts::resolver::Resolver;
-use schema_parts::schema_place::SchemaPlace;
+use schema_drafts::keywords::Draft;
 use schema_reports::location::{Location, OutOfMemory};
 use schema_reports::reports::OwnedError;
+use schema_traits::meta::MetaValidators;
+use schema_traits::resolver::Resolver;
+use schema_traits::schema_place::SchemaPlace;
 use serde_json::Value;
 use std::alloc::Global;
 

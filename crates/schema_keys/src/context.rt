@@ -4,25 +4,25 @@ ghost use Rattle.std.specs.Prelude.{◌≡◌, ◌||◌, ◌++◌, ◌∷◌, No
 ghost use Rattle.std.specs.Prelude.{IfSome, drop, not, unwrap_or, option_map, codes};
 ghost use Rattle.std.specs.Prelude.{string_bytes, if◌then◌else◌};
 ghost use Rattle.serde_json.specs.View.{view, members_view};
-ghost use Rattle.schema_definitions.specs.Instance.{member_of};
-ghost use Rattle.schema_definitions.specs.Pointer.{joined};
-ghost use Rattle.schema_definitions.specs.Drafts.{ref_stands_alone};
-ghost use Rattle.schema_keywords.specs.KeywordTable.{is_in_force};
-ghost use Rattle.schema_keywords.specs.KeywordViews.{vocabulary_of};
-ghost use Rattle.schema_definitions.specs.Plan.{encoded};
+ghost use Rattle.theory_definitions.specs.Instance.{member_of};
+ghost use Rattle.theory_definitions.specs.Pointer.{joined};
+ghost use Rattle.theory_definitions.specs.Drafts.{ref_stands_alone};
+ghost use Rattle.schema_drafts.specs.KeywordTable.{is_in_force};
+ghost use Rattle.schema_drafts.specs.KeywordViews.{vocabulary_of};
+ghost use Rattle.theory_definitions.specs.Plan.{encoded};
 ghost use Rattle.schema_keys.specs.Builtins.{builtin, row_of};
 ghost use Rattle.schema_keys.specs.Dialects.{asserts_formats, integer_valued_numbers};
 ghost use Rattle.schema_keys.specs.Here.{draft_here, base_here, absolute_here};
-ghost use Rattle.schema_parts.specs.Showing.{Yields, Shows};
+ghost use Rattle.schema_traits.specs.Showing.{Yields, Shows};
 ghost use Rattle.schema_keys.specs.Showing.{IsRest};
 
 use crate::key::SchemaKey;
 use crate::options::CompileOptions;
 use crate::text::{has_own_scheme, text_before_fragment};
-use node_table::node::absolute::push_fragment;
-use schema_keywords::keywords::{BuiltinRow, Draft, Vocabulary, builtin_row, has_vocabulary};
-use schema_parts::resolver::Resolver;
+use schema_drafts::keywords::{BuiltinRow, Draft, Vocabulary, builtin_row, has_vocabulary};
+use schema_node_table::node::absolute::push_fragment;
 use schema_reports::location::{Location, LocationSegment, OutOfMemory};
+use schema_traits::resolver::Resolver;
 use serde_json::{Map, Value};
 use std::alloc::Global;
 

@@ -2,10 +2,10 @@
 ghost use Rattle.std.specs.Prelude.{◌≡◌, ◌↔◌, IsTrue};
 ghost use Rattle.schema_keys.specs.KeyViews.{key_of};
 
-use schema_keywords::keywords::{Draft, VocabularySet};
-use schema_parts::resolver::Resolver;
-use schema_parts::schema_place::SchemaPlace;
+use schema_drafts::keywords::{Draft, VocabularySet};
 use schema_reports::location::Location;
+use schema_traits::resolver::Resolver;
+use schema_traits::schema_place::SchemaPlace;
 
 /// What a node is compiled for: a schema's place in a document, what it is read in there, and how it was reached. Two keys
 /// that are equal share one node.

@@ -7,8 +7,8 @@ ghost use Rattle.schema_keys.specs.KeyViews.{key_of, IsNumberOf};
 ghost use Rattle.schema_keys.specs.KeyHashes.{hash_of};
 
 use crate::key::{SchemaKey, same_key};
-use schema_parts::resolver::Resolver;
 use schema_reports::location::OutOfMemory;
+use schema_traits::resolver::Resolver;
 use std::alloc::Global;
 use std::collections::HashMap;
 use std::hash::{FoldHasher, Hash, Hasher};

@@ -2,24 +2,24 @@
 ghost use Rattle.std.specs.Prelude.{◌≡◌, IfOk, IfErr, Ok, not, option_map, string_bytes};
 ghost use Rattle.std.specs.Str.Lossy.{utf8_lossy};
 ghost use Rattle.percent_encoding.specs.Percent.{percent_decode};
-ghost use Rattle.schema_definitions.specs.Pointer.{pointer_to};
-ghost use Rattle.schema_definitions.specs.Plan.{fragment, reference_named};
-ghost use Rattle.schema_definitions.specs.Plan.{is_recursive_ref};
-ghost use Rattle.schema_parts.specs.ResolverViews.{found_of, place_of};
+ghost use Rattle.theory_definitions.specs.Pointer.{pointer_to};
+ghost use Rattle.theory_definitions.specs.Plan.{fragment, reference_named};
+ghost use Rattle.theory_definitions.specs.Plan.{is_recursive_ref};
+ghost use Rattle.schema_traits.specs.ResolverViews.{found_of, place_of};
 ghost use Rattle.schema_keys.specs.KeyViews.{key_of, kind_of};
 ghost use Rattle.schema_keys.specs.Compiling.{skips};
 ghost use Rattle.schema_keys.specs.Referring.{by_flag};
 ghost use Rattle.schema_keys.specs.Here.{place_here, resolver_here, resolves, finds, looks_up, RefersBy, RefusesReference};
 ghost use Rattle.schema_keys.specs.Here.{LeadsTo, path_in_resource, target_location, target_start, target_key, target_key_at};
-ghost use Rattle.schema_parts.specs.Showing.{Yields, Shows, Agrees};
+ghost use Rattle.schema_traits.specs.Showing.{Yields, Shows, Agrees};
 
 use crate::context::Context;
 use crate::error::BuildError;
 use crate::key::SchemaKey;
 use crate::text::fragment_of;
 use percent_encoding::{decode_utf8_lossy, percent_decode};
-use schema_parts::resolver::{LookupError, Resolver, Target};
 use schema_reports::location::{Location, OutOfMemory};
+use schema_traits::resolver::{LookupError, Resolver, Target};
 use std::alloc::Global;
 
 /// A reference keyword.

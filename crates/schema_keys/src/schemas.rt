@@ -1,14 +1,14 @@
 //! The places of a document's schemas: of its objects and booleans.
 ghost use Rattle.std.specs.Prelude.{◌≡◌, ◌++◌, ◌∷◌, [], IfOk, OnOk};
 ghost use Rattle.serde_json.specs.View.{items_view, members_view, view};
-ghost use Rattle.schema_parts.specs.SchemaViews.{schema_step_of};
+ghost use Rattle.schema_traits.specs.SchemaViews.{schema_step_of};
 ghost use Rattle.schema_keys.specs.Compiling.{Each};
 ghost use Rattle.schema_keys.specs.DocumentSchemas.{IndicesFit, schemas_in, schemas_in_items};
 ghost use Rattle.schema_keys.specs.DocumentSchemas.{schemas_in_members, StaysFit};
-ghost use Rattle.schema_parts.specs.Showing.{Yields};
+ghost use Rattle.schema_traits.specs.Showing.{Yields};
 
-use schema_parts::schema_place::{SchemaPath, SchemaStep};
 use schema_reports::location::OutOfMemory;
+use schema_traits::schema_place::{SchemaPath, SchemaStep};
 use serde_json::{Map, Value};
 use std::alloc::Global;
 use std::rc::RcStr;

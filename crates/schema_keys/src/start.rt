@@ -1,14 +1,14 @@
 //! How much of a pointer lies outside the resource of the target that it leads to.
 ghost use Rattle.std.specs.Prelude.{◌≡◌};
-ghost use Rattle.schema_definitions.specs.Plan.{lies_in, resource_depth, segment_count, segments_length, start_of};
-ghost use Rattle.schema_parts.specs.ResolverViews.{found_of, place_of};
+ghost use Rattle.theory_definitions.specs.Plan.{lies_in, resource_depth, segment_count, segments_length, start_of};
+ghost use Rattle.schema_traits.specs.ResolverViews.{found_of, place_of};
 ghost use Rattle.schema_keys.specs.Here.{parts_here};
-ghost use Rattle.schema_parts.specs.Showing.{Yields};
+ghost use Rattle.schema_traits.specs.Showing.{Yields};
 
 use crate::context::Context;
-use schema_parts::resolver::{Resolver, Target};
-use schema_parts::schema_place::SchemaPlace;
 use schema_reports::location::{Location, OutOfMemory};
+use schema_traits::resolver::{Resolver, Target};
+use schema_traits::schema_place::SchemaPlace;
 
 // How many segments a pointer has.
 fn segment_count(location: &str) -> usize

@@ -1,23 +1,23 @@
 //! The key of a subschema.
 ghost use Rattle.std.specs.Prelude.{◌≡◌, IfOk, IfErr};
 ghost use Rattle.std.specs.Prelude.{Some, is_some};
-ghost use Rattle.schema_definitions.specs.Pointer.{pointer_to};
-ghost use Rattle.schema_keywords.specs.KeywordViews.{draft_of};
-ghost use Rattle.schema_parts.specs.ResolverViews.{IsReadAt, place_of};
+ghost use Rattle.theory_definitions.specs.Pointer.{pointer_to};
+ghost use Rattle.schema_drafts.specs.KeywordViews.{draft_of};
+ghost use Rattle.schema_traits.specs.ResolverViews.{IsReadAt, place_of};
 ghost use Rattle.schema_keys.specs.KeyViews.{key_of};
 ghost use Rattle.schema_keys.specs.Alone.{RefusesKeyAlone};
 ghost use Rattle.schema_keys.specs.Here.{LiesBelow, resolver_here, HasMembers, enters, vocabularies_at};
 ghost use Rattle.schema_keys.specs.Here.{is_identified_at, key_inside, IsSubschemaKey, key_by_itself, RefusesSubschema};
-ghost use Rattle.schema_parts.specs.Showing.{Yields, Agrees};
+ghost use Rattle.schema_traits.specs.Showing.{Yields, Agrees};
 ghost use Rattle.schema_keys.specs.Readings.{read_value};
 
 use crate::context::Context;
 use crate::error::BuildError;
 use crate::key::SchemaKey;
-use schema_keywords::keywords::{Draft, VocabularySet};
-use schema_parts::resolver::{LookupError, Resolver, Target};
-use schema_parts::schema_place::{SchemaPath, SchemaPlace};
+use schema_drafts::keywords::{Draft, VocabularySet};
 use schema_reports::location::{Location, OutOfMemory};
+use schema_traits::resolver::{LookupError, Resolver, Target};
+use schema_traits::schema_place::{SchemaPath, SchemaPlace};
 use serde_json::{Map, Value};
 
 /// A subschema: its key, the pointer that leads to it from its schema, and the value that was read there.

@@ -1,7 +1,7 @@
 //! Parts of references and of URIs.
 ghost use Rattle.std.specs.Prelude.{◌≡◌, ◌==◌, codes};
 ghost use Rattle.std.specs.List.{starts_with};
-ghost use Rattle.schema_definitions.specs.Plan.{fragment, without_fragment};
+ghost use Rattle.theory_definitions.specs.Plan.{fragment, without_fragment};
 
 /// What follows the first `#`, and nothing where there is none.
 pub(crate) fn fragment_of(text: &str) -> &str

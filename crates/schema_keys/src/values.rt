@@ -3,9 +3,9 @@ ghost use Rattle.std.specs.Prelude.{◌≡◌, ◌∷◌, [], Bool, IfErr, IfOk,
 ghost use Rattle.serde_json.specs.Data.{string};
 ghost use Rattle.serde_json.specs.Find.{as_bool, as_object, as_str};
 ghost use Rattle.serde_json.specs.View.{view, members_view};
-ghost use Rattle.schema_meaning.specs.Refusals.{not_a_schema};
-ghost use Rattle.node_table.specs.NodeViews.{boolean_plan, plan_of};
-ghost use Rattle.schema_parts.specs.ResolverViews.{IsReadAt, place_of};
+ghost use Rattle.theory_meaning.specs.Refusals.{not_a_schema};
+ghost use Rattle.schema_node_table.specs.NodeViews.{boolean_plan, plan_of};
+ghost use Rattle.schema_traits.specs.ResolverViews.{IsReadAt, place_of};
 ghost use Rattle.schema_keys.specs.Readings.{IsReading, read_value};
 ghost use Rattle.schema_keys.specs.Refusing.{Names};
 ghost use Rattle.schema_keys.specs.Here.{RefusesText};
@@ -13,8 +13,8 @@ ghost use Rattle.schema_keys.specs.Here.{RefusesText};
 use crate::context::Context;
 use crate::error::BuildError;
 use crate::key::SchemaKey;
-use node_table::node::NodeForm;
-use schema_parts::resolver::Resolver;
+use schema_node_table::node::NodeForm;
+use schema_traits::resolver::Resolver;
 use serde_json::{Map, Value};
 
 /// What is known of the value at a key's place: it was read for the key already, or it was not.

@@ -1,10 +1,10 @@
 -- The question that a run begins with, as it is read.
-use Rattle.schema_definitions.specs.Instance.{Place, Text}
+use Rattle.theory_definitions.specs.Instance.{Place, Text}
 use Rattle.schema_reports.specs.InstanceViews.{subject_of}
 use Rattle.schema_reports.specs.declared.instance.Instance.{Instance}
-use Rattle.schema_parts.specs.KeywordViews.{mode_of}
-use Rattle.run_steps.specs.Askings.{Asking}
-use Rattle.schema_runs.specs.UnitStates.{evaluating}
+use Rattle.schema_traits.specs.KeywordViews.{mode_of}
+use Rattle.schema_run_steps.specs.Askings.{Asking}
+use Rattle.theory_runs.specs.UnitStates.{evaluating}
 use Rattle.schema_node.specs.declared.node.runs.FirstQuestion.{FirstQuestion}
 
 abbrev pub asking_first : FirstQuestion → Asking

@@ -1,34 +1,34 @@
 -- What the functions of a run are called with, over the values of the program: each premise in a word.
 use Rattle.std.specs.Prelude.{Bool, List, Option, map, option_map, ℕ, [], ◌≡◌}
-use Rattle.schema_definitions.specs.Instance.{Text}
-use Rattle.schema_definitions.specs.Keywords.{for_verdict}
-use Rattle.schema_definitions.specs.Laws.{IsPresent, steps_below}
-use Rattle.schema_definitions.specs.Matching.{Matcher}
-use Rattle.schema_definitions.specs.Pointer.{pointer_to}
+use Rattle.theory_definitions.specs.Instance.{Text}
+use Rattle.theory_definitions.specs.Keywords.{for_verdict}
+use Rattle.theory_definitions.specs.Laws.{IsPresent, steps_below}
+use Rattle.theory_definitions.specs.Matching.{Matcher}
+use Rattle.theory_definitions.specs.Pointer.{pointer_to}
 use Rattle.schema_reports.specs.InstanceViews.{subject_of}
-use Rattle.schema_parts.specs.EdgeViews.{edge_of}
-use Rattle.schema_parts.specs.FaultViews.{faults_in}
-use Rattle.schema_parts.specs.KeywordViews.{below_of, mode_of}
-use Rattle.schema_parts.specs.MatcherViews.{FinishesEach}
-use Rattle.schema_parts.specs.declared.keyword.Answer as code_answer
-use Rattle.schema_parts.specs.declared.keyword.Below.{Below}
-use Rattle.schema_parts.specs.declared.keyword.Validate as keyword
-use Rattle.schema_parts.specs.declared.matcher.Matcher as matcher
-use Rattle.schema_parts.specs.declared.numbers.Edge.{Edge}
-use Rattle.schema_contexts.specs.Progress.{Context, places_in}
-use Rattle.node_table.specs.NodeTable.{numbered, shaped_form, shaped_part}
-use Rattle.node_table.specs.NodeViews.{entry_of, form_of}
-use Rattle.node_table.specs.declared.node.Entry.{Entry}
-use Rattle.run_steps.specs.Askings.{asking}
-use Rattle.run_steps.specs.EvaluationPlaces.{CarriesItsNumber, steps_to}
-use Rattle.run_steps.specs.NodeRuns.{HasChildren, HasForm, HasParts, form_at_work}
-use Rattle.run_steps.specs.declared.question.Engine.{Engine}
-use Rattle.run_steps.specs.declared.question.NamedKeyword.{NamedKeyword}
-use Rattle.run_steps.specs.declared.question.Question.{Question}
+use Rattle.schema_traits.specs.EdgeViews.{edge_of}
+use Rattle.schema_traits.specs.FaultViews.{faults_in}
+use Rattle.schema_traits.specs.KeywordViews.{below_of, mode_of}
+use Rattle.schema_traits.specs.MatcherViews.{FinishesEach}
+use Rattle.schema_traits.specs.declared.keyword.Answer as code_answer
+use Rattle.schema_traits.specs.declared.keyword.Below.{Below}
+use Rattle.schema_traits.specs.declared.keyword.Validate as keyword
+use Rattle.schema_traits.specs.declared.matcher.Matcher as matcher
+use Rattle.schema_traits.specs.declared.numbers.Edge.{Edge}
+use Rattle.schema_run_context.specs.Progress.{Context, places_in}
+use Rattle.schema_node_table.specs.NodeTable.{numbered, shaped_form, shaped_part}
+use Rattle.schema_node_table.specs.NodeViews.{entry_of, form_of}
+use Rattle.schema_node_table.specs.declared.node.Entry.{Entry}
+use Rattle.schema_run_steps.specs.Askings.{asking}
+use Rattle.schema_run_steps.specs.EvaluationPlaces.{CarriesItsNumber, steps_to}
+use Rattle.schema_run_steps.specs.NodeRuns.{HasChildren, HasForm, HasParts, form_at_work}
+use Rattle.schema_run_steps.specs.declared.question.Engine.{Engine}
+use Rattle.schema_run_steps.specs.declared.question.NamedKeyword.{NamedKeyword}
+use Rattle.schema_run_steps.specs.declared.question.Question.{Question}
 use Rattle.asked_questions.specs.Questions.{QuestionsLeft, SaysByQuestions}
-use Rattle.schema_runs.specs.Answered.{IsAsked, Wanted, an_edge, setting_by, the_entry, the_keyword}
-use Rattle.schema_runs.specs.RunStates.{HasBegun, MayRun}
-use Rattle.schema_runs.specs.UnitStates.{MayAsk, MayEvaluate}
+use Rattle.theory_runs.specs.Answered.{IsAsked, Wanted, an_edge, setting_by, the_entry, the_keyword}
+use Rattle.theory_runs.specs.RunStates.{HasBegun, MayRun}
+use Rattle.theory_runs.specs.UnitStates.{MayAsk, MayEvaluate}
 
 -- where the question's place, or one above it, carries a number, it is the number of that place
 abbrev pub CarriesNumber : Question → Context → Type 0

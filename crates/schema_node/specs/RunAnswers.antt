@@ -1,29 +1,29 @@
 -- What the functions of a run answer, over the values of the program: each answer in a word.
 use Rattle.std.specs.Prelude.{Bool, IfOk, List, Option, Result, map, option_map, ℕ, ◌≡◌, ◌≤◌}
 use Rattle.schema_reports.specs.declared.evaluation.EvaluationNode.{EvaluationNode}
-use Rattle.schema_parts.specs.EdgeViews.{edge_of}
-use Rattle.schema_parts.specs.KeywordViews.{below_of}
-use Rattle.schema_parts.specs.declared.keyword.Answer as code_answer
-use Rattle.schema_parts.specs.declared.keyword.Below.{Below}
-use Rattle.schema_parts.specs.declared.keyword.Reply as code
-use Rattle.schema_parts.specs.declared.keyword.Validate as keyword
-use Rattle.schema_parts.specs.declared.matcher.Matcher as matcher
-use Rattle.schema_parts.specs.declared.numbers.Edge.{Edge}
-use Rattle.schema_contexts.specs.Progress.{Context}
-use Rattle.schema_contexts.specs.Works.{Asks, Spends}
-use Rattle.node_table.specs.NodeTable.{numbered, shaped_form, shaped_part}
-use Rattle.node_table.specs.NodeViews.{entry_of, form_of}
-use Rattle.node_table.specs.declared.node.Entry.{Entry}
-use Rattle.run_steps.specs.Askings.{Asking, asking}
-use Rattle.run_steps.specs.NodeRuns.{form_at_work}
-use Rattle.run_steps.specs.declared.evaluation_order.EntryUnits.{EntryUnits}
-use Rattle.run_steps.specs.declared.question.Engine.{Engine}
-use Rattle.run_steps.specs.declared.question.NamedKeyword.{NamedKeyword}
-use Rattle.run_steps.specs.declared.question.Question.{Question}
-use Rattle.schema_runs.specs.Answered.{Answered, Answers, ChildGiven, ChildReplied, EdgeGiven, EdgeReplied, EntryReplied, FormGiven, FormReplied, NodeGiven, NodeReplied, PartsGiven, PartsReplied, PlanGiven, PlanReplied, Turns, Wanted, an_edge, setting_by, the_entry, the_keyword}
-use Rattle.schema_runs.specs.RunStates.{Keeps, MeetsChild, MeetsForm, MeetsNode, NodeRemembers, NodeSays, PassesItsOwn, RunBorrows, Setting, StaysRight}
-use Rattle.schema_runs.specs.UnitStates.{ChildTells, FindsRightly}
-use Rattle.schema_runs.specs.Visits.{LeadsNowhere, NodeCounts}
+use Rattle.schema_traits.specs.EdgeViews.{edge_of}
+use Rattle.schema_traits.specs.KeywordViews.{below_of}
+use Rattle.schema_traits.specs.declared.keyword.Answer as code_answer
+use Rattle.schema_traits.specs.declared.keyword.Below.{Below}
+use Rattle.schema_traits.specs.declared.keyword.Reply as code
+use Rattle.schema_traits.specs.declared.keyword.Validate as keyword
+use Rattle.schema_traits.specs.declared.matcher.Matcher as matcher
+use Rattle.schema_traits.specs.declared.numbers.Edge.{Edge}
+use Rattle.schema_run_context.specs.Progress.{Context}
+use Rattle.schema_run_context.specs.Works.{Asks, Spends}
+use Rattle.schema_node_table.specs.NodeTable.{numbered, shaped_form, shaped_part}
+use Rattle.schema_node_table.specs.NodeViews.{entry_of, form_of}
+use Rattle.schema_node_table.specs.declared.node.Entry.{Entry}
+use Rattle.schema_run_steps.specs.Askings.{Asking, asking}
+use Rattle.schema_run_steps.specs.NodeRuns.{form_at_work}
+use Rattle.schema_run_steps.specs.declared.evaluation_order.EntryUnits.{EntryUnits}
+use Rattle.schema_run_steps.specs.declared.question.Engine.{Engine}
+use Rattle.schema_run_steps.specs.declared.question.NamedKeyword.{NamedKeyword}
+use Rattle.schema_run_steps.specs.declared.question.Question.{Question}
+use Rattle.theory_runs.specs.Answered.{Answered, Answers, ChildGiven, ChildReplied, EdgeGiven, EdgeReplied, EntryReplied, FormGiven, FormReplied, NodeGiven, NodeReplied, PartsGiven, PartsReplied, PlanGiven, PlanReplied, Turns, Wanted, an_edge, setting_by, the_entry, the_keyword}
+use Rattle.theory_runs.specs.RunStates.{Keeps, MeetsChild, MeetsForm, MeetsNode, NodeRemembers, NodeSays, PassesItsOwn, RunBorrows, Setting, StaysRight}
+use Rattle.theory_runs.specs.UnitStates.{ChildTells, FindsRightly}
+use Rattle.theory_runs.specs.Visits.{LeadsNowhere, NodeCounts}
 
 -- ---- what is left of the context, where there is a result
 

@@ -1,17 +1,17 @@
 -- What a whole run of a node says, meets and leaves, over the table of nodes and the matcher: each answer in a word.
 use Rattle.std.specs.Prelude.{Bool, IfOk, List, Result, ℕ}
 use Rattle.serde_json.specs.View.{view}
-use Rattle.schema_definitions.specs.Keywords.{Keywords}
-use Rattle.schema_definitions.specs.Matching.{Matcher}
+use Rattle.theory_definitions.specs.Keywords.{Keywords}
+use Rattle.theory_definitions.specs.Matching.{Matcher}
 use Rattle.schema_reports.specs.declared.evaluation.EvaluationNode.{EvaluationNode}
-use Rattle.schema_parts.specs.declared.keyword.Reply as code
-use Rattle.schema_contexts.specs.Progress.{Context}
-use Rattle.node_table.specs.NodeTable.{NodeEntry, numbered}
-use Rattle.run_steps.specs.Askings.{Asking, IsAskedOf}
+use Rattle.schema_traits.specs.declared.keyword.Reply as code
+use Rattle.schema_run_context.specs.Progress.{Context}
+use Rattle.schema_node_table.specs.NodeTable.{NodeEntry, numbered}
+use Rattle.schema_run_steps.specs.Askings.{Asking, IsAskedOf}
 use Rattle.schema_node.specs.RunAnswers.{AsksNode, CountsOn, KeepsAssumed, KeepsMarks, KeepsPairs}
-use Rattle.schema_runs.specs.RunStates.{NodeRemembers, RunBorrows, RunMeets, RunRemembers, RunReplies, RunSpeaks, StaysRight, forgotten, setting_over}
-use Rattle.schema_runs.specs.UnitStates.{RunGives}
-use Rattle.schema_runs.specs.Visits.{NodeCounts}
+use Rattle.theory_runs.specs.RunStates.{NodeRemembers, RunBorrows, RunMeets, RunRemembers, RunReplies, RunSpeaks, StaysRight, forgotten, setting_over}
+use Rattle.theory_runs.specs.UnitStates.{RunGives}
+use Rattle.theory_runs.specs.Visits.{NodeCounts}
 
 -- the subject stands at the place in the context's instance
 abbrev pub SubjectStandsIn : Context → Asking → Type 0

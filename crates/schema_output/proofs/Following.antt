@@ -9,8 +9,8 @@ use Rattle.serde_json.specs.Read.{max_depth, of_items, of_json}
 use Rattle.serde_json.specs.View.{items_of}
 use Rattle.serde_json.specs.Written.{blank_items, items_outline}
 use Rattle.serde_json.proofs.OnLiterals.{serde_json_on_literals}
-use Rattle.schema_definitions.specs.Instance.{Text}
-use Rattle.schema_definitions.specs.Reports.{Unit_, Units, a_unit, report_of, unit}
+use Rattle.theory_definitions.specs.Instance.{Text}
+use Rattle.theory_definitions.specs.Reports.{Unit_, Units, a_unit, report_of, unit}
 use Rattle.schema_output.specs.Output.{output_list, reports_in_each, unit_object}
 use Rattle.schema_output.specs.Texts.{Follow, IsJsonText, Prints, closing, objects_below, opening}
 use Rattle.schema_output.proofs.Printing.{print_first, print_next, text_of_prints}

@@ -1,6 +1,6 @@
 -- A unit of the code, opened by one level.
 use Rattle.std.proofs.Common.{◌≡◌, map, rules, true}
-use Rattle.schema_definitions.specs.Reports.{unit, units_of}
+use Rattle.theory_definitions.specs.Reports.{unit, units_of}
 use Rattle.schema_reports.specs.UnitViews.{report_in, unit_of}
 use Rattle.schema_reports.specs.declared.evaluation.EvaluationNode.{EvaluationNode, out-EvaluationNode, the_lemmas}
 

@@ -1,7 +1,7 @@
 -- A text that is escaped to itself stands for itself between quotes.
 use Rattle.std.proofs.Common.{◌≡◌, ◌++◌, ◌∷◌, ◌∙◌, [], Bool, ap, append_assoc, codes, sym}
 use Rattle.json.specs.Print.{escape, quoted}
-use Rattle.schema_definitions.specs.Instance.{Text}
+use Rattle.theory_definitions.specs.Instance.{Text}
 use Rattle.schema_output.specs.Texts.{plain_places_text, valid_text}
 
 -- a text and the quote behind it, before more

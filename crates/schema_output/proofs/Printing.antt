@@ -14,7 +14,7 @@ use Rattle.serde_json.specs.Data.{Data, Items, Members, array, boolean, depth, i
 use Rattle.serde_json.specs.Read.{max_depth, of_json, read}
 use Rattle.serde_json.specs.Written.{IsInOrder, blank, blank_items, blank_members, items_outline, members_outline, outline}
 use Rattle.serde_json.proofs.Texts.{print-outline, tokens_from_order}
-use Rattle.schema_definitions.specs.Instance.{Text}
+use Rattle.theory_definitions.specs.Instance.{Text}
 use Rattle.schema_output.specs.Texts.{IsJsonText, Prints}
 
 -- ---- depths

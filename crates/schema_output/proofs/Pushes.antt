@@ -1,6 +1,6 @@
 -- What is added after what was added before.
 use Rattle.std.proofs.Common.{◌≡◌, ◌++◌, ◌∙◌, Err, IfOk, Ok, Result, ap, append_assoc, if◌then◌else◌, is_ok}
-use Rattle.schema_definitions.specs.Instance.{Text}
+use Rattle.theory_definitions.specs.Instance.{Text}
 
 pub behind : (old mid added : Text) → mid ≡ old ++ added → (more : Text) → mid ++ more ≡ old ++ (added ++ more)
 behind old mid added e more = ap (λ s. s ++ more) e ∙ append_assoc old added more

@@ -4,8 +4,8 @@ use Rattle.serde_json.specs.View.{view}
 use Rattle.serde_json.specs.Written.{compact_text, outline}
 use Rattle.serde_json.proofs.OnLiterals.{serde_json_on_literals}
 use Rattle.serde_json.proofs.Texts.{print-outline}
-use Rattle.schema_definitions.specs.Instance.{Text}
-use Rattle.schema_definitions.specs.Reports.{Described, Report}
+use Rattle.theory_definitions.specs.Instance.{Text}
+use Rattle.theory_definitions.specs.Reports.{Described, Report}
 use Rattle.schema_reports.specs.UnitViews.{described_of, report_in}
 use Rattle.schema_reports.specs.declared.evaluation.ErrorDescription.{ErrorDescription}
 use Rattle.schema_reports.specs.declared.evaluation.UnitReport.{UnitReport}

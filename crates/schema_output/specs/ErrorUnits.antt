@@ -1,8 +1,8 @@
 -- The units that stand for a list of errors: one for each error, in their order, under a root that speaks for the whole
 -- instance and is valid exactly if there is no error. (Core 2020-12, 12.3 and 12.4)
 use Rattle.std.specs.Prelude.{Bool, List, None, [], false, map, true, ◌∷◌}
-use Rattle.schema_definitions.specs.Pointer.{pointer_to}
-use Rattle.schema_definitions.specs.Reports.{Error, Unit_, unit, units_of}
+use Rattle.theory_definitions.specs.Pointer.{pointer_to}
+use Rattle.theory_definitions.specs.Reports.{Error, Unit_, unit, units_of}
 
 -- invalid, at the error's locations, with its keyword's name and its text for its one error
 abbrev pub error_unit : Error → Unit_

@@ -5,8 +5,8 @@ use Rattle.std.specs.List.{flat_map}
 use Rattle.std.specs.Prelude.{Bool, List, None, Option, Some, [], codes, if◌then◌else◌, map, unwrap_or, ◌++◌, ◌∷◌}
 use Rattle.serde_json.specs.Data.{Data, Members, array, boolean, no_members, object, put, string}
 use Rattle.serde_json.specs.View.{items_of}
-use Rattle.schema_definitions.specs.Instance.{Text}
-use Rattle.schema_definitions.specs.Reports.{Described, Report, Unit_, Units, a_unit, no_units, report_of, unit}
+use Rattle.theory_definitions.specs.Instance.{Text}
+use Rattle.theory_definitions.specs.Reports.{Described, Report, Unit_, Units, a_unit, no_units, report_of, unit}
 
 -- a unit's report before those of the units inside it
 abbrev mutual

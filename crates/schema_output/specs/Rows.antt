@@ -2,8 +2,8 @@
 use Rattle.std.specs.Prelude.{List, None, Some, [], codes, false, true, ◌++◌, ◌∷◌, ◌≡◌}
 use Rattle.serde_json.specs.Data.{member, no_members, object, string}
 use Rattle.serde_json.specs.Written.{compact_text}
-use Rattle.schema_definitions.specs.Instance.{Text}
-use Rattle.schema_definitions.specs.Reports.{Described, Error, Unit_, unit, units_of}
+use Rattle.theory_definitions.specs.Instance.{Text}
+use Rattle.theory_definitions.specs.Reports.{Described, Error, Unit_, unit, units_of}
 use Rattle.schema_output.specs.ErrorUnits.{errors_unit}
 use Rattle.schema_output.specs.Output.{errors_by_name, output_list}
 

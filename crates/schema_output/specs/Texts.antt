@@ -7,8 +7,8 @@ use Rattle.json.specs.Tree.{HasNumbers, json_tokens}
 use Rattle.serde_json.specs.Data.{Data, boolean, depth}
 use Rattle.serde_json.specs.Read.{max_depth, of_json, read}
 use Rattle.serde_json.specs.Written.{IsInOrder, blank, compact_text, has_float, outline}
-use Rattle.schema_definitions.specs.Instance.{Text}
-use Rattle.schema_definitions.specs.Reports.{Described, Report, Unit_, children_of}
+use Rattle.theory_definitions.specs.Instance.{Text}
+use Rattle.theory_definitions.specs.Reports.{Described, Report, Unit_, children_of}
 use Rattle.schema_output.specs.Output.{reports_in_each, schema_location, unit_object}
 
 -- a value as JSON: the compact text of a value that holds no fraction. The digits of a fraction are not said; of any value, the

@@ -7,7 +7,7 @@ ghost use Rattle.serde_json.specs.Data.{depth};
 ghost use Rattle.serde_json.specs.Read.{max_depth, read};
 ghost use Rattle.serde_json.specs.View.{view};
 ghost use Rattle.serde_json.specs.Written.{IsInOrder, compact_text, has_float};
-ghost use Rattle.schema_definitions.specs.Reports.{report_of};
+ghost use Rattle.theory_definitions.specs.Reports.{report_of};
 ghost use Rattle.schema_reports.specs.UnitViews.{unit_of};
 ghost use Rattle.schema_output.specs.EntryViews.{list_by, shown_of};
 ghost use Rattle.schema_output.specs.Output.{shown_in};

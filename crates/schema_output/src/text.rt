@@ -3,7 +3,7 @@ ghost use Rattle.std.specs.Prelude.{◌≡◌, ◌++◌, ◌∷◌, ◌≤◌, I
 ghost use Rattle.schema_reports.specs.Showing.{Adds};
 ghost use Rattle.json.specs.Print.{escape, quoted};
 ghost use Rattle.serde_json.specs.Written.{compact_text};
-ghost use Rattle.schema_definitions.specs.Instance.{Text};
+ghost use Rattle.theory_definitions.specs.Instance.{Text};
 ghost use Rattle.schema_reports.specs.UnitViews.{described_of, report_in, unit_of};
 ghost use Rattle.schema_output.specs.EntryViews.{list_by, object_by};
 ghost use Rattle.schema_output.specs.Output.{schema_location};

@@ -5,7 +5,7 @@ use Rattle.std.specs.Ordering.{is_lt}
 use Rattle.std.proofs.lemmas.Bool.{cases_lt, lt-ltb}
 use Rattle.std.proofs.lemmas.List.{length-map}
 use Rattle.serde_json.specs.Data.{Data, Items, Members, array, boolean, item, member, no_items, no_members, null, number, object, string}
-use Rattle.schema_definitions.specs.Instance.{Place, Step, Text, item_places, member_places, places, same_place, same_step, to_item, to_member, to_name}
+use Rattle.theory_definitions.specs.Instance.{Place, Step, Text, item_places, member_places, places, same_place, same_step, to_item, to_member, to_name}
 use Rattle.schema_places.specs.Numbers.{Ascends, place_before, step_before, text_before}
 use Rattle.schema_places.specs.Rows.{ComesFirst, NamesAscend, NamesAscendInItems, NamesAscendInMembers}
 use Rattle.schema_places.proofs.Numbers.{at_block, item_more, member_more, past_block, step_itself}

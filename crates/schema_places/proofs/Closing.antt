@@ -2,7 +2,7 @@
 use Rattle.std.proofs.Common.{◌≡◌, ℕ, suc, ◌+◌, ◌<◌, ◌&&◌, Bool, true, false, cond, List, [], ◌∷◌, ◌++◌, length, map, refl, sym, ◌∙◌, ap, ap₂, subst, arith, true≢false}
 use Rattle.std.specs.Prelude.{Option, Some, None, is_some, option_map, ◌||◌}
 use Rattle.serde_json.specs.Data.{Data, Items, Members, array, boolean, item, member, no_items, no_members, null, number, object, string}
-use Rattle.schema_definitions.specs.Instance.{Place, Step, item_places, member_places, places, same_place, same_step, to_item, to_member, to_name}
+use Rattle.theory_definitions.specs.Instance.{Place, Step, item_places, member_places, places, same_place, same_step, to_item, to_member, to_name}
 use Rattle.schema_places.specs.Numbers.{Closed, number_of, place_at}
 use Rattle.schema_places.proofs.Under.{step_equal}
 

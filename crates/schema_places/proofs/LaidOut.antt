@@ -3,7 +3,7 @@ use Rattle.std.proofs.Common.{◌≡◌, ◌∙◌, ◌<◌, ◌≤◌, ◌&&◌
 use Rattle.std.specs.Prelude.{Some}
 use Rattle.serde_json.specs.View.{view}
 use Rattle.serde_json.specs.declared.value.Value.{Value}
-use Rattle.schema_definitions.specs.Instance.{Place, Step, places}
+use Rattle.theory_definitions.specs.Instance.{Place, Step, places}
 use Rattle.schema_places.specs.Numbers.{Ascends, Closed, is_under, number_of, place_at}
 use Rattle.schema_places.specs.Rows.{Laid, LaidOut, RisesBelow, leads_of, led_by, places_of, row_in, rows_at}
 use Rattle.schema_places.proofs.Closing.{places_closed}

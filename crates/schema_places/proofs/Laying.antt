@@ -8,7 +8,7 @@ use Rattle.std.specs.Map.{keys_of}
 use Rattle.serde_json.specs.Data.{Data, Items, Members, array, boolean, item, member, no_items, no_members, null, number, object, string}
 use Rattle.serde_json.specs.View.{members_view}
 use Rattle.serde_json.proofs.Views.{Entry}
-use Rattle.schema_definitions.specs.Instance.{Text, to_item, to_member, item_places, member_places, places}
+use Rattle.theory_definitions.specs.Instance.{Text, to_item, to_member, item_places, member_places, places}
 use Rattle.schema_places.specs.Rows.{ComesFirst, Laid, LaidBelow, item_rows, laid, member_rows, own_name, rows_at}
 
 -- ---- how many rows there are

@@ -5,7 +5,7 @@ use Rattle.std.proofs.lemmas.Bool.{cases_lt, eqb-true}
 use Rattle.std.proofs.lemmas.List.{length-map, get_or_append_left, get_or-append_right, get_or-map}
 use Rattle.std.proofs.lemmas.Slice.Eq.{bytes_eq-Decides}
 use Rattle.serde_json.specs.Data.{Data, Items, Members, array, boolean, item, member, no_items, no_members, null, number, object, string}
-use Rattle.schema_definitions.specs.Instance.{Place, Step, Text, item_places, member_places, places, same_place, same_step, to_item, to_member, to_name}
+use Rattle.theory_definitions.specs.Instance.{Place, Step, Text, item_places, member_places, places, same_place, same_step, to_item, to_member, to_name}
 use Rattle.schema_places.specs.Numbers.{number_of}
 use Rattle.schema_places.specs.Rows.{Laid, leads_of, nothing, item_numbers, items_below, leads_to_items, leads_to_names, item_rows, laid, led_by, member_rows, members_below, name_in, name_numbers, named_by, own_name, rows_at}
 use Rattle.schema_places.proofs.Names.{NamesApart, NamesApartInItems, NamesApartInMembers, has_name}

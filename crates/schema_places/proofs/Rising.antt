@@ -3,7 +3,7 @@ use Rattle.std.proofs.Common.{[], ◌∷◌, ℕ, zero, suc, ◌+◌, ◌-◌, �
 use Rattle.std.proofs.lemmas.Bool.{cases_lt}
 use Rattle.std.proofs.lemmas.List.{get_or_append_left, get_or-append_right}
 use Rattle.serde_json.specs.Data.{Data, Items, Members, array, boolean, item, member, no_items, no_members, null, number, object, string}
-use Rattle.schema_definitions.specs.Instance.{Text, places}
+use Rattle.theory_definitions.specs.Instance.{Text, places}
 use Rattle.schema_places.specs.Rows.{ComesFirst, IsFirst, Laid, NamesAscend, NamesAscendInItems, NamesAscendInMembers, Rising, RisesBelow, item_rows, items_below, laid, item_numbers, member_rows, members_below, name_in, name_numbers, named_by, own_name, rows_at}
 use Rattle.schema_places.proofs.Numbers.{no_row}
 use Rattle.schema_places.proofs.Sitting.{Sits, item_rest, member_numbers, member_rest, names_told, sits_left, sits_rest}

@@ -12,7 +12,7 @@ use Rattle.std.proofs.lemmas.Bool.{cases_lt}
 use Rattle.std.proofs.lemmas.List.Sorted.{IsNonDecreasingBy-from_default}
 use Rattle.std.proofs.lemmas.Map.Text.{is_eq-slice_cmp}
 use Rattle.std.proofs.lemmas.Slice.Eq.{bytes_eq-Decides}
-use Rattle.schema_definitions.specs.Instance.{Text, same_step, to_item, to_member, to_name}
+use Rattle.theory_definitions.specs.Instance.{Text, same_step, to_item, to_member, to_name}
 use Rattle.schema_places.specs.Rows.{IsFirst, NameNumbers, Rising, leads_to_items, leads_to_names, led_by, named_by, number_of_name}
 use Rattle.schema_places.specs.RowViews.{AllSmall}
 use Rattle.schema_places.proofs.Names.{less_differs}

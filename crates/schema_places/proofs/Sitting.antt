@@ -2,7 +2,7 @@
 use Rattle.std.proofs.Common.{◌≡◌, ℕ, suc, ◌+◌, ◌-◌, ◌<◌, ◌≤◌, List, [], ◌∷◌, ◌++◌, length, refl, sym, ◌∙◌, ap, ap₂, subst, arith, length-append}
 use Rattle.std.proofs.lemmas.List.{get_or_append_left, get_or-append_right}
 use Rattle.serde_json.specs.Data.{Data, Items, Members, array, boolean, item, member, no_items, no_members, null, number, object, string}
-use Rattle.schema_definitions.specs.Instance.{Text, places}
+use Rattle.theory_definitions.specs.Instance.{Text, places}
 use Rattle.schema_places.specs.Rows.{Laid, NameNumbers, Walks, item_numbers, item_rows, laid, last_in, member_rows, name_in, name_numbers, name_of, named_by, nothing, numbers_from, own_name, row_in, rows_at}
 use Rattle.schema_places.proofs.Laying.{length_rows}
 

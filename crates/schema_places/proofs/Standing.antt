@@ -3,7 +3,7 @@ use Rattle.std.proofs.Common.{◌≡◌, ℕ, zero, suc, ◌+◌, ◌&&◌, Bool
 use Rattle.std.specs.Prelude.{Option, Some, None, is_some, option_and_then, option_map, ◌||◌}
 use Rattle.std.proofs.lemmas.Slice.Eq.{bytes_eq-Decides}
 use Rattle.serde_json.specs.Data.{Data, Items, Members, array, boolean, item, member, no_items, no_members, null, number, object, string}
-use Rattle.schema_definitions.specs.Instance.{Place, Step, Subject, Text, a_name, a_value, item_of, item_places, member_of, member_places, places, same_step, subject_from, to_item, to_member, to_name}
+use Rattle.theory_definitions.specs.Instance.{Place, Step, Subject, Text, a_name, a_value, item_of, item_places, member_of, member_places, places, same_step, subject_from, to_item, to_member, to_name}
 use Rattle.schema_places.specs.Numbers.{number_of}
 use Rattle.schema_places.proofs.Closing.{root_there, some_block, some_first, some_map}
 use Rattle.schema_places.proofs.Names.{NamesApart, NamesApartInItems, NamesApartInMembers, has_name}

@@ -2,7 +2,7 @@
 use Rattle.std.proofs.Common.{◌≡◌, ℕ, zero, suc, ◌+◌, ◌-◌, ◌<◌, ◌≤◌, List, [], ◌∷◌, ◌++◌, length, length-append, get_or, take, drop, refl, sym, ◌∙◌, ap, ap₂, subst, arith}
 use Rattle.std.specs.Prelude.{slice_range, slice_set}
 use Rattle.std.proofs.lemmas.List.{length-map, map-append, map-set, take-append-le, take_all}
-use Rattle.schema_definitions.specs.Instance.{Text}
+use Rattle.theory_definitions.specs.Instance.{Text}
 use Rattle.schema_places.specs.Rows.{Laid, LaidBelow, NameNumbers, Walks, items_below, laid, last_in, members_below, name_in, name_of, named_by, numbers_from, row_in}
 use Rattle.schema_places.specs.RowViews.{AllSmall, AllWithin, IsWithin, below_of, empty_row, last_at, row_of, rows_of, text_at, text_of}
 use Rattle.schema_places.specs.declared.rows.Below.{Below}

@@ -2,7 +2,7 @@
 use Rattle.std.proofs.Common.{◌≡◌, ◌<◌, ◌++◌, ℕ, length, ◌∷◌, [], List, sym, ◌∙◌, ap, append_assoc}
 use Rattle.std.specs.Prelude.{None, Some}
 use Rattle.std.proofs.lemmas.List.{append-nil}
-use Rattle.schema_definitions.specs.Instance.{Place, Step}
+use Rattle.theory_definitions.specs.Instance.{Place, Step}
 use Rattle.schema_places.specs.Numbers.{Closed, number_of, place_at}
 use Rattle.schema_places.proofs.Closing.{none_below, stands}
 

@@ -6,7 +6,7 @@ use Rattle.std.specs.Prelude.{Bool, List, None, Option, Some, [], false, if◌th
 use Rattle.std.specs.Cmp.Lexicographic.{slice_cmp}
 use Rattle.std.specs.Ordering.{is_lt, nat_cmp}
 use Rattle.serde_json.specs.Data.{Data}
-use Rattle.schema_definitions.specs.Instance.{Place, Step, Text, same_place, same_step, subject_at, to_item, to_member, to_name}
+use Rattle.theory_definitions.specs.Instance.{Place, Step, Text, same_place, same_step, subject_at, to_item, to_member, to_name}
 
 -- the number of a place: how many places stand before it
 abbrev pub number_of : Place → List Place → Option ℕ

@@ -1,6 +1,6 @@
 -- What rows say beside the table of the numbers of items and of names.
 use Rattle.std.specs.Prelude.{List, [], length, map, slice_index_or, slice_range, ℕ, ◌∷◌, ◌<◌, ◌≤◌}
-use Rattle.schema_definitions.specs.Instance.{Text}
+use Rattle.theory_definitions.specs.Instance.{Text}
 use Rattle.schema_places.specs.Rows.{Laid, LaidBelow, items_below, members_below, nothing, own_name}
 use Rattle.schema_places.specs.declared.rows.Below.{Below}
 use Rattle.schema_places.specs.declared.rows.Below.TheVariants as below

@@ -7,7 +7,7 @@ use Rattle.std.specs.declared.cmp.Ordering.TheVariants.{Less}
 use Rattle.serde_json.specs.Data.{Data, Items, Members, array, boolean, item, member, no_items, no_members, null, number, object, string}
 use Rattle.serde_json.specs.View.{view}
 use Rattle.serde_json.specs.declared.value.Value.{Value}
-use Rattle.schema_definitions.specs.Instance.{Place, Step, Text, item_places, member_places, places, same_step, to_item, to_member, to_name}
+use Rattle.theory_definitions.specs.Instance.{Place, Step, Text, item_places, member_places, places, same_step, to_item, to_member, to_name}
 use Rattle.schema_places.specs.Numbers.{NumbersAll}
 
 -- a step and the number of the place that it leads to

@@ -1,7 +1,7 @@
 //! The places of an instance, numbered when they are first asked for.
 ghost use Rattle.std.specs.Prelude.{◌≡◌, IfOk, OnErr, OnOk, Some, ⊤};
 ghost use Rattle.std.specs.Borrow.{sem};
-ghost use Rattle.schema_definitions.specs.Instance.{places};
+ghost use Rattle.theory_definitions.specs.Instance.{places};
 ghost use Rattle.schema_places.specs.Numbers.{NumbersAll};
 ghost use Rattle.serde_json.specs.View.{view};
 

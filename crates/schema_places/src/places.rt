@@ -1,7 +1,7 @@
 //! The places of an instance, each with its number.
 ghost use Rattle.std.specs.Prelude.{◌≡◌, ◌<◌, ◌≤◌, ◌&&◌, ◌++◌, ◌∷◌, [], ℕ, IfOk, length, map, nat_le};
 ghost use Rattle.schema_reports.specs.Showing.{Yields};
-ghost use Rattle.schema_definitions.specs.Instance.{places};
+ghost use Rattle.theory_definitions.specs.Instance.{places};
 ghost use Rattle.schema_places.specs.Numbers.{Ascends, Closed, NumbersAll, OwnNumbers, is_under, number_of, place_at};
 ghost use Rattle.schema_reports.specs.InstanceViews.{step_of};
 ghost use Rattle.serde_json.specs.View.{view};
@@ -24,7 +24,7 @@ pub struct Places<'i> {
 
 impl<'i> Model for Places<'i> {
     ghost use Rattle.std.specs.Prelude.{List};
-    ghost use Rattle.schema_definitions.specs.Instance.{Place};
+    ghost use Rattle.theory_definitions.specs.Instance.{Place};
     ghost use Rattle.schema_places.specs.Rows.{LaidOut, places_of};
 
     ghost Value = { List Place };

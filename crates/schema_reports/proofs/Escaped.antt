@@ -6,7 +6,7 @@ use Rattle.std.proofs.lemmas.Str.{inside_one, encode_ascii, chars-encodes}
 use Rattle.std.specs.Str.{chars, IsUtf8}
 use Rattle.std.proofs.lemmas.List.{at_drop_more, at_drop_all, take_more}
 use lib.Utf8.{encode, encodes}
-use Rattle.schema_definitions.specs.Pointer.{escaped}
+use Rattle.theory_definitions.specs.Pointer.{escaped}
 
 pub escaped-append : (xs ys : List ℕ) → escaped (xs ++ ys) ≡ escaped xs ++ escaped ys
 escaped-append [] ys = refl

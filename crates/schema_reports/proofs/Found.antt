@@ -8,7 +8,7 @@ use Rattle.std.proofs.lemmas.Slice.Eq.{bytes_eq-Decides}
 use Rattle.std.proofs.lemmas.Map.Text.{is_eq-slice_cmp}
 use Rattle.serde_json.specs.Data.{Data, null, boolean, number, string, array, object, Items, no_items, item, Members, no_members, member}
 use Rattle.serde_json.specs.Find.{get, get_member, get_item, as_object}
-use Rattle.schema_definitions.specs.Instance.{Text, a_value, a_name, after_step, item_of, member_of, to_member, to_name}
+use Rattle.theory_definitions.specs.Instance.{Text, a_value, a_name, after_step, item_of, member_of, to_member, to_name}
 
 by_order : (o : Ordering) (d : Data) (a b : Option Data) → a ≡ b → cond (is_eq o) (Some d) a ≡ match_ordering o b (Some d) b
 by_order Less d a b e = e

@@ -1,7 +1,7 @@
 -- Places: what differs in length differs, one step more, and the pointer step by step.
 use Rattle.std.proofs.Common.{◌≡◌, ◌&&◌, Bool, true, false, [], ◌∷◌, length, refl, sym, ap, true≢false}
 use Rattle.std.proofs.Common.{suc}
-use Rattle.schema_definitions.specs.Instance.{Place, same_place}
+use Rattle.theory_definitions.specs.Instance.{Place, same_place}
 
 and_right : (a b : Bool) → (a && b) ≡ true → b ≡ true
 and_right true b h = h

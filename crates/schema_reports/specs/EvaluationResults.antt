@@ -3,8 +3,8 @@ use Rattle.std.specs.List.{list_all}
 use Rattle.std.specs.Prelude.{Bool, List, None, Some, [], ◌++◌, ◌∷◌, false, map, option_map, string_bytes, true}
 use Rattle.serde_json.specs.Data.{Data}
 use Rattle.serde_json.specs.View.{view}
-use Rattle.schema_definitions.specs.Reports.{Described, Unit_, report_of}
-use Rattle.schema_definitions.specs.Keywords.{Gives, Named}
+use Rattle.theory_definitions.specs.Reports.{Described, Unit_, report_of}
+use Rattle.theory_definitions.specs.Keywords.{Gives, Named}
 use Rattle.schema_reports.specs.UnitViews.{described_of, unit_of}
 use Rattle.schema_reports.specs.declared.evaluation_result.AbsorbedResult.{AbsorbedResult}
 use Rattle.schema_reports.specs.declared.evaluation_result.EvaluationResult.{EvaluationResult}

@@ -1,7 +1,7 @@
 -- Whether an instance holds a fraction, so that its text is not spoken of.
 use Rattle.std.specs.Prelude.{Bool, false}
 use Rattle.serde_json.specs.Written.{has_float}
-use Rattle.schema_definitions.specs.Instance.{Subject, a_name, a_value}
+use Rattle.theory_definitions.specs.Instance.{Subject, a_name, a_value}
 
 abbrev pub subject_has_float : Subject → Bool
 subject_has_float (a_value d) = has_float d

@@ -1,6 +1,6 @@
 -- The code's instances and steps, as the definitions have them.
 use Rattle.serde_json.specs.View.{view}
-use Rattle.schema_definitions.specs.Instance.{Subject, a_value, a_name, Step, to_member, to_item, to_name}
+use Rattle.theory_definitions.specs.Instance.{Subject, a_value, a_name, Step, to_member, to_item, to_name}
 use Rattle.schema_reports.specs.declared.instance.Instance.{Instance}
 use Rattle.schema_reports.specs.declared.instance.Instance.TheVariants as instance
 use Rattle.schema_reports.specs.declared.instance.InstanceStep.{InstanceStep}

@@ -1,7 +1,7 @@
 -- The segments that the code joins to a location. (section 3 of RFC 6901)
 use Rattle.std.specs.Prelude.{◌∷◌, ℕ, decimal}
-use Rattle.schema_definitions.specs.Instance.{Text}
-use Rattle.schema_definitions.specs.Pointer.{escaped}
+use Rattle.theory_definitions.specs.Instance.{Text}
+use Rattle.theory_definitions.specs.Pointer.{escaped}
 use Rattle.schema_reports.specs.declared.location.LocationSegment.{LocationSegment}
 use Rattle.schema_reports.specs.declared.location.LocationSegment.TheVariants.{Property, Index}
 

@@ -1,8 +1,8 @@
 -- An error apart from any run: it holds its instance, where a name is held as a text.
 use Rattle.std.specs.Prelude.{◌++◌}
 use Rattle.serde_json.specs.Data.{Data, string}
-use Rattle.schema_definitions.specs.Instance.{Subject, Text, a_name, a_value}
-use Rattle.schema_definitions.specs.Reports.{Error, OwnedError, instance_path}
+use Rattle.theory_definitions.specs.Instance.{Subject, Text, a_name, a_value}
+use Rattle.theory_definitions.specs.Reports.{Error, OwnedError, instance_path}
 
 abbrev pub value_of : Subject → Data
 value_of (a_value d) = d

@@ -3,7 +3,7 @@
 use Rattle.std.specs.Prelude.{ℕ, ◌≡◌, ◌++◌, ◌∷◌, [], List, true}
 use Rattle.std.specs.Hash as fed
 use Rattle.std.proofs.Common.{ap}
-use Rattle.schema_definitions.specs.Instance.{Place, Step, to_member, to_item, to_name, same_place}
+use Rattle.theory_definitions.specs.Instance.{Place, Step, to_member, to_item, to_name, same_place}
 use Rattle.schema_reports.specs.SamePlaces.{place_equal}
 
 abbrev pub step_input : Step → List (List ℕ)

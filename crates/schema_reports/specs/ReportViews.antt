@@ -1,13 +1,13 @@
 -- The code's errors, as the definitions have them. Where texts are not spoken of, each counts as empty.
 use Rattle.std.specs.Prelude.{◌≡◌, [], Bool, Option, Some, String, string_bytes, option_map, if◌then◌else◌}
 use Rattle.serde_json.specs.Data.{Data}
-use Rattle.schema_definitions.specs.Instance.{Place, Text, subject_at}
-use Rattle.schema_definitions.specs.Meaning.{Where}
-use Rattle.schema_definitions.specs.Reports.{Error}
+use Rattle.theory_definitions.specs.Instance.{Place, Text, subject_at}
+use Rattle.theory_definitions.specs.Meaning.{Where}
+use Rattle.theory_definitions.specs.Reports.{Error}
 use Rattle.schema_reports.specs.InstanceViews.{subject_of}
 use Rattle.std.specs.declared.alloc.Global.{Global}
 use Rattle.serde_json.specs.View.{view}
-use Rattle.schema_definitions.specs.Reports as spec
+use Rattle.theory_definitions.specs.Reports as spec
 use Rattle.schema_reports.specs.declared.reports.ValidationError.{ValidationError}
 use Rattle.schema_reports.specs.declared.reports.OwnedError.{OwnedError}
 

@@ -3,8 +3,8 @@ use Rattle.std.proofs.Common.{◌≡◌, ◌∙◌, ◌&&◌, Bool, ap, ap₂, r
 use Rattle.std.proofs.lemmas.Bool.{eqb-true}
 use Rattle.std.proofs.lemmas.Slice.Eq.{bytes_eq-Decides}
 use Rattle.std.specs.Cmp.{IsEquivalence, and_equiv, both_ways, nat_eq_equiv, on_equiv}
-use Rattle.schema_definitions.specs.Instance.{Place, Step, to_member, to_item, to_name, same_step, same_place}
-use Rattle.schema_definitions.specs.Drafts.{SchemaPlace, same_schema_place}
+use Rattle.theory_definitions.specs.Instance.{Place, Step, to_member, to_item, to_name, same_step, same_place}
+use Rattle.theory_definitions.specs.Drafts.{SchemaPlace, same_schema_place}
 
 step_itself : (s : Step) → same_step s s ≡ true
 step_itself (to_member k) = (bytes_eq-Decides k k).1 refl

@@ -1,7 +1,7 @@
 -- What is answered, against what is meant.
 use Rattle.std.specs.Prelude.{IfOk, OnOk, Result, String, string_bytes, ◌++◌, ◌≡◌}
 use Rattle.std.specs.declared.alloc.Global.{Global}
-use Rattle.schema_definitions.specs.Instance.{Text}
+use Rattle.theory_definitions.specs.Instance.{Text}
 
 -- where there is an answer, it is this
 abbrev pub Yields : {A E : Type 0} → Result A E → A → Type 0

@@ -1,6 +1,6 @@
 -- A unit level by level: what it says of itself, and its children's units in their order.
 use Rattle.std.specs.Prelude.{◌≡◌, Bool, map}
-use Rattle.schema_definitions.specs.Reports.{Unit_, report_of, unit, units_of}
+use Rattle.theory_definitions.specs.Reports.{Unit_, report_of, unit, units_of}
 use Rattle.schema_reports.specs.UnitViews.{report_in, unit_of, unit_step}
 use Rattle.schema_reports.specs.declared.evaluation.EvaluationNode.{EvaluationNode, out-EvaluationNode}
 use Rattle.schema_reports.specs.declared.evaluation.EvaluationNode.TheFolds.{fold_out-EvaluationNode}

@@ -1,7 +1,7 @@
 -- The code's units, as the definitions have them. Where texts are not spoken of, each counts as empty.
 use Rattle.std.specs.Prelude.{Bool, map, option_map, string_bytes}
 use Rattle.serde_json.specs.View.{view}
-use Rattle.schema_definitions.specs.Reports.{Described, Report, Unit_, unit, units_of}
+use Rattle.theory_definitions.specs.Reports.{Described, Report, Unit_, unit, units_of}
 use Rattle.schema_reports.specs.ReportViews.{spoken}
 use Rattle.schema_reports.specs.declared.evaluation.ErrorDescription.{ErrorDescription}
 use Rattle.schema_reports.specs.declared.evaluation.UnitReport.{UnitReport}

@@ -2,7 +2,7 @@
 ghost use Rattle.std.specs.Prelude.{◌≡◌, [], ◌++◌, ◌∷◌, Bool, OnErr, map, OnOk};
 ghost use Rattle.schema_reports.specs.Showing.{Yields};
 ghost use Rattle.std.specs.List.{list_all};
-ghost use Rattle.schema_definitions.specs.Reports.{report_of};
+ghost use Rattle.theory_definitions.specs.Reports.{report_of};
 ghost use Rattle.schema_reports.specs.UnitViews.{unit_of};
 
 use crate::location::OutOfMemory;

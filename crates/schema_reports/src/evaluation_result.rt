@@ -3,7 +3,7 @@ ghost use Rattle.std.specs.Prelude.{◌≡◌, [], ◌∷◌, Bool, IfOk, OnErr,
 ghost use Rattle.serde_json.specs.View.{view};
 ghost use Rattle.schema_reports.specs.UnitViews.{described_of, unit_of};
 ghost use Rattle.schema_reports.specs.EvaluationResults.{annotated, errored, gives_of, gives_with, of_units, refusing};
-ghost use Rattle.schema_definitions.specs.Keywords.{all_valid};
+ghost use Rattle.theory_definitions.specs.Keywords.{all_valid};
 
 use crate::evaluation::{Annotations, ChildList, ErrorDescription, EvaluationNode};
 use crate::location::OutOfMemory;

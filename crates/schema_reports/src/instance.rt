@@ -2,13 +2,13 @@
 ghost use Rattle.std.specs.Prelude.{◌≡◌, List, [], ◌∷◌, ◌++◌, IfOk, option_map, Option, Some, None, map, IfSome, OnErr, false, OnOk};
 ghost use Rattle.std.specs.Prelude.{fold, length, string_bytes};
 ghost use Rattle.schema_reports.specs.Showing.{Shows, Yields};
-ghost use Rattle.schema_definitions.specs.Instance.{same_place, same_step, after_step, to_member, to_item, to_name};
+ghost use Rattle.theory_definitions.specs.Instance.{same_place, same_step, after_step, to_member, to_item, to_name};
 ghost use Rattle.std.specs.Cmp.{partial_equiv_from_equiv};
 ghost use Rattle.schema_reports.specs.SamePlaces.{places_equiv};
 ghost use Rattle.schema_reports.specs.PlaceInputs.{place_input, same_input, step_input};
-ghost use Rattle.schema_definitions.specs.Pointer.{is_shown, pointer_to, shown_place, step_text};
+ghost use Rattle.theory_definitions.specs.Pointer.{is_shown, pointer_to, shown_place, step_text};
 ghost use Rattle.schema_reports.specs.InstanceTexts.{subject_has_float};
-ghost use Rattle.schema_definitions.specs.Meaning.{subject_text};
+ghost use Rattle.theory_definitions.specs.Meaning.{subject_text};
 ghost use Rattle.schema_reports.specs.Owned.{value_of};
 ghost use Rattle.json.specs.Print.{quoted};
 ghost use Rattle.serde_json.specs.Find.{get};
@@ -137,9 +137,9 @@ pub struct Place<'i> {
 
 impl<'i> Model for Place<'i> {
     ghost use Rattle.std.specs.Prelude.{List, map};
-    ghost use Rattle.schema_definitions.specs.Instance.{Step};
+    ghost use Rattle.theory_definitions.specs.Instance.{Step};
     ghost use Rattle.schema_reports.specs.InstanceTexts.{subject_has_float};
-    ghost use Rattle.schema_definitions.specs.Meaning.{subject_text};
+    ghost use Rattle.theory_definitions.specs.Meaning.{subject_text};
     ghost use Rattle.schema_reports.specs.Owned.{value_of};
     ghost use Rattle.json.specs.Print.{quoted};
     ghost use Rattle.serde_json.specs.Find.{get};

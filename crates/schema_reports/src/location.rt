@@ -4,7 +4,7 @@ ghost use Rattle.schema_reports.specs.Showing.{Adds, Yields};
 ghost use Rattle.std.specs.Cmp.{partial_equiv_from_equiv};
 ghost use Rattle.std.specs.Cmp.Lexicographic.{nat_list_eq_equiv};
 ghost use Rattle.std.specs.Char.{encode_utf8};
-ghost use Rattle.schema_definitions.specs.Pointer.{escaped};
+ghost use Rattle.theory_definitions.specs.Pointer.{escaped};
 ghost use Rattle.schema_reports.specs.LocationViews.{segment_text, segment_of};
 
 use std::alloc::{AllocError, Global};

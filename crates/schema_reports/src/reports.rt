@@ -3,8 +3,8 @@ ghost use Rattle.std.specs.Prelude.{◌≡◌, List, Bool, true, false, IfOk, If
 ghost use Rattle.schema_reports.specs.Showing.{Shows, Yields};
 ghost use Rattle.std.specs.Iterator.{UpTo, YieldsFirst, at_most, item_count};
 ghost use Rattle.std.specs.Iterator.SizeHint.{IsWithinCount};
-ghost use Rattle.schema_definitions.specs.Pointer.{pointer_to};
-ghost use Rattle.schema_definitions.specs.Meaning.{false_error, false_text};
+ghost use Rattle.theory_definitions.specs.Pointer.{pointer_to};
+ghost use Rattle.theory_definitions.specs.Meaning.{false_error, false_text};
 ghost use Rattle.schema_reports.specs.Owned.{owned, prefixed};
 ghost use Rattle.schema_reports.specs.InstanceTexts.{subject_has_float};
 ghost use Rattle.schema_reports.specs.InstanceViews.{subject_of};

@@ -4,10 +4,10 @@ use Rattle.std.specs.Prelude.{Contains, Some, option_and_then}
 use Rattle.std.specs.List.{list_any}
 use Rattle.std.proofs.lemmas.List.{length-append}
 use Rattle.std.proofs.lemmas.List.Elements.{All-contains, All-weaker}
-use Rattle.schema_definitions.specs.Instance.{Place, Step, Subject, after_step}
-use Rattle.schema_definitions.specs.Guarded.{NodeEdge, node_edges}
-use Rattle.schema_meaning.proofs.Falls.{from_below}
-use Rattle.schema_pairs.specs.Contexts.{Solver}
+use Rattle.theory_definitions.specs.Instance.{Place, Step, Subject, after_step}
+use Rattle.theory_definitions.specs.Guarded.{NodeEdge, node_edges}
+use Rattle.theory_meaning.proofs.Falls.{from_below}
+use Rattle.schema_solver_state.specs.Contexts.{Solver}
 use Rattle.schema_solver.specs.Solving.{HasEachCut, IsEdge, MaySolve, Setting, is_cut}
 
 module _ {K R : Type 0} (g : Setting K R) where

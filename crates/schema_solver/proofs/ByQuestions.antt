@@ -2,23 +2,23 @@
 use Rattle.std.proofs.Common.{◌≡◌, ◌∙◌, ◌||◌, ◌&&◌, not, Bool, true, false, List, [], ◌∷◌, ℕ, refl, sym, subst, ap, true≢false}
 use Rattle.std.proofs.lemmas.Bool.{or_right}
 use Rattle.serde_json.specs.View.{view}
-use Rattle.schema_definitions.specs.Instance.{Place, Subject, Text}
-use Rattle.schema_definitions.specs.Guarded.{Children, node_keyword}
-use Rattle.schema_definitions.specs.Keywords.{Question}
-use Rattle.schema_definitions.specs.Laws.{EachKeeps}
-use Rattle.schema_definitions.specs.Matching.{Matching, completed, completion_of, finished, matching, settled}
-use Rattle.schema_meaning.specs.Numbered.{Ranked, subject_in}
-use Rattle.schema_parts.specs.KeywordViews.{Tells as MayTell}
-use Rattle.schema_parts.specs.declared.asking.Asking.{Asking}
-use Rattle.schema_parts.specs.declared.asking.Asking.TheVariants as asking
+use Rattle.theory_definitions.specs.Instance.{Place, Subject, Text}
+use Rattle.theory_definitions.specs.Guarded.{Children, node_keyword}
+use Rattle.theory_definitions.specs.Keywords.{Question}
+use Rattle.theory_definitions.specs.Laws.{EachKeeps}
+use Rattle.theory_definitions.specs.Matching.{Matching, completed, completion_of, finished, matching, settled}
+use Rattle.theory_meaning.specs.Numbered.{Ranked, subject_in}
+use Rattle.schema_traits.specs.KeywordViews.{Tells as MayTell}
+use Rattle.schema_traits.specs.declared.asking.Asking.{Asking}
+use Rattle.schema_traits.specs.declared.asking.Asking.TheVariants as asking
 use Rattle.asked_questions.specs.Questions.{SaysByQuestions, answers_say, puts_questions}
-use Rattle.run_steps.specs.NodeRuns.{HasForm}
-use Rattle.run_steps.proofs.NodeRuns.{stands_in}
-use Rattle.schema_greatest.specs.Under.{EdgeAnswers, Solving}
-use Rattle.schema_greatest.specs.Stages.{ChildTells, Fits, FormTells, child_by, edges_by}
-use Rattle.schema_greatest.proofs.Between.{grows_fits, lean_less}
-use Rattle.schema_greatest.proofs.Says.{fits_consistent}
-use Rattle.schema_pairs.specs.Contexts.{Solver, found_of}
+use Rattle.schema_run_steps.specs.NodeRuns.{HasForm}
+use Rattle.schema_run_steps.proofs.NodeRuns.{stands_in}
+use Rattle.theory_fixed_points.specs.Under.{EdgeAnswers, Solving}
+use Rattle.theory_fixed_points.specs.Stages.{ChildTells, Fits, FormTells, child_by, edges_by}
+use Rattle.theory_fixed_points.proofs.Between.{grows_fits, lean_less}
+use Rattle.theory_fixed_points.proofs.Says.{fits_consistent}
+use Rattle.schema_solver_state.specs.Contexts.{Solver, found_of}
 use Rattle.asked_questions.proofs.AnswersSay.{first_as_it_has_to, first_otherwise, none_say}
 use Rattle.schema_solver.specs.Needs.{SaysByTheRest}
 use Rattle.schema_solver.specs.Solving.{Goes, InEach, MaySolve, Setting, solving_in}

@@ -7,29 +7,29 @@ use Rattle.std.proofs.lemmas.Bool.{false_from_ne_true, or_left}
 use Rattle.std.proofs.lemmas.List.{drop_at, take_at}
 use Rattle.serde_json.specs.Data.{Data}
 use Rattle.serde_json.specs.View.{view}
-use Rattle.schema_definitions.specs.Instance.{Place, Step, Subject, Text, after_step, same_place}
-use Rattle.schema_definitions.specs.Guarded.{Children, NodeEdge, NodePart, Nodes, node_edges, node_keyword}
-use Rattle.schema_definitions.specs.Keywords.{Answer}
-use Rattle.schema_definitions.specs.Turns.{Standing, TurnLaws}
-use Rattle.schema_definitions.specs.Laws.{EachKeeps}
-use Rattle.schema_meaning.specs.Numbered.{Ranked, left, subject_in}
-use Rattle.schema_meaning.proofs.Falls.{left_below, left_entered, left_lower, step_falls}
+use Rattle.theory_definitions.specs.Instance.{Place, Step, Subject, Text, after_step, same_place}
+use Rattle.theory_definitions.specs.Guarded.{Children, NodeEdge, NodePart, Nodes, node_edges, node_keyword}
+use Rattle.theory_definitions.specs.Keywords.{Answer}
+use Rattle.theory_definitions.specs.Turns.{Standing, TurnLaws}
+use Rattle.theory_definitions.specs.Laws.{EachKeeps}
+use Rattle.theory_meaning.specs.Numbered.{Ranked, left, subject_in}
+use Rattle.theory_meaning.proofs.Falls.{left_below, left_entered, left_lower, step_falls}
 use Rattle.schema_places.specs.Numbers.{OwnNumbers, number_of}
-use Rattle.schema_parts.specs.AtOnce.{EndsAtOnce}
-use Rattle.schema_parts.specs.KeywordViews.{Tells as MayTell}
-use Rattle.schema_contexts.specs.Progress.{Pairs, busy_at}
-use Rattle.schema_contexts.specs.Verdicts.{Remembers, is_pair, verdict_of}
-use Rattle.schema_contexts.proofs.Pairs.{among-pair, busy-pushed, snoc_first}
-use Rattle.run_steps.specs.NodeRuns.{HasForm}
-use Rattle.run_steps.proofs.NodeRuns.{stands_in}
-use Rattle.schema_greatest.specs.Under.{EdgeAnswers, IsSolvable, Solving}
-use Rattle.schema_greatest.specs.Found.{NoneAt}
-use Rattle.schema_greatest.specs.Stages.{FormTells, PairTells, PartsTell, Tells, edges_by, form_by, parts_by}
-use Rattle.schema_greatest.proofs.Between.{grows_fits, lean_less, tells_known, tells_now}
-use Rattle.schema_greatest.proofs.Turning.{at_once_by}
-use Rattle.schema_pairs.specs.Contexts.{SettlesAll, Solver, found_of, has_pair, solver_places}
-use Rattle.schema_pairs.specs.Answering.{Accepts, Begins, IsFound, Refuses}
-use Rattle.schema_pairs.specs.Saying.{WhatIsSaid}
+use Rattle.schema_traits.specs.AtOnce.{EndsAtOnce}
+use Rattle.schema_traits.specs.KeywordViews.{Tells as MayTell}
+use Rattle.schema_run_context.specs.Progress.{Pairs, busy_at}
+use Rattle.schema_run_context.specs.Verdicts.{Remembers, is_pair, verdict_of}
+use Rattle.schema_run_context.proofs.Pairs.{among-pair, busy-pushed, snoc_first}
+use Rattle.schema_run_steps.specs.NodeRuns.{HasForm}
+use Rattle.schema_run_steps.proofs.NodeRuns.{stands_in}
+use Rattle.theory_fixed_points.specs.Under.{EdgeAnswers, IsSolvable, Solving}
+use Rattle.theory_fixed_points.specs.Found.{NoneAt}
+use Rattle.theory_fixed_points.specs.Stages.{FormTells, PairTells, PartsTell, Tells, edges_by, form_by, parts_by}
+use Rattle.theory_fixed_points.proofs.Between.{grows_fits, lean_less, tells_known, tells_now}
+use Rattle.theory_fixed_points.proofs.Turning.{at_once_by}
+use Rattle.schema_solver_state.specs.Contexts.{SettlesAll, Solver, found_of, has_pair, solver_places}
+use Rattle.schema_solver_state.specs.Answering.{Accepts, Begins, IsFound, Refuses}
+use Rattle.schema_solver_state.specs.Saying.{WhatIsSaid}
 use Rattle.schema_solver.specs.Solving.{Goes, HasEachCut, HasRoom, InEach, IsNew, Leaves, MaySolve, Setting, is_cut, solving_in}
 use Rattle.schema_solver.specs.Needs.{PairRan, SaysTheRest, edge_needs, pair_needs}
 use Rattle.schema_solver.proofs.PairSteps.{assumed_goes, assumed_says, freed_goes, freed_says, refused_goes, refused_says, settled_goes, settled_says}

@@ -7,28 +7,28 @@ use Rattle.std.proofs.lemmas.List.Elements.{All-nil}
 use Rattle.serde_json.specs.Data.{Data}
 use Rattle.serde_json.specs.View.{view}
 use Rattle.serde_json.specs.declared.value.Value.{Value}
-use Rattle.schema_definitions.specs.Instance.{Place, Subject, Text, a_value, subject_at}
-use Rattle.schema_definitions.specs.Guarded.{guarded_within, node_outcome, yes_outcome}
-use Rattle.schema_definitions.specs.Keywords.{Below}
-use Rattle.schema_definitions.specs.Laws.{EachKeeps}
-use Rattle.schema_definitions.specs.Meaning.{place_below}
-use Rattle.schema_definitions.proofs.Products.{in_either}
-use Rattle.schema_parts.specs.MatcherViews.{FinishesEach}
-use Rattle.schema_contexts.specs.Progress.{NoDeeper, root_places}
-use Rattle.schema_contexts.specs.Verdicts.{verdict_of}
-use Rattle.schema_meaning.specs.Numbered.{Ranked, left, subject_in}
-use Rattle.schema_greatest.specs.Under.{Solving, IsSolvable}
-use Rattle.schema_greatest.specs.Found.{Found, IsSound}
-use Rattle.schema_greatest.specs.Stages.{IsStaged, Tells}
-use Rattle.schema_greatest.specs.Work.{IsBoundedBy, IsCounted, pairs_of}
-use Rattle.schema_greatest.proofs.Between.{grows_below, grows_none, grows_on, lean_less}
-use Rattle.schema_greatest.proofs.Solved.{nothing_staged, solver_says_guarded, staged_is_sound, tells_under_sets}
-use Rattle.schema_greatest.proofs.Staged.{told_guarded}
-use Rattle.schema_greatest.proofs.Bounds.{bounded_by}
-use Rattle.schema_pairs.specs.Contexts.{Solver, found_of, has_pair}
-use Rattle.schema_pairs.specs.Answering.{fresh}
+use Rattle.theory_definitions.specs.Instance.{Place, Subject, Text, a_value, subject_at}
+use Rattle.theory_definitions.specs.Guarded.{guarded_within, node_outcome, yes_outcome}
+use Rattle.theory_definitions.specs.Keywords.{Below}
+use Rattle.theory_definitions.specs.Laws.{EachKeeps}
+use Rattle.theory_definitions.specs.Meaning.{place_below}
+use Rattle.theory_definitions.proofs.Products.{in_either}
+use Rattle.schema_traits.specs.MatcherViews.{FinishesEach}
+use Rattle.schema_run_context.specs.Progress.{NoDeeper, root_places}
+use Rattle.schema_run_context.specs.Verdicts.{verdict_of}
+use Rattle.theory_meaning.specs.Numbered.{Ranked, left, subject_in}
+use Rattle.theory_fixed_points.specs.Under.{Solving, IsSolvable}
+use Rattle.theory_fixed_points.specs.Found.{Found, IsSound}
+use Rattle.theory_fixed_points.specs.Stages.{IsStaged, Tells}
+use Rattle.theory_fixed_points.specs.Work.{IsBoundedBy, IsCounted, pairs_of}
+use Rattle.theory_fixed_points.proofs.Between.{grows_below, grows_none, grows_on, lean_less}
+use Rattle.theory_fixed_points.proofs.Solved.{nothing_staged, solver_says_guarded, staged_is_sound, tells_under_sets}
+use Rattle.theory_fixed_points.proofs.Staged.{told_guarded}
+use Rattle.theory_fixed_points.proofs.Bounds.{bounded_by}
+use Rattle.schema_solver_state.specs.Contexts.{Solver, found_of, has_pair}
+use Rattle.schema_solver_state.specs.Answering.{fresh}
 use Rattle.schema_solver.specs.Solving.{BeginsFew, Goes, HoldsAsNodes, InEach, IsLate, IsSoundIn, IsStagedIn, LimitWithinBound, MaySolve, RestsOnFound, SaysAsNodes, Setting, StaysCounted, StaysWithin, solving_in}
-use Rattle.schema_pairs.proofs.FoundOf.{has_append}
+use Rattle.schema_solver_state.proofs.FoundOf.{has_append}
 
 module _ {K R : Type 0} (g : Setting K R) where
   pub counted_on : (a b c : Solver) → b.root ≡ a.root → StaysCounted g a b → StaysCounted g b c → StaysCounted g a c

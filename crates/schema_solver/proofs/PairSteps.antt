@@ -8,24 +8,24 @@ use Rattle.std.proofs.lemmas.List.Elements.{All-append, All-cons, All-head, All-
 use Rattle.serde_json.specs.View.{view}
 use Rattle.serde_json.specs.Data.{Data}
 use Rattle.serde_json.specs.declared.value.Value.{Value}
-use Rattle.schema_definitions.specs.Instance.{Place, Subject, subject_at}
-use Rattle.schema_definitions.specs.Laws.{EachKeeps}
-use Rattle.schema_definitions.proofs.Products.{in_either}
-use Rattle.schema_contexts.specs.Progress.{NoDeeper, Pairs, root_places}
-use Rattle.schema_contexts.specs.Verdicts.{Remembers, is_pair}
-use Rattle.run_steps.specs.NodeRuns.{TellsAll}
-use Rattle.schema_greatest.specs.Under.{Solving, IsSolvable}
-use Rattle.schema_greatest.specs.Found.{Grows, NoneAt, NoneDeeper, after_no, after_yes, after_yes_alone, after_yes_free, entered, is_this}
-use Rattle.schema_greatest.specs.Stages.{IsStaged, PairTells, Tells, for_now}
-use Rattle.schema_greatest.specs.Work.{IsBoundedBy, IsCounted, Pairs as AllPairs, pairs_of}
-use Rattle.schema_greatest.proofs.Pairs.{of_this, this_place}
-use Rattle.schema_greatest.proofs.Steps.{alone_grows, alone_says, alone_sound, assumes_grows, assumes_says, assumes_sound, entered_sound, free_grows, free_says, free_sound, no_grows, no_says, no_sound}
-use Rattle.schema_greatest.proofs.Work.{assumed_counts, entered_counts, freed_counts, refused_counts, settled_counts}
-use Rattle.schema_greatest.proofs.Bounds.{bounded_by, pairs_among, pairs_few}
-use Rattle.schema_pairs.specs.Contexts.{SettlesAll, Solver, found_of, has_pair, solver_places}
-use Rattle.schema_pairs.specs.Answering.{Begins}
+use Rattle.theory_definitions.specs.Instance.{Place, Subject, subject_at}
+use Rattle.theory_definitions.specs.Laws.{EachKeeps}
+use Rattle.theory_definitions.proofs.Products.{in_either}
+use Rattle.schema_run_context.specs.Progress.{NoDeeper, Pairs, root_places}
+use Rattle.schema_run_context.specs.Verdicts.{Remembers, is_pair}
+use Rattle.schema_run_steps.specs.NodeRuns.{TellsAll}
+use Rattle.theory_fixed_points.specs.Under.{Solving, IsSolvable}
+use Rattle.theory_fixed_points.specs.Found.{Grows, NoneAt, NoneDeeper, after_no, after_yes, after_yes_alone, after_yes_free, entered, is_this}
+use Rattle.theory_fixed_points.specs.Stages.{IsStaged, PairTells, Tells, for_now}
+use Rattle.theory_fixed_points.specs.Work.{IsBoundedBy, IsCounted, Pairs as AllPairs, pairs_of}
+use Rattle.theory_fixed_points.proofs.Pairs.{of_this, this_place}
+use Rattle.theory_fixed_points.proofs.Steps.{alone_grows, alone_says, alone_sound, assumes_grows, assumes_says, assumes_sound, entered_sound, free_grows, free_says, free_sound, no_grows, no_says, no_sound}
+use Rattle.theory_fixed_points.proofs.Work.{assumed_counts, entered_counts, freed_counts, refused_counts, settled_counts}
+use Rattle.theory_fixed_points.proofs.Bounds.{bounded_by, pairs_among, pairs_few}
+use Rattle.schema_solver_state.specs.Contexts.{SettlesAll, Solver, found_of, has_pair, solver_places}
+use Rattle.schema_solver_state.specs.Answering.{Begins}
 use Rattle.schema_solver.specs.Solving.{Goes, HasEachCut, HasRoom, InEach, IsLate, IsNew, Leaves, MaySolve, Setting, StaysWithin, solving_in}
-use Rattle.schema_pairs.proofs.FoundOf.{has_pushed, found_assumed, found_entered, found_freed, found_refused, found_settled}
+use Rattle.schema_solver_state.proofs.FoundOf.{has_pushed, found_assumed, found_entered, found_freed, found_refused, found_settled}
 
 -- what no pair in progress lies deeper than is so of what is found
 deeper : (p : Place) (es : Pairs) → NoDeeper p es → (j : ℕ) (q : Place) → has_pair es j q ≡ true → length q ≤ length p

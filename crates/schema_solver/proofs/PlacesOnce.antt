@@ -3,10 +3,10 @@ use Rattle.std.proofs.Common.{◌≡◌, ◌∙◌, ℕ, suc, ◌+◌, ◌<◌, 
 use Rattle.std.specs.Prelude.{None, Option, Some, if◌then◌else◌, option_map}
 use Rattle.std.specs.List.{list_any}
 use Rattle.std.proofs.lemmas.Bool.{false_from_ne_true, or_left, or_right}
-use Rattle.schema_definitions.specs.Instance.{Place, same_place}
+use Rattle.theory_definitions.specs.Instance.{Place, same_place}
 use Rattle.schema_places.specs.Numbers.{OwnNumbers, number_of, place_at}
-use Rattle.schema_greatest.specs.Work.{EachOnce, how_often, one_if}
-use Rattle.schema_contexts.proofs.Pairs.{place_equal, same_place-self}
+use Rattle.theory_fixed_points.specs.Work.{EachOnce, how_often, one_if}
+use Rattle.schema_run_context.proofs.Pairs.{place_equal, same_place-self}
 
 -- a later place has its own number past the first one
 later_number : (b : Bool) (o : Option ℕ) (n : ℕ) → (if b then Some 0 else option_map (λ n. n + 1) o) ≡ Some (suc n) → (b ≡ false) × (o ≡ Some n)

@@ -1,13 +1,13 @@
 -- Why a solver stops, and what it leaves then.
 use Rattle.std.proofs.Common.{◌≡◌, ◌∙◌, ℕ, ◌<◌, ◌≤◌, Bool, false, inl, inr, refl, subst, sym, true≢false}
 use Rattle.std.specs.Prelude.{Err, IsErrAnd, Ok, Result, Some, ◌⊎◌}
-use Rattle.schema_definitions.specs.Instance.{Place}
-use Rattle.schema_definitions.specs.Guarded.{Children, node_keyword}
-use Rattle.run_steps.specs.NodeRuns.{HasForm}
-use Rattle.schema_greatest.specs.Under.{Solving}
-use Rattle.schema_greatest.specs.Found.{Found}
-use Rattle.schema_pairs.specs.Contexts.{Solver}
-use Rattle.schema_pairs.specs.Answering.{Begins}
+use Rattle.theory_definitions.specs.Instance.{Place}
+use Rattle.theory_definitions.specs.Guarded.{Children, node_keyword}
+use Rattle.schema_run_steps.specs.NodeRuns.{HasForm}
+use Rattle.theory_fixed_points.specs.Under.{Solving}
+use Rattle.theory_fixed_points.specs.Found.{Found}
+use Rattle.schema_solver_state.specs.Contexts.{Solver}
+use Rattle.schema_solver_state.specs.Answering.{Begins}
 use Rattle.schema_solver.specs.declared.question.Stopped.{Stopped}
 use Rattle.schema_solver.specs.declared.question.Stopped.TheVariants.{Leans, Limit, OutOfMemory}
 use Rattle.schema_solver.specs.Solved.{Solved, Stops, Turned}

@@ -3,11 +3,11 @@ use Rattle.std.proofs.Common.{◌≡◌, ◌∙◌, ◌&&◌, not, Bool, true, f
 use Rattle.std.proofs.lemmas.Bool.{not-false, not-true}
 use Rattle.std.specs.Prelude.{Err, Ok, Result}
 use Rattle.serde_json.specs.View.{view}
-use Rattle.schema_definitions.specs.Instance.{Place}
-use Rattle.schema_greatest.specs.Under.{Solving}
-use Rattle.schema_greatest.specs.Found.{Found}
-use Rattle.schema_pairs.specs.Contexts.{Solver, found_of}
-use Rattle.schema_pairs.specs.Saying.{WhatIsSaid}
+use Rattle.theory_definitions.specs.Instance.{Place}
+use Rattle.theory_fixed_points.specs.Under.{Solving}
+use Rattle.theory_fixed_points.specs.Found.{Found}
+use Rattle.schema_solver_state.specs.Contexts.{Solver, found_of}
+use Rattle.schema_solver_state.specs.Saying.{WhatIsSaid}
 use Rattle.schema_solver.specs.declared.question.Stopped.{Stopped}
 use Rattle.schema_solver.specs.Solved.{Solved}
 use Rattle.schema_solver.specs.Solving.{Goes, InEach, Setting}

@@ -5,36 +5,36 @@ use Rattle.std.proofs.lemmas.List.Elements.{All-contains}
 use Rattle.std.proofs.lemmas.Bool.{or_left}
 use Rattle.serde_json.specs.Data.{Data}
 use Rattle.serde_json.specs.View.{view}
-use Rattle.schema_definitions.specs.Instance.{Place, Subject, Text}
-use Rattle.schema_definitions.specs.Keywords.{Answer, Marked, MatchPoint, Mode, Question, Reply, Turn, ask, done, ecma, for_verdict, mark, match_text, no_reply, truth, unmark}
-use Rattle.schema_definitions.specs.Laws.{EachKeeps}
-use Rattle.schema_definitions.specs.Matching.{Pair, completed, completion_of, finished, settled}
-use Rattle.schema_definitions.specs.Remembering.{AlwaysAsksVerdict, AsksVerdict, EachAsksVerdicts}
-use Rattle.schema_definitions.specs.Runs.{with_mark, without_last}
-use Rattle.schema_definitions.specs.Turns.{Standing, TurnLaws, marks_after, reply_to}
-use Rattle.schema_definitions.specs.Guarded.{Children, NodeForm, node_keyword, same_edge}
-use Rattle.schema_meaning.specs.Fractions.{node_words}
-use Rattle.schema_meaning.specs.Numbered.{Ranked, subject_in}
-use Rattle.schema_meaning.specs.Greatest.{IsMonotone}
-use Rattle.schema_parts.specs.KeywordViews.{Tells, answer_of, fresh}
-use Rattle.schema_parts.specs.declared.keyword.Answer as code_answer
-use Rattle.schema_contexts.specs.Matches.{settling}
-use Rattle.schema_contexts.specs.Progress.{root_places}
-use Rattle.run_steps.specs.EvaluationPlaces.{CarriesItsNumber}
-use Rattle.run_steps.specs.declared.evaluation_place.EvaluationPlace.{EvaluationPlace}
-use Rattle.schema_contexts.proofs.Matches.{decides, deciding}
-use Rattle.run_steps.specs.NodeRuns.{HasForm, TellsAll}
-use Rattle.run_steps.proofs.KeywordTurns.{falls_turned}
-use Rattle.run_steps.proofs.NodeParts.{keyword_in, tells_keyword}
-use Rattle.run_steps.proofs.NodeRuns.{stands_in}
-use Rattle.schema_greatest.specs.Under.{Solving, IsSolvable}
-use Rattle.schema_greatest.specs.Found.{Grows}
-use Rattle.schema_greatest.specs.Stages.{ChildTells, Consistent, FormTells, IsStaged}
-use Rattle.schema_greatest.specs.Turning.{Given, TurnsBy, answers_by, matches_here, subject_here, units_by}
-use Rattle.schema_greatest.proofs.Between.{grows_fits_same, grows_none}
-use Rattle.schema_greatest.proofs.Says.{consistent_less}
-use Rattle.schema_greatest.proofs.Turning.{answer_verdict, begins_by, ended_by, turned_by as turned_once}
-use Rattle.schema_pairs.specs.Contexts.{Solver, found_of, solver_places}
+use Rattle.theory_definitions.specs.Instance.{Place, Subject, Text}
+use Rattle.theory_definitions.specs.Keywords.{Answer, Marked, MatchPoint, Mode, Question, Reply, Turn, ask, done, ecma, for_verdict, mark, match_text, no_reply, truth, unmark}
+use Rattle.theory_definitions.specs.Laws.{EachKeeps}
+use Rattle.theory_definitions.specs.Matching.{Pair, completed, completion_of, finished, settled}
+use Rattle.theory_definitions.specs.Remembering.{AlwaysAsksVerdict, AsksVerdict, EachAsksVerdicts}
+use Rattle.theory_definitions.specs.Runs.{with_mark, without_last}
+use Rattle.theory_definitions.specs.Turns.{Standing, TurnLaws, marks_after, reply_to}
+use Rattle.theory_definitions.specs.Guarded.{Children, NodeForm, node_keyword, same_edge}
+use Rattle.theory_meaning.specs.Fractions.{node_words}
+use Rattle.theory_meaning.specs.Numbered.{Ranked, subject_in}
+use Rattle.theory_meaning.specs.Greatest.{IsMonotone}
+use Rattle.schema_traits.specs.KeywordViews.{Tells, answer_of, fresh}
+use Rattle.schema_traits.specs.declared.keyword.Answer as code_answer
+use Rattle.schema_run_context.specs.Matches.{settling}
+use Rattle.schema_run_context.specs.Progress.{root_places}
+use Rattle.schema_run_steps.specs.EvaluationPlaces.{CarriesItsNumber}
+use Rattle.schema_run_steps.specs.declared.evaluation_place.EvaluationPlace.{EvaluationPlace}
+use Rattle.schema_run_context.proofs.Matches.{decides, deciding}
+use Rattle.schema_run_steps.specs.NodeRuns.{HasForm, TellsAll}
+use Rattle.schema_run_steps.proofs.KeywordTurns.{falls_turned}
+use Rattle.schema_run_steps.proofs.NodeParts.{keyword_in, tells_keyword}
+use Rattle.schema_run_steps.proofs.NodeRuns.{stands_in}
+use Rattle.theory_fixed_points.specs.Under.{Solving, IsSolvable}
+use Rattle.theory_fixed_points.specs.Found.{Grows}
+use Rattle.theory_fixed_points.specs.Stages.{ChildTells, Consistent, FormTells, IsStaged}
+use Rattle.theory_fixed_points.specs.Turning.{Given, TurnsBy, answers_by, matches_here, subject_here, units_by}
+use Rattle.theory_fixed_points.proofs.Between.{grows_fits_same, grows_none}
+use Rattle.theory_fixed_points.proofs.Says.{consistent_less}
+use Rattle.theory_fixed_points.proofs.Turning.{answer_verdict, begins_by, ended_by, turned_by as turned_once}
+use Rattle.schema_solver_state.specs.Contexts.{Solver, found_of, solver_places}
 use Rattle.schema_solver.specs.Solving.{EachSays, Goes, InEach, IsStagedIn, MaySolve, Setting, solving_in}
 use Rattle.schema_solver.specs.TurningOn.{AsksOn, HasBegun, TurnsOn}
 use Rattle.schema_solver.proofs.Going.{goes_none}

@@ -1,10 +1,10 @@
 -- What a solver is made with and asked, as data.
 use Rattle.std.specs.Prelude.{Bool, List, None, false, length, slice_index_or, ℕ}
-use Rattle.schema_definitions.specs.Keywords.{Answer, Keywords}
-use Rattle.schema_definitions.specs.Matching.{Matcher}
-use Rattle.schema_parts.specs.declared.keyword.Validate as keyword
-use Rattle.schema_parts.specs.declared.matcher.Matcher as matcher
-use Rattle.node_table.specs.NodeTable.{NodeEntry, numbered}
+use Rattle.theory_definitions.specs.Keywords.{Answer, Keywords}
+use Rattle.theory_definitions.specs.Matching.{Matcher}
+use Rattle.schema_traits.specs.declared.keyword.Validate as keyword
+use Rattle.schema_traits.specs.declared.matcher.Matcher as matcher
+use Rattle.schema_node_table.specs.NodeTable.{NodeEntry, numbered}
 use Rattle.schema_solver.specs.declared.question.SolverEngine.{SolverEngine}
 use Rattle.schema_solver.specs.Solving.{Setting}
 

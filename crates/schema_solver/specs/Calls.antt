@@ -4,24 +4,24 @@ use Rattle.std.specs.Prelude.{[], Bool, IfErr, IfOk, IfSome, List, Option, Resul
 use Rattle.serde_json.specs.Data.{object}
 use Rattle.serde_json.specs.View.{members_view, view}
 use Rattle.serde_json.specs.declared.value.Value.{Value}
-use Rattle.schema_definitions.specs.Instance.{a_value}
-use Rattle.schema_definitions.specs.Keywords.{Question, for_verdict}
+use Rattle.theory_definitions.specs.Instance.{a_value}
+use Rattle.theory_definitions.specs.Keywords.{Question, for_verdict}
 use Rattle.schema_reports.specs.InstanceViews.{subject_of}
 use Rattle.schema_reports.specs.declared.instance.Instance.{Instance}
-use Rattle.schema_parts.specs.KeywordViews.{answer_of, fresh}
-use Rattle.schema_parts.specs.declared.keyword.Answer as code_answer
-use Rattle.schema_parts.specs.declared.keyword.Validate as keyword
-use Rattle.schema_parts.specs.declared.matcher.Matcher as matcher
+use Rattle.schema_traits.specs.KeywordViews.{answer_of, fresh}
+use Rattle.schema_traits.specs.declared.keyword.Answer as code_answer
+use Rattle.schema_traits.specs.declared.keyword.Validate as keyword
+use Rattle.schema_traits.specs.declared.matcher.Matcher as matcher
 use Rattle.asked_questions.specs.Members.{Entries}
 use Rattle.asked_questions.specs.Questions.{SaysByQuestions}
-use Rattle.node_table.specs.NodeTable.{numbered}
-use Rattle.run_steps.specs.declared.question.NamedKeyword.{NamedKeyword}
-use Rattle.run_steps.specs.EvaluationPlaces.{steps_to}
-use Rattle.schema_pairs.specs.AtNumbers.{HasOwnNumbers}
-use Rattle.schema_pairs.specs.Contexts.{Solver}
-use Rattle.schema_pairs.specs.Saying.{WhatIsSaid}
-use Rattle.schema_pairs.specs.SolverPairs.{HasItsNumber, IsFree, IsIdle, IsUnknown, place_of}
-use Rattle.schema_pairs.specs.declared.pair.SolverPair.{SolverPair}
+use Rattle.schema_node_table.specs.NodeTable.{numbered}
+use Rattle.schema_run_steps.specs.declared.question.NamedKeyword.{NamedKeyword}
+use Rattle.schema_run_steps.specs.EvaluationPlaces.{steps_to}
+use Rattle.schema_solver_state.specs.AtNumbers.{HasOwnNumbers}
+use Rattle.schema_solver_state.specs.Contexts.{Solver}
+use Rattle.schema_solver_state.specs.Saying.{WhatIsSaid}
+use Rattle.schema_solver_state.specs.SolverPairs.{HasItsNumber, IsFree, IsIdle, IsUnknown, place_of}
+use Rattle.schema_solver_state.specs.declared.pair.SolverPair.{SolverPair}
 use Rattle.schema_solver.specs.declared.question.Asked.{Asked}
 use Rattle.schema_solver.specs.declared.question.SolverEngine.{SolverEngine}
 use Rattle.schema_solver.specs.declared.question.Stopped.{Stopped}

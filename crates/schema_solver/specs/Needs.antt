@@ -3,20 +3,20 @@
 use Rattle.std.specs.List.{list_any}
 use Rattle.std.specs.Prelude.{Bool, List, [], false, length, not, suc, true, ℕ, ◌&&◌, ◌++◌, ◌==◌, ◌∷◌, ◌≡◌}
 use Rattle.serde_json.specs.View.{view}
-use Rattle.schema_definitions.specs.Instance.{Place, Subject}
-use Rattle.schema_definitions.specs.Guarded.{Children, NodeEdge, NodePart, Nodes, node_keyword}
-use Rattle.schema_definitions.specs.Keywords.{Question}
-use Rattle.schema_meaning.specs.Numbered.{left}
-use Rattle.schema_parts.specs.AskedAtOnce.{HoldsAsTold}
+use Rattle.theory_definitions.specs.Instance.{Place, Subject}
+use Rattle.theory_definitions.specs.Guarded.{Children, NodeEdge, NodePart, Nodes, node_keyword}
+use Rattle.theory_definitions.specs.Keywords.{Question}
+use Rattle.theory_meaning.specs.Numbered.{left}
+use Rattle.schema_traits.specs.AskedAtOnce.{HoldsAsTold}
 use Rattle.asked_questions.specs.Questions.{answers_say}
-use Rattle.schema_parts.specs.KeywordViews.{Tells as MayTell}
-use Rattle.schema_parts.specs.declared.asking.Asking.{Asking}
-use Rattle.schema_greatest.specs.Under.{EdgeAnswers, Solving}
-use Rattle.schema_greatest.specs.Found.{Found}
-use Rattle.schema_greatest.specs.Stages.{Fits, Tells, child_by, edges_by, form_by, parts_by}
-use Rattle.schema_pairs.specs.Contexts.{Solver, found_of}
-use Rattle.schema_pairs.specs.Answering.{Begins}
-use Rattle.schema_pairs.specs.Saying.{WhatIsSaid}
+use Rattle.schema_traits.specs.KeywordViews.{Tells as MayTell}
+use Rattle.schema_traits.specs.declared.asking.Asking.{Asking}
+use Rattle.theory_fixed_points.specs.Under.{EdgeAnswers, Solving}
+use Rattle.theory_fixed_points.specs.Found.{Found}
+use Rattle.theory_fixed_points.specs.Stages.{Fits, Tells, child_by, edges_by, form_by, parts_by}
+use Rattle.schema_solver_state.specs.Contexts.{Solver, found_of}
+use Rattle.schema_solver_state.specs.Answering.{Begins}
+use Rattle.schema_solver_state.specs.Saying.{WhatIsSaid}
 use Rattle.schema_solver.specs.Solving.{Goes, HasRoom, InEach, IsNew, Setting}
 
 -- for a pair: none where it is in progress

@@ -2,29 +2,29 @@
 use Rattle.std.specs.List.{list_any}
 use Rattle.std.specs.Prelude.{Bool, IfErr, IfOk, List, Option, Result, map, option_map, true, ℕ, ◌==◌, ◌≡◌, ◌⊎◌}
 use Rattle.serde_json.specs.View.{view}
-use Rattle.schema_definitions.specs.Instance.{Place, Subject}
-use Rattle.schema_definitions.specs.Guarded.{Children, NodeEdge, NodeForm, NodePart, node_keyword}
-use Rattle.schema_definitions.specs.Keywords.{Question, here}
-use Rattle.schema_definitions.specs.Laws.{IsPresent, steps_below}
+use Rattle.theory_definitions.specs.Instance.{Place, Subject}
+use Rattle.theory_definitions.specs.Guarded.{Children, NodeEdge, NodeForm, NodePart, node_keyword}
+use Rattle.theory_definitions.specs.Keywords.{Question, here}
+use Rattle.theory_definitions.specs.Laws.{IsPresent, steps_below}
 use Rattle.schema_reports.specs.InstanceViews.{subject_of}
-use Rattle.schema_parts.specs.EdgeViews.{edge_of}
-use Rattle.schema_parts.specs.KeywordViews.{below_of}
-use Rattle.schema_parts.specs.declared.keyword.Below.{Below}
-use Rattle.schema_parts.specs.declared.numbers.Edge.{Edge}
+use Rattle.schema_traits.specs.EdgeViews.{edge_of}
+use Rattle.schema_traits.specs.KeywordViews.{below_of}
+use Rattle.schema_traits.specs.declared.keyword.Below.{Below}
+use Rattle.schema_traits.specs.declared.numbers.Edge.{Edge}
 use Rattle.asked_questions.specs.Questions.{question_in}
 use Rattle.asked_questions.specs.declared.AskedQuestion.{AskedQuestion}
-use Rattle.node_table.specs.NodeTable.{shaped_form, shaped_part}
-use Rattle.node_table.specs.NodeViews.{entry_of, form_of}
-use Rattle.node_table.specs.declared.node.Entry.{Entry}
-use Rattle.run_steps.specs.EvaluationPlaces.{CarriesItsNumber, steps_to}
-use Rattle.run_steps.specs.NodeRuns.{HasChildren, HasForm, HasParts, form_at_work}
-use Rattle.run_steps.specs.declared.question.NamedKeyword.{NamedKeyword}
-use Rattle.schema_greatest.specs.Under.{Solving}
-use Rattle.schema_meaning.specs.Greatest.{IsMonotone}
-use Rattle.schema_greatest.specs.Found.{Found}
-use Rattle.schema_greatest.specs.Stages.{ChildTells, EdgeTells, FormTells, PairTells, PartsTell, Tells}
-use Rattle.schema_pairs.specs.Contexts.{Solver, found_of, solver_places}
-use Rattle.schema_pairs.specs.Saying.{WhatIsSaid}
+use Rattle.schema_node_table.specs.NodeTable.{shaped_form, shaped_part}
+use Rattle.schema_node_table.specs.NodeViews.{entry_of, form_of}
+use Rattle.schema_node_table.specs.declared.node.Entry.{Entry}
+use Rattle.schema_run_steps.specs.EvaluationPlaces.{CarriesItsNumber, steps_to}
+use Rattle.schema_run_steps.specs.NodeRuns.{HasChildren, HasForm, HasParts, form_at_work}
+use Rattle.schema_run_steps.specs.declared.question.NamedKeyword.{NamedKeyword}
+use Rattle.theory_fixed_points.specs.Under.{Solving}
+use Rattle.theory_meaning.specs.Greatest.{IsMonotone}
+use Rattle.theory_fixed_points.specs.Found.{Found}
+use Rattle.theory_fixed_points.specs.Stages.{ChildTells, EdgeTells, FormTells, PairTells, PartsTell, Tells}
+use Rattle.schema_solver_state.specs.Contexts.{Solver, found_of, solver_places}
+use Rattle.schema_solver_state.specs.Saying.{WhatIsSaid}
 use Rattle.schema_solver.specs.declared.question.Asked.{Asked}
 use Rattle.schema_solver.specs.declared.question.Stopped.{Stopped}
 use Rattle.schema_solver.specs.declared.question.Stopped.TheVariants.{Limit, OutOfMemory}

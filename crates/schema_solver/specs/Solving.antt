@@ -4,22 +4,22 @@ use Rattle.std.specs.Prelude.{All, Bool, Contains, List, None, Option, Some, [],
 use Rattle.serde_json.specs.Data.{Data}
 use Rattle.serde_json.specs.View.{view}
 use Rattle.serde_json.specs.declared.value.Value.{Value}
-use Rattle.schema_definitions.specs.Instance.{Place, Subject, Text, same_place, subject_at}
-use Rattle.schema_definitions.specs.Keywords.{Keywords}
-use Rattle.schema_definitions.specs.Matching.{Matcher, completion_of}
-use Rattle.schema_definitions.specs.Guarded.{NodeEdge, Nodes, guarded_within, node_edges, node_outcome, yes_outcome}
-use Rattle.schema_meaning.specs.Fractions.{node_words}
-use Rattle.schema_meaning.specs.Numbered.{Ranked, left, subject_in}
-use Rattle.schema_greatest.specs.NodesSay.{AreMonotone}
-use Rattle.schema_parts.specs.MatcherViews.{FinishesEach}
-use Rattle.schema_contexts.specs.Progress.{NoDeeper, Pairs, root_places}
-use Rattle.schema_contexts.specs.Verdicts.{verdict_of}
-use Rattle.run_steps.specs.NodeRuns.{TellsAll}
-use Rattle.schema_greatest.specs.Under.{Solving}
-use Rattle.schema_greatest.specs.Found.{Grows, IsSound, SaysUnder}
-use Rattle.schema_greatest.specs.Stages.{IsStaged}
-use Rattle.schema_greatest.specs.Work.{EachOnce, IsBoundedBy, IsCounted, pairs_of}
-use Rattle.schema_pairs.specs.Contexts.{Solver, found_of, has_pair, solver_places}
+use Rattle.theory_definitions.specs.Instance.{Place, Subject, Text, same_place, subject_at}
+use Rattle.theory_definitions.specs.Keywords.{Keywords}
+use Rattle.theory_definitions.specs.Matching.{Matcher, completion_of}
+use Rattle.theory_definitions.specs.Guarded.{NodeEdge, Nodes, guarded_within, node_edges, node_outcome, yes_outcome}
+use Rattle.theory_meaning.specs.Fractions.{node_words}
+use Rattle.theory_meaning.specs.Numbered.{Ranked, left, subject_in}
+use Rattle.theory_fixed_points.specs.NodesSay.{AreMonotone}
+use Rattle.schema_traits.specs.MatcherViews.{FinishesEach}
+use Rattle.schema_run_context.specs.Progress.{NoDeeper, Pairs, root_places}
+use Rattle.schema_run_context.specs.Verdicts.{verdict_of}
+use Rattle.schema_run_steps.specs.NodeRuns.{TellsAll}
+use Rattle.theory_fixed_points.specs.Under.{Solving}
+use Rattle.theory_fixed_points.specs.Found.{Grows, IsSound, SaysUnder}
+use Rattle.theory_fixed_points.specs.Stages.{IsStaged}
+use Rattle.theory_fixed_points.specs.Work.{EachOnce, IsBoundedBy, IsCounted, pairs_of}
+use Rattle.schema_solver_state.specs.Contexts.{Solver, found_of, has_pair, solver_places}
 
 -- what a solver is made with: the keywords as they are read, the numbered nodes, how many there are, which of them are followed, the
 -- matcher, and how many pairs it may begin, where there is a limit

@@ -1,6 +1,6 @@
 -- What a solver tells of a question, and what is asked of that between two questions.
 use Rattle.std.specs.Prelude.{Bool, Err, Ok, Result, false, not, true}
-use Rattle.schema_pairs.specs.Saying.{WhatIsSaid}
+use Rattle.schema_solver_state.specs.Saying.{WhatIsSaid}
 use Rattle.schema_solver.specs.declared.question.Stopped.{Stopped}
 use Rattle.schema_solver.specs.declared.question.Stopped.TheVariants as stopped
 use Rattle.schema_solver.specs.declared.told.Answer.{Answer}

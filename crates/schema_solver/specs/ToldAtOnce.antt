@@ -1,12 +1,12 @@
 -- What an entry tells of a subject at once.
 use Rattle.std.specs.Prelude.{Bool, List, None, Option, Some, [], drop, take, ℕ, ◌≡◌}
-use Rattle.schema_definitions.specs.Guarded.{Children, node_keyword}
-use Rattle.schema_definitions.specs.Instance.{Subject}
-use Rattle.schema_definitions.specs.Keywords.{Keywords}
-use Rattle.schema_parts.specs.AtOnce.{EndsAtOnce}
-use Rattle.schema_parts.specs.KeywordViews.{Tells as MayTell}
-use Rattle.node_table.specs.NodeViews.{form_of}
-use Rattle.node_table.specs.declared.node.Entry.{Entry}
+use Rattle.theory_definitions.specs.Guarded.{Children, node_keyword}
+use Rattle.theory_definitions.specs.Instance.{Subject}
+use Rattle.theory_definitions.specs.Keywords.{Keywords}
+use Rattle.schema_traits.specs.AtOnce.{EndsAtOnce}
+use Rattle.schema_traits.specs.KeywordViews.{Tells as MayTell}
+use Rattle.schema_node_table.specs.NodeViews.{form_of}
+use Rattle.schema_node_table.specs.declared.node.Entry.{Entry}
 
 -- its keyword says this of it, in each reading in which it may tell its texts
 pub record TellsAtOnce {C K R : Type 0} (words : Bool → Keywords K R) (is_whole : K → Bool) (shape : C → K) (s : Subject) (e : Entry C) (valid : Bool) : Type 0 where

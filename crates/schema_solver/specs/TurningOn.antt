@@ -1,15 +1,15 @@
 -- A keyword's run for the verdict that a solver answers: how it has begun, and how it stands between two turns.
 use Rattle.std.specs.Prelude.{Bool, List, false, ℕ, ◌<◌, ◌≡◌}
 use Rattle.serde_json.specs.Data.{Data}
-use Rattle.schema_definitions.specs.Instance.{Place, Subject}
-use Rattle.schema_definitions.specs.Keywords.{Answer, Marked, Reply, for_verdict}
-use Rattle.schema_definitions.specs.Remembering.{AlwaysAsksVerdict}
-use Rattle.schema_definitions.specs.Turns.{Standing}
-use Rattle.schema_definitions.specs.Guarded.{Children}
-use Rattle.schema_parts.specs.KeywordViews.{answer_of}
-use Rattle.schema_parts.specs.declared.keyword.Answer as code_answer
-use Rattle.schema_greatest.specs.Turning.{TurnsBy}
-use Rattle.schema_pairs.specs.Contexts.{Solver, found_of}
+use Rattle.theory_definitions.specs.Instance.{Place, Subject}
+use Rattle.theory_definitions.specs.Keywords.{Answer, Marked, Reply, for_verdict}
+use Rattle.theory_definitions.specs.Remembering.{AlwaysAsksVerdict}
+use Rattle.theory_definitions.specs.Turns.{Standing}
+use Rattle.theory_definitions.specs.Guarded.{Children}
+use Rattle.schema_traits.specs.KeywordViews.{answer_of}
+use Rattle.schema_traits.specs.declared.keyword.Answer as code_answer
+use Rattle.theory_fixed_points.specs.Turning.{TurnsBy}
+use Rattle.schema_solver_state.specs.Contexts.{Solver, found_of}
 use Rattle.schema_solver.specs.Solving.{InEach, Setting}
 
 -- the run of the keyword on a subject has begun, and its answer is fresh

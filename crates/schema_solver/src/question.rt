@@ -1,10 +1,10 @@
 //! What a solver is made with, what it is asked, and why it may stop.
 ghost use Rattle.std.specs.Prelude.{◌≡◌};
 
-use node_table::node::Nodes;
-use run_steps::evaluation_place::EvaluationPlace;
-use schema_pairs::followed::Followed;
+use schema_node_table::node::Nodes;
 use schema_reports::instance::Instance;
+use schema_run_steps::evaluation_place::EvaluationPlace;
+use schema_solver_state::followed::Followed;
 use std::alloc::{AllocError, Global};
 
 /// What a solver is made with, and does not change.

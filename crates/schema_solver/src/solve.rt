@@ -1,8 +1,8 @@
 //! The verdict of a node by a solver.
 ghost use Rattle.std.specs.Prelude.{◌<◌, ◌≡◌, length};
-ghost use Rattle.schema_parts.specs.MatcherViews.{FinishesEach};
+ghost use Rattle.schema_traits.specs.MatcherViews.{FinishesEach};
 ghost use Rattle.schema_solver.specs.Calls.{SolvesRoot};
-ghost use Rattle.schema_pairs.specs.Answering.{fresh};
+ghost use Rattle.schema_solver_state.specs.Answering.{fresh};
 
 mod asking;
 mod edges;
@@ -11,12 +11,12 @@ mod turns;
 
 use crate::question::{Asked, SolverEngine, Stopped};
 use crate::solve::entries::solve_node;
-use run_steps::evaluation_place::EvaluationPlace;
-use schema_pairs::context::SolverContext;
-use schema_parts::keyword::Validate;
-use schema_parts::matcher::Matcher;
-use schema_parts::numbers::SchemaNode;
 use schema_reports::instance::{Instance, Place};
+use schema_run_steps::evaluation_place::EvaluationPlace;
+use schema_solver_state::context::SolverContext;
+use schema_traits::keyword::Validate;
+use schema_traits::matcher::Matcher;
+use schema_traits::numbers::SchemaNode;
 use serde_json::Value;
 
 /// Returns the verdict of a node of an instance, at the root place: what the nodes say where a guarded pair that is in progress is

@@ -1,10 +1,10 @@
 //! What a solver tells of a question: what is said of it, or why it stopped.
 ghost use Rattle.std.specs.Prelude.{◌≡◌, Err, Ok};
-ghost use Rattle.schema_pairs.specs.Saying.{said_as, settled_as};
+ghost use Rattle.schema_solver_state.specs.Saying.{said_as, settled_as};
 ghost use Rattle.schema_solver.specs.Telling.{ends_with, leans_in};
 
 use crate::question::Stopped;
-use schema_pairs::said::Said;
+use schema_solver_state::said::Said;
 use std::marker::Model;
 
 // All that may be told. It takes one byte, so that a call whose answer is the caller's own can take the caller's room.
@@ -26,7 +26,7 @@ pub(crate) struct Told {
 
 impl Model for Told {
     ghost use Rattle.std.specs.Prelude.{Result};
-    ghost use Rattle.schema_pairs.specs.Saying.{WhatIsSaid};
+    ghost use Rattle.schema_solver_state.specs.Saying.{WhatIsSaid};
     ghost use Rattle.schema_solver.specs.declared.question.Stopped.{Stopped};
     ghost use Rattle.schema_solver.specs.Telling.{told_by};
 

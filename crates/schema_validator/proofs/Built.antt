@@ -3,25 +3,25 @@ use Rattle.std.proofs.Common.{◌≡◌, ℕ, zero, suc, ◌<◌, Bool, true, Li
 use Rattle.std.specs.Prelude.{Some, slice_get, Decides, ◌↔◌}
 use Rattle.std.proofs.lemmas.List.{length-map}
 use Rattle.serde_json.specs.Data.{Data, Members}
-use Rattle.schema_definitions.specs.Instance.{Text}
-use Rattle.schema_definitions.specs.Drafts.{Draft, Vocabularies}
-use Rattle.schema_definitions.specs.Matching.{Matcher}
-use Rattle.schema_definitions.specs.Resolving.{Resolver}
-use Rattle.schema_definitions.specs.Making.{Table}
-use Rattle.schema_definitions.specs.Keywords.{Keywords}
-use Rattle.schema_definitions.specs.Parts.{Parts}
-use Rattle.schema_definitions.specs.Plan.{Key}
-use Rattle.schema_definitions.specs.Laws.{EachKeeps}
-use Rattle.schema_meaning.specs.Headline.{SpeaksRightly, Plainly, PlainlyWithUnits}
-use Rattle.schema_meaning.specs.Numbered.{AreNumbered, Ranked, MakersAskBelow}
-use Rattle.schema_meaning.specs.Fractions.{MakesWhole, AreWhole}
-use Rattle.schema_meaning.specs.Means as means
-use Rattle.schema_meaning.proofs.SensesMeant.{numbers_mean, numbers_have_units}
-use Rattle.schema_meaning.proofs.WholeNumbers.{numbers_are_whole}
-use Rattle.node_table.specs.NodeTable.{NodeEntry, numbered}
-use Rattle.schema_parts.specs.ResolverViews.{IsInside}
-use Rattle.schema_parts.specs.MakerViews.{MakesRightly}
-use Rattle.schema_parts.proofs.PartLaws.{values_inside, asks_below, makes_whole}
+use Rattle.theory_definitions.specs.Instance.{Text}
+use Rattle.theory_definitions.specs.Drafts.{Draft, Vocabularies}
+use Rattle.theory_definitions.specs.Matching.{Matcher}
+use Rattle.theory_definitions.specs.Resolving.{Resolver}
+use Rattle.theory_definitions.specs.Making.{Table}
+use Rattle.theory_definitions.specs.Keywords.{Keywords}
+use Rattle.theory_definitions.specs.Parts.{Parts}
+use Rattle.theory_definitions.specs.Plan.{Key}
+use Rattle.theory_definitions.specs.Laws.{EachKeeps}
+use Rattle.theory_meaning.specs.Headline.{SpeaksRightly, Plainly, PlainlyWithUnits}
+use Rattle.theory_meaning.specs.Numbered.{AreNumbered, Ranked, MakersAskBelow}
+use Rattle.theory_meaning.specs.Fractions.{MakesWhole, AreWhole}
+use Rattle.theory_meaning.specs.Means as means
+use Rattle.theory_meaning.proofs.SensesMeant.{numbers_mean, numbers_have_units}
+use Rattle.theory_meaning.proofs.WholeNumbers.{numbers_are_whole}
+use Rattle.schema_node_table.specs.NodeTable.{NodeEntry, numbered}
+use Rattle.schema_traits.specs.ResolverViews.{IsInside}
+use Rattle.schema_traits.specs.MakerViews.{MakesRightly}
+use Rattle.schema_traits.proofs.PartLaws.{values_inside, asks_below, makes_whole}
 use Rattle.schema_keys.specs.Compiling.{no_keywords, no_matcher}
 use Rattle.schema_validator.specs.Handed.{Options, parts_of}
 use Rattle.schema_validator.specs.Compiled.{IsCompiled}

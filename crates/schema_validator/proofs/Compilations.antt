@@ -3,20 +3,20 @@ use Rattle.std.proofs.Common.{◌≡◌, ℕ, zero, suc, Bool, List, [], ◌∷�
 use Rattle.std.specs.Prelude.{Decides, Option, Some, All, slice_get, slice_index_or}
 use Rattle.std.proofs.lemmas.Option.{slice_get_within}
 use Rattle.serde_json.specs.Data.{Data, Members}
-use Rattle.schema_definitions.specs.Instance.{Text}
-use Rattle.schema_definitions.specs.Drafts.{Draft, Vocabularies}
-use Rattle.schema_definitions.specs.Matching.{Matcher}
-use Rattle.schema_definitions.specs.Resolving.{Resolver}
-use Rattle.schema_definitions.specs.Making.{Builtin, Script, Table}
-use Rattle.schema_definitions.specs.Keywords.{Keywords}
-use Rattle.schema_keywords.specs.KeywordTable.{builtin_in}
-use Rattle.schema_definitions.specs.Parts.{Parts}
-use Rattle.schema_definitions.specs.Plan.{Key}
-use Rattle.schema_meaning.specs.Reach.{IsReach, Reached}
-use Rattle.schema_meaning.specs.Refusals.{Cause, Compiles}
-use Rattle.schema_meaning.specs.Root.{IsRoot}
-use Rattle.schema_meaning.specs.Numbered.{Ranked}
-use Rattle.node_table.specs.NodeTable.{NodeEntry, numbered}
+use Rattle.theory_definitions.specs.Instance.{Text}
+use Rattle.theory_definitions.specs.Drafts.{Draft, Vocabularies}
+use Rattle.theory_definitions.specs.Matching.{Matcher}
+use Rattle.theory_definitions.specs.Resolving.{Resolver}
+use Rattle.theory_definitions.specs.Making.{Builtin, Script, Table}
+use Rattle.theory_definitions.specs.Keywords.{Keywords}
+use Rattle.schema_drafts.specs.KeywordTable.{builtin_in}
+use Rattle.theory_definitions.specs.Parts.{Parts}
+use Rattle.theory_definitions.specs.Plan.{Key}
+use Rattle.theory_meaning.specs.Reach.{IsReach, Reached}
+use Rattle.theory_meaning.specs.Refusals.{Cause, Compiles}
+use Rattle.theory_meaning.specs.Root.{IsRoot}
+use Rattle.theory_meaning.specs.Numbered.{Ranked}
+use Rattle.schema_node_table.specs.NodeTable.{NodeEntry, numbered}
 use Rattle.schema_keys.specs.Builtins.{builtin}
 use Rattle.schema_compiler.specs.Compilation.{IsCompilation, IsCompilationBy, RefusesInOrder, RefusesRoot, all_parts}
 use Rattle.schema_keys.specs.Compiling.{no_keywords, no_matcher, no_table}

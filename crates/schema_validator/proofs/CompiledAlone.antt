@@ -2,25 +2,25 @@
 use Rattle.std.proofs.Common.{◌≡◌, ◌≤◌, ◌∙◌, ℕ, Bool, List, ap, arith, length, refl, subst, sym}
 use Rattle.std.specs.Prelude.{Ok, Option}
 use Rattle.serde_json.specs.Data.{Data, Members}
-use Rattle.schema_definitions.specs.Instance.{Text}
-use Rattle.schema_definitions.specs.Drafts.{Draft, Vocabularies}
-use Rattle.schema_definitions.specs.Matching.{Matcher}
-use Rattle.schema_definitions.specs.Resolving.{Resolver}
-use Rattle.schema_definitions.specs.Making.{Builtin, Script, Table}
-use Rattle.schema_definitions.specs.Keywords.{Keywords}
-use Rattle.schema_keywords.specs.KeywordTable.{builtin_in}
-use Rattle.schema_meaning.specs.MapPointers.{StandsBelow}
-use Rattle.schema_definitions.specs.Parts.{Parts}
-use Rattle.schema_definitions.specs.Plan.{Key}
-use Rattle.schema_meaning.specs.Refusals.{Cause}
-use Rattle.node_table.specs.NodeTable.{NodeEntry}
+use Rattle.theory_definitions.specs.Instance.{Text}
+use Rattle.theory_definitions.specs.Drafts.{Draft, Vocabularies}
+use Rattle.theory_definitions.specs.Matching.{Matcher}
+use Rattle.theory_definitions.specs.Resolving.{Resolver}
+use Rattle.theory_definitions.specs.Making.{Builtin, Script, Table}
+use Rattle.theory_definitions.specs.Keywords.{Keywords}
+use Rattle.schema_drafts.specs.KeywordTable.{builtin_in}
+use Rattle.theory_meaning.specs.MapPointers.{StandsBelow}
+use Rattle.theory_definitions.specs.Parts.{Parts}
+use Rattle.theory_definitions.specs.Plan.{Key}
+use Rattle.theory_meaning.specs.Refusals.{Cause}
+use Rattle.schema_node_table.specs.NodeTable.{NodeEntry}
 use Rattle.schema_keys.specs.Builtins.{builtin}
 use Rattle.schema_compiler.specs.Compilation.{IsCompilationAlone, RefusesAlone, all_parts}
 use Rattle.schema_keys.specs.Compiling.{no_keywords, no_matcher}
 use Rattle.schema_keys.specs.declared.error.BuildError.{BuildError}
 use Rattle.schema_validator.specs.Compiled.{IsCompiled, IsWhole}
 use Rattle.schema_validator.specs.Handed.{Options, parts_of, table_of}
-use Rattle.schema_answers.specs.Program.{Program}
+use Rattle.schema_compiled.specs.Program.{Program}
 use Rattle.schema_validator.specs.ProgramOf.{IsProgramFrom}
 use Rattle.schema_validator.specs.Roots.{IsRootKey, root_parts}
 use Rattle.schema_validator.proofs.Compilations.{compiled_in, compiled_too, whole_in, whole_too}

@@ -3,15 +3,15 @@ use Rattle.std.proofs.Common.{◌≡◌, ◌∙◌, ◌∷◌, [], Bool, true, f
 use Rattle.std.specs.Prelude.{Contains, IsTrue, MatchOption, None, Option, Some, flat_map, is_some, option_map, unwrap_or}
 use Rattle.std.proofs.lemmas.Option.{MatchOption-at_some}
 use Rattle.serde_json.specs.Data.{Data, array, boolean, null, number, object, string}
-use Rattle.schema_definitions.specs.Drafts.{SchemaPlace, at_path}
-use Rattle.schema_definitions.specs.Instance.{Place, Text, a_value, subject_at}
-use Rattle.schema_meaning.specs.MapPointers.{EntryCompiles, IsCompiled, StandsBelow, entry_key, is_schema, stands_in}
-use Rattle.schema_definitions.specs.Parts.{Parts}
-use Rattle.schema_definitions.specs.Plan.{Edge, Key, inside, ok_of, schema_of}
-use Rattle.schema_definitions.specs.Pointer.{pointer_to}
-use Rattle.schema_meaning.specs.Reach.{at_first}
-use Rattle.schema_meaning.specs.Refusals.{Cause, not_a_schema, schema_causes, undeclared}
-use Rattle.schema_parts.specs.ResolverViews.{IsInside}
+use Rattle.theory_definitions.specs.Drafts.{SchemaPlace, at_path}
+use Rattle.theory_definitions.specs.Instance.{Place, Text, a_value, subject_at}
+use Rattle.theory_meaning.specs.MapPointers.{EntryCompiles, IsCompiled, StandsBelow, entry_key, is_schema, stands_in}
+use Rattle.theory_definitions.specs.Parts.{Parts}
+use Rattle.theory_definitions.specs.Plan.{Edge, Key, inside, ok_of, schema_of}
+use Rattle.theory_definitions.specs.Pointer.{pointer_to}
+use Rattle.theory_meaning.specs.Reach.{at_first}
+use Rattle.theory_meaning.specs.Refusals.{Cause, not_a_schema, schema_causes, undeclared}
+use Rattle.schema_traits.specs.ResolverViews.{IsInside}
 use Rattle.schema_keys.specs.Compiling.{Each, In}
 use Rattle.schema_compiler.proofs.Compiled.{stands_but}
 use Rattle.schema_keys.proofs.Lists.{contains_of, each_in}
@@ -20,7 +20,7 @@ use Rattle.schema_validator.specs.Entries.{HoldsPlaces, IsCompiledAlone, IsEntry
 use Rattle.schema_validator.specs.Handed.{Handed, Options, parts_of}
 use Rattle.schema_validator.specs.MapViews.{Entries, at_pointer}
 use Rattle.schema_validator.specs.Mapped.{HoldsCompiled, HoldsEach, IsNameOfCompiled, IsValidatorOf, OfEach, name_of}
-use Rattle.schema_answers.specs.Program.{Program}
+use Rattle.schema_compiled.specs.Program.{Program}
 use Rattle.schema_validator.specs.Roots.{IsRootKey}
 use Rattle.schema_keys.proofs.DocumentPlaces.{document_schema}
 use Rattle.schema_keys.proofs.PlaceNames.{one_place}

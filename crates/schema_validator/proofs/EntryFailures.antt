@@ -1,11 +1,11 @@
 -- What a failure at a place of the map says of what stands there.
 use Rattle.std.proofs.Common.{◌≡◌, ℕ, subst, [], ◌∷◌, refl, inl, inr}
 use Rattle.std.specs.Prelude.{None, Option, Some, ◌⊎◌}
-use Rattle.schema_definitions.specs.Instance.{Place}
-use Rattle.schema_meaning.specs.MapPointers.{EntryCompiles, IsCompiled, StandsBelow, entry_key}
-use Rattle.schema_definitions.specs.Parts.{Parts}
-use Rattle.schema_definitions.specs.Plan.{Key}
-use Rattle.schema_meaning.specs.Refusals.{Cause}
+use Rattle.theory_definitions.specs.Instance.{Place}
+use Rattle.theory_meaning.specs.MapPointers.{EntryCompiles, IsCompiled, StandsBelow, entry_key}
+use Rattle.theory_definitions.specs.Parts.{Parts}
+use Rattle.theory_definitions.specs.Plan.{Key}
+use Rattle.theory_meaning.specs.Refusals.{Cause}
 use Rattle.schema_keys.specs.Alone.{RefusesKeyAlone}
 use Rattle.schema_compiler.specs.Compilation.{RefusesAlone}
 use Rattle.schema_keys.specs.declared.error.BuildError.{BuildError}

@@ -2,9 +2,9 @@
 use Rattle.std.proofs.Common.{◌≡◌, [], Bool, inl, inr, refl, subst, sym, true}
 use Rattle.std.specs.Prelude.{None, Option, Some, flat_map}
 use Rattle.serde_json.specs.Data.{Data}
-use Rattle.schema_definitions.specs.Parts.{Parts}
-use Rattle.schema_definitions.specs.Plan.{Key}
-use Rattle.schema_meaning.specs.Refusals.{undeclared}
+use Rattle.theory_definitions.specs.Parts.{Parts}
+use Rattle.theory_definitions.specs.Plan.{Key}
+use Rattle.theory_meaning.specs.Refusals.{undeclared}
 use Rattle.schema_keys.specs.Alone.{RefusesVocabularies}
 use Rattle.schema_keys.specs.Compiling.{no_keywords, no_matcher, no_table}
 use Rattle.schema_keys.specs.declared.error.BuildError.{BuildError}

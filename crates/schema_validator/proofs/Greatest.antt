@@ -5,38 +5,38 @@ use Rattle.std.specs.Prelude.{Option, Some, is_none, ◌↔◌, Decides as IsDec
 use Rattle.std.proofs.lemmas.List.{length-map}
 use Rattle.std.proofs.lemmas.Option.{slice_get_within}
 use Rattle.serde_json.specs.Data.{Data}
-use Rattle.schema_definitions.specs.Matching.{Completion, Matcher}
-use Rattle.schema_definitions.specs.Keywords.{Keywords}
-use Rattle.schema_definitions.specs.Parts.{Parts}
-use Rattle.schema_definitions.specs.Plan.{Key}
-use Rattle.schema_definitions.specs.Cover.{Call, Decides, evaluate, is_valid, iter_errors, validate}
-use Rattle.schema_definitions.specs.Guarded.{Nodes, guarded_sense}
-use Rattle.schema_definitions.specs.Laws.{EachKeeps}
-use Rattle.schema_meaning.specs.Headline.{Guardedly}
-use Rattle.schema_meaning.specs.Members.{Follows}
-use Rattle.schema_meaning.specs.Numbered.{AreNumbered, Ranked, left, subject_in}
-use Rattle.schema_meaning.specs.Reach.{at_first}
-use Rattle.schema_meaning.specs.Shared.{EachAccepts}
-use Rattle.schema_meaning.proofs.GuardedSense.{all_nodes_follow}
-use Rattle.schema_greatest.specs.NodesSay.{AreMonotone, NodeAcceptsGreatest}
-use Rattle.schema_greatest.specs.Solutions.{AcceptsEach, EachIsMonotone}
-use Rattle.schema_greatest.proofs.Edges.{numbers_are_monotone}
-use Rattle.schema_greatest.proofs.NodesSay.{nodes_say_greatest}
-use Rattle.schema_greatest.proofs.NumbersSay.{numbers_say_greatest}
-use Rattle.schema_search.specs.SharedResults.{is_empty}
+use Rattle.theory_definitions.specs.Matching.{Completion, Matcher}
+use Rattle.theory_definitions.specs.Keywords.{Keywords}
+use Rattle.theory_definitions.specs.Parts.{Parts}
+use Rattle.theory_definitions.specs.Plan.{Key}
+use Rattle.theory_definitions.specs.Cover.{Call, Decides, evaluate, is_valid, iter_errors, validate}
+use Rattle.theory_definitions.specs.Guarded.{Nodes, guarded_sense}
+use Rattle.theory_definitions.specs.Laws.{EachKeeps}
+use Rattle.theory_meaning.specs.Headline.{Guardedly}
+use Rattle.theory_meaning.specs.Members.{Follows}
+use Rattle.theory_meaning.specs.Numbered.{AreNumbered, Ranked, left, subject_in}
+use Rattle.theory_meaning.specs.Reach.{at_first}
+use Rattle.theory_meaning.specs.Shared.{EachAccepts}
+use Rattle.theory_meaning.proofs.GuardedSense.{all_nodes_follow}
+use Rattle.theory_fixed_points.specs.NodesSay.{AreMonotone, NodeAcceptsGreatest}
+use Rattle.theory_fixed_points.specs.Solutions.{AcceptsEach, EachIsMonotone}
+use Rattle.theory_fixed_points.proofs.Edges.{numbers_are_monotone}
+use Rattle.theory_fixed_points.proofs.NodesSay.{nodes_say_greatest}
+use Rattle.theory_fixed_points.proofs.NumbersSay.{numbers_say_greatest}
+use Rattle.unfinished_search.specs.SharedResults.{is_empty}
 use Rattle.schema_reports.specs.declared.evaluation.EvaluationNode.{EvaluationNode}
 use Rattle.schema_reports.specs.declared.reports.ValidationError.{ValidationError}
-use Rattle.schema_parts.specs.declared.keyword.Validate.{Ghosts as KeywordMembers}
-use Rattle.schema_parts.specs.declared.matcher.Matcher.{Ghosts as MatcherMembers}
-use Rattle.node_table.specs.NodeTable.{NodeEntry, numbered}
+use Rattle.schema_traits.specs.declared.keyword.Validate.{Ghosts as KeywordMembers}
+use Rattle.schema_traits.specs.declared.matcher.Matcher.{Ghosts as MatcherMembers}
+use Rattle.schema_node_table.specs.NodeTable.{NodeEntry, numbered}
 use Rattle.schema_keys.specs.Compiling.{no_keywords, no_matcher}
-use Rattle.schema_answers.specs.Asked.{DecidesFromSomeDepth, ErrorsFromSomeDepth, EvaluatesFromSomeDepth, FirstFromSomeDepth}
+use Rattle.schema_compiled.specs.Asked.{DecidesFromSomeDepth, ErrorsFromSomeDepth, EvaluatesFromSomeDepth, FirstFromSomeDepth}
 use Rattle.schema_validator.specs.Called.{IsCompiledFrom}
 use Rattle.schema_validator.specs.Compiled.{IsCompiled}
 use Rattle.schema_validator.specs.Greatest.{AcceptAlike, AcceptsAsKey, AcceptsAsSchema, DecidesAccepted, ErrorsAccepted, EvaluatesAccepted, FirstAccepted, SaysAccepted}
 use Rattle.schema_validator.specs.Handed.{Handed, Options, parts_of}
 use Rattle.schema_calls.specs.Evaluated.{verdict_in}
-use Rattle.schema_answers.specs.Program.{FromSomeDepth, Program}
+use Rattle.schema_compiled.specs.Program.{FromSomeDepth, Program}
 use Rattle.schema_validator.specs.ProgramOf.{IsProgramFrom}
 use Rattle.schema_validator.proofs.Built.{in_map}
 use Rattle.schema_calls.proofs.Verdicts.{errors_verdict, first_verdict}

@@ -3,15 +3,15 @@ use Rattle.std.proofs.Common.{◌≡◌, ◌++◌, ◌∷◌, [], Bool, true, fa
 use Rattle.std.specs.Prelude.{MatchOption, None, Option, Some, bytes_eq}
 use Rattle.std.proofs.lemmas.Slice.Eq.{bytes_eq-Decides}
 use Rattle.serde_json.specs.Data.{Data}
-use Rattle.schema_definitions.specs.Instance.{Place, Text}
-use Rattle.schema_definitions.specs.Plan.{Key}
+use Rattle.theory_definitions.specs.Instance.{Place, Text}
+use Rattle.theory_definitions.specs.Plan.{Key}
 use Rattle.schema_keys.specs.Compiling.{Each}
 use Rattle.schema_keys.proofs.Lists.{each_append}
 use Rattle.schema_validator.specs.Entries.{HoldsPlaces, IsEntry, IsLeftOut, IsPut}
 use Rattle.schema_validator.specs.Handed.{Handed, Options}
 use Rattle.schema_validator.specs.MapViews.{Entries, at_pointer}
 use Rattle.schema_validator.specs.Mapped.{name_of}
-use Rattle.schema_answers.specs.Program.{Program}
+use Rattle.schema_compiled.specs.Program.{Program}
 
 module _ {S K R C M : Type 0} (h : Handed S K R C M) (options : Options) (schema : Data) (root : Key S) where
   -- what is held under a name

@@ -2,10 +2,10 @@
 use Rattle.std.proofs.Common.{◌≡◌, [], Bool, inl, inr, subst, sym}
 use Rattle.std.specs.Prelude.{None, Option, Some, flat_map}
 use Rattle.serde_json.specs.Data.{Data}
-use Rattle.schema_definitions.specs.Parts.{Parts}
-use Rattle.schema_definitions.specs.Plan.{Key}
-use Rattle.schema_meaning.specs.Refusals.{undeclared}
-use Rattle.schema_parts.specs.ResolverViews.{IsInside}
+use Rattle.theory_definitions.specs.Parts.{Parts}
+use Rattle.theory_definitions.specs.Plan.{Key}
+use Rattle.theory_meaning.specs.Refusals.{undeclared}
+use Rattle.schema_traits.specs.ResolverViews.{IsInside}
 use Rattle.schema_keys.specs.Alone.{RefusesVocabularies}
 use Rattle.schema_keys.specs.Checking.{AcceptsSchema, MetaChecks, RefusesSchema}
 use Rattle.schema_keys.specs.Compiling.{Each, no_keywords, no_matcher, no_table}
@@ -15,7 +15,7 @@ use Rattle.schema_validator.specs.Entries.{HoldsPlaces, RefusesOneOf}
 use Rattle.schema_validator.specs.Handed.{Handed, Options, parts_of}
 use Rattle.schema_validator.specs.MapViews.{Entries}
 use Rattle.schema_validator.specs.Mapped.{EachAcceptsGreatest, EachHasPlainUnits, EachIsCompiledFrom, EachMeansPlainly, EachPointsPlainly, EachHasSolver, EachsUnitsPoint, HoldsCompiled, HoldsEach, MapIsBuilt, MapRefused, no_root, not_accepted, not_declared, past_limit}
-use Rattle.schema_answers.specs.Program.{Program}
+use Rattle.schema_compiled.specs.Program.{Program}
 use Rattle.schema_validator.specs.Roots.{IsRootKey, RefusesKey, root_parts}
 use Rattle.schema_validator.proofs.DocumentMap.{holds_compiled, holds_each, of_each}
 use Rattle.schema_validator.proofs.RootKeys.{one_root_key, root_key_too}

@@ -1,16 +1,16 @@
 -- What is compiled does not depend on the matcher, nor on how keywords run.
 use Rattle.std.proofs.Common.{ℕ, List, [], ◌∷◌}
-use Rattle.schema_definitions.specs.Instance.{Text}
-use Rattle.schema_definitions.specs.Matching.{Matcher}
-use Rattle.schema_definitions.specs.Resolving.{Resolver}
-use Rattle.schema_definitions.specs.Making.{Table}
-use Rattle.schema_definitions.specs.Keywords.{Keywords}
-use Rattle.schema_definitions.specs.Parts.{Parts}
-use Rattle.schema_definitions.specs.Plan.{Key, Part, Form, keyword, reference, Plan, always, never, these, plan}
-use Rattle.schema_meaning.specs.Reach.{Reached, at_first, asked_by}
-use Rattle.schema_meaning.specs.Refusals.{Cause, Compiles, Aimed, the_root, referred_by, Stands, stands_at, is_required}
-use Rattle.schema_definitions.specs.Guarded.{NodeForm, node_keyword, node_reference, NodePart, NodePlan, node_always, node_never, node_these, Nodes}
-use Rattle.schema_meaning.specs.Numbered.{Numbers, SameForm, SameParts, SamePlan, StandsFor, AreNumbered}
+use Rattle.theory_definitions.specs.Instance.{Text}
+use Rattle.theory_definitions.specs.Matching.{Matcher}
+use Rattle.theory_definitions.specs.Resolving.{Resolver}
+use Rattle.theory_definitions.specs.Making.{Table}
+use Rattle.theory_definitions.specs.Keywords.{Keywords}
+use Rattle.theory_definitions.specs.Parts.{Parts}
+use Rattle.theory_definitions.specs.Plan.{Key, Part, Form, keyword, reference, Plan, always, never, these, plan}
+use Rattle.theory_meaning.specs.Reach.{Reached, at_first, asked_by}
+use Rattle.theory_meaning.specs.Refusals.{Cause, Compiles, Aimed, the_root, referred_by, Stands, stands_at, is_required}
+use Rattle.theory_definitions.specs.Guarded.{NodeForm, node_keyword, node_reference, NodePart, NodePlan, node_always, node_never, node_these, Nodes}
+use Rattle.theory_meaning.specs.Numbered.{Numbers, SameForm, SameParts, SamePlan, StandsFor, AreNumbered}
 use Rattle.schema_validator.specs.Handed.{Options, parts_of}
 
 module _ {S K R R' : Type 0} (resolver : Resolver S) (table : Table K) (matcher matcher' : Matcher) (keywords : Keywords K R) (keywords' : Keywords K R') (options : Options) where

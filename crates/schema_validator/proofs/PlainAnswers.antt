@@ -2,18 +2,18 @@
 -- they have too.
 use Rattle.std.proofs.Common.{ℕ, ◌+◌, Bool, [], ◌∙◌, ap, arith}
 use Rattle.serde_json.specs.Data.{Data}
-use Rattle.schema_definitions.specs.Matching.{Completion, Matcher}
-use Rattle.schema_definitions.specs.Resolving.{Resolver}
-use Rattle.schema_definitions.specs.Making.{Table}
-use Rattle.schema_definitions.specs.Keywords.{Keywords}
-use Rattle.schema_definitions.specs.Cover.{Sense, branch_at, evaluate, plain}
-use Rattle.schema_meaning.specs.Headline.{Plainly, PlainlyWithUnits}
-use Rattle.schema_definitions.specs.Parts.{Parts}
-use Rattle.schema_definitions.specs.Reports.{Unit_}
-use Rattle.schema_definitions.specs.Units.{plain_units}
+use Rattle.theory_definitions.specs.Matching.{Completion, Matcher}
+use Rattle.theory_definitions.specs.Resolving.{Resolver}
+use Rattle.theory_definitions.specs.Making.{Table}
+use Rattle.theory_definitions.specs.Keywords.{Keywords}
+use Rattle.theory_definitions.specs.Cover.{Sense, branch_at, evaluate, plain}
+use Rattle.theory_meaning.specs.Headline.{Plainly, PlainlyWithUnits}
+use Rattle.theory_definitions.specs.Parts.{Parts}
+use Rattle.theory_definitions.specs.Reports.{Unit_}
+use Rattle.theory_definitions.specs.Units.{plain_units}
 use Rattle.schema_reports.specs.declared.evaluation.EvaluationNode.{EvaluationNode}
 use Rattle.schema_calls.specs.Evaluated.{UnitsAnswered}
-use Rattle.schema_answers.specs.Program.{HasUnits, OfEveryEvaluation, OfEverySense, Program}
+use Rattle.schema_compiled.specs.Program.{HasUnits, OfEveryEvaluation, OfEverySense, Program}
 use Rattle.schema_validator.specs.Handed.{Options, parts_of}
 use Rattle.schema_validator.specs.Promised.{HasSchemasUnits, MeansSchema, OfSchema}
 

@@ -4,32 +4,32 @@ use Rattle.std.proofs.Common.{◌≡◌, ◌+◌, ℕ, arith, sym, subst, Bool, 
 use Rattle.std.proofs.lemmas.List.Elements.{All-cons, All-contains, All-contains_itself, All-head, All-map, All-nil, All-tail, All-weaker}
 use Rattle.std.specs.Prelude.{All, Contains, Option, ◌⊎◌}
 use Rattle.serde_json.specs.Data.{Data}
-use Rattle.schema_definitions.specs.Instance.{Text}
-use Rattle.schema_definitions.specs.Reports.{Error, Unit_}
-use Rattle.schema_definitions.specs.Matching.{Completion, Matcher, all_match}
-use Rattle.schema_definitions.specs.Resolving.{Resolver}
-use Rattle.schema_definitions.specs.Making.{Table}
-use Rattle.schema_definitions.specs.Keywords.{Keywords}
-use Rattle.schema_definitions.specs.Parts.{Parts}
-use Rattle.schema_definitions.specs.Plan.{Key}
-use Rattle.schema_definitions.specs.Cover.{Sense, iter_errors, validate}
-use Rattle.schema_meaning.specs.Headline.{FirstShared, IsFailure, IsFirst}
+use Rattle.theory_definitions.specs.Instance.{Text}
+use Rattle.theory_definitions.specs.Reports.{Error, Unit_}
+use Rattle.theory_definitions.specs.Matching.{Completion, Matcher, all_match}
+use Rattle.theory_definitions.specs.Resolving.{Resolver}
+use Rattle.theory_definitions.specs.Making.{Table}
+use Rattle.theory_definitions.specs.Keywords.{Keywords}
+use Rattle.theory_definitions.specs.Parts.{Parts}
+use Rattle.theory_definitions.specs.Plan.{Key}
+use Rattle.theory_definitions.specs.Cover.{Sense, iter_errors, validate}
+use Rattle.theory_meaning.specs.Headline.{FirstShared, IsFailure, IsFirst}
 use Rattle.schema_reports.specs.ReportViews.{error_of}
 use Rattle.schema_reports.specs.UnitViews.{unit_of}
 use Rattle.schema_reports.specs.declared.evaluation.EvaluationNode.{EvaluationNode}
 use Rattle.schema_reports.specs.declared.reports.ValidationError.{ValidationError}
-use Rattle.schema_meaning.specs.ErrorsLead.{EachKeepsAbsorbing, EachLeads, MakesAbsorbing, PointsAt}
-use Rattle.schema_meaning.specs.UnitsLead.{EachHandsUnitsOn, UnitsPoint}
-use Rattle.schema_meaning.specs.Means as means
-use Rattle.schema_definitions.specs.Guarded.{guarded_sense, guarded_within, node_unit, yes_unit}
-use Rattle.schema_meaning.specs.Numbered.{subject_in}
-use Rattle.schema_meaning.proofs.NodeErrorsLead.{node_errors_lead}
-use Rattle.schema_meaning.proofs.UnitsLead.{node_units_lead}
-use Rattle.schema_meaning.proofs.ListedLead.{of_failure, of_first, of_found, of_lists}
-use Rattle.node_table.specs.NodeTable.{numbered}
-use Rattle.schema_parts.proofs.PartLaws.{makes_absorbed}
+use Rattle.theory_meaning.specs.ErrorsLead.{EachKeepsAbsorbing, EachLeads, MakesAbsorbing, PointsAt}
+use Rattle.theory_meaning.specs.UnitsLead.{EachHandsUnitsOn, UnitsPoint}
+use Rattle.theory_meaning.specs.Means as means
+use Rattle.theory_definitions.specs.Guarded.{guarded_sense, guarded_within, node_unit, yes_unit}
+use Rattle.theory_meaning.specs.Numbered.{subject_in}
+use Rattle.theory_meaning.proofs.NodeErrorsLead.{node_errors_lead}
+use Rattle.theory_meaning.proofs.UnitsLead.{node_units_lead}
+use Rattle.theory_meaning.proofs.ListedLead.{of_failure, of_first, of_found, of_lists}
+use Rattle.schema_node_table.specs.NodeTable.{numbered}
+use Rattle.schema_traits.proofs.PartLaws.{makes_absorbed}
 use Rattle.schema_calls.specs.Evaluated.{EvaluationAnswered, IsOfErrors}
-use Rattle.schema_answers.specs.Program.{FromSomeDepth, HasUnits, Program}
+use Rattle.schema_compiled.specs.Program.{FromSomeDepth, HasUnits, Program}
 use Rattle.schema_calls.specs.Spoken.{EachIsGiven, ErrorsAnswered, FirstAnswered, FirstIsGiven, IsGiven}
 use Rattle.schema_validator.specs.Compiled.{IsWhole}
 use Rattle.schema_validator.specs.ProgramOf.{IsProgramFrom, IsProgramOf}

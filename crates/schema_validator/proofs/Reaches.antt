@@ -5,11 +5,11 @@ use Rattle.std.specs.Prelude.{AllPairs, Some, slice_get, slice_index_or, Decides
 use Rattle.std.proofs.lemmas.Bool.{eqb-true, eq-eqb}
 use Rattle.std.proofs.lemmas.Option.{slice_get-map}
 use Rattle.std.proofs.lemmas.Slice.Eq.{bytes_eq-Decides}
-use Rattle.schema_definitions.specs.Parts.{Parts}
-use Rattle.schema_definitions.specs.Plan.{Key, same_key}
-use Rattle.schema_meaning.specs.Reach.{IsReach, different}
-use Rattle.schema_meaning.specs.Refusals.{Cause}
-use Rattle.node_table.specs.NodeTable.{NodeEntry}
+use Rattle.theory_definitions.specs.Parts.{Parts}
+use Rattle.theory_definitions.specs.Plan.{Key, same_key}
+use Rattle.theory_meaning.specs.Reach.{IsReach, different}
+use Rattle.theory_meaning.specs.Refusals.{Cause}
+use Rattle.schema_node_table.specs.NodeTable.{NodeEntry}
 use Rattle.schema_compiler.specs.Compilation.{IsCompilationBy}
 use Rattle.schema_keys.proofs.SameKeys.{and_parts, draft_itself, draft_true, one_key, schema_place_itself, schema_place_true, vocabularies_itself, vocabularies_true}
 

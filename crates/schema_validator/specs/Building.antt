@@ -4,15 +4,15 @@
 use Rattle.std.specs.Prelude.{List, ℕ}
 use Rattle.serde_json.specs.View.{view}
 use Rattle.serde_json.specs.declared.value.Value.{Value}
-use Rattle.schema_definitions.specs.Keywords.{Answer}
-use Rattle.schema_parts.specs.declared.keyword.Validate.{Ghosts as KeywordMembers}
-use Rattle.schema_parts.specs.declared.matcher.Matcher.{Ghosts as MatcherMembers}
-use Rattle.schema_parts.specs.declared.resolver.Resolver.{Ghosts as ResolverMembers}
-use Rattle.schema_parts.specs.declared.table.KeywordTable.{Ghosts as TableMembers}
-use Rattle.node_table.specs.NodeTable.{NodeEntry}
+use Rattle.theory_definitions.specs.Keywords.{Answer}
+use Rattle.schema_traits.specs.declared.keyword.Validate.{Ghosts as KeywordMembers}
+use Rattle.schema_traits.specs.declared.matcher.Matcher.{Ghosts as MatcherMembers}
+use Rattle.schema_traits.specs.declared.resolver.Resolver.{Ghosts as ResolverMembers}
+use Rattle.schema_traits.specs.declared.table.KeywordTable.{Ghosts as TableMembers}
+use Rattle.schema_node_table.specs.NodeTable.{NodeEntry}
 use Rattle.schema_keys.specs.Checking.{MetaChecks}
 use Rattle.schema_keys.specs.declared.error.BuildError.{BuildError}
-use Rattle.schema_answers.specs.Program.{Program}
+use Rattle.schema_compiled.specs.Program.{Program}
 use Rattle.schema_validator.specs.Called.{BuildRefused, HasPlainUnits, HasUnitsAsCompiled, IsCompiledFrom, MeansAsCompiled, MeansPlainly, PointsPlainly}
 use Rattle.schema_validator.specs.Called.{SchemaBuilds, UnitsPointPlainly}
 use Rattle.schema_validator.specs.FirstCauses.{FirstOfBuild, FirstOfMap}

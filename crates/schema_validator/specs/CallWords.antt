@@ -4,18 +4,18 @@ use Rattle.std.specs.Prelude.{All, Bool, IfSome, List, Option, Result, false, is
 use Rattle.serde_json.specs.Data.{Data}
 use Rattle.serde_json.specs.View.{view}
 use Rattle.serde_json.specs.declared.value.Value.{Value}
-use Rattle.schema_definitions.specs.Drafts.{Draft}
-use Rattle.schema_contexts.specs.Works.{Budget, IsSpent}
+use Rattle.theory_definitions.specs.Drafts.{Draft}
+use Rattle.schema_run_context.specs.Works.{Budget, IsSpent}
 use Rattle.schema_reports.specs.ReportViews.{BorrowsItsPlace}
 use Rattle.schema_reports.specs.declared.evaluation.EvaluationNode.{EvaluationNode}
 use Rattle.schema_reports.specs.declared.reports.ValidationError.{ValidationError}
-use Rattle.schema_parts.specs.declared.keyword.Validate.{Ghosts as KeywordMembers}
-use Rattle.schema_parts.specs.declared.matcher.Matcher.{Ghosts as MatcherMembers}
-use Rattle.node_table.specs.NodeTable.{NodeEntry}
+use Rattle.schema_traits.specs.declared.keyword.Validate.{Ghosts as KeywordMembers}
+use Rattle.schema_traits.specs.declared.matcher.Matcher.{Ghosts as MatcherMembers}
+use Rattle.schema_node_table.specs.NodeTable.{NodeEntry}
 use Rattle.schema_verdicts.specs.declared.eligible.SolvedVerdict.{SolvedVerdict}
-use Rattle.schema_answers.specs.Answers.{refusal_of}
-use Rattle.schema_answers.specs.Program.{Program}
-use Rattle.schema_answers.specs.Stopped.{FirstTellsLimit, GivesLimit, OnlyTellsLimit, UnlessStopped}
+use Rattle.schema_compiled.specs.Answers.{refusal_of}
+use Rattle.schema_compiled.specs.Program.{Program}
+use Rattle.schema_compiled.specs.Stopped.{FirstTellsLimit, GivesLimit, OnlyTellsLimit, UnlessStopped}
 use Rattle.schema_validator.specs.Greatest.{NodesAreMonotone}
 
 -- ---- what a validator is made of

@@ -2,14 +2,14 @@
 -- over all that is handed in. They are those of `Promised`, `ProgramOf`, `Roots`, `Spoken` and `Pointing`.
 use Rattle.std.specs.Prelude.{Bool, List, Option, ℕ, ◌⊎◌}
 use Rattle.serde_json.specs.Data.{Data}
-use Rattle.schema_definitions.specs.Cover.{Sense, is_valid}
-use Rattle.schema_meaning.specs.Headline.{IsValidAnswer, Plainly, PlainlyWithUnits, VerdictSays}
-use Rattle.schema_meaning.specs.Means as means
-use Rattle.schema_definitions.specs.Parts.{Parts}
-use Rattle.schema_definitions.specs.Plan.{Key}
+use Rattle.theory_definitions.specs.Cover.{Sense, is_valid}
+use Rattle.theory_meaning.specs.Headline.{IsValidAnswer, Plainly, PlainlyWithUnits, VerdictSays}
+use Rattle.theory_meaning.specs.Means as means
+use Rattle.theory_definitions.specs.Parts.{Parts}
+use Rattle.theory_definitions.specs.Plan.{Key}
 use Rattle.schema_reports.specs.declared.evaluation.EvaluationNode.{EvaluationNode}
 use Rattle.schema_reports.specs.declared.reports.ValidationError.{ValidationError}
-use Rattle.node_table.specs.NodeTable.{NodeEntry, numbered}
+use Rattle.schema_node_table.specs.NodeTable.{NodeEntry, numbered}
 use Rattle.schema_keys.specs.declared.error.BuildError.{BuildError}
 use Rattle.schema_keys.specs.Checking.{MetaChecks}
 use Rattle.schema_validator.specs.Checked.{FailsCheck}
@@ -18,7 +18,7 @@ use Rattle.schema_keys.specs.Compiling.{no_keywords, no_matcher}
 use Rattle.schema_validator.specs.Handed.{Handed, Options, parts_of}
 use Rattle.schema_validator.specs.Pointing.{EachPoints, EvaluationPoints, FirstPoints}
 use Rattle.schema_calls.specs.Evaluated.{EvaluationAnswered, UnitsAnswered}
-use Rattle.schema_answers.specs.Program.{FromSomeDepth, HasUnits, Program}
+use Rattle.schema_compiled.specs.Program.{FromSomeDepth, HasUnits, Program}
 use Rattle.schema_validator.specs.ProgramOf.{IsProgramOf}
 use Rattle.schema_validator.specs.Promised.{HasKeysUnits, HasSchemasUnits, MeansKey, MeansSchema, OfSchema, PointsIntoSchema, UnitsPointIntoSchema}
 use Rattle.schema_validator.specs.Roots.{Builds, RefusesBuild}

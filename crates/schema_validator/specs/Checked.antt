@@ -1,8 +1,8 @@
 -- The check of a schema by the meta validators of its drafts, where the options ask for it. (Core 2020-12, 8.1.1 and 9.3.3)
 use Rattle.std.specs.Prelude.{true, ◌≡◌}
 use Rattle.serde_json.specs.Data.{Data}
-use Rattle.schema_definitions.specs.Plan.{Key}
-use Rattle.schema_definitions.specs.Resolving.{Resolver}
+use Rattle.theory_definitions.specs.Plan.{Key}
+use Rattle.theory_definitions.specs.Resolving.{Resolver}
 use Rattle.schema_keys.specs.Checking.{AcceptsSchema, MetaChecks, RefusesSchema}
 use Rattle.schema_keys.specs.declared.error.BuildError.{BuildError}
 use Rattle.schema_validator.specs.Handed.{Options}

@@ -1,11 +1,11 @@
 -- Nodes that are compiled from a key, a root's or that of a subschema by itself: numbers stand for the keys that it reaches, each once.
 use Rattle.std.specs.Prelude.{◌≡◌, ℕ, List, Some, map, length, slice_get}
-use Rattle.schema_definitions.specs.Parts.{Parts}
-use Rattle.schema_definitions.specs.Plan.{Key}
-use Rattle.schema_meaning.specs.Reach.{Reached}
-use Rattle.schema_definitions.specs.Guarded.{NodePlan}
-use Rattle.schema_meaning.specs.Numbered.{AreNumbered, Ranked}
-use Rattle.node_table.specs.NodeTable.{NodeEntry, numbered}
+use Rattle.theory_definitions.specs.Parts.{Parts}
+use Rattle.theory_definitions.specs.Plan.{Key}
+use Rattle.theory_meaning.specs.Reach.{Reached}
+use Rattle.theory_definitions.specs.Guarded.{NodePlan}
+use Rattle.theory_meaning.specs.Numbered.{AreNumbered, Ranked}
+use Rattle.schema_node_table.specs.NodeTable.{NodeEntry, numbered}
 use Rattle.schema_compiler.specs.Finding.{FindsAll, GuardsByStanding, standing_of}
 
 pub record IsCompiled {S K R C : Type 0} (w : Parts S K R) (shape : C → K) (root : Key S) (nodes : List (NodeEntry C)) (number : ℕ) : Type 0 where

@@ -2,11 +2,11 @@
 -- of the places that were passed.
 use Rattle.std.specs.Prelude.{Bool, List, Option, Some, [], bytes_eq, flat_map, if◌then◌else◌, length, MatchOption, ◌≡◌, ◌≤◌, ◌⊎◌}
 use Rattle.serde_json.specs.Data.{Data}
-use Rattle.schema_definitions.specs.Instance.{Place, Text}
-use Rattle.schema_meaning.specs.MapPointers.{IsCompiled, StandsBelow, entry_key}
-use Rattle.schema_definitions.specs.Parts.{Parts}
-use Rattle.schema_definitions.specs.Plan.{Key}
-use Rattle.schema_meaning.specs.Refusals.{Cause, undeclared}
+use Rattle.theory_definitions.specs.Instance.{Place, Text}
+use Rattle.theory_meaning.specs.MapPointers.{IsCompiled, StandsBelow, entry_key}
+use Rattle.theory_definitions.specs.Parts.{Parts}
+use Rattle.theory_definitions.specs.Plan.{Key}
+use Rattle.theory_meaning.specs.Refusals.{Cause, undeclared}
 use Rattle.schema_keys.specs.Alone.{RefusesKeyAlone}
 use Rattle.schema_compiler.specs.Compilation as compilation
 use Rattle.schema_keys.specs.Checking.{AcceptsSchema, MetaChecks}
@@ -18,9 +18,9 @@ use Rattle.schema_validator.specs.Greatest.{AcceptsAsKey}
 use Rattle.schema_validator.specs.Handed.{Handed, Options, parts_of}
 use Rattle.schema_validator.specs.MapViews.{Entries, at_pointer}
 use Rattle.schema_validator.specs.Mapped.{RefusesLimit, name_of}
-use Rattle.schema_answers.specs.Program.{Program}
+use Rattle.schema_compiled.specs.Program.{Program}
 use Rattle.schema_validator.specs.ProgramOf.{IsProgramFrom}
-use Rattle.schema_answers.specs.Solved.{HasSolver}
+use Rattle.schema_compiled.specs.Solved.{HasSolver}
 use Rattle.schema_validator.specs.Promised.{HasKeysUnits, MeansKey, PointsFromKey, UnitsPointFromKey}
 
 module _ {S K R C M : Type 0} (h : Handed S K R C M) (options : Options) where

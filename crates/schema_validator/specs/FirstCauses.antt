@@ -4,11 +4,11 @@
 -- is refused. Want of memory says nothing.
 use Rattle.std.specs.Prelude.{Bool, Some, [], flat_map, true, ◌≡◌}
 use Rattle.serde_json.specs.Data.{Data}
-use Rattle.schema_definitions.specs.Instance.{Place}
-use Rattle.schema_definitions.specs.Parts.{Parts}
-use Rattle.schema_definitions.specs.Plan.{Key}
-use Rattle.schema_meaning.specs.MapPointers.{entry_key}
-use Rattle.schema_meaning.specs.Refusals.{undeclared}
+use Rattle.theory_definitions.specs.Instance.{Place}
+use Rattle.theory_definitions.specs.Parts.{Parts}
+use Rattle.theory_definitions.specs.Plan.{Key}
+use Rattle.theory_meaning.specs.MapPointers.{entry_key}
+use Rattle.theory_meaning.specs.Refusals.{undeclared}
 use Rattle.schema_keys.specs.Alone.{RefusesVocabularies}
 use Rattle.schema_keys.specs.Compiling.{In}
 use Rattle.schema_keys.specs.declared.error.BuildError.{BuildError}

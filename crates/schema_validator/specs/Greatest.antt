@@ -3,24 +3,24 @@
 -- holds the root at the root place. So it is said of chains of references that return too.
 use Rattle.std.specs.Prelude.{Bool, List, Option, [], is_none, length, true, ◌↔◌, ◌≡◌}
 use Rattle.serde_json.specs.Data.{Data}
-use Rattle.schema_definitions.specs.Matching.{Completion, Matcher}
-use Rattle.schema_definitions.specs.Keywords.{Keywords}
-use Rattle.schema_definitions.specs.Parts.{Parts}
-use Rattle.schema_definitions.specs.Plan.{Key}
-use Rattle.schema_definitions.specs.Cover.{Call, Decides, evaluate, is_valid, iter_errors, validate}
-use Rattle.schema_meaning.specs.Numbered.{subject_in}
-use Rattle.schema_meaning.specs.Root.{IsRoot}
-use Rattle.schema_greatest.specs.Solutions.{AcceptsEach, EachIsMonotone}
-use Rattle.schema_greatest.specs.NodesSay.{AreMonotone, NodeAcceptsGreatest}
-use Rattle.schema_search.specs.SharedResults.{is_empty}
+use Rattle.theory_definitions.specs.Matching.{Completion, Matcher}
+use Rattle.theory_definitions.specs.Keywords.{Keywords}
+use Rattle.theory_definitions.specs.Parts.{Parts}
+use Rattle.theory_definitions.specs.Plan.{Key}
+use Rattle.theory_definitions.specs.Cover.{Call, Decides, evaluate, is_valid, iter_errors, validate}
+use Rattle.theory_meaning.specs.Numbered.{subject_in}
+use Rattle.theory_meaning.specs.Root.{IsRoot}
+use Rattle.theory_fixed_points.specs.Solutions.{AcceptsEach, EachIsMonotone}
+use Rattle.theory_fixed_points.specs.NodesSay.{AreMonotone, NodeAcceptsGreatest}
+use Rattle.unfinished_search.specs.SharedResults.{is_empty}
 use Rattle.schema_reports.specs.declared.evaluation.EvaluationNode.{EvaluationNode}
 use Rattle.schema_reports.specs.declared.reports.ValidationError.{ValidationError}
-use Rattle.schema_parts.specs.declared.keyword.Validate.{Ghosts as KeywordMembers}
-use Rattle.schema_parts.specs.declared.matcher.Matcher.{Ghosts as MatcherMembers}
-use Rattle.node_table.specs.NodeTable.{numbered}
+use Rattle.schema_traits.specs.declared.keyword.Validate.{Ghosts as KeywordMembers}
+use Rattle.schema_traits.specs.declared.matcher.Matcher.{Ghosts as MatcherMembers}
+use Rattle.schema_node_table.specs.NodeTable.{numbered}
 use Rattle.schema_validator.specs.Handed.{Handed, Options, parts_of}
 use Rattle.schema_calls.specs.Evaluated.{verdict_in}
-use Rattle.schema_answers.specs.Program.{FromSomeDepth, Program}
+use Rattle.schema_compiled.specs.Program.{FromSomeDepth, Program}
 
 -- ---- a validator
 

@@ -2,18 +2,18 @@
 -- together, and what the code's own values stand for.
 use Rattle.std.specs.Prelude.{ℕ, List, [], Bool, Option, None, true}
 use Rattle.serde_json.specs.Data.{Members}
-use Rattle.schema_definitions.specs.Instance.{Text}
-use Rattle.schema_definitions.specs.Drafts.{Draft, Vocabularies}
-use Rattle.schema_definitions.specs.Resolving.{Resolver}
-use Rattle.schema_definitions.specs.Making.{Builtin, Script, Table}
-use Rattle.schema_definitions.specs.Matching.{Matcher}
-use Rattle.schema_definitions.specs.Keywords.{Answer, Keywords}
-use Rattle.schema_keywords.specs.KeywordTable.{builtin_in}
-use Rattle.schema_definitions.specs.Parts.{Parts}
-use Rattle.schema_parts.specs.declared.keyword.Validate.{Ghosts as KeywordMembers}
-use Rattle.schema_parts.specs.declared.matcher.Matcher.{Ghosts as MatcherMembers}
-use Rattle.schema_parts.specs.declared.resolver.Resolver.{Ghosts as ResolverMembers}
-use Rattle.schema_parts.specs.declared.table.KeywordTable.{Ghosts as TableMembers}
+use Rattle.theory_definitions.specs.Instance.{Text}
+use Rattle.theory_definitions.specs.Drafts.{Draft, Vocabularies}
+use Rattle.theory_definitions.specs.Resolving.{Resolver}
+use Rattle.theory_definitions.specs.Making.{Builtin, Script, Table}
+use Rattle.theory_definitions.specs.Matching.{Matcher}
+use Rattle.theory_definitions.specs.Keywords.{Answer, Keywords}
+use Rattle.schema_drafts.specs.KeywordTable.{builtin_in}
+use Rattle.theory_definitions.specs.Parts.{Parts}
+use Rattle.schema_traits.specs.declared.keyword.Validate.{Ghosts as KeywordMembers}
+use Rattle.schema_traits.specs.declared.matcher.Matcher.{Ghosts as MatcherMembers}
+use Rattle.schema_traits.specs.declared.resolver.Resolver.{Ghosts as ResolverMembers}
+use Rattle.schema_traits.specs.declared.table.KeywordTable.{Ghosts as TableMembers}
 
 -- the options that a build reads
 pub record Options : Type 0 where

@@ -4,7 +4,7 @@ use Rattle.std.specs.Prelude.{List, Option, Some, bytes_eq, if◌then◌else◌,
 use Rattle.std.specs.List.{IsDistinct}
 use Rattle.std.specs.Map.{lookup, keys_of}
 use Rattle.std.specs.declared.string.String.{String}
-use Rattle.schema_definitions.specs.Instance.{Text}
+use Rattle.theory_definitions.specs.Instance.{Text}
 
 -- pointers, and what stands at each
 abbrev pub Entries : Type 0 → Type 0

@@ -2,13 +2,13 @@
 -- `#` and its pointer; and why there is no map. (section 6 of RFC 6901)
 use Rattle.std.specs.Prelude.{Bool, Some, [], flat_map, is_some, length, ◌≡◌, ◌↔◌, ◌∷◌, ◌≤◌, IsTrue}
 use Rattle.serde_json.specs.Data.{Data}
-use Rattle.schema_definitions.specs.Instance.{Place, Text}
-use Rattle.schema_meaning.specs.MapPointers.{IsCompiled, entry_key}
-use Rattle.schema_definitions.specs.Parts.{Parts}
-use Rattle.schema_definitions.specs.Plan.{Key}
-use Rattle.schema_definitions.specs.Pointer.{pointer_to}
-use Rattle.schema_meaning.specs.Reach.{ReachesMoreThan}
-use Rattle.schema_meaning.specs.Refusals.{undeclared}
+use Rattle.theory_definitions.specs.Instance.{Place, Text}
+use Rattle.theory_meaning.specs.MapPointers.{IsCompiled, entry_key}
+use Rattle.theory_definitions.specs.Parts.{Parts}
+use Rattle.theory_definitions.specs.Plan.{Key}
+use Rattle.theory_definitions.specs.Pointer.{pointer_to}
+use Rattle.theory_meaning.specs.Reach.{ReachesMoreThan}
+use Rattle.theory_meaning.specs.Refusals.{undeclared}
 use Rattle.schema_keys.specs.Alone.{RefusesVocabularies}
 use Rattle.schema_keys.specs.Compiling.{In}
 use Rattle.schema_keys.specs.Checking.{AcceptsSchema, MetaChecks, RefusesSchema}
@@ -18,9 +18,9 @@ use Rattle.schema_keys.specs.DocumentSchemas.{schemas_in}
 use Rattle.schema_validator.specs.Greatest.{AcceptsAsKey}
 use Rattle.schema_validator.specs.Handed.{Handed, Options, parts_of}
 use Rattle.schema_validator.specs.MapViews.{Entries, at_pointer}
-use Rattle.schema_answers.specs.Program.{Program}
+use Rattle.schema_compiled.specs.Program.{Program}
 use Rattle.schema_validator.specs.ProgramOf.{IsProgramFrom}
-use Rattle.schema_answers.specs.Solved.{HasSolver}
+use Rattle.schema_compiled.specs.Solved.{HasSolver}
 use Rattle.schema_validator.specs.Promised.{HasKeysUnits, MeansKey, PointsFromKey, UnitsPointFromKey}
 use Rattle.schema_validator.specs.Roots.{IsRootKey, RefusesKey}
 

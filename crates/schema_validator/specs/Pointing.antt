@@ -3,13 +3,13 @@
 -- stays unfinished. So point the errors in the units of an evaluation, each by its unit. (Core 2020-12, 12.3 and 12.4)
 use Rattle.std.specs.Prelude.{All, Bool, List, None, Option, Some, [], map, true, ℕ, ◌≡◌, ◌⊎◌}
 use Rattle.serde_json.specs.Data.{Data}
-use Rattle.schema_definitions.specs.Reports.{Unit_}
-use Rattle.schema_definitions.specs.Parts.{Parts}
-use Rattle.schema_definitions.specs.Plan.{Key}
-use Rattle.schema_definitions.specs.Cover.{Call, Decides, Sense, branch_at, evaluate, iter_errors, validate}
-use Rattle.schema_meaning.specs.Headline.{Either, IsFailure, OneFailure}
-use Rattle.schema_meaning.specs.ErrorsLead.{PointsAt}
-use Rattle.schema_meaning.specs.UnitsLead.{UnitsPoint}
+use Rattle.theory_definitions.specs.Reports.{Unit_}
+use Rattle.theory_definitions.specs.Parts.{Parts}
+use Rattle.theory_definitions.specs.Plan.{Key}
+use Rattle.theory_definitions.specs.Cover.{Call, Decides, Sense, branch_at, evaluate, iter_errors, validate}
+use Rattle.theory_meaning.specs.Headline.{Either, IsFailure, OneFailure}
+use Rattle.theory_meaning.specs.ErrorsLead.{PointsAt}
+use Rattle.theory_meaning.specs.UnitsLead.{UnitsPoint}
 use Rattle.schema_reports.specs.ReportViews.{error_of}
 use Rattle.schema_reports.specs.UnitViews.{unit_of}
 use Rattle.schema_reports.specs.declared.evaluation.EvaluationNode.{EvaluationNode}

@@ -3,13 +3,13 @@
 -- and its matcher answers as the one that was handed in; its calls make as many runs, and take as many steps, at most as the options say. The key is the schema's root's, or that of a subschema by itself.
 use Rattle.std.specs.Prelude.{◌≡◌, Ok, ℕ}
 use Rattle.serde_json.specs.Data.{Data}
-use Rattle.schema_definitions.specs.Matching.{Matcher}
-use Rattle.schema_definitions.specs.Resolving.{Resolver}
-use Rattle.schema_definitions.specs.Making.{Table}
-use Rattle.schema_definitions.specs.Plan.{Key}
-use Rattle.schema_meaning.specs.Refusals.{Compiles}
-use Rattle.schema_meaning.specs.Root.{root_draft}
-use Rattle.schema_answers.specs.Program.{Program}
+use Rattle.theory_definitions.specs.Matching.{Matcher}
+use Rattle.theory_definitions.specs.Resolving.{Resolver}
+use Rattle.theory_definitions.specs.Making.{Table}
+use Rattle.theory_definitions.specs.Plan.{Key}
+use Rattle.theory_meaning.specs.Refusals.{Compiles}
+use Rattle.theory_meaning.specs.Root.{root_draft}
+use Rattle.schema_compiled.specs.Program.{Program}
 use Rattle.schema_validator.specs.Compiled.{IsWhole}
 use Rattle.schema_keys.specs.Compiling.{no_keywords, no_matcher}
 use Rattle.schema_validator.specs.Handed.{Options, parts_of}

@@ -3,20 +3,20 @@
 -- and values of these.
 use Rattle.std.specs.Prelude.{Bool, [], ℕ}
 use Rattle.serde_json.specs.Data.{Data}
-use Rattle.schema_definitions.specs.Matching.{Completion, Matcher}
-use Rattle.schema_definitions.specs.Resolving.{Resolver}
-use Rattle.schema_definitions.specs.Making.{Table}
-use Rattle.schema_definitions.specs.Keywords.{Keywords}
-use Rattle.schema_definitions.specs.Parts.{Parts}
-use Rattle.schema_definitions.specs.Plan.{Key}
-use Rattle.schema_meaning.specs.Root.{IsRoot}
-use Rattle.schema_meaning.specs.Headline.{SpeaksRightly, Plainly, PlainlyWithUnits}
-use Rattle.schema_meaning.specs.ErrorsLead.{EachLeads}
-use Rattle.schema_meaning.specs.UnitsLead.{UnitsPoint}
-use Rattle.schema_definitions.specs.Guarded.{guarded_sense, guarded_within, node_unit, yes_unit}
-use Rattle.schema_meaning.specs.Numbered.{subject_in}
-use Rattle.node_table.specs.NodeTable.{numbered}
-use Rattle.schema_answers.specs.Program.{HaveUnits, Program, Speaks, Means}
+use Rattle.theory_definitions.specs.Matching.{Completion, Matcher}
+use Rattle.theory_definitions.specs.Resolving.{Resolver}
+use Rattle.theory_definitions.specs.Making.{Table}
+use Rattle.theory_definitions.specs.Keywords.{Keywords}
+use Rattle.theory_definitions.specs.Parts.{Parts}
+use Rattle.theory_definitions.specs.Plan.{Key}
+use Rattle.theory_meaning.specs.Root.{IsRoot}
+use Rattle.theory_meaning.specs.Headline.{SpeaksRightly, Plainly, PlainlyWithUnits}
+use Rattle.theory_meaning.specs.ErrorsLead.{EachLeads}
+use Rattle.theory_meaning.specs.UnitsLead.{UnitsPoint}
+use Rattle.theory_definitions.specs.Guarded.{guarded_sense, guarded_within, node_unit, yes_unit}
+use Rattle.theory_meaning.specs.Numbered.{subject_in}
+use Rattle.schema_node_table.specs.NodeTable.{numbered}
+use Rattle.schema_compiled.specs.Program.{HaveUnits, Program, Speaks, Means}
 use Rattle.schema_validator.specs.Handed.{Options, parts_of}
 
 -- S is what a state stands for, K what is known of a keyword, R a run with its answer so far

@@ -2,15 +2,15 @@
 use Rattle.std.specs.Prelude.{Ok, true, ◌≡◌}
 use Rattle.serde_json.specs.View.{view}
 use Rattle.serde_json.specs.declared.value.Value.{Value}
-use Rattle.schema_definitions.specs.Instance.{Text}
-use Rattle.schema_definitions.specs.Plan.{Key}
-use Rattle.schema_definitions.specs.Resolving.{Resolver}
-use Rattle.schema_meaning.specs.Root.{base_of, key_at, root_draft}
-use Rattle.schema_keywords.specs.KeywordViews.{draft_of}
-use Rattle.schema_keywords.specs.declared.keywords.Draft.{Draft}
-use Rattle.schema_parts.specs.ResolverViews.{place_of}
-use Rattle.schema_parts.specs.declared.resolver.Resolver.{Ghosts as ResolverMembers}
-use Rattle.schema_parts.specs.declared.schema_place.SchemaPlace.{SchemaPlace}
+use Rattle.theory_definitions.specs.Instance.{Text}
+use Rattle.theory_definitions.specs.Plan.{Key}
+use Rattle.theory_definitions.specs.Resolving.{Resolver}
+use Rattle.theory_meaning.specs.Root.{base_of, key_at, root_draft}
+use Rattle.schema_drafts.specs.KeywordViews.{draft_of}
+use Rattle.schema_drafts.specs.declared.keywords.Draft.{Draft}
+use Rattle.schema_traits.specs.ResolverViews.{place_of}
+use Rattle.schema_traits.specs.declared.resolver.Resolver.{Ghosts as ResolverMembers}
+use Rattle.schema_traits.specs.declared.schema_place.SchemaPlace.{SchemaPlace}
 use Rattle.schema_keys.specs.Checking.{AcceptsSchema, MetaChecks, RefusesSchema}
 use Rattle.schema_keys.specs.Compiling.{resolving_parts}
 use Rattle.schema_keys.specs.KeyViews.{key_of}

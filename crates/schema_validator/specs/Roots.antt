@@ -3,14 +3,14 @@
 use Rattle.std.specs.Prelude.{List, None, Ok, Err, Some, false, length, string_bytes, ◌≡◌, ◌⊎◌, ◌≤◌, ℕ}
 use Rattle.serde_json.specs.Data.{Data}
 use Rattle.serde_json.specs.Written.{has_float}
-use Rattle.schema_definitions.specs.Instance.{Text}
-use Rattle.schema_definitions.specs.Drafts.{Draft}
-use Rattle.schema_definitions.specs.Resolving.{Entrance, Resolver}
-use Rattle.schema_definitions.specs.Parts.{Parts}
-use Rattle.schema_definitions.specs.Plan.{Key}
-use Rattle.schema_meaning.specs.Reach.{IsReach}
-use Rattle.schema_meaning.specs.Refusals.{Compiles}
-use Rattle.schema_meaning.specs.Root.{root_draft, base_of, key_at}
+use Rattle.theory_definitions.specs.Instance.{Text}
+use Rattle.theory_definitions.specs.Drafts.{Draft}
+use Rattle.theory_definitions.specs.Resolving.{Entrance, Resolver}
+use Rattle.theory_definitions.specs.Parts.{Parts}
+use Rattle.theory_definitions.specs.Plan.{Key}
+use Rattle.theory_meaning.specs.Reach.{IsReach}
+use Rattle.theory_meaning.specs.Refusals.{Compiles}
+use Rattle.theory_meaning.specs.Root.{root_draft, base_of, key_at}
 use Rattle.schema_keys.specs.Compiling.{no_table, no_keywords, no_matcher}
 use Rattle.schema_compiler.specs.Compilation.{RefusesRoot}
 use Rattle.schema_keys.specs.declared.error.BuildError.{BuildError}

@@ -5,16 +5,16 @@ ghost use Rattle.schema_validator.specs.Building.{AcceptsAsBuilt, CanBeBuilt, Ha
 ghost use Rattle.schema_validator.specs.Building.{PointsAsBuilt, RefusesToBuild, UnitsPointAsBuilt};
 ghost use Rattle.schema_validator.specs.Checked.{PassesCheck};
 ghost use Rattle.schema_validator.specs.Handed.{default_nested, default_options};
-ghost use Rattle.schema_answers.specs.Solved.{HasSolver};
+ghost use Rattle.schema_compiled.specs.Solved.{HasSolver};
 
 use crate::options::ValidationOptions;
 use crate::validator::Validator;
 use schema_keys::error::BuildError;
-use schema_parts::keyword::Validate;
-use schema_parts::matcher::Matcher;
-use schema_parts::meta::MetaValidators;
-use schema_parts::resolver::Resolver;
-use schema_parts::table::KeywordTable;
+use schema_traits::keyword::Validate;
+use schema_traits::matcher::Matcher;
+use schema_traits::meta::MetaValidators;
+use schema_traits::resolver::Resolver;
+use schema_traits::table::KeywordTable;
 use serde_json::Value;
 use std::alloc::Global;
 

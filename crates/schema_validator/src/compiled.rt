@@ -1,22 +1,22 @@
 //! Validators of compiled nodes.
 ghost use Rattle.std.specs.Prelude.{◌≡◌, ◌<◌, ◌≤◌, IfOk, None, length};
-ghost use Rattle.schema_keywords.specs.KeywordViews.{draft_of};
+ghost use Rattle.schema_drafts.specs.KeywordViews.{draft_of};
 ghost use Rattle.schema_validator.specs.Building.{HasUnitsFromNodes, MeansFromNodes};
 ghost use Rattle.schema_validator.specs.CallWords.{IsMadeOf};
 ghost use Rattle.schema_validator.specs.Handed.{default_runs};
 
 use crate::validator::{CallLimits, Validator};
-use node_table::node::Nodes;
-use schema_keywords::keywords::Draft;
-use schema_parts::keyword::Validate;
-use schema_parts::matcher::Matcher;
-use schema_parts::numbers::SchemaNode;
-use schema_parts::resolver::Resolver;
-use schema_parts::table::KeywordTable;
+use schema_drafts::keywords::Draft;
+use schema_node_table::node::Nodes;
 use schema_reports::location::OutOfMemory;
-use schema_search::unfinished_matches::MAX_ASSUMED_RUNS;
+use schema_traits::keyword::Validate;
+use schema_traits::matcher::Matcher;
+use schema_traits::numbers::SchemaNode;
+use schema_traits::resolver::Resolver;
+use schema_traits::table::KeywordTable;
 use schema_verdicts::eligible::Solver;
 use std::alloc::Global;
+use unfinished_search::MAX_ASSUMED_RUNS;
 
 /// Builds a validator from compiled nodes, the number of a key's node and the root's draft. Where the nodes are compiled from
 /// this key and no chain of references returns, the validator means the key's plain meaning and has its units. The matcher is

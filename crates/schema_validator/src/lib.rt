@@ -7,4 +7,4 @@ pub mod map;
 pub mod options;
 pub mod validator;
 
-pub use schema_answers::stopping;
+pub use schema_compiled::stopping;

@@ -5,8 +5,8 @@ ghost use Rattle.std.specs.Map.{keys_of};
 ghost use Rattle.schema_validator.specs.MapViews.{EachOnce, PutsAt, at_pointer};
 
 use crate::validator::Validator;
-use schema_parts::keyword::Validate;
 use schema_reports::location::OutOfMemory;
+use schema_traits::keyword::Validate;
 use std::alloc::Global;
 use std::collections::BTreeMap;
 use std::collections::btree_map::Keys;
@@ -20,7 +20,7 @@ pub struct ValidatorMap<K: Validate, M> {
 }
 
 impl<K: Validate, M> Model for ValidatorMap<K, M> {
-    ghost use Rattle.schema_answers.specs.Program.{Program};
+    ghost use Rattle.schema_compiled.specs.Program.{Program};
     ghost use Rattle.schema_validator.specs.MapViews.{Entries, entries_of};
     ghost use Rattle.serde_json.specs.contracts.value.Value as value;
     ghost use Rattle.std.specs.Coded.{codes};

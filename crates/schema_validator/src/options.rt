@@ -1,15 +1,15 @@
 //! The options of a build.
 ghost use Rattle.std.specs.Prelude.{◌≡◌, ◌≤◌, ◌++◌, ◌∷◌, [], Some};
-ghost use Rattle.schema_keywords.specs.KeywordViews.{draft_of};
-ghost use Rattle.schema_parts.specs.Showing.{Yields};
+ghost use Rattle.schema_drafts.specs.KeywordViews.{draft_of};
+ghost use Rattle.schema_traits.specs.Showing.{Yields};
 ghost use Rattle.schema_validator.specs.Handed.{default_options};
 
+use schema_drafts::keywords::Draft;
 use schema_keys::options::CompileOptions;
-use schema_keywords::keywords::Draft;
 use schema_reports::location::OutOfMemory;
-use schema_search::unfinished_matches::MAX_ASSUMED_RUNS;
 use std::alloc::Global;
 use std::marker::Model;
+use unfinished_search::MAX_ASSUMED_RUNS;
 
 pub mod build;
 pub mod map;
@@ -38,7 +38,7 @@ pub struct ValidationOptions {
 
 impl Model for ValidationOptions {
     ghost use Rattle.std.specs.Prelude.{map, option_map, string_bytes, ◌≤◌};
-    ghost use Rattle.schema_keywords.specs.KeywordViews.{draft_of};
+    ghost use Rattle.schema_drafts.specs.KeywordViews.{draft_of};
     ghost use Rattle.schema_validator.specs.Handed.{Options};
 
     ghost Value = { Options };

@@ -1,48 +1,48 @@
 //! A validator: what it answers of instances.
 ghost use Rattle.std.specs.Prelude.{◌≡◌, ◌↔◌, ◌<◌, ◌≤◌, true, None, IfOk, OnErr, length, OnOk};
 ghost use Rattle.serde_json.specs.View.{view};
-ghost use Rattle.schema_definitions.specs.Cover.{evaluate, is_valid, iter_errors, validate};
-ghost use Rattle.schema_keywords.specs.KeywordViews.{draft_of};
-ghost use Rattle.schema_contexts.specs.Works.{Spends};
-ghost use Rattle.schema_parts.specs.MatcherViews.{FinishesEach};
-ghost use Rattle.schema_answers.specs.Answers.{refusal_of};
-ghost use Rattle.schema_answers.specs.Asked.{DecidesFromSomeDepth, ErrorsFromSomeDepth, FirstFromSomeDepth};
-ghost use Rattle.schema_answers.specs.Asked.{DecidesInEverySense, ErrorsInEverySense, FirstInEverySense};
-ghost use Rattle.schema_answers.specs.Asked.{ErrorsPointAsNodes, FirstPointsAsNodes};
-ghost use Rattle.schema_answers.specs.Asked.{EvaluatesFromSomeDepth, EvaluatesInEverySense};
-ghost use Rattle.schema_answers.specs.Asked.{UnitsFromSomeDepth, UnitsInEverySense};
+ghost use Rattle.theory_definitions.specs.Cover.{evaluate, is_valid, iter_errors, validate};
+ghost use Rattle.schema_drafts.specs.KeywordViews.{draft_of};
+ghost use Rattle.schema_run_context.specs.Works.{Spends};
+ghost use Rattle.schema_traits.specs.MatcherViews.{FinishesEach};
+ghost use Rattle.schema_compiled.specs.Answers.{refusal_of};
+ghost use Rattle.schema_compiled.specs.Asked.{DecidesFromSomeDepth, ErrorsFromSomeDepth, FirstFromSomeDepth};
+ghost use Rattle.schema_compiled.specs.Asked.{DecidesInEverySense, ErrorsInEverySense, FirstInEverySense};
+ghost use Rattle.schema_compiled.specs.Asked.{ErrorsPointAsNodes, FirstPointsAsNodes};
+ghost use Rattle.schema_compiled.specs.Asked.{EvaluatesFromSomeDepth, EvaluatesInEverySense};
+ghost use Rattle.schema_compiled.specs.Asked.{UnitsFromSomeDepth, UnitsInEverySense};
 ghost use Rattle.schema_validator.specs.CallWords.{AllAreMonotone, EachBorrows, FindsBySolver, FindsOnlyBySolver};
 ghost use Rattle.schema_validator.specs.CallWords.{FindsVerdict, FindsWith, FirstBorrows, FirstIsSo, IsSpentIfStopped, StaysUnstopped};
-ghost use Rattle.schema_answers.specs.Program.{program_with};
+ghost use Rattle.schema_compiled.specs.Program.{program_with};
 ghost use Rattle.schema_validator.specs.Greatest.{DecidesAccepted, ErrorsAccepted, EvaluatesAccepted, FirstAccepted};
 ghost use Rattle.schema_validator.specs.Handed.{default_runs};
-ghost use Rattle.schema_answers.specs.Solved.{AllSayMonotone, AreEnough, BeganFew, IsCountedIn};
-ghost use Rattle.schema_answers.specs.Solved.{IsDecidedWithin, RestsOnContext, StopsOnlyLate};
-ghost use Rattle.schema_answers.specs.Taken.{TakesByRuns};
-ghost use Rattle.schema_meaning.specs.Numbered.{Ranked};
-ghost use Rattle.node_table.specs.NodeTable.{numbered};
+ghost use Rattle.schema_compiled.specs.Solved.{AllSayMonotone, AreEnough, BeganFew, IsCountedIn};
+ghost use Rattle.schema_compiled.specs.Solved.{IsDecidedWithin, RestsOnContext, StopsOnlyLate};
+ghost use Rattle.schema_compiled.specs.Taken.{TakesByRuns};
+ghost use Rattle.theory_meaning.specs.Numbered.{Ranked};
+ghost use Rattle.schema_node_table.specs.NodeTable.{numbered};
 
 mod calls;
 mod cloning;
 
-use node_table::node::Nodes;
-pub use schema_answers::compiled_schema::CallLimits;
-use schema_answers::compiled_schema::CompiledSchema;
-use schema_contexts::work::Work;
-use schema_keywords::keywords::Draft;
+pub use schema_compiled::compiled_schema::CallLimits;
+use schema_compiled::compiled_schema::CompiledSchema;
+use schema_drafts::keywords::Draft;
+use schema_node_table::node::Nodes;
 use schema_output::evaluation::Evaluation;
-use schema_parts::keyword::Validate;
-use schema_parts::matcher::Matcher;
-use schema_parts::numbers::SchemaNode;
 use schema_reports::location::OutOfMemory;
 use schema_reports::reports::{ErrorIterator, ValidationError};
-use schema_search::unfinished_matches::MAX_ASSUMED_RUNS;
+use schema_run_context::work::Work;
+use schema_traits::keyword::Validate;
+use schema_traits::matcher::Matcher;
+use schema_traits::numbers::SchemaNode;
 pub use schema_verdicts::eligible::SolvedVerdict;
 use schema_verdicts::eligible::Solver;
 use schema_verdicts::monotone::is_monotone;
 use serde_json::Value;
 use std::alloc::Global;
 use std::marker::Model;
+use unfinished_search::MAX_ASSUMED_RUNS;
 
 /// A compiled schema. It validates any number of instances, and no call changes it.
 #[derive(Drop)]
@@ -51,7 +51,7 @@ pub struct Validator<K: Validate, M> {
 }
 
 impl<K: Validate, M> Model for Validator<K, M> {
-    ghost use Rattle.schema_answers.specs.Program.{Program};
+    ghost use Rattle.schema_compiled.specs.Program.{Program};
     ghost use Rattle.serde_json.specs.contracts.value.Value as value;
     ghost use Rattle.std.specs.Coded.{codes};
 

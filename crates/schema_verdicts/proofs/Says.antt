@@ -7,16 +7,16 @@ use Rattle.std.proofs.lemmas.List.Elements.{All-weaker}
 use Rattle.std.proofs.lemmas.List.Folds.{list_all-append, list_all-map, list_all_at, list_all_more}
 use Rattle.std.proofs.lemmas.List.Sums.{AllPass-from_list_all, list_all-from_AllPass}
 use Rattle.std.proofs.lemmas.Option.{get_or_from_slice_get, slice_get-get_or, slice_get_cases, slice_get_within}
-use Rattle.schema_definitions.specs.Guarded.{NodeForm, NodePart, NodePlan, node_always, node_keyword, node_never, node_reference, node_these}
-use Rattle.schema_definitions.specs.Keywords.{Keywords}
-use Rattle.schema_meaning.specs.Fractions.{form_words, node_words}
-use Rattle.schema_meaning.specs.Greatest.{IsMonotone}
-use Rattle.node_table.specs.NodeTable.{NodeEntry, numbered, plan_in, shaped, shaped_form, shaped_part}
-use Rattle.node_table.specs.NodeViews.{entry_of, form_of, node_of, plan_of}
-use Rattle.node_table.specs.declared.node.Entry.{Entry}
-use Rattle.node_table.specs.declared.node.Node.{Node}
-use Rattle.node_table.specs.declared.node.NodeForm.{NodeForm as CodeForm}
-use Rattle.schema_greatest.specs.NodesSay.{AreMonotone}
+use Rattle.theory_definitions.specs.Guarded.{NodeForm, NodePart, NodePlan, node_always, node_keyword, node_never, node_reference, node_these}
+use Rattle.theory_definitions.specs.Keywords.{Keywords}
+use Rattle.theory_meaning.specs.Fractions.{form_words, node_words}
+use Rattle.theory_meaning.specs.Greatest.{IsMonotone}
+use Rattle.schema_node_table.specs.NodeTable.{NodeEntry, numbered, plan_in, shaped, shaped_form, shaped_part}
+use Rattle.schema_node_table.specs.NodeViews.{entry_of, form_of, node_of, plan_of}
+use Rattle.schema_node_table.specs.declared.node.Entry.{Entry}
+use Rattle.schema_node_table.specs.declared.node.Node.{Node}
+use Rattle.schema_node_table.specs.declared.node.NodeForm.{NodeForm as CodeForm}
+use Rattle.theory_fixed_points.specs.NodesSay.{AreMonotone}
 use Rattle.schema_verdicts.specs.Saying.{EachSays, form_says, node_says, table_says}
 
 flat : {A B : Type 0} (p : B → Bool) (f : A → List B) (xs : List A) → list_all p (flat_map f xs) ≡ list_all (λ x. list_all p (f x)) xs

@@ -1,9 +1,9 @@
 -- Each keyword of each node says of itself that it is monotone. References say nothing against it.
 use Rattle.std.specs.List.{list_all}
 use Rattle.std.specs.Prelude.{Bool, List, Some}
-use Rattle.schema_definitions.specs.Guarded.{NodeForm}
-use Rattle.schema_meaning.specs.Fractions.{form_words, node_words}
-use Rattle.node_table.specs.NodeTable.{NodeEntry, plan_in}
+use Rattle.theory_definitions.specs.Guarded.{NodeForm}
+use Rattle.theory_meaning.specs.Fractions.{form_words, node_words}
+use Rattle.schema_node_table.specs.NodeTable.{NodeEntry, plan_in}
 -- each keyword of these numbers says so
 pub use Rattle.schema_solver.specs.Solving.{EachSays}
 

@@ -1,26 +1,26 @@
 //! Where a solver finds the verdicts of some nodes.
 ghost use Rattle.std.specs.Prelude.{◌≡◌, ◌<◌, ◌+◌, ◌&&◌, [], IfOk, IfSome, None, OnErr, false, is_some, length, true};
 ghost use Rattle.serde_json.specs.View.{view};
-ghost use Rattle.schema_pairs.specs.Following.{IsFollowing};
-ghost use Rattle.schema_parts.specs.MatcherViews.{FinishesEach};
-ghost use Rattle.node_table.specs.NodeTable.{numbered};
+ghost use Rattle.schema_solver_state.specs.Following.{IsFollowing};
+ghost use Rattle.schema_traits.specs.MatcherViews.{FinishesEach};
+ghost use Rattle.schema_node_table.specs.NodeTable.{numbered};
 ghost use Rattle.schema_solver.specs.Asked.{solver_over};
 ghost use Rattle.schema_solver.specs.Solving.{BeginsFew, EachSays, LimitWithinBound, SaysAsNodes};
-ghost use Rattle.schema_contexts.specs.Works.{Spends};
-ghost use Rattle.schema_parts.specs.Showing.{Shows, Yields};
+ghost use Rattle.schema_run_context.specs.Works.{Spends};
+ghost use Rattle.schema_traits.specs.Showing.{Shows, Yields};
 ghost use Rattle.schema_verdicts.specs.Finding.{IsFoundAt};
 
-use node_table::node::Nodes;
-use schema_contexts::work::Work;
-use schema_pairs::context::SolverContext;
-use schema_pairs::followed::Followed;
-use schema_parts::keyword::Validate;
-use schema_parts::matcher::Matcher;
-use schema_parts::numbers::SchemaNode;
+use schema_node_table::node::Nodes;
 use schema_places::on_demand::PlacesOnDemand;
 use schema_reports::location::OutOfMemory;
+use schema_run_context::work::Work;
 use schema_solver::question::{SolverEngine, Stopped};
 use schema_solver::solve::solve_root;
+use schema_solver_state::context::SolverContext;
+use schema_solver_state::followed::Followed;
+use schema_traits::keyword::Validate;
+use schema_traits::matcher::Matcher;
+use schema_traits::numbers::SchemaNode;
 use serde_json::Value;
 use std::alloc::{AllocError, Global};
 use std::marker::Model;

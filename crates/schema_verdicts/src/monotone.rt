@@ -1,15 +1,15 @@
 //! What the keywords of nodes say of themselves.
 ghost use Rattle.std.specs.Prelude.{◌≡◌, ◌↔◌, Bool, length, true};
 ghost use Rattle.std.specs.List.{list_all};
-ghost use Rattle.node_table.specs.declared.node.Entry.{Entry};
-ghost use Rattle.schema_greatest.specs.NodesSay.{AreMonotone};
+ghost use Rattle.schema_node_table.specs.declared.node.Entry.{Entry};
+ghost use Rattle.theory_fixed_points.specs.NodesSay.{AreMonotone};
 ghost use Rattle.schema_verdicts.specs.Saying.{EachSays, form_says, node_says, table_says};
-ghost use Rattle.node_table.specs.NodeTable.{numbered};
-ghost use Rattle.node_table.specs.NodeViews.{form_of, node_of};
+ghost use Rattle.schema_node_table.specs.NodeTable.{numbered};
+ghost use Rattle.schema_node_table.specs.NodeViews.{form_of, node_of};
 
-use node_table::node::{Entry, EntryForm, Node, NodeForm, Nodes};
-use schema_parts::keyword::Validate;
-use schema_parts::numbers::SchemaNode;
+use schema_node_table::node::{Entry, EntryForm, Node, NodeForm, Nodes};
+use schema_traits::keyword::Validate;
+use schema_traits::numbers::SchemaNode;
 
 // Whether the keyword of an entry says that it is monotone; a reference counts as one that does.
 fn entry_says<K: Validate>(entry: &Entry<K>) -> bool

@@ -2,9 +2,9 @@
 -- written is not told apart by the standard, so texts that show fractions are not spoken of)
 use Rattle.std.specs.List.{list_all}
 use Rattle.std.specs.Prelude.{Bool, List, Some}
-use Rattle.schema_definitions.specs.Guarded.{NodeForm}
-use Rattle.schema_meaning.specs.Fractions.{form_words, node_words}
-use Rattle.node_table.specs.NodeTable.{NodeEntry, plan_in}
+use Rattle.theory_definitions.specs.Guarded.{NodeForm}
+use Rattle.theory_meaning.specs.Fractions.{form_words, node_words}
+use Rattle.schema_node_table.specs.NodeTable.{NodeEntry, plan_in}
 
 module _ {K : Type 0} (is_whole : K → Bool) where
   abbrev pub form_is_whole : NodeForm K → Bool

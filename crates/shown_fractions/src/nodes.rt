@@ -1,15 +1,15 @@
 //! Whether the keywords of nodes show no fraction of the schema in their texts.
 ghost use Rattle.std.specs.Prelude.{◌≡◌, ◌↔◌, length, true};
 ghost use Rattle.std.specs.List.{list_all};
-ghost use Rattle.node_table.specs.declared.node.Entry.{Entry};
-ghost use Rattle.node_table.specs.NodeTable.{numbered};
-ghost use Rattle.node_table.specs.NodeViews.{form_of, node_of};
-ghost use Rattle.schema_meaning.specs.Fractions.{AreWhole};
+ghost use Rattle.schema_node_table.specs.declared.node.Entry.{Entry};
+ghost use Rattle.schema_node_table.specs.NodeTable.{numbered};
+ghost use Rattle.schema_node_table.specs.NodeViews.{form_of, node_of};
+ghost use Rattle.theory_meaning.specs.Fractions.{AreWhole};
 ghost use Rattle.shown_fractions.specs.Shown.{form_is_whole, node_is_whole, table_is_whole};
 
-use node_table::node::{Entry, EntryForm, Node, NodeForm, Nodes};
-use schema_parts::keyword::Validate;
-use schema_parts::numbers::SchemaNode;
+use schema_node_table::node::{Entry, EntryForm, Node, NodeForm, Nodes};
+use schema_traits::keyword::Validate;
+use schema_traits::numbers::SchemaNode;
 
 /// What tells of a keyword whether it shows a fraction of the schema.
 pub trait TellsFractions<K: Validate> {

@@ -5,11 +5,11 @@ use Rattle.std.specs.List.{list_all}
 use Rattle.serde_json.specs.Data.{array}
 use Rattle.serde_json.specs.View.{items_view}
 use Rattle.serde_json.specs.declared.value.Value.{Value}
-use Rattle.schema_definitions.specs.Instance.{Subject, a_value}
-use Rattle.schema_definitions.specs.Keywords.{Question}
-use Rattle.schema_definitions.specs.Matching.{Matching}
-use Rattle.schema_parts.specs.AskedAtOnce.{child_at, numbers_from}
-use Rattle.keyword_ways.proofs.AskedAlike.{each_at_its_own, first_at_each}
+use Rattle.theory_definitions.specs.Instance.{Subject, a_value}
+use Rattle.theory_definitions.specs.Keywords.{Question}
+use Rattle.theory_definitions.specs.Matching.{Matching}
+use Rattle.schema_traits.specs.AskedAtOnce.{child_at, numbers_from}
+use Rattle.keyword_authoring.proofs.AskedAlike.{each_at_its_own, first_at_each}
 use Rattle.standard_applicators.specs.Courses.{course_words}
 use Rattle.standard_applicators.specs.StandardCourses.{course}
 use Rattle.standard_applicators.specs.declared.applicator.StandardApplicator.TheVariants.{LaterItems, ListedItems}

@@ -1,13 +1,13 @@
 -- The keywords that say at once whether they hold, where they do.
 use Rattle.std.proofs.Common.{Bool, None, Option, Some, ◌≡◌, ◌∙◌}
 use Rattle.std.specs.Prelude.{IfSome}
-use Rattle.schema_definitions.specs.Instance.{Subject}
-use Rattle.schema_parts.specs.AtOnce.{EndsAtOnce}
-use Rattle.schema_parts.specs.KeywordViews.{Tells}
-use Rattle.keyword_ways.specs.OwnWays.{own_words}
-use Rattle.keyword_ways.specs.Plans.{plan_ways}
-use Rattle.keyword_ways.specs.declared.planned.Planned.{Planned}
-use Rattle.keyword_ways.proofs.AtOnce.{leaf_at_once}
+use Rattle.theory_definitions.specs.Instance.{Subject}
+use Rattle.schema_traits.specs.AtOnce.{EndsAtOnce}
+use Rattle.schema_traits.specs.KeywordViews.{Tells}
+use Rattle.keyword_authoring.specs.OwnWays.{own_words}
+use Rattle.keyword_authoring.specs.Plans.{plan_ways}
+use Rattle.keyword_authoring.specs.declared.planned.Planned.{Planned}
+use Rattle.keyword_authoring.proofs.AtOnce.{leaf_at_once}
 use Rattle.standard_applicators.specs.Containing as contains
 use Rattle.standard_applicators.specs.Courses.{course_words}
 use Rattle.standard_applicators.specs.StandardCourses.{course}

@@ -3,16 +3,16 @@ use Rattle.std.proofs.Common.{◌≡◌, ◌∙◌, ◌↔◌, ℕ, zero, suc, �
 use Rattle.std.proofs.Math.Nat.{le-min, min-le_right, min-eq_right}
 use Rattle.std.proofs.lemmas.Bool.{le-leb, leb-true, lt-leb, cases_lt}
 use Rattle.std.specs.Prelude.{codes, if◌then◌else◌}
-use Rattle.schema_definitions.specs.Instance.{Subject, Text}
-use Rattle.schema_definitions.specs.Keywords.{Answers, Fault, Question}
-use Rattle.schema_definitions.specs.Matching.{Matching}
+use Rattle.theory_definitions.specs.Instance.{Subject, Text}
+use Rattle.theory_definitions.specs.Keywords.{Answers, Fault, Question}
+use Rattle.theory_definitions.specs.Matching.{Matching}
 use Rattle.schema_reports.specs.ReportViews.{spoken}
-use Rattle.keyword_ways.specs.Items.{each_from, item_count}
-use Rattle.keyword_ways.specs.OwnWays.{spoken_way}
-use Rattle.keyword_ways.specs.Plans.{enough_of, is_wanted, wanting_way, way_by}
-use Rattle.keyword_ways.specs.Tallies.{counted, yes_count}
-use Rattle.keyword_ways.specs.Ways.{Way, way_faults, way_holds}
-use Rattle.keyword_ways.specs.declared.planned.Plan.TheVariants.{Holds}
+use Rattle.keyword_authoring.specs.Items.{each_from, item_count}
+use Rattle.keyword_authoring.specs.OwnWays.{spoken_way}
+use Rattle.keyword_authoring.specs.Plans.{enough_of, is_wanted, wanting_way, way_by}
+use Rattle.keyword_authoring.specs.Tallies.{counted, yes_count}
+use Rattle.keyword_authoring.specs.Ways.{Way, way_faults, way_holds}
+use Rattle.keyword_authoring.specs.declared.planned.Plan.TheVariants.{Holds}
 use Rattle.standard_applicators.specs.Containing.{fewer_than, how_many, more_than, rest_of, wanted}
 use Rattle.standard_applicators.specs.FittingItems.{IsAtMost, SoManyFit, how_many_fit}
 use Rattle.standard_applicators.specs.Meanings.{at_items, schema_at, verdict_in}

@@ -4,7 +4,7 @@ use Rattle.std.proofs.lemmas.List.{at_drop_all}
 use Rattle.serde_json.specs.Data.{item, no_items}
 use Rattle.serde_json.specs.View.{items_view, view}
 use Rattle.serde_json.specs.declared.value.Value.{Value}
-use Rattle.schema_parts.proofs.Drops.{drop_at}
+use Rattle.schema_traits.proofs.Drops.{drop_at}
 
 pub items_at : (xs : List Value) (i : ℕ) (x : Value) → i < length xs → x ≡ get_or xs i x → items_view (drop i xs) ≡ item (view x) (items_view (drop (i + 1) xs))
 items_at xs i x h is = ap items_view (drop_at xs i x h is)

@@ -4,7 +4,7 @@ use Rattle.std.proofs.lemmas.List.{length-drop, take_all}
 use Rattle.serde_json.specs.Data.{Items, array, boolean, item, no_items, null, number, object, string}
 use Rattle.serde_json.specs.View.{items_view}
 use Rattle.serde_json.specs.Written.{has_float, items_have_float}
-use Rattle.schema_definitions.specs.Instance.{Subject, a_name, a_value}
+use Rattle.theory_definitions.specs.Instance.{Subject, a_name, a_value}
 use Rattle.schema_reports.specs.InstanceTexts.{subject_has_float}
 use Rattle.serde_json.specs.declared.value.Value.{Value}
 use Rattle.standard_applicators.specs.Unexpected.{items_after, subject_items}

@@ -4,13 +4,13 @@ use Rattle.std.proofs.Math.Nat.{eq-or-lt_of_le, le-min, min-le_left, min-le_righ
 use Rattle.std.proofs.lemmas.List.{map-append}
 use Rattle.std.specs.List.{list_all}
 use Rattle.std.specs.Prelude.{flat_map}
-use Rattle.schema_definitions.specs.Instance.{Subject, Text}
-use Rattle.schema_definitions.specs.Keywords.{Answers, Question, own, passed}
-use Rattle.schema_parts.specs.KeywordViews.{is_nil}
-use Rattle.keyword_ways.specs.Items.{child_here, each_from}
-use Rattle.keyword_ways.specs.Members.{has_member, only_if}
-use Rattle.keyword_ways.specs.Somes.{somes}
-use Rattle.keyword_ways.specs.Ways.{plain, unless}
+use Rattle.theory_definitions.specs.Instance.{Subject, Text}
+use Rattle.theory_definitions.specs.Keywords.{Answers, Question, own, passed}
+use Rattle.schema_traits.specs.KeywordViews.{is_nil}
+use Rattle.keyword_authoring.specs.Items.{child_here, each_from}
+use Rattle.keyword_authoring.specs.Members.{has_member, only_if}
+use Rattle.keyword_authoring.specs.Somes.{somes}
+use Rattle.keyword_authoring.specs.Ways.{plain, unless}
 use Rattle.standard_applicators.specs.Dependents.{dependents_from}
 use Rattle.standard_applicators.specs.DependentSchemas.{EachDependentAccepts}
 use Rattle.standard_applicators.specs.ListedItems.{EachFitsItsOwn, EachLaterFits}

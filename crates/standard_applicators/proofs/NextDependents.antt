@@ -1,7 +1,7 @@
 -- The children that are asked from a number on.
 use Rattle.std.proofs.Common.{ℕ, zero, suc, drop, add-zero, ap, arith, length, map, refl, sym, ◌≡◌, ◌∙◌, ◌+◌, List, [], ◌∷◌}
 use Rattle.std.proofs.lemmas.List.{drop-map}
-use Rattle.schema_definitions.specs.Instance.{Subject, Text}
+use Rattle.theory_definitions.specs.Instance.{Subject, Text}
 use Rattle.standard_applicators.specs.Dependents.{dependents_from}
 
 pub length-dependents : (i : ℕ) (ks : List Text) (s : Subject) → length (dependents_from i ks s) ≡ length ks

@@ -2,16 +2,16 @@
 use Rattle.std.proofs.Common.{◌≡◌, ◌∙◌, ◌∷◌, ◌&&◌, ◌||◌, [], List, Bool, true, false, ap, codes, map, not, refl, sym}
 use Rattle.std.specs.List.{list_any}
 use Rattle.std.specs.Prelude.{Option, if◌then◌else◌}
-use Rattle.schema_definitions.specs.Instance.{Subject, Text}
-use Rattle.schema_definitions.specs.Keywords.{Answer, Fault, Question, for_all, for_first, for_units, for_verdict, own}
-use Rattle.schema_definitions.specs.Keywords as spec
+use Rattle.theory_definitions.specs.Instance.{Subject, Text}
+use Rattle.theory_definitions.specs.Keywords.{Answer, Fault, Question, for_all, for_first, for_units, for_verdict, own}
+use Rattle.theory_definitions.specs.Keywords as spec
 use Rattle.schema_reports.specs.ReportViews.{spoken}
-use Rattle.schema_parts.specs.KeywordViews.{is_nil}
-use Rattle.schema_parts.specs.declared.keyword.Mode.{Mode}
-use Rattle.schema_parts.specs.declared.keyword.Mode.TheVariants as mode
-use Rattle.keyword_ways.specs.Ways.{noted, noted_one, plain, refused, refused_mode}
-use Rattle.keyword_ways.specs.declared.run.Stage.{Stage}
-use Rattle.keyword_ways.specs.declared.run.Stage.TheVariants.{Begun}
+use Rattle.schema_traits.specs.KeywordViews.{is_nil}
+use Rattle.schema_traits.specs.declared.keyword.Mode.{Mode}
+use Rattle.schema_traits.specs.declared.keyword.Mode.TheVariants as mode
+use Rattle.keyword_authoring.specs.Ways.{noted, noted_one, plain, refused, refused_mode}
+use Rattle.keyword_authoring.specs.declared.run.Stage.{Stage}
+use Rattle.keyword_authoring.specs.declared.run.Stage.TheVariants.{Begun}
 use Rattle.standard_applicators.specs.Courses.{ends_run, left_to_ask, wants_one}
 use Rattle.standard_applicators.specs.Wanting.{is_unmet, missing_texts, required_text}
 

@@ -3,14 +3,14 @@ use Rattle.std.proofs.Common.{◌≡◌, ◌∙◌, ◌↔◌, ◌++◌, ◌∷�
 use Rattle.std.proofs.lemmas.List.Elements.{All-cons, All-head, All-nil, All-tail}
 use Rattle.std.specs.List.{list_all}
 use Rattle.std.specs.Prelude.{flat_map}
-use Rattle.schema_definitions.specs.Instance.{Subject, Text}
-use Rattle.schema_definitions.specs.Keywords.{Answers, Fault, Question, own, passed}
+use Rattle.theory_definitions.specs.Instance.{Subject, Text}
+use Rattle.theory_definitions.specs.Keywords.{Answers, Fault, Question, own, passed}
 use Rattle.schema_reports.specs.ReportViews.{spoken}
-use Rattle.schema_parts.specs.KeywordViews.{is_nil}
-use Rattle.keyword_ways.specs.Items.{child_here}
-use Rattle.keyword_ways.specs.Members.{has_member}
-use Rattle.keyword_ways.specs.Somes.{somes}
-use Rattle.keyword_ways.specs.Ways.{plain}
+use Rattle.schema_traits.specs.KeywordViews.{is_nil}
+use Rattle.keyword_authoring.specs.Items.{child_here}
+use Rattle.keyword_authoring.specs.Members.{has_member}
+use Rattle.keyword_authoring.specs.Somes.{somes}
+use Rattle.keyword_authoring.specs.Ways.{plain}
 use Rattle.standard_applicators.specs.Dependents.{dependents_from}
 use Rattle.standard_applicators.specs.DependentSchemas.{EachDependentAccepts}
 use Rattle.standard_applicators.specs.MetWants.{EachWantIsMet}

@@ -2,14 +2,14 @@
 -- `maxContains` beside it Validation 2020-12, 6.4.4 and 6.4.5)
 use Rattle.std.proofs.Common.{refl}
 use Rattle.std.specs.Prelude.{Bool, None, Option, Some, codes, decimal, if◌then◌else◌, is_some, nat_lt, not, true, ℕ, ◌++◌, ◌==◌, ◌≡◌}
-use Rattle.schema_definitions.specs.Instance.{Subject, Text}
-use Rattle.schema_definitions.specs.Meaning.{subject_text}
-use Rattle.keyword_ways.specs.Items.{is_list}
-use Rattle.keyword_ways.specs.Plans.{either_says_monotone, plan_says_monotone}
-use Rattle.keyword_ways.specs.WayGrows.{PlansGrow}
-use Rattle.keyword_ways.specs.declared.planned.Asks.TheVariants as asks
-use Rattle.keyword_ways.specs.declared.planned.Plan.{Plan}
-use Rattle.keyword_ways.specs.declared.planned.Plan.TheVariants.{AtLeast, Holds, Within}
+use Rattle.theory_definitions.specs.Instance.{Subject, Text}
+use Rattle.theory_definitions.specs.Meaning.{subject_text}
+use Rattle.keyword_authoring.specs.Items.{is_list}
+use Rattle.keyword_authoring.specs.Plans.{either_says_monotone, plan_says_monotone}
+use Rattle.keyword_authoring.specs.WayGrows.{PlansGrow}
+use Rattle.keyword_authoring.specs.declared.planned.Asks.TheVariants as asks
+use Rattle.keyword_authoring.specs.declared.planned.Plan.{Plan}
+use Rattle.keyword_authoring.specs.declared.planned.Plan.TheVariants.{AtLeast, Holds, Within}
 use Rattle.standard_applicators.specs.declared.contains.Contains.{Contains}
 
 abbrev pub wanted : ℕ → Option ℕ → Plan

@@ -3,36 +3,36 @@
 use Rattle.std.proofs.Common.{◌≡◌, ◌∙◌, ℕ, zero, suc, ◌+◌, ◌<◌, ◌⊎◌, ◌&&◌, ◌++◌, ◌∷◌, [], List, Bool, true, false, Option, refl, sym, ap, subst, arith, map}
 use Rattle.std.specs.Prelude.{All, Contains, ◌↔◌}
 use Rattle.std.proofs.lemmas.List.Elements.{All-append, All-map, All-nil}
-use Rattle.schema_definitions.specs.Instance.{Subject, Text, a_name}
+use Rattle.theory_definitions.specs.Instance.{Subject, Text, a_name}
 use Rattle.schema_reports.specs.ReportViews.{spoken}
-use Rattle.schema_definitions.specs.Reports.{Unit_, report_of}
-use Rattle.schema_definitions.specs.Matching.{Matching}
-use Rattle.schema_definitions.specs.Keywords.{Answer, Answers, Fault, Marked, Question, Reply, Turn, all_valid, ask, done, ecma, for_all, for_first, for_units, for_verdict, mark, match_text, own, unmark}
-use Rattle.schema_definitions.specs.Keywords as spec
-use Rattle.schema_definitions.specs.Laws.{Agrees, AsksRightly, IsRight, PassesUnchanged, StandsInside, answer_in}
-use Rattle.schema_definitions.specs.Remembering.{AlwaysAsksVerdict, AsksVerdict, EachAsksVerdicts}
-use Rattle.schema_definitions.specs.Turns.{FunctionLaws, Standing, TurnLaws, next, reply_to, step_at as turn_at}
-use Rattle.schema_meaning.specs.Greatest.{IsMonotone}
-use Rattle.schema_meaning.specs.UnitsLead.{EachHandsUnitsOn, IsHandedOn}
-use Rattle.schema_parts.specs.KeywordViews.{fresh, is_nil, mode_of}
-use Rattle.schema_parts.specs.UnitQuestions.{AlwaysAsksForLess, AsksForLess, AsksNoUnits}
-use Rattle.schema_parts.specs.declared.keyword.Mode.{Mode}
-use Rattle.schema_parts.specs.declared.keyword.Mode.TheVariants as mode
-use Rattle.keyword_ways.specs.OwnWays.{same_questions, spoken_way}
-use Rattle.keyword_ways.specs.Places.{AsksPresent}
-use Rattle.keyword_ways.specs.Somes.{somes}
-use Rattle.keyword_ways.specs.WayGrows.{SaysYesWhere, own_grow, way_grows}
-use Rattle.keyword_ways.specs.WayHandsOn.{ways_hand_units_on}
-use Rattle.keyword_ways.specs.WayLaws.{turn_laws}
-use Rattle.keyword_ways.specs.WayReads.{way_agrees, way_faults_read, way_holds_reads, way_passes, way_stands_inside, way_units_read, way_units_valid}
-use Rattle.keyword_ways.specs.WayRuns.{fits_begun, replies_by, reply_for}
-use Rattle.keyword_ways.specs.WayUnits.{WantsNone, mode-kept, step_for_less}
-use Rattle.keyword_ways.specs.WayVerdicts.{WantsVerdict, step_for_verdict}
-use Rattle.keyword_ways.specs.WayWords.{run_replies, words_of}
-use Rattle.keyword_ways.specs.Ways.{Way, asks_match, branches, judges, left_of, mode_from, passes_on, passes_some, places, plain, questions, step_at, tells, way_faults}
-use Rattle.keyword_ways.specs.declared.run.Progress.{Progress}
-use Rattle.keyword_ways.specs.declared.run.Stage.{Stage}
-use Rattle.keyword_ways.specs.declared.run.Stage.TheVariants.{Asked, Begun, Counted, Ended}
+use Rattle.theory_definitions.specs.Reports.{Unit_, report_of}
+use Rattle.theory_definitions.specs.Matching.{Matching}
+use Rattle.theory_definitions.specs.Keywords.{Answer, Answers, Fault, Marked, Question, Reply, Turn, all_valid, ask, done, ecma, for_all, for_first, for_units, for_verdict, mark, match_text, own, unmark}
+use Rattle.theory_definitions.specs.Keywords as spec
+use Rattle.theory_definitions.specs.Laws.{Agrees, AsksRightly, IsRight, PassesUnchanged, StandsInside, answer_in}
+use Rattle.theory_definitions.specs.Remembering.{AlwaysAsksVerdict, AsksVerdict, EachAsksVerdicts}
+use Rattle.theory_definitions.specs.Turns.{FunctionLaws, Standing, TurnLaws, next, reply_to, step_at as turn_at}
+use Rattle.theory_meaning.specs.Greatest.{IsMonotone}
+use Rattle.theory_meaning.specs.UnitsLead.{EachHandsUnitsOn, IsHandedOn}
+use Rattle.schema_traits.specs.KeywordViews.{fresh, is_nil, mode_of}
+use Rattle.schema_traits.specs.UnitQuestions.{AlwaysAsksForLess, AsksForLess, AsksNoUnits}
+use Rattle.schema_traits.specs.declared.keyword.Mode.{Mode}
+use Rattle.schema_traits.specs.declared.keyword.Mode.TheVariants as mode
+use Rattle.keyword_authoring.specs.OwnWays.{same_questions, spoken_way}
+use Rattle.keyword_authoring.specs.Places.{AsksPresent}
+use Rattle.keyword_authoring.specs.Somes.{somes}
+use Rattle.keyword_authoring.specs.WayGrows.{SaysYesWhere, own_grow, way_grows}
+use Rattle.keyword_authoring.specs.WayHandsOn.{ways_hand_units_on}
+use Rattle.keyword_authoring.specs.WayLaws.{turn_laws}
+use Rattle.keyword_authoring.specs.WayReads.{way_agrees, way_faults_read, way_holds_reads, way_passes, way_stands_inside, way_units_read, way_units_valid}
+use Rattle.keyword_authoring.specs.WayRuns.{fits_begun, replies_by, reply_for}
+use Rattle.keyword_authoring.specs.WayUnits.{WantsNone, mode-kept, step_for_less}
+use Rattle.keyword_authoring.specs.WayVerdicts.{WantsVerdict, step_for_verdict}
+use Rattle.keyword_authoring.specs.WayWords.{run_replies, words_of}
+use Rattle.keyword_authoring.specs.Ways.{Way, asks_match, branches, judges, left_of, mode_from, passes_on, passes_some, places, plain, questions, step_at, tells, way_faults}
+use Rattle.keyword_authoring.specs.declared.run.Progress.{Progress}
+use Rattle.keyword_authoring.specs.declared.run.Stage.{Stage}
+use Rattle.keyword_authoring.specs.declared.run.Stage.TheVariants.{Asked, Begun, Counted, Ended}
 use Rattle.standard_applicators.specs.CourseRuns.{IsCourseEnd, course_ends, course_falls, course_keeps, course_stands}
 use Rattle.standard_applicators.specs.Courses.{Course, any_run, asked_by, by_way, course_faults, course_holds, course_places, course_step, course_turn, course_units, course_words, ends_in, ends_run, fits_by, fits_in, left_to_ask, none_absorbed, spoken_by, spoken_course, tells_first, turns_left}
 

@@ -2,21 +2,21 @@
 use Rattle.std.proofs.Common.{◌≡◌, ◌∙◌, ℕ, ◌+◌, ◌<◌, ◌⊎◌, ◌&&◌, ◌++◌, ◌∷◌, [], List, Bool, true, false, Option, Some, None, refl, sym, ap, ap₂, inl, length, map, append_assoc, append-nil}
 use Rattle.std.specs.List.{list_all}
 use Rattle.std.specs.Prelude.{flat_map, if◌then◌else◌}
-use Rattle.schema_definitions.specs.Instance.{Text}
-use Rattle.schema_definitions.specs.Reports.{Unit_, report_of}
-use Rattle.schema_definitions.specs.Matching.{Matching}
-use Rattle.schema_definitions.specs.Keywords.{Answer, Answers, Gives, Question, Reply, done, for_all, for_first, for_units, for_verdict}
-use Rattle.schema_definitions.specs.Keywords as spec
-use Rattle.schema_definitions.specs.Laws.{first_fault}
-use Rattle.schema_parts.specs.KeywordViews.{fresh, with_errors}
-use Rattle.schema_parts.specs.declared.keyword.Mode.{Mode}
-use Rattle.schema_parts.specs.declared.keyword.Mode.TheVariants as mode
-use Rattle.keyword_ways.specs.Somes.{some_from, somes}
-use Rattle.keyword_ways.specs.WayRuns.{IsTrueMatch, IsTrueNext, Keeps, Replies, end_at, fits_at, led, replies_by, reply_for, way_ends, way_falls, way_keeps, way_stands}
-use Rattle.keyword_ways.specs.Ways.{Way, at_first, goes_on, left_of, mode_from, next_some, noted, passes_some, stage_after, stage_some, step_at, tells, with_unit}
-use Rattle.keyword_ways.specs.declared.run.Progress.{Progress}
-use Rattle.keyword_ways.specs.declared.run.Stage.{Stage}
-use Rattle.keyword_ways.specs.declared.run.Stage.TheVariants.{Asked, Begun, Counted, Ended}
+use Rattle.theory_definitions.specs.Instance.{Text}
+use Rattle.theory_definitions.specs.Reports.{Unit_, report_of}
+use Rattle.theory_definitions.specs.Matching.{Matching}
+use Rattle.theory_definitions.specs.Keywords.{Answer, Answers, Gives, Question, Reply, done, for_all, for_first, for_units, for_verdict}
+use Rattle.theory_definitions.specs.Keywords as spec
+use Rattle.theory_definitions.specs.Laws.{first_fault}
+use Rattle.schema_traits.specs.KeywordViews.{fresh, with_errors}
+use Rattle.schema_traits.specs.declared.keyword.Mode.{Mode}
+use Rattle.schema_traits.specs.declared.keyword.Mode.TheVariants as mode
+use Rattle.keyword_authoring.specs.Somes.{some_from, somes}
+use Rattle.keyword_authoring.specs.WayRuns.{IsTrueMatch, IsTrueNext, Keeps, Replies, end_at, fits_at, led, replies_by, reply_for, way_ends, way_falls, way_keeps, way_stands}
+use Rattle.keyword_authoring.specs.Ways.{Way, at_first, goes_on, left_of, mode_from, next_some, noted, passes_some, stage_after, stage_some, step_at, tells, with_unit}
+use Rattle.keyword_authoring.specs.declared.run.Progress.{Progress}
+use Rattle.keyword_authoring.specs.declared.run.Stage.{Stage}
+use Rattle.keyword_authoring.specs.declared.run.Stage.TheVariants.{Asked, Begun, Counted, Ended}
 use Rattle.standard_applicators.specs.Courses.{Course, by_way, course_faults, course_holds, course_places, course_step, course_turn, course_units, end_by, ends_run, fits_by, left_to_ask, tells_first}
 
 -- ---- a number falls with each turn

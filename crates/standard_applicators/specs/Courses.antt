@@ -1,24 +1,24 @@
--- How a keyword goes about an instance: in one of the ways (keyword_ways), or so that it tells errors of its own first, and then
+-- How a keyword goes about an instance: in one of the ways (keyword_authoring), or so that it tells errors of its own first, and then
 -- passes on what its questions answer. Its runs by turns follow from that.
 use Rattle.std.specs.List.{list_all}
 use Rattle.std.specs.Prelude.{Bool, List, Option, [], false, if◌then◌else◌, length, map, not, true, ℕ, ◌++◌, ◌+◌, ◌&&◌}
-use Rattle.schema_definitions.specs.Instance.{Subject, Text}
-use Rattle.schema_definitions.specs.Keywords.{Answer, Answers, Fault, Gives, Keywords, Question, Reply, Turn, own}
-use Rattle.schema_definitions.specs.Matching.{Matching}
-use Rattle.schema_definitions.specs.Reports.{Unit_, report_of}
-use Rattle.schema_definitions.specs.Turns.{Standing}
+use Rattle.theory_definitions.specs.Instance.{Subject, Text}
+use Rattle.theory_definitions.specs.Keywords.{Answer, Answers, Fault, Gives, Keywords, Question, Reply, Turn, own}
+use Rattle.theory_definitions.specs.Matching.{Matching}
+use Rattle.theory_definitions.specs.Reports.{Unit_, report_of}
+use Rattle.theory_definitions.specs.Turns.{Standing}
 use Rattle.schema_reports.specs.ReportViews.{spoken}
-use Rattle.schema_parts.specs.KeywordViews.{fresh, is_nil, no_gives}
-use Rattle.schema_parts.specs.declared.keyword.Mode.{Mode}
-use Rattle.schema_parts.specs.declared.keyword.Mode.TheVariants as mode
-use Rattle.keyword_ways.specs.OwnWays.{spoken_way}
-use Rattle.keyword_ways.specs.Somes.{somes}
-use Rattle.keyword_ways.specs.WayRuns.{Replies, end_at, fits_at}
-use Rattle.keyword_ways.specs.WayWords.{run_replies}
-use Rattle.keyword_ways.specs.Ways.{Way, at_first, described, left_of, noted, passes_some, places, plain, questions, way_begin, way_faults, way_holds, way_step, way_turn, way_units}
-use Rattle.keyword_ways.specs.declared.run.Progress.{Progress}
-use Rattle.keyword_ways.specs.declared.run.Stage.{Stage}
-use Rattle.keyword_ways.specs.declared.run.Stage.TheVariants.{Asked, Begun, Counted, Ended}
+use Rattle.schema_traits.specs.KeywordViews.{fresh, is_nil, no_gives}
+use Rattle.schema_traits.specs.declared.keyword.Mode.{Mode}
+use Rattle.schema_traits.specs.declared.keyword.Mode.TheVariants as mode
+use Rattle.keyword_authoring.specs.OwnWays.{spoken_way}
+use Rattle.keyword_authoring.specs.Somes.{somes}
+use Rattle.keyword_authoring.specs.WayRuns.{Replies, end_at, fits_at}
+use Rattle.keyword_authoring.specs.WayWords.{run_replies}
+use Rattle.keyword_authoring.specs.Ways.{Way, at_first, described, left_of, noted, passes_some, places, plain, questions, way_begin, way_faults, way_holds, way_step, way_turn, way_units}
+use Rattle.keyword_authoring.specs.declared.run.Progress.{Progress}
+use Rattle.keyword_authoring.specs.declared.run.Stage.{Stage}
+use Rattle.keyword_authoring.specs.declared.run.Stage.TheVariants.{Asked, Begun, Counted, Ended}
 
 pub data Course : Type 0 where
   by_way : Way → Course

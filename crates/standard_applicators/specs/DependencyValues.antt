@@ -3,7 +3,7 @@
 use Rattle.std.specs.Prelude.{Bool, List, None, Option, Some, [], if◌then◌else◌, is_some, true, ◌++◌, ◌&&◌, ◌∷◌}
 use Rattle.serde_json.specs.Data.{Items, Members, item, member, no_items, no_members}
 use Rattle.serde_json.specs.Find.{as_array, as_str}
-use Rattle.schema_definitions.specs.Instance.{Text}
+use Rattle.theory_definitions.specs.Instance.{Text}
 
 -- ---- each list is one of texts
 

@@ -2,13 +2,13 @@
 use Rattle.std.proofs.Common.{refl}
 use Rattle.std.specs.Prelude.{Bool, List, Option, [], false, true, ℕ, ◌+◌, ◌∷◌}
 use Rattle.std.proofs.lemmas.List.Elements.{All-cons, All-nil}
-use Rattle.schema_definitions.specs.Instance.{Subject, Text}
-use Rattle.schema_definitions.specs.Keywords.{Question}
-use Rattle.schema_definitions.specs.Laws.{IsPresent, steps_below}
-use Rattle.keyword_ways.specs.Items.{child_here}
-use Rattle.keyword_ways.specs.Members.{has_member, only_if}
-use Rattle.keyword_ways.specs.Places.{AsksPresent}
-use Rattle.keyword_ways.specs.Somes.{somes}
+use Rattle.theory_definitions.specs.Instance.{Subject, Text}
+use Rattle.theory_definitions.specs.Keywords.{Question}
+use Rattle.theory_definitions.specs.Laws.{IsPresent, steps_below}
+use Rattle.keyword_authoring.specs.Items.{child_here}
+use Rattle.keyword_authoring.specs.Members.{has_member, only_if}
+use Rattle.keyword_authoring.specs.Places.{AsksPresent}
+use Rattle.keyword_authoring.specs.Somes.{somes}
 
 -- the children are numbered in the order of their names
 abbrev pub dependents_from : ℕ → List Text → Subject → List (Option Question)

@@ -3,8 +3,8 @@ use Rattle.std.specs.Prelude.{Bool, None, Option, Some, codes, false, ifâ—Œthenâ
 use Rattle.serde_json.specs.Data.{Data, Members}
 use Rattle.serde_json.specs.Find.{as_number, get_member}
 use Rattle.json_values.specs.Numbers.{natural_of}
-use Rattle.schema_definitions.specs.Drafts.{Draft, draft_4, draft_6, draft_7}
-use Rattle.schema_definitions.specs.Instance.{Text}
+use Rattle.theory_definitions.specs.Drafts.{Draft, draft_4, draft_6, draft_7}
+use Rattle.theory_definitions.specs.Instance.{Text}
 use Rattle.standard_applicators.specs.declared.contains.Contains.{Contains}
 
 -- the editions that know `minContains` and `maxContains`

@@ -2,10 +2,10 @@
 use Rattle.std.specs.Prelude.{Bool, None, Option, Some, [], bytes_eq, codes, false, if◌then◌else◌, refl, true, ℕ}
 use Rattle.serde_json.specs.Data.{Data, Members, array, boolean, null, number, object, string}
 use Rattle.serde_json.specs.Find.{get_member}
-use Rattle.schema_definitions.specs.Drafts.{Draft, Vocabularies}
-use Rattle.schema_definitions.specs.Instance.{Text}
-use Rattle.schema_definitions.specs.Making.{Script, a_keyword}
-use Rattle.schema_parts.specs.MakerViews.{MakesRightly}
+use Rattle.theory_definitions.specs.Drafts.{Draft, Vocabularies}
+use Rattle.theory_definitions.specs.Instance.{Text}
+use Rattle.theory_definitions.specs.Making.{Script, a_keyword}
+use Rattle.schema_traits.specs.MakerViews.{MakesRightly}
 use Rattle.keyword_makers.specs.ByValue.{values_lie_below}
 use Rattle.keyword_makers.specs.Making.{only_child}
 use Rattle.keyword_makers.specs.MakingLaws.{asked_rightly, either_rightly, list_rightly, only_rightly}

@@ -2,12 +2,12 @@
 use Rattle.std.specs.Prelude.{Bool, None, Option, Some, [], bytes_eq, codes, false, if◌then◌else◌, is_some, not, option_and_then, option_map, true, ℕ, ◌&&◌}
 use Rattle.serde_json.specs.Data.{Data, Members, boolean, object}
 use Rattle.serde_json.specs.Find.{as_array, get_member}
-use Rattle.schema_definitions.specs.Drafts.{Draft, Vocabularies, draft_2020_12, draft_unknown}
-use Rattle.schema_definitions.specs.Instance.{Text}
-use Rattle.schema_definitions.specs.Making.{Script, a_keyword, nothing, then_end}
+use Rattle.theory_definitions.specs.Drafts.{Draft, Vocabularies, draft_2020_12, draft_unknown}
+use Rattle.theory_definitions.specs.Instance.{Text}
+use Rattle.theory_definitions.specs.Making.{Script, a_keyword, nothing, then_end}
 use Rattle.keyword_makers.specs.Making.{asks_for, list_script, makes, malformed, only_child}
 use Rattle.keyword_makers.specs.Members.{names_of, values_below}
-use Rattle.keyword_ways.specs.Items.{count_in, items_count}
+use Rattle.keyword_authoring.specs.Items.{count_in, items_count}
 use Rattle.standard_applicators.specs.DependencyValues.{are_lists_of_texts, schema_names, wants_of}
 use Rattle.standard_applicators.specs.Limits.{contains_in, refused_limit}
 use Rattle.standard_applicators.specs.declared.applicator.StandardApplicator.{StandardApplicator}

@@ -1,11 +1,11 @@
 -- The keywords mean what the definitions of them say.
 use Rattle.std.specs.Prelude.{Bool, List, codes, map, min, true, ℕ, ◌++◌, ◌-◌, ◌↔◌, ◌≡◌}
-use Rattle.schema_definitions.specs.Instance.{Subject, Text, to_item}
-use Rattle.schema_definitions.specs.Keywords.{Answers, Question, down, here}
-use Rattle.schema_definitions.specs.Matching.{Matching}
+use Rattle.theory_definitions.specs.Instance.{Subject, Text, to_item}
+use Rattle.theory_definitions.specs.Keywords.{Answers, Question, down, here}
+use Rattle.theory_definitions.specs.Matching.{Matching}
 use Rattle.schema_reports.specs.ReportViews.{spoken}
-use Rattle.keyword_ways.specs.Items.{each_from, is_list, item_count}
-use Rattle.keyword_ways.specs.Somes.{somes}
+use Rattle.keyword_authoring.specs.Items.{each_from, is_list, item_count}
+use Rattle.keyword_authoring.specs.Somes.{somes}
 use Rattle.standard_applicators.specs.Containing as contains
 use Rattle.standard_applicators.specs.Courses.{course_words}
 use Rattle.standard_applicators.specs.DependentSchemas.{EachDependentAccepts}

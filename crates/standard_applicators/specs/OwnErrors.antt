@@ -1,9 +1,9 @@
 -- Errors of a keyword's own, and errors that it passes on.
 use Rattle.std.specs.Prelude.{List, [], flat_map, map, ◌∷◌, ◌≡◌}
-use Rattle.schema_definitions.specs.Instance.{Text}
-use Rattle.schema_definitions.specs.Keywords.{Answers, Fault, Question, own, passed}
-use Rattle.schema_definitions.specs.Reports.{Error}
-use Rattle.keyword_ways.specs.Ways.{plain}
+use Rattle.theory_definitions.specs.Instance.{Text}
+use Rattle.theory_definitions.specs.Keywords.{Answers, Fault, Question, own, passed}
+use Rattle.theory_definitions.specs.Reports.{Error}
+use Rattle.keyword_authoring.specs.Ways.{plain}
 
 -- an error of this name with this text, at the keyword itself
 abbrev pub own_error : Text → Text → Fault

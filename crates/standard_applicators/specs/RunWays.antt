@@ -1,17 +1,17 @@
 -- How runs go about an instance: by which way, and by which course.
 use Rattle.std.specs.Prelude.{Bool, List, Option, String, codes, map, min, string_bytes, ℕ, ◌-◌, ◌≡◌}
 use Rattle.std.specs.declared.alloc.Global.{Global}
-use Rattle.schema_definitions.specs.Instance.{Text}
-use Rattle.schema_definitions.specs.Keywords.{Question}
+use Rattle.theory_definitions.specs.Instance.{Text}
+use Rattle.theory_definitions.specs.Keywords.{Question}
 use Rattle.schema_reports.specs.InstanceViews.{subject_of}
 use Rattle.schema_reports.specs.declared.instance.Instance.{Instance}
-use Rattle.schema_parts.specs.KeywordViews.{answer_of, reply_of, turn_of}
-use Rattle.schema_parts.specs.declared.keyword.Answer.{Answer}
-use Rattle.schema_parts.specs.declared.keyword.Reply.{Reply}
-use Rattle.schema_parts.specs.declared.keyword.Step.{Step}
-use Rattle.keyword_ways.specs.Items.{child_at_item, each_from, first_at_item, item_count}
-use Rattle.keyword_ways.specs.Ways.{Way, passes_on}
-use Rattle.keyword_ways.specs.declared.run.Progress.{Progress}
+use Rattle.schema_traits.specs.KeywordViews.{answer_of, reply_of, turn_of}
+use Rattle.schema_traits.specs.declared.keyword.Answer.{Answer}
+use Rattle.schema_traits.specs.declared.keyword.Reply.{Reply}
+use Rattle.schema_traits.specs.declared.keyword.Step.{Step}
+use Rattle.keyword_authoring.specs.Items.{child_at_item, each_from, first_at_item, item_count}
+use Rattle.keyword_authoring.specs.Ways.{Way, passes_on}
+use Rattle.keyword_authoring.specs.declared.run.Progress.{Progress}
 use Rattle.standard_applicators.specs.Courses.{Course, course_step, course_turn, spoken_course, tells_first}
 use Rattle.standard_applicators.specs.Dependents.{dependents_from}
 use Rattle.standard_applicators.specs.Wanting.{missing_texts}

@@ -1,13 +1,13 @@
 -- How each keyword goes about an instance.
 use Rattle.std.proofs.Common.{refl}
 use Rattle.std.specs.Prelude.{Bool, codes, min, true, ◌-◌}
-use Rattle.schema_definitions.specs.Instance.{Subject}
-use Rattle.keyword_ways.specs.Items.{child_at_item, each_from, first_at_item, item_count}
-use Rattle.keyword_ways.specs.OwnWays.{leaf_way}
-use Rattle.keyword_ways.specs.Places.{first_items_present, later_items_present, nothing_asked}
-use Rattle.keyword_ways.specs.Plans.{plan_ways, plans_present}
-use Rattle.keyword_ways.specs.WayGrows.{plans_grow, way_grows}
-use Rattle.keyword_ways.specs.Ways.{passes_on, passes_some}
+use Rattle.theory_definitions.specs.Instance.{Subject}
+use Rattle.keyword_authoring.specs.Items.{child_at_item, each_from, first_at_item, item_count}
+use Rattle.keyword_authoring.specs.OwnWays.{leaf_way}
+use Rattle.keyword_authoring.specs.Places.{first_items_present, later_items_present, nothing_asked}
+use Rattle.keyword_authoring.specs.Plans.{plan_ways, plans_present}
+use Rattle.keyword_authoring.specs.WayGrows.{plans_grow, way_grows}
+use Rattle.keyword_authoring.specs.Ways.{passes_on, passes_some}
 use Rattle.standard_applicators.specs.Containing as contains
 use Rattle.standard_applicators.specs.CourseLaws.{CoursesGrow, CoursesPresent, told_grows}
 use Rattle.standard_applicators.specs.Courses.{Course, by_way, tells_first}

@@ -4,8 +4,8 @@ use Rattle.std.specs.Prelude.{None, Option, Some, [], codes, if◌then◌else◌
 use Rattle.serde_json.specs.Data.{Items, item, no_items}
 use Rattle.serde_json.specs.Find.{as_array}
 use Rattle.serde_json.specs.Written.{compact_text}
-use Rattle.schema_definitions.specs.Instance.{Subject, Text, a_name, a_value}
-use Rattle.keyword_ways.specs.Items.{item_count}
+use Rattle.theory_definitions.specs.Instance.{Subject, Text, a_name, a_value}
+use Rattle.keyword_authoring.specs.Items.{item_count}
 use Rattle.standard_applicators.specs.declared.unexpected.NoLaterItems.{NoLaterItems}
 
 -- there are no more

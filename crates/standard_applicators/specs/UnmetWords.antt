@@ -1,13 +1,13 @@
 -- What is told of wants that an instance does not meet.
 use Rattle.std.specs.Prelude.{Bool, List, Option, [], codes, if◌then◌else◌, map, ◌≡◌}
-use Rattle.schema_definitions.specs.Instance.{Text}
-use Rattle.schema_definitions.specs.Keywords.{Answer, Question}
+use Rattle.theory_definitions.specs.Instance.{Text}
+use Rattle.theory_definitions.specs.Keywords.{Answer, Question}
 use Rattle.schema_reports.specs.InstanceViews.{subject_of}
 use Rattle.schema_reports.specs.ReportViews.{spoken}
 use Rattle.schema_reports.specs.declared.instance.Instance.{Instance}
-use Rattle.schema_parts.specs.declared.keyword.Mode.{Mode}
-use Rattle.keyword_ways.specs.Ways.{noted}
-use Rattle.keyword_ways.specs.declared.run.Progress.{Progress}
+use Rattle.schema_traits.specs.declared.keyword.Mode.{Mode}
+use Rattle.keyword_authoring.specs.Ways.{noted}
+use Rattle.keyword_authoring.specs.declared.run.Progress.{Progress}
 use Rattle.standard_applicators.specs.Courses.{ends_run, left_to_ask}
 use Rattle.standard_applicators.specs.Wanting.{missing_texts}
 

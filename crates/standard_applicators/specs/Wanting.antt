@@ -1,9 +1,9 @@
 -- Members that want others: where an object has the one, it is to have the other. (Validation draft 7, 6.5.7; from 2019-09 on
 -- `dependentRequired`, Validation 2019-09, 6.5.4)
 use Rattle.std.specs.Prelude.{Bool, List, codes, filter, map, not, ◌++◌, ◌&&◌}
-use Rattle.schema_definitions.specs.Instance.{Subject, Text, a_name}
-use Rattle.schema_definitions.specs.Meaning.{subject_text}
-use Rattle.keyword_ways.specs.Members.{has_member}
+use Rattle.theory_definitions.specs.Instance.{Subject, Text, a_name}
+use Rattle.theory_definitions.specs.Meaning.{subject_text}
+use Rattle.keyword_authoring.specs.Members.{has_member}
 
 -- the one is there, and the other is not
 abbrev pub is_unmet : Subject → Text × Text → Bool

@@ -8,14 +8,14 @@ use crate::items::{turn_later_items, turn_listed_items};
 use crate::names::Names;
 use crate::unexpected::NoLaterItems;
 use crate::wants::Wants;
-use keyword_ways::items::items_of;
-use keyword_ways::leaf::{LeafKeyword, turn_leaf};
-use keyword_ways::planned::Planned;
-use keyword_ways::run::Progress;
-use schema_parts::asking::Asking;
-use schema_parts::keyword::{Answer, Mode, Reply, Step, Validate};
+use keyword_authoring::items::items_of;
+use keyword_authoring::leaf::{LeafKeyword, turn_leaf};
+use keyword_authoring::planned::Planned;
+use keyword_authoring::run::Progress;
 use schema_reports::instance::Instance;
 use schema_reports::location::OutOfMemory;
+use schema_traits::asking::Asking;
+use schema_traits::keyword::{Answer, Mode, Reply, Step, Validate};
 use std::alloc::Global;
 
 /// A keyword that applies schemas to items, or by the members that an instance has. Its children are named by the numbers of the

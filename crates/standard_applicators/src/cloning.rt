@@ -2,8 +2,8 @@
 ghost use Rattle.std.specs.Prelude.{◌≡◌};
 
 use crate::applicator::StandardApplicator;
-use keyword_ways::planned::Planned;
-use schema_parts::cloning::CloneKeyword;
+use keyword_authoring::planned::Planned;
+use schema_traits::cloning::CloneKeyword;
 use std::alloc::AllocError;
 
 impl Clone for StandardApplicator {

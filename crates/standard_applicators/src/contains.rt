@@ -1,10 +1,10 @@
 //! `contains`, with `minContains` and `maxContains` beside it.
 ghost use Rattle.std.specs.Prelude.{string_bytes};
 ghost use Rattle.standard_applicators.specs.Containing.{fewer_than, how_many, more_than};
-ghost use Rattle.schema_parts.specs.Showing.{Shows};
+ghost use Rattle.schema_traits.specs.Showing.{Shows};
 
-use keyword_ways::items::is_list;
-use keyword_ways::planned::{Asks, Plan, PlannedKeyword};
+use keyword_authoring::items::is_list;
+use keyword_authoring::planned::{Asks, Plan, PlannedKeyword};
 use schema_reports::instance::Instance;
 use schema_reports::location::OutOfMemory;
 use std::alloc::Global;

@@ -1,20 +1,20 @@
 //! `dependencies`: names that members want beside them, and schemas that count where a member is there.
 ghost use Rattle.std.specs.Prelude.{◌≡◌, [], IfOk, if◌then◌else◌, map, string_bytes};
-ghost use Rattle.schema_definitions.specs.Instance.{Subject};
-ghost use Rattle.keyword_ways.specs.Ways.{at_first};
+ghost use Rattle.theory_definitions.specs.Instance.{Subject};
+ghost use Rattle.keyword_authoring.specs.Ways.{at_first};
 ghost use Rattle.standard_applicators.specs.Courses.{wants_one};
 ghost use Rattle.standard_applicators.specs.Dependents.{dependents_from};
-ghost use Rattle.keyword_ways.specs.AnswerWords.{Becomes};
+ghost use Rattle.keyword_authoring.specs.AnswerWords.{Becomes};
 ghost use Rattle.standard_applicators.specs.RunWays.{StepsCourse, TurnsCourse, dependencies_course};
 ghost use Rattle.standard_applicators.specs.UnmetWords.{EndsByUnmet, with_unmet};
-ghost use Rattle.keyword_ways.specs.Borrowing.{Borrows, Retains};
+ghost use Rattle.keyword_authoring.specs.Borrowing.{Borrows, Retains};
 
 use crate::dependents::turn_dependents;
 use crate::wants::{Want, has_unmet, tell_unmet};
-use keyword_ways::run::{Progress, Stage};
-use schema_parts::keyword::{Answer, Mode, Reply, Step};
+use keyword_authoring::run::{Progress, Stage};
 use schema_reports::instance::Instance;
 use schema_reports::location::OutOfMemory;
+use schema_traits::keyword::{Answer, Mode, Reply, Step};
 use std::alloc::Global;
 
 /// Whether an error at once ends a run in this mode.

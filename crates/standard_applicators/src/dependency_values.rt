@@ -2,7 +2,7 @@
 ghost use Rattle.std.specs.Prelude.{◌≡◌, ◌++◌, IfOk};
 ghost use Rattle.serde_json.specs.View.{items_view};
 ghost use Rattle.standard_applicators.specs.DependencyValues.{are_lists_of_texts, are_texts, schema_names, text_wants, wants_of};
-ghost use Rattle.schema_parts.specs.Readings.{Lists, ListsTexts, fields};
+ghost use Rattle.schema_traits.specs.Readings.{Lists, ListsTexts, fields};
 
 use crate::wants::Want;
 use keyword_makers::members::push_text;

@@ -1,19 +1,19 @@
 //! `dependentSchemas`: children at the keyword's own place, each where the instance has the member of its name.
 ghost use Rattle.std.specs.Prelude.{◌≡◌, option_map};
-ghost use Rattle.keyword_ways.specs.Items.{child_here};
-ghost use Rattle.keyword_ways.specs.Somes.{some_from};
-ghost use Rattle.keyword_ways.specs.Ways.{passes_some};
-ghost use Rattle.keyword_ways.specs.SomeWords.{AsksSome, StandsAtSome};
-ghost use Rattle.keyword_ways.specs.TurnWords.{Steps, Turns};
+ghost use Rattle.keyword_authoring.specs.Items.{child_here};
+ghost use Rattle.keyword_authoring.specs.Somes.{some_from};
+ghost use Rattle.keyword_authoring.specs.Ways.{passes_some};
+ghost use Rattle.keyword_authoring.specs.SomeWords.{AsksSome, StandsAtSome};
+ghost use Rattle.keyword_authoring.specs.TurnWords.{Steps, Turns};
 ghost use Rattle.standard_applicators.specs.RunWays.{dependents_asked};
-ghost use Rattle.keyword_ways.specs.Borrowing.{Borrows};
+ghost use Rattle.keyword_authoring.specs.Borrowing.{Borrows};
 
-use keyword_ways::members::has_member;
-use keyword_ways::passing::onward;
-use keyword_ways::run::{Progress, Stage};
-use schema_parts::keyword::{Answer, Below, Reply, Step};
+use keyword_authoring::members::has_member;
+use keyword_authoring::passing::onward;
+use keyword_authoring::run::{Progress, Stage};
 use schema_reports::instance::Instance;
 use schema_reports::location::OutOfMemory;
+use schema_traits::keyword::{Answer, Below, Reply, Step};
 use std::alloc::Global;
 
 /// Asks each child whose name is a member of the instance.

@@ -1,19 +1,19 @@
 //! Children at items: each of several at the item of its number, or the only one at each item after so many.
 ghost use Rattle.std.specs.Prelude.{◌≡◌, ◌+◌, ◌-◌, ◌^◌, ◌<◌, min, option_map};
 ghost use Rattle.schema_reports.specs.InstanceViews.{subject_of};
-ghost use Rattle.schema_parts.specs.KeywordViews.{turn_of};
-ghost use Rattle.keyword_ways.specs.Items.{child_at_item, first_at_item, item_count};
-ghost use Rattle.keyword_ways.specs.Ways.{asked};
-ghost use Rattle.keyword_ways.specs.TurnWords.{Steps, Turns};
+ghost use Rattle.schema_traits.specs.KeywordViews.{turn_of};
+ghost use Rattle.keyword_authoring.specs.Items.{child_at_item, first_at_item, item_count};
+ghost use Rattle.keyword_authoring.specs.Ways.{asked};
+ghost use Rattle.keyword_authoring.specs.TurnWords.{Steps, Turns};
 ghost use Rattle.standard_applicators.specs.RunWays.{at_later, at_listed};
-ghost use Rattle.keyword_ways.specs.Borrowing.{Borrows};
+ghost use Rattle.keyword_authoring.specs.Borrowing.{Borrows};
 
-use keyword_ways::items::item_count;
-use keyword_ways::passing::next_number;
-use keyword_ways::run::Progress;
-use schema_parts::keyword::{Answer, Below, Mode, Reply, Step};
+use keyword_authoring::items::item_count;
+use keyword_authoring::passing::next_number;
+use keyword_authoring::run::Progress;
 use schema_reports::instance::Instance;
 use schema_reports::location::OutOfMemory;
+use schema_traits::keyword::{Answer, Below, Mode, Reply, Step};
 use std::alloc::Global;
 
 /// The question of a child at the item of its number.

@@ -2,7 +2,7 @@
 //! `minContains` and `maxContains`, `dependentSchemas` and `dependencies`, and `items` and `additionalItems` as they were before
 //! 2020-12; and their table. What each of them means is a definition of its own, and `meanings` says that the keywords mean that.
 //!
-//! Each goes about an instance in one of the ways of `keyword_ways`, but `dependencies`, which tells errors of its own first and then
+//! Each goes about an instance in one of the ways of `keyword_authoring`, but `dependencies`, which tells errors of its own first and then
 //! passes on what its schemas say (`specs/Courses`).
 #![tactic(auto)]
 

@@ -1,14 +1,14 @@
 //! What `contains` reads of the limits beside it.
 ghost use Rattle.std.specs.Prelude.{◌≡◌};
 ghost use Rattle.serde_json.specs.View.{view};
-ghost use Rattle.schema_keywords.specs.KeywordViews.{draft_of};
+ghost use Rattle.schema_drafts.specs.KeywordViews.{draft_of};
 ghost use Rattle.standard_applicators.specs.Limits.{contains_in, has_limits, limit_beside, limit_in, limit_of, refused_limit};
-ghost use Rattle.schema_parts.specs.Readings.{fields, value_read};
+ghost use Rattle.schema_traits.specs.Readings.{fields, value_read};
 
 use crate::contains::Contains;
 use json_values::multiples::natural_of;
 use keyword_makers::paths::value_in;
-use schema_keywords::keywords::Draft;
+use schema_drafts::keywords::Draft;
 use serde_json::{Map, Value};
 
 /// Whether a draft knows `minContains` and `maxContains`.

@@ -3,7 +3,7 @@ ghost use Rattle.standard_applicators.specs.Meanings.{ContainsFaults, ContainsHo
 ghost use Rattle.standard_applicators.specs.Meanings.{DependenciesFaults, DependenciesHold};
 ghost use Rattle.standard_applicators.specs.Meanings.{LaterItemsFaults, LaterItemsHold, ListedItemsFaults, ListedItemsHold};
 ghost use Rattle.standard_applicators.specs.Meanings.{NoLaterItemsFaults, NoLaterItemsHolds};
-ghost use Rattle.keyword_ways.specs.MeaningWords.{Always};
+ghost use Rattle.keyword_authoring.specs.MeaningWords.{Always};
 
 /// `contains` holds of a list exactly where so many of its items fit, at least and at most, and of all that is no list; else it has
 /// one error of its own.

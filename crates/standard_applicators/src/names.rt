@@ -12,7 +12,7 @@ pub struct Names {
 
 impl Model for Names {
     ghost use Rattle.std.specs.Prelude.{List, map, string_bytes};
-    ghost use Rattle.schema_definitions.specs.Instance.{Text};
+    ghost use Rattle.theory_definitions.specs.Instance.{Text};
 
     ghost Value = { List Text };
 

@@ -2,11 +2,11 @@
 ghost use Rattle.std.specs.Prelude.{IfOk};
 ghost use Rattle.serde_json.specs.Find.{get_member};
 ghost use Rattle.serde_json.specs.View.{view};
-ghost use Rattle.schema_keywords.specs.KeywordViews.{draft_of};
+ghost use Rattle.schema_drafts.specs.KeywordViews.{draft_of};
 ghost use Rattle.keyword_makers.specs.MakerViews.{waiting_of, Begins};
 ghost use Rattle.standard_applicators.specs.Makers.{additional_items_script, after_listed, contains_script, dependent_schemas_script};
 ghost use Rattle.standard_applicators.specs.Makers.{dependencies_script, items_script, member_script, value_script};
-ghost use Rattle.schema_parts.specs.Readings.{fields};
+ghost use Rattle.schema_traits.specs.Readings.{fields};
 
 use crate::applicator::StandardApplicator;
 use crate::beside::{is_false, is_older_list, items_before, listed_beside};
@@ -15,15 +15,15 @@ use crate::limits::{contains_in, refused_limit};
 use crate::names::Names;
 use crate::unexpected::NoLaterItems;
 use crate::wants::Wants;
+use keyword_authoring::planned::Planned;
 use keyword_makers::lists::{each_schema, list_length};
 use keyword_makers::maker::{Ending, PathsMaker, asks_for, ends, only_child};
 use keyword_makers::members::{names_of, values_below};
 use keyword_makers::paths::value_in;
 use keyword_makers::refusals::malformed;
-use keyword_ways::planned::Planned;
-use schema_keywords::keywords::{Draft, VocabularySet};
-use schema_parts::table::{KeywordOrigin, KeywordTable, MakerReply, MakerStep};
+use schema_drafts::keywords::{Draft, VocabularySet};
 use schema_reports::location::OutOfMemory;
+use schema_traits::table::{KeywordOrigin, KeywordTable, MakerReply, MakerStep};
 use serde_json::{Map, Value};
 use std::alloc::Global;
 

@@ -4,10 +4,10 @@ ghost use Rattle.serde_json.specs.View.{items_view, view};
 ghost use Rattle.serde_json.specs.Written.{compact_text, has_float, items_have_float};
 ghost use Rattle.schema_reports.specs.InstanceViews.{subject_of};
 ghost use Rattle.standard_applicators.specs.Unexpected.{items_after, listed, subject_items, were};
-ghost use Rattle.keyword_ways.specs.TextWords.{Adds};
+ghost use Rattle.keyword_authoring.specs.TextWords.{Adds};
 
-use keyword_ways::items::item_count;
-use keyword_ways::leaf::LeafKeyword;
+use keyword_authoring::items::item_count;
+use keyword_authoring::leaf::LeafKeyword;
 use schema_reports::instance::Instance;
 use schema_reports::location::OutOfMemory;
 use serde_json::Value;

@@ -3,16 +3,16 @@ ghost use Rattle.std.specs.Prelude.{◌≡◌, IfOk, string_bytes};
 ghost use Rattle.std.specs.List.{list_any};
 ghost use Rattle.schema_reports.specs.InstanceViews.{subject_of};
 ghost use Rattle.standard_applicators.specs.Wanting.{is_unmet, required_text};
-ghost use Rattle.keyword_ways.specs.AnswerWords.{Becomes};
+ghost use Rattle.keyword_authoring.specs.AnswerWords.{Becomes};
 ghost use Rattle.standard_applicators.specs.UnmetWords.{with_unmet};
-ghost use Rattle.schema_parts.specs.Showing.{Shows, Yields};
-ghost use Rattle.keyword_ways.specs.Borrowing.{Retains};
+ghost use Rattle.schema_traits.specs.Showing.{Shows, Yields};
+ghost use Rattle.keyword_authoring.specs.Borrowing.{Retains};
 
-use keyword_ways::answers::{note, refuse};
-use keyword_ways::members::has_member;
-use schema_parts::keyword::{Answer, Mode};
+use keyword_authoring::answers::{note, refuse};
+use keyword_authoring::members::has_member;
 use schema_reports::instance::Instance;
 use schema_reports::location::OutOfMemory;
+use schema_traits::keyword::{Answer, Mode};
 use std::alloc::{AllocError, Global};
 use std::marker::Model;
 
@@ -25,7 +25,7 @@ pub struct Want {
 
 impl Model for Want {
     ghost use Rattle.std.specs.Prelude.{string_bytes};
-    ghost use Rattle.schema_definitions.specs.Instance.{Text};
+    ghost use Rattle.theory_definitions.specs.Instance.{Text};
 
     ghost Value = { Text × Text };
 
@@ -78,7 +78,7 @@ pub struct Wants {
 
 impl Model for Wants {
     ghost use Rattle.std.specs.Prelude.{List};
-    ghost use Rattle.schema_definitions.specs.Instance.{Text};
+    ghost use Rattle.theory_definitions.specs.Instance.{Text};
 
     ghost Value = { List (Text × Text) };
 

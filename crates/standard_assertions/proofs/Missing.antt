@@ -1,7 +1,7 @@
 -- Nothing is missing of two lists where nothing is missing of either.
 use Rattle.std.proofs.Common.{[], refl, ◌&&◌, ◌++◌, ◌∷◌, ◌≡◌, List}
-use Rattle.schema_definitions.specs.Instance.{Text}
-use Rattle.schema_parts.specs.KeywordViews.{is_nil}
+use Rattle.theory_definitions.specs.Instance.{Text}
+use Rattle.schema_traits.specs.KeywordViews.{is_nil}
 
 pub either_missing : (a b : List Text) → is_nil (a ++ b) ≡ (is_nil a && is_nil b)
 either_missing [] b = refl

@@ -1,9 +1,9 @@
 -- A keyword that does not hold tells its one error, unless it is `dependentRequired`, which tells one for each name that is missing.
 use Rattle.std.proofs.Common.{[], Bool, false, refl, true, ◌∷◌, ◌≡◌}
 use Rattle.serde_json.specs.Data.{Data}
-use Rattle.schema_definitions.specs.Instance.{Subject, Text}
-use Rattle.schema_parts.specs.KeywordViews.{is_nil}
-use Rattle.keyword_ways.specs.Ways.{unless}
+use Rattle.theory_definitions.specs.Instance.{Subject, Text}
+use Rattle.schema_traits.specs.KeywordViews.{is_nil}
+use Rattle.keyword_authoring.specs.Ways.{unless}
 use Rattle.standard_assertions.specs.Assertions.{Shape, error_text, error_texts}
 use Rattle.standard_assertions.specs.declared.assertion.Assertion.TheVariants as assertion
 

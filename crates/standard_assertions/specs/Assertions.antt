@@ -4,11 +4,11 @@ use Rattle.std.specs.Prelude.{Bool, List, [], map, not, true, codes}
 use Rattle.serde_json.specs.Data.{Data}
 use Rattle.serde_json.specs.Find.{is_float}
 use Rattle.serde_json.specs.Written.{has_float}
-use Rattle.schema_definitions.specs.Instance.{Subject, Text}
-use Rattle.schema_parts.specs.KeywordViews.{is_nil}
-use Rattle.keyword_ways.specs.Ways.{unless}
-use Rattle.bench_keywords.specs.Counts.{count_fits, count_name, count_text}
-use Rattle.bench_keywords.specs.Words.{required_text, type_text, types_text}
+use Rattle.theory_definitions.specs.Instance.{Subject, Text}
+use Rattle.schema_traits.specs.KeywordViews.{is_nil}
+use Rattle.keyword_authoring.specs.Ways.{unless}
+use Rattle.standard_basics.specs.Counts.{count_fits, count_name, count_text}
+use Rattle.standard_basics.specs.Words.{required_text, type_text, types_text}
 use Rattle.standard_assertions.specs.Constants.{constant_text, distinct_text, has_distinct_items, is_constant, is_listed, listed_text}
 use Rattle.standard_assertions.specs.Dependents.{missing_dependents}
 use Rattle.standard_assertions.specs.Limits.{keeps_limit, limit_name, limit_text}

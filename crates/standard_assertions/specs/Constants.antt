@@ -5,8 +5,8 @@ use Rattle.std.specs.Prelude.{Bool, None, Option, Some, [], codes, true, â—Œ++â—
 use Rattle.serde_json.specs.Data.{Data, Items, item, no_items}
 use Rattle.serde_json.specs.Find.{as_array}
 use Rattle.serde_json.specs.Written.{compact_text}
-use Rattle.schema_definitions.specs.Instance.{Subject, Text}
-use Rattle.schema_definitions.specs.Meaning.{subject_text}
+use Rattle.theory_definitions.specs.Instance.{Subject, Text}
+use Rattle.theory_definitions.specs.Meaning.{subject_text}
 use Rattle.schema_reports.specs.Owned.{value_of}
 use Rattle.json_values.specs.Equality.{all_distinct, equal, has_equal}
 

@@ -4,9 +4,9 @@ use Rattle.std.specs.Prelude.{List, None, Option, Some, String, [], if◌then◌
 use Rattle.std.specs.declared.alloc.Global.{Global}
 use Rattle.serde_json.specs.Data.{Data, Items, Members, item, member, no_items, no_members}
 use Rattle.serde_json.specs.Find.{as_array, as_object, as_str}
-use Rattle.schema_definitions.specs.Instance.{Subject, Text}
-use Rattle.keyword_ways.specs.Members.{has_member}
-use Rattle.bench_keywords.specs.Words.{required_text}
+use Rattle.theory_definitions.specs.Instance.{Subject, Text}
+use Rattle.keyword_authoring.specs.Members.{has_member}
+use Rattle.standard_basics.specs.Words.{required_text}
 
 -- the name, where the instance has no such member
 abbrev pub missing_name : Option Text → Subject → List Text

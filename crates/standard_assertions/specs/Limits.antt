@@ -5,8 +5,8 @@ use Rattle.std.specs.Prelude.{Bool, None, Option, Some, codes, true, ◌++◌}
 use Rattle.serde_json.specs.Data.{Num}
 use Rattle.serde_json.specs.Find.{as_number}
 use Rattle.serde_json.specs.Written.{number_text}
-use Rattle.schema_definitions.specs.Instance.{Subject, Text}
-use Rattle.schema_definitions.specs.Meaning.{subject_text}
+use Rattle.theory_definitions.specs.Instance.{Subject, Text}
+use Rattle.theory_definitions.specs.Meaning.{subject_text}
 use Rattle.schema_reports.specs.Owned.{value_of}
 use Rattle.json_values.specs.Numbers.{at_most, less}
 use Rattle.standard_assertions.specs.declared.limits.LimitKind.{LimitKind}

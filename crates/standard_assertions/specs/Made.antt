@@ -4,12 +4,12 @@
 use Rattle.std.specs.Prelude.{Bool, None, Option, Some, bytes_eq, codes, false, if◌then◌else◌, true}
 use Rattle.serde_json.specs.Data.{Data, Members}
 use Rattle.serde_json.specs.Find.{as_bool, get_member}
-use Rattle.schema_definitions.specs.Drafts.{Draft}
-use Rattle.schema_definitions.specs.Instance.{Text}
+use Rattle.theory_definitions.specs.Drafts.{Draft}
+use Rattle.theory_definitions.specs.Instance.{Text}
 use Rattle.keyword_makers.specs.ByObject.{MadeHere}
 use Rattle.keyword_makers.specs.declared.by_object.ObjectKeyword.TheVariants as here
 use Rattle.keyword_makers.specs.declared.by_value.Children.TheVariants as children
-use Rattle.bench_keywords.specs.declared.counts.CountKind.TheVariants as count
+use Rattle.standard_basics.specs.declared.counts.CountKind.TheVariants as count
 use Rattle.standard_assertions.specs.Assertions.{Shape}
 use Rattle.standard_assertions.specs.Values.{count_made, dependents_made, enum_made, integers_of, is_draft_4, limit_made, multiple_made, size_made, type_made}
 use Rattle.standard_assertions.specs.declared.assertion.Assertion.TheVariants as assertion

@@ -4,15 +4,15 @@ use Rattle.std.specs.Prelude.{Bool, List, None, Option, Some, [], bytes_eq, code
 use Rattle.serde_json.specs.Data.{Data, Members, Num, array, boolean, null, number, object, string, unsigned}
 use Rattle.serde_json.specs.Find.{as_array, as_bool, as_object, get_member}
 use Rattle.serde_json.specs.Written.{has_float}
-use Rattle.schema_definitions.specs.Drafts.{Draft}
-use Rattle.schema_definitions.specs.Instance.{Text}
+use Rattle.theory_definitions.specs.Drafts.{Draft}
+use Rattle.theory_definitions.specs.Instance.{Text}
 use Rattle.json_values.specs.Numbers.{less}
 use Rattle.keyword_makers.specs.ByObject.{IsRightHere, IsWholeWhere, MadeHere, right_by_value}
-use Rattle.bench_keywords.specs.declared.counts.CountKind.{CountKind}
-use Rattle.bench_keywords.specs.declared.counts.CountKind.TheVariants as count
+use Rattle.standard_basics.specs.declared.counts.CountKind.{CountKind}
+use Rattle.standard_basics.specs.declared.counts.CountKind.TheVariants as count
 use Rattle.standard_assertions.specs.Assertions.{Shape, shows_no_fraction}
 use Rattle.standard_assertions.specs.Made.{excludes, here_if, limit_beside, limit_here, made, made_of_counts, made_of_lists, made_of_numbers, unique_made}
-use Rattle.bench_keywords.specs.TypeNames.{type_named, types_of}
+use Rattle.standard_basics.specs.TypeNames.{type_named, types_of}
 use Rattle.standard_assertions.specs.Values.{count_made, dependents_made, enum_made, has_text_lists, integers_of, is_draft_4, limit_made, multiple_made, size_limit, size_made, type_made}
 use Rattle.standard_assertions.specs.declared.assertion.Assertion.TheVariants as assertion
 use Rattle.standard_assertions.specs.declared.limits.LimitKind.{LimitKind}

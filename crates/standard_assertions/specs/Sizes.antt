@@ -1,10 +1,10 @@
 -- A limit of sizes: of the items of a list, or of the members of an object. What is neither is accepted.
 -- (Validation 2020-12, 6.4.1, 6.4.2 and 6.5.1)
 use Rattle.std.specs.Prelude.{Bool, None, Option, Some, codes, decimal, if◌then◌else◌, nat_le, option_map, true, ℕ, ◌++◌, ◌==◌}
-use Rattle.schema_definitions.specs.Instance.{Subject, Text}
-use Rattle.schema_definitions.specs.Meaning.{subject_text}
-use Rattle.keyword_ways.specs.Items.{is_list, item_count}
-use Rattle.bench_keywords.specs.Counts.{member_count, subject_members}
+use Rattle.theory_definitions.specs.Instance.{Subject, Text}
+use Rattle.theory_definitions.specs.Meaning.{subject_text}
+use Rattle.keyword_authoring.specs.Items.{is_list, item_count}
+use Rattle.standard_basics.specs.Counts.{member_count, subject_members}
 use Rattle.standard_assertions.specs.declared.sizes.SizeKind.{SizeKind}
 use Rattle.standard_assertions.specs.declared.sizes.SizeKind.TheVariants as kind
 

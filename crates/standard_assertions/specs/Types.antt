@@ -5,12 +5,12 @@ use Rattle.std.specs.List.{list_any}
 use Rattle.std.specs.Prelude.{Bool, List, false, option_map, unwrap_or}
 use Rattle.serde_json.specs.Data.{Data}
 use Rattle.serde_json.specs.Find.{as_number}
-use Rattle.schema_definitions.specs.Instance.{Subject}
+use Rattle.theory_definitions.specs.Instance.{Subject}
 use Rattle.schema_reports.specs.Owned.{value_of}
 use Rattle.json_values.specs.Numbers.{is_whole}
-use Rattle.bench_keywords.specs.TypeNames as written
-use Rattle.bench_keywords.specs.declared.type_names.TypeName.{TypeName}
-use Rattle.bench_keywords.specs.declared.type_names.TypeName.TheVariants as type
+use Rattle.standard_basics.specs.TypeNames as written
+use Rattle.standard_basics.specs.declared.type_names.TypeName.{TypeName}
+use Rattle.standard_basics.specs.declared.type_names.TypeName.TheVariants as type
 use Rattle.standard_assertions.specs.declared.types.Integers.{Integers}
 use Rattle.standard_assertions.specs.declared.types.Integers.TheVariants as integers
 

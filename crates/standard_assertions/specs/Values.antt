@@ -3,10 +3,10 @@
 use Rattle.std.specs.Prelude.{Bool, None, Option, Some, false, if◌then◌else◌, is_some, option_and_then, option_map, ℕ, ◌&&◌, true}
 use Rattle.serde_json.specs.Data.{Data, Items, Members, Num, array, item, member, no_items, no_members, string, unsigned}
 use Rattle.serde_json.specs.Find.{as_array, as_number, as_object, as_str, as_u64}
-use Rattle.schema_definitions.specs.Drafts.{Draft, draft_4}
+use Rattle.theory_definitions.specs.Drafts.{Draft, draft_4}
 use Rattle.json_values.specs.Numbers.{less, natural_of}
-use Rattle.bench_keywords.specs.declared.counts.CountKind.{CountKind}
-use Rattle.bench_keywords.specs.TypeNames.{type_named, types_of}
+use Rattle.standard_basics.specs.declared.counts.CountKind.{CountKind}
+use Rattle.standard_basics.specs.TypeNames.{type_named, types_of}
 use Rattle.standard_assertions.specs.Assertions.{Shape}
 use Rattle.standard_assertions.specs.declared.assertion.Assertion.TheVariants as assertion
 use Rattle.standard_assertions.specs.declared.limits.LimitKind.{LimitKind}

@@ -2,8 +2,8 @@
 ghost use Rattle.std.specs.Prelude.{◌≡◌, ◌∷◌, [], IfOk, string_bytes, true};
 ghost use Rattle.schema_reports.specs.InstanceViews.{subject_of};
 ghost use Rattle.standard_assertions.specs.Assertions.{error_text, holds, shows_no_fraction};
-ghost use Rattle.keyword_ways.specs.TextWords.{ShowsText};
-ghost use Rattle.schema_parts.specs.Readings.{ListsTexts};
+ghost use Rattle.keyword_authoring.specs.TextWords.{ShowsText};
+ghost use Rattle.schema_traits.specs.Readings.{ListsTexts};
 
 use crate::constants::{
     constant_text, distinct_text, has_distinct_items, has_distinct_items_by_pairs, is_constant,
@@ -15,14 +15,14 @@ use crate::multiples::{is_multiple, multiple_text};
 use crate::numbers::HeldNumber;
 use crate::sizes::{SizeKind, size_fits, size_text};
 use crate::types::{Integers, TypeList, fits, fits_one};
-use bench_keywords::counts::{CountKind, count_fits, count_text};
-use bench_keywords::type_names::TypeName;
-use bench_keywords::types::{type_text, types_text};
 use json_values::held::HeldValue;
-use keyword_ways::items::item_count;
-use keyword_ways::leaves::TellingKeyword;
+use keyword_authoring::items::item_count;
+use keyword_authoring::leaves::TellingKeyword;
 use schema_reports::instance::Instance;
 use schema_reports::location::OutOfMemory;
+use standard_basics::counts::{CountKind, count_fits, count_text};
+use standard_basics::type_names::TypeName;
+use standard_basics::types::{type_text, types_text};
 use std::alloc::Global;
 
 /// A keyword that asserts by itself, with `V` for each value of the schema that it holds. It holds of each instance that is of another

@@ -7,8 +7,8 @@ ghost use Rattle.schema_reports.specs.InstanceViews.{subject_of};
 ghost use Rattle.json_values.specs.Equality.{has_equal};
 ghost use Rattle.standard_assertions.specs.Constants.{constant_text, distinct_text, has_distinct_items, is_constant, is_listed};
 ghost use Rattle.standard_assertions.specs.Constants.{items_in, listed_text, more_values, parting, values_text};
-ghost use Rattle.keyword_ways.specs.TextWords.{Adds, ShowsText};
-ghost use Rattle.schema_parts.specs.Showing.{Yields};
+ghost use Rattle.keyword_authoring.specs.TextWords.{Adds, ShowsText};
+ghost use Rattle.schema_traits.specs.Showing.{Yields};
 
 use json_values::distinct::are_all_distinct;
 use json_values::equality::{are_all_distinct_by_pairs, is_among};

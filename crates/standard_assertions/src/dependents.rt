@@ -3,17 +3,17 @@ ghost use Rattle.std.specs.Prelude.{◌≡◌, IfOk, map};
 ghost use Rattle.serde_json.specs.Find.{as_array};
 ghost use Rattle.serde_json.specs.View.{items_view, view};
 ghost use Rattle.schema_reports.specs.InstanceViews.{subject_of};
-ghost use Rattle.schema_parts.specs.KeywordViews.{is_nil};
-ghost use Rattle.bench_keywords.specs.Words.{required_text};
+ghost use Rattle.schema_traits.specs.KeywordViews.{is_nil};
+ghost use Rattle.standard_basics.specs.Words.{required_text};
 ghost use Rattle.standard_assertions.specs.Dependents.{missing_dependents, missing_names, missing_of, wanted_by_each, AddsRequired};
-ghost use Rattle.schema_parts.specs.Readings.{ListsTexts, fields};
+ghost use Rattle.schema_traits.specs.Readings.{ListsTexts, fields};
 
-use bench_keywords::required::required_text;
 use json_values::held::HeldValue;
-use keyword_ways::members::has_member;
+use keyword_authoring::members::has_member;
 use schema_reports::instance::Instance;
 use schema_reports::location::OutOfMemory;
 use serde_json::{Map, Value};
+use standard_basics::required::required_text;
 use std::alloc::Global;
 
 /// Whether an instance has the members of these names. What is no text names none.

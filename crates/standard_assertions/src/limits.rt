@@ -4,7 +4,7 @@ ghost use Rattle.serde_json.specs.Find.{is_float};
 ghost use Rattle.serde_json.specs.View.{number_view};
 ghost use Rattle.schema_reports.specs.InstanceViews.{subject_of};
 ghost use Rattle.standard_assertions.specs.Limits.{is_within, keeps_limit, limit_name, limit_text, limit_words};
-ghost use Rattle.keyword_ways.specs.TextWords.{ShowsText};
+ghost use Rattle.keyword_authoring.specs.TextWords.{ShowsText};
 
 use crate::numbers::HeldNumber;
 use json_values::numbers::{is_at_most, is_less};

@@ -3,7 +3,7 @@ ghost use Rattle.std.specs.Prelude.{◌≡◌, IfOk, false};
 ghost use Rattle.serde_json.specs.Find.{is_float};
 ghost use Rattle.schema_reports.specs.InstanceViews.{subject_of};
 ghost use Rattle.standard_assertions.specs.Multiples.{is_multiple, multiple_text};
-ghost use Rattle.keyword_ways.specs.TextWords.{ShowsText};
+ghost use Rattle.keyword_authoring.specs.TextWords.{ShowsText};
 
 use crate::numbers::HeldNumber;
 use json_values::multiples::is_rounded_multiple_of;

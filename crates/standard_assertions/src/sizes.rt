@@ -1,14 +1,14 @@
 //! `minItems`, `maxItems` and `maxProperties` (JSON Schema Validation 2020-12, 6.4.1, 6.4.2 and 6.5.1).
 ghost use Rattle.std.specs.Prelude.{◌≡◌, ◌==◌, IfOk, None, Some, if◌then◌else◌};
 ghost use Rattle.schema_reports.specs.InstanceViews.{subject_of};
-ghost use Rattle.keyword_ways.specs.Items.{is_list, item_count};
+ghost use Rattle.keyword_authoring.specs.Items.{is_list, item_count};
 ghost use Rattle.standard_assertions.specs.Sizes.{allows, many_counted, one_counted, size_fits, size_name, size_of, size_text, size_words};
-ghost use Rattle.keyword_ways.specs.TextWords.{ShowsText};
+ghost use Rattle.keyword_authoring.specs.TextWords.{ShowsText};
 
-use bench_keywords::counts::{members_count, push_decimal};
-use keyword_ways::items::{is_list, item_count};
+use keyword_authoring::items::{is_list, item_count};
 use schema_reports::instance::Instance;
 use schema_reports::location::OutOfMemory;
+use standard_basics::counts::{members_count, push_decimal};
 use std::alloc::Global;
 
 /// A keyword that limits how many items or members there are.

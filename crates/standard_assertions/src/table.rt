@@ -2,13 +2,13 @@
 ghost use Rattle.std.specs.Prelude.{◌≡◌};
 ghost use Rattle.serde_json.specs.Find.{as_bool, get_member};
 ghost use Rattle.serde_json.specs.View.{view};
-ghost use Rattle.schema_keywords.specs.KeywordViews.{draft_of};
+ghost use Rattle.schema_drafts.specs.KeywordViews.{draft_of};
 ghost use Rattle.keyword_makers.specs.ByObject.{formed};
-ghost use Rattle.schema_parts.specs.Showing.{Shows};
+ghost use Rattle.schema_traits.specs.Showing.{Shows};
 ghost use Rattle.standard_assertions.specs.Made.{excludes, here_if, limit_here, made_of_counts, made_of_lists, made_of_numbers};
 ghost use Rattle.standard_assertions.specs.Made.{unique_made};
 ghost use Rattle.standard_assertions.specs.Shapes.{shape_of};
-ghost use Rattle.schema_parts.specs.Readings.{fields};
+ghost use Rattle.schema_traits.specs.Readings.{fields};
 
 use crate::assertion::Assertion;
 use crate::limits::LimitKind;
@@ -17,15 +17,15 @@ use crate::values::{
     count_made, dependents_made, enum_made, integers_of, is_draft_4, limit_made, multiple_made,
     size_made, type_made,
 };
-use bench_keywords::counts::CountKind;
 use json_values::held::HeldValue;
+use keyword_authoring::leaves::Telling;
 use keyword_makers::by_object::{MakesByObject, ObjectKeyword};
 use keyword_makers::by_value::Children;
 use keyword_makers::paths::value_in;
-use keyword_ways::leaves::Telling;
-use schema_keywords::keywords::Draft;
+use schema_drafts::keywords::Draft;
 use schema_reports::location::OutOfMemory;
 use serde_json::{Map, Value};
+use standard_basics::counts::CountKind;
 use std::alloc::Global;
 
 /// What a member of an object makes.

@@ -4,9 +4,9 @@ ghost use Rattle.schema_reports.specs.InstanceViews.{subject_of};
 ghost use Rattle.schema_reports.specs.Owned.{value_of};
 ghost use Rattle.standard_assertions.specs.Types.{fits, fits_one, is_integer_valued};
 
-use bench_keywords::type_names::TypeName;
 use json_values::multiples::is_integer_valued;
 use schema_reports::instance::Instance;
+use standard_basics::type_names::TypeName;
 use std::alloc::AllocError;
 use std::marker::Model;
 
@@ -27,7 +27,7 @@ pub struct TypeList {
 
 impl Model for TypeList {
     ghost use Rattle.std.specs.Prelude.{List};
-    ghost use Rattle.bench_keywords.specs.declared.type_names.TypeName.{TypeName};
+    ghost use Rattle.standard_basics.specs.declared.type_names.TypeName.{TypeName};
 
     ghost Value = { List TypeName };
 

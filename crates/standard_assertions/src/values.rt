@@ -2,26 +2,26 @@
 ghost use Rattle.std.specs.Prelude.{◌≡◌};
 ghost use Rattle.serde_json.specs.Find.{as_array, as_number, as_object};
 ghost use Rattle.serde_json.specs.View.{items_view, view};
-ghost use Rattle.schema_keywords.specs.KeywordViews.{draft_of};
+ghost use Rattle.schema_drafts.specs.KeywordViews.{draft_of};
 ghost use Rattle.standard_assertions.specs.Values.{are_text_lists, are_texts, count_made, dependents_made, enum_made, has_text_lists};
 ghost use Rattle.standard_assertions.specs.Values.{integers_of, is_any_text_list, is_draft_4, limit_made, multiple_made};
 ghost use Rattle.standard_assertions.specs.Values.{size_limit, size_made, type_made};
-ghost use Rattle.schema_parts.specs.Showing.{Yields};
-ghost use Rattle.schema_parts.specs.Readings.{fields};
+ghost use Rattle.schema_traits.specs.Showing.{Yields};
+ghost use Rattle.schema_traits.specs.Readings.{fields};
 
 use crate::assertion::Assertion;
 use crate::limits::LimitKind;
 use crate::numbers::HeldNumber;
 use crate::sizes::SizeKind;
 use crate::types::{Integers, TypeList};
-use bench_keywords::counts::CountKind;
-use bench_keywords::type_names::{type_named, types_of};
 use json_values::held::HeldValue;
 use json_values::multiples::natural_of;
 use json_values::numbers::is_less;
-use schema_keywords::keywords::Draft;
+use schema_drafts::keywords::Draft;
 use schema_reports::location::OutOfMemory;
 use serde_json::{Map, Number, Value};
+use standard_basics::counts::CountKind;
+use standard_basics::type_names::{type_named, types_of};
 use std::alloc::Global;
 
 /// Whether the draft takes numbers as they are written.

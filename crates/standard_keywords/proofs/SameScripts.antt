@@ -3,22 +3,22 @@ use Rattle.std.proofs.Common.{◌≡◌, ◌∙◌, ap, Bool, None, Option, Some
 use Rattle.std.specs.Prelude.{if◌then◌else◌}
 use Rattle.serde_json.specs.Data.{Data, Members}
 use Rattle.serde_json.specs.Find.{get_member}
-use Rattle.schema_definitions.specs.Drafts.{Draft, Vocabularies}
-use Rattle.schema_definitions.specs.Instance.{Text}
-use Rattle.schema_definitions.specs.Making.{Script, nothing, then_end}
+use Rattle.theory_definitions.specs.Drafts.{Draft, Vocabularies}
+use Rattle.theory_definitions.specs.Instance.{Text}
+use Rattle.theory_definitions.specs.Making.{Script, nothing, then_end}
 use Rattle.keyword_makers.specs.ByObject.{by_object, script_found, script_here}
-use Rattle.format_keywords.specs.FormatMaking.{format_script}
-use Rattle.format_keywords.specs.declared.keyword.FormatKeyword.{FormatKeyword}
-use Rattle.gated_keywords.specs.Making.{gated_script}
-use Rattle.gated_keywords.specs.declared.keyword.GatedKeyword.{GatedKeyword}
-use Rattle.schema_parts.specs.MakerViews.{begun}
-use Rattle.joined_keywords.specs.BothScripts.{Scripts, script_as, waiting_as}
-use Rattle.joined_keywords.specs.RoutedScripts.{routed_script}
-use Rattle.joined_keywords.specs.declared.both.Both.{Both}
-use Rattle.joined_keywords.specs.declared.both.Both.TheVariants.{First, Second}
-use Rattle.joined_keywords.specs.declared.routed.RoutedTables.{RoutedTables}
-use Rattle.bench_keywords.specs.BenchShape.{BenchShape}
-use Rattle.bench_parts.specs.Makers.{bench_script}
+use Rattle.standard_formats.specs.FormatMaking.{format_script}
+use Rattle.standard_formats.specs.declared.keyword.FormatKeyword.{FormatKeyword}
+use Rattle.standard_pattern_properties.specs.Making.{gated_script}
+use Rattle.standard_pattern_properties.specs.declared.keyword.GatedKeyword.{GatedKeyword}
+use Rattle.schema_traits.specs.MakerViews.{begun}
+use Rattle.keyword_joins.specs.BothScripts.{Scripts, script_as, waiting_as}
+use Rattle.keyword_joins.specs.RoutedScripts.{routed_script}
+use Rattle.keyword_joins.specs.declared.both.Both.{Both}
+use Rattle.keyword_joins.specs.declared.both.Both.TheVariants.{First, Second}
+use Rattle.keyword_joins.specs.declared.routed.RoutedTables.{RoutedTables}
+use Rattle.standard_basics.specs.BasicShape.{BasicShape}
+use Rattle.bench_parts.specs.Makers.{basic_script}
 use Rattle.standard_applicators.specs.Makers as applicators
 use Rattle.standard_applicators.specs.declared.applicator.StandardApplicator.{StandardApplicator}
 use Rattle.standard_assertions.specs.Made as assertions
@@ -34,7 +34,7 @@ found_by t draft object name None = then_end nothing
 found_by t draft object name (Some d) = script_here object name d (made_by t draft object name d)
 
 -- what becomes of a keyword, where the value of the member is known, and what the other tables make
-abbrev done_by : Treatment → Draft → Members → Text → Option Data → Script StandardApplicator → Script GatedKeyword → Script FormatKeyword → Script BenchShape → Script Shape
+abbrev done_by : Treatment → Draft → Members → Text → Option Data → Script StandardApplicator → Script GatedKeyword → Script FormatKeyword → Script BasicShape → Script Shape
 done_by Asserted draft object name o applied gated formatted basic = script_as First (script_found assertions.made draft object name o)
 done_by Applied draft object name o applied gated formatted basic = script_as Second (script_as First applied)
 done_by Gated draft object name o applied gated formatted basic = script_as Second (script_as Second (script_as First gated))
@@ -44,13 +44,13 @@ done_by Silent draft object name o applied gated formatted basic = then_end noth
 done_by Refused draft object name o applied gated formatted basic = refused_at name (refusal_text name) o
 
 -- the tables in turn, as the routes lead
-abbrev in_turn : Treatment → Script Assertion → Script StandardApplicator → Script GatedKeyword → Script FormatKeyword → Script BenchShape → Script Shape
+abbrev in_turn : Treatment → Script Assertion → Script StandardApplicator → Script GatedKeyword → Script FormatKeyword → Script BasicShape → Script Shape
 in_turn t asserted applied gated formatted basic =
     if leads_by t then script_as First asserted
     else script_as Second (if leads_on_by t then script_as First applied else script_as Second (if gates_by t then script_as First gated
     else script_as Second (if formats_by t then script_as First formatted else script_as Second basic)))
 
-same_by : (t : Treatment) (draft : Draft) (object : Members) (name : Text) (o : Option Data) (applied : Script StandardApplicator) (gated : Script GatedKeyword) (formatted : Script FormatKeyword) (basic : Script BenchShape)
+same_by : (t : Treatment) (draft : Draft) (object : Members) (name : Text) (o : Option Data) (applied : Script StandardApplicator) (gated : Script GatedKeyword) (formatted : Script FormatKeyword) (basic : Script BasicShape)
     → in_turn t (found_by t draft object name o) applied gated formatted basic ≡ done_by t draft object name o applied gated formatted basic
 same_by Asserted draft object name None applied gated formatted basic = refl
 same_by Asserted draft object name (Some d) applied gated formatted basic = refl
@@ -71,7 +71,7 @@ found_made draft object name (Some d) = refl
 done_standard : (t : Treatment) (draft : Draft) (object : Members) (name : Text) (vocabularies : Vocabularies) (formats : Bool)
     → done_by t draft object name (get_member name object) (applicators.standard_script false name object draft vocabularies formats)
     (gated_script false name object draft vocabularies formats) (format_script false name object draft vocabularies formats)
-    (bench_script false name object draft vocabularies formats)
+    (basic_script false name object draft vocabularies formats)
     ≡ script_by t name object draft vocabularies formats
 done_standard Asserted draft object name vocabularies formats = refl
 done_standard Applied draft object name vocabularies formats = refl
@@ -81,13 +81,13 @@ done_standard Formatted draft object name vocabularies formats = refl
 done_standard Silent draft object name vocabularies formats = refl
 done_standard Refused draft object name vocabularies formats = refl
 
-abbrev pub formatted_or_basic : {V W X : Type 0} → Scripts (RoutedTables V W X) (Both FormatKeyword BenchShape)
-formatted_or_basic = routed_script (λ s k. false) (λ r. leads_to_formats) (λ t. format_script) (λ u. bench_script)
+abbrev pub formatted_or_basic : {V W X : Type 0} → Scripts (RoutedTables V W X) (Both FormatKeyword BasicShape)
+formatted_or_basic = routed_script (λ s k. false) (λ r. leads_to_formats) (λ t. format_script) (λ u. basic_script)
 
-abbrev pub not_applied : {T U V W X : Type 0} → Scripts (RoutedTables T U (RoutedTables V W X)) (Both GatedKeyword (Both FormatKeyword BenchShape))
+abbrev pub not_applied : {T U V W X : Type 0} → Scripts (RoutedTables T U (RoutedTables V W X)) (Both GatedKeyword (Both FormatKeyword BasicShape))
 not_applied = routed_script (λ s k. false) (λ r. leads_to_gates) (λ t. gated_script) formatted_or_basic
 
-abbrev pub not_asserted : {P Q T U V W X : Type 0} → Scripts (RoutedTables P Q (RoutedTables T U (RoutedTables V W X))) (Both StandardApplicator (Both GatedKeyword (Both FormatKeyword BenchShape)))
+abbrev pub not_asserted : {P Q T U V W X : Type 0} → Scripts (RoutedTables P Q (RoutedTables T U (RoutedTables V W X))) (Both StandardApplicator (Both GatedKeyword (Both FormatKeyword BasicShape)))
 not_asserted = routed_script (λ s k. false) (λ r. leads_to_applicators) (λ t. applicators.standard_script) not_applied
 
 pub same_script : {S R P Q T U V W X : Type 0} (t : RoutedTables S R (RoutedTables P Q (RoutedTables T U (RoutedTables V W X)))) (own : Bool) (name : Text) (object : Members) (draft : Draft)
@@ -99,7 +99,7 @@ same_script t false name object draft vocabularies formats =
     let applied = applicators.standard_script false name object draft vocabularies formats in
     let gated = gated_script false name object draft vocabularies formats in
     let formatted = format_script false name object draft vocabularies formats in
-    let basic = bench_script false name object draft vocabularies formats in
+    let basic = basic_script false name object draft vocabularies formats in
     ap (λ x. in_turn (treated draft object name) x applied gated formatted basic) (found_made draft object name (get_member name object))
     ∙ (same_by (treated draft object name) draft object name (get_member name object) applied gated formatted basic
     ∙ done_standard (treated draft object name) draft object name vocabularies formats)

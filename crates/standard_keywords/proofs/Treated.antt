@@ -1,7 +1,7 @@
 -- What becomes of some names in some drafts, worked out.
 use Rattle.std.proofs.Common.{◌≡◌, codes, refl}
 use Rattle.serde_json.specs.Data.{Members, array, item, member, no_items, no_members, object}
-use Rattle.schema_definitions.specs.Drafts.{draft_2019_09, draft_2020_12, draft_4, draft_7}
+use Rattle.theory_definitions.specs.Drafts.{draft_2019_09, draft_2020_12, draft_4, draft_7}
 use Rattle.standard_keywords.specs.Treatments.{treated}
 use Rattle.standard_keywords.specs.declared.treatment.Treatment.TheVariants.{Applied, Asserted, Basic, Formatted, Gated, Refused, Silent}
 

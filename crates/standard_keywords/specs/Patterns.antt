@@ -3,9 +3,9 @@
 use Rattle.std.specs.Prelude.{Bool, List, None, Option, Some, [], bytes_eq, codes, false, if◌then◌else◌, option_map, true, ◌++◌}
 use Rattle.serde_json.specs.Data.{Data, Members}
 use Rattle.serde_json.specs.Find.{as_object, as_str}
-use Rattle.schema_definitions.specs.Instance.{Text, a_name}
-use Rattle.schema_definitions.specs.Meaning.{subject_text}
-use Rattle.schema_parts.specs.KeywordViews.{option_list}
+use Rattle.theory_definitions.specs.Instance.{Text, a_name}
+use Rattle.theory_definitions.specs.Meaning.{subject_text}
+use Rattle.schema_traits.specs.KeywordViews.{option_list}
 use Rattle.keyword_makers.specs.Members.{names_of}
 use Rattle.regex_matcher.specs.RegexMatching.{first_unreadable}
 use Rattle.standard_keywords.specs.declared.patterns.UnreadablePatterns.{UnreadablePatterns}

@@ -2,24 +2,24 @@
 use Rattle.std.specs.Prelude.{Bool, List, None, Option, Some, [], false, refl, true, ◌≡◌}
 use Rattle.serde_json.specs.Data.{Data, Members}
 use Rattle.serde_json.specs.Find.{get_member}
-use Rattle.schema_definitions.specs.Drafts.{Draft, Vocabularies}
-use Rattle.schema_definitions.specs.Instance.{Text}
-use Rattle.schema_definitions.specs.Making.{Script}
-use Rattle.schema_parts.specs.MakerViews.{MakesRightly}
+use Rattle.theory_definitions.specs.Drafts.{Draft, Vocabularies}
+use Rattle.theory_definitions.specs.Instance.{Text}
+use Rattle.theory_definitions.specs.Making.{Script}
+use Rattle.schema_traits.specs.MakerViews.{MakesRightly}
 use Rattle.keyword_makers.specs.ByObject.{IsRightHere, by_object, makes_by_object}
-use Rattle.format_keywords.specs.FormatMaking.{format_script}
-use Rattle.format_keywords.specs.declared.keyword.FormatKeyword.{FormatKeyword}
-use Rattle.gated_keywords.specs.Making.{gated_script}
-use Rattle.gated_keywords.specs.declared.keyword.GatedKeyword.{GatedKeyword}
-use Rattle.joined_keywords.specs.BothScripts.{script_as}
-use Rattle.joined_keywords.specs.BothTables as both
-use Rattle.joined_keywords.specs.Sides.{by_side}
-use Rattle.joined_keywords.specs.declared.both.Both.{Both}
-use Rattle.joined_keywords.specs.declared.both.Both.TheVariants.{First, Second}
-use Rattle.bench_keywords.specs.BenchShape.{BenchShape, is_whole}
-use Rattle.bench_keywords.specs.Laws.{none_absorbed}
+use Rattle.standard_formats.specs.FormatMaking.{format_script}
+use Rattle.standard_formats.specs.declared.keyword.FormatKeyword.{FormatKeyword}
+use Rattle.standard_pattern_properties.specs.Making.{gated_script}
+use Rattle.standard_pattern_properties.specs.declared.keyword.GatedKeyword.{GatedKeyword}
+use Rattle.keyword_joins.specs.BothScripts.{script_as}
+use Rattle.keyword_joins.specs.BothTables as both
+use Rattle.keyword_joins.specs.Sides.{by_side}
+use Rattle.keyword_joins.specs.declared.both.Both.{Both}
+use Rattle.keyword_joins.specs.declared.both.Both.TheVariants.{First, Second}
+use Rattle.standard_basics.specs.BasicShape.{BasicShape, is_whole}
+use Rattle.standard_basics.specs.Laws.{none_absorbed}
 use Rattle.bench_parts.specs.MakerLaws as bench
-use Rattle.bench_parts.specs.Makers.{bench_script}
+use Rattle.bench_parts.specs.Makers.{basic_script}
 use Rattle.standard_applicators.specs.Makers as applicators
 use Rattle.standard_applicators.specs.declared.applicator.StandardApplicator.{StandardApplicator}
 use Rattle.standard_assertions.specs.Made as assertions
@@ -57,22 +57,22 @@ module _ (absorbed : Assertion → List Text) (none : (m : Assertion) → [] ≡
     (gated_absorbed : GatedKeyword → List Text) (gated_whole : GatedKeyword → Bool) (gates_right : EachRightly gated_absorbed gated_whole gated_script)
     (format_absorbed : FormatKeyword → List Text) (format_whole : FormatKeyword → Bool) (formats_right : EachRightly format_absorbed format_whole format_script) where
   -- of the keywords of the last two tables, of the last three, of the last four, and of all
-  abbrev end_absorbed : Both FormatKeyword BenchShape → List Text
+  abbrev end_absorbed : Both FormatKeyword BasicShape → List Text
   end_absorbed = by_side format_absorbed none_absorbed
 
-  abbrev end_whole : Both FormatKeyword BenchShape → Bool
+  abbrev end_whole : Both FormatKeyword BasicShape → Bool
   end_whole = by_side format_whole is_whole
 
-  abbrev last_absorbed : Both GatedKeyword (Both FormatKeyword BenchShape) → List Text
+  abbrev last_absorbed : Both GatedKeyword (Both FormatKeyword BasicShape) → List Text
   last_absorbed = by_side gated_absorbed end_absorbed
 
-  abbrev last_whole : Both GatedKeyword (Both FormatKeyword BenchShape) → Bool
+  abbrev last_whole : Both GatedKeyword (Both FormatKeyword BasicShape) → Bool
   last_whole = by_side gated_whole end_whole
 
-  abbrev later_absorbed : Both StandardApplicator (Both GatedKeyword (Both FormatKeyword BenchShape)) → List Text
+  abbrev later_absorbed : Both StandardApplicator (Both GatedKeyword (Both FormatKeyword BasicShape)) → List Text
   later_absorbed = by_side applicator_absorbed last_absorbed
 
-  abbrev later_whole : Both StandardApplicator (Both GatedKeyword (Both FormatKeyword BenchShape)) → Bool
+  abbrev later_whole : Both StandardApplicator (Both GatedKeyword (Both FormatKeyword BasicShape)) → Bool
   later_whole = by_side applicator_whole last_whole
 
   abbrev all_absorbed : Shape → List Text
@@ -90,16 +90,16 @@ module _ (absorbed : Assertion → List Text) (none : (m : Assertion) → [] ≡
   unless_rightly object name None o s h = h
   unless_rightly object name (Some text) o s h = refused_rightly object name text o
 
-  later_rightly : (object : Members) (s : Script (Both StandardApplicator (Both GatedKeyword (Both FormatKeyword BenchShape)))) → MakesRightly later_absorbed later_whole object s
+  later_rightly : (object : Members) (s : Script (Both StandardApplicator (Both GatedKeyword (Both FormatKeyword BasicShape)))) → MakesRightly later_absorbed later_whole object s
       → MakesRightly all_absorbed all_whole object (script_as Second s)
   later_rightly object s h = both.makes_rightly Second later_absorbed all_absorbed later_whole all_whole (λ m. refl) (λ m. refl) object s h
 
-  last_rightly : (object : Members) (s : Script (Both GatedKeyword (Both FormatKeyword BenchShape))) → MakesRightly last_absorbed last_whole object s
+  last_rightly : (object : Members) (s : Script (Both GatedKeyword (Both FormatKeyword BasicShape))) → MakesRightly last_absorbed last_whole object s
       → MakesRightly all_absorbed all_whole object (script_as Second (script_as Second s))
   last_rightly object s h = later_rightly object (script_as Second s)
       (both.makes_rightly Second last_absorbed later_absorbed last_whole later_whole (λ m. refl) (λ m. refl) object s h)
 
-  end_rightly : (object : Members) (s : Script (Both FormatKeyword BenchShape)) → MakesRightly end_absorbed end_whole object s
+  end_rightly : (object : Members) (s : Script (Both FormatKeyword BasicShape)) → MakesRightly end_absorbed end_whole object s
       → MakesRightly all_absorbed all_whole object (script_as Second (script_as Second (script_as Second s)))
   end_rightly object s h = last_rightly object (script_as Second s)
       (both.makes_rightly Second end_absorbed last_absorbed end_whole last_whole (λ m. refl) (λ m. refl) object s h)
@@ -119,9 +119,9 @@ module _ (absorbed : Assertion → List Text) (none : (m : Assertion) → [] ≡
       (both.makes_rightly First gated_absorbed last_absorbed gated_whole last_whole (λ m. refl) (λ m. refl) object
       (gated_script false name object draft vocabularies formats) (gates_right false name object draft vocabularies formats))
   rightly_by Basic name object draft vocabularies formats =
-      end_rightly object (script_as Second (bench_script false name object draft vocabularies formats))
+      end_rightly object (script_as Second (basic_script false name object draft vocabularies formats))
       (both.makes_rightly Second none_absorbed end_absorbed is_whole end_whole (λ m. refl) (λ m. refl) object
-      (bench_script false name object draft vocabularies formats) (bench.makes_rightly false name object draft vocabularies formats))
+      (basic_script false name object draft vocabularies formats) (bench.makes_rightly false name object draft vocabularies formats))
   rightly_by Formatted name object draft vocabularies formats =
       end_rightly object (script_as First (format_script false name object draft vocabularies formats))
       (both.makes_rightly First format_absorbed end_absorbed format_whole end_whole (λ m. refl) (λ m. refl) object

@@ -3,21 +3,21 @@
 use Rattle.std.specs.Prelude.{Bool, None, Option, Some, false, true}
 use Rattle.serde_json.specs.Data.{Data, Members}
 use Rattle.serde_json.specs.Find.{get_member}
-use Rattle.schema_definitions.specs.Drafts.{Draft, Vocabularies}
-use Rattle.schema_definitions.specs.Instance.{Text}
-use Rattle.schema_definitions.specs.Making.{Script, nothing, refused, then_end}
+use Rattle.theory_definitions.specs.Drafts.{Draft, Vocabularies}
+use Rattle.theory_definitions.specs.Instance.{Text}
+use Rattle.theory_definitions.specs.Making.{Script, nothing, refused, then_end}
 use Rattle.keyword_makers.specs.ByObject.{MadeHere, by_object}
 use Rattle.keyword_makers.specs.declared.by_object.ObjectKeyword.TheVariants as here
 use Rattle.keyword_makers.specs.Making.{refused_error}
-use Rattle.format_keywords.specs.FormatMaking.{format_script}
-use Rattle.format_keywords.specs.declared.keyword.FormatKeyword.{FormatKeyword}
-use Rattle.gated_keywords.specs.Making.{gated_script}
-use Rattle.gated_keywords.specs.declared.keyword.GatedKeyword.{GatedKeyword}
-use Rattle.joined_keywords.specs.BothScripts.{script_as}
-use Rattle.joined_keywords.specs.declared.both.Both.{Both}
-use Rattle.joined_keywords.specs.declared.both.Both.TheVariants.{First, Second}
-use Rattle.bench_keywords.specs.BenchShape.{BenchShape}
-use Rattle.bench_parts.specs.Makers.{bench_script}
+use Rattle.standard_formats.specs.FormatMaking.{format_script}
+use Rattle.standard_formats.specs.declared.keyword.FormatKeyword.{FormatKeyword}
+use Rattle.standard_pattern_properties.specs.Making.{gated_script}
+use Rattle.standard_pattern_properties.specs.declared.keyword.GatedKeyword.{GatedKeyword}
+use Rattle.keyword_joins.specs.BothScripts.{script_as}
+use Rattle.keyword_joins.specs.declared.both.Both.{Both}
+use Rattle.keyword_joins.specs.declared.both.Both.TheVariants.{First, Second}
+use Rattle.standard_basics.specs.BasicShape.{BasicShape}
+use Rattle.bench_parts.specs.Makers.{basic_script}
 use Rattle.standard_applicators.specs.Makers as applicators
 use Rattle.standard_applicators.specs.declared.applicator.StandardApplicator.{StandardApplicator}
 use Rattle.standard_assertions.specs.Made as assertions
@@ -35,13 +35,13 @@ refused_at name text (Some d) = then_end (refused true (refused_error name d tex
 
 -- what is known of a keyword apart from its representation
 abbrev pub Shape : Type 0
-Shape = Both Assertion (Both StandardApplicator (Both GatedKeyword (Both FormatKeyword BenchShape)))
+Shape = Both Assertion (Both StandardApplicator (Both GatedKeyword (Both FormatKeyword BasicShape)))
 
 abbrev pub script_by : Treatment → Text → Members → Draft → Vocabularies → Bool → Script Shape
 script_by Asserted name object draft vocabularies formats = script_as First (by_object assertions.made false name object draft vocabularies formats)
 script_by Applied name object draft vocabularies formats = script_as Second (script_as First (applicators.standard_script false name object draft vocabularies formats))
 script_by Gated name object draft vocabularies formats = script_as Second (script_as Second (script_as First (gated_script false name object draft vocabularies formats)))
-script_by Basic name object draft vocabularies formats = script_as Second (script_as Second (script_as Second (script_as Second (bench_script false name object draft vocabularies formats))))
+script_by Basic name object draft vocabularies formats = script_as Second (script_as Second (script_as Second (script_as Second (basic_script false name object draft vocabularies formats))))
 script_by Formatted name object draft vocabularies formats = script_as Second (script_as Second (script_as Second (script_as First (format_script false name object draft vocabularies formats))))
 script_by Silent name object draft vocabularies formats = then_end nothing
 script_by Refused name object draft vocabularies formats = refused_at name (refusal_text name) (get_member name object)

@@ -1,13 +1,13 @@
--- What becomes of a keyword of the standard, draft by draft. A draft that has not a name asks nothing of it (`schema_keywords`), and the
+-- What becomes of a keyword of the standard, draft by draft. A draft that has not a name asks nothing of it (`schema_drafts`), and the
 -- references are the engine's own; so what is said of a name here is said of the drafts that have it. None that asserts or applies is
 -- passed over: what is neither made nor silent is refused. (Core 2020-12, 10 and 11; Validation 2020-12, 6 to 8; Core and Validation
 -- 2019-09; drafts 4, 6 and 7)
 use Rattle.std.specs.Prelude.{Bool, List, None, Option, Some, [], bytes_eq, codes, false, if◌then◌else◌, not, ◌&&◌, ◌++◌, ◌||◌, ◌∷◌}
 use Rattle.serde_json.specs.Data.{Data, Members}
 use Rattle.serde_json.specs.Find.{get_member}
-use Rattle.schema_definitions.specs.Drafts.{Draft}
-use Rattle.schema_definitions.specs.Instance.{Text}
-use Rattle.keyword_ways.specs.Texts.{is_among}
+use Rattle.theory_definitions.specs.Drafts.{Draft}
+use Rattle.theory_definitions.specs.Instance.{Text}
+use Rattle.keyword_authoring.specs.Texts.{is_among}
 use Rattle.bench_parts.specs.Makers.{has_prefix, is_older_list}
 use Rattle.standard_keywords.specs.declared.treatment.Treatment.{Treatment}
 use Rattle.standard_keywords.specs.declared.treatment.Treatment.TheVariants.{Applied, Asserted, Basic, Formatted, Gated, Refused, Silent}
@@ -58,11 +58,11 @@ abbrev pub is_applied : Draft → Members → Text → Bool
 is_applied draft object name =
     is_among of_each_draft name || (is_older_items draft object name || (not (has_prefix draft) && bytes_eq name (codes "additionalItems")))
 
--- those that `gated_keywords` makes, whose questions stand behind matches of names (Core 2020-12, 10.3.2.2 and 10.3.2.3)
+-- those that `standard_pattern_properties` makes, whose questions stand behind matches of names (Core 2020-12, 10.3.2.2 and 10.3.2.3)
 abbrev pub is_gated : Text → Bool
 is_gated name = is_among (codes "patternProperties" ∷ codes "additionalProperties" ∷ []) name
 
--- those that `format_keywords` makes: `format`, which asserts where formats are checked (Validation 2020-12, 7), and two that assert in drafts
+-- those that `standard_formats` makes: `format`, which asserts where formats are checked (Validation 2020-12, 7), and two that assert in drafts
 -- 6 and 7 (draft 7, 8.3 and 8.4) and nothing later
 abbrev pub is_formatted : Text → Bool
 is_formatted name = is_among (codes "format" ∷ codes "contentEncoding" ∷ codes "contentMediaType" ∷ []) name

@@ -2,9 +2,9 @@
 ghost use Rattle.std.specs.Prelude.{◌≡◌};
 
 use crate::treatment::{Treatment, refusal_text, treatment_of};
+use keyword_authoring::leaves::Telling;
 use keyword_makers::by_object::{MakesByObject, ObjectKeyword};
-use keyword_ways::leaves::Telling;
-use schema_keywords::keywords::Draft;
+use schema_drafts::keywords::Draft;
 use schema_reports::location::OutOfMemory;
 use serde_json::{Map, Value};
 use standard_assertions::assertion::Assertion;

@@ -2,17 +2,17 @@
 ghost use Rattle.std.specs.Prelude.{◌≡◌, ◌∷◌, [], IfOk, option_map, string_bytes};
 ghost use Rattle.serde_json.specs.Find.{get_member};
 ghost use Rattle.serde_json.specs.View.{view};
-ghost use Rattle.schema_parts.specs.MakerViews.{is_own, name_of};
+ghost use Rattle.schema_traits.specs.MakerViews.{is_own, name_of};
 ghost use Rattle.keyword_makers.specs.Members.{names_of};
-ghost use Rattle.schema_parts.specs.Showing.{Shows};
+ghost use Rattle.schema_traits.specs.Showing.{Shows};
 ghost use Rattle.standard_keywords.specs.Patterns.{pattern_refusal, refusal_among, refusal_in, unreadable_text};
-ghost use Rattle.schema_parts.specs.Readings.{fields};
+ghost use Rattle.schema_traits.specs.Readings.{fields};
 
 use keyword_makers::paths::value_in;
 use regex_matcher::reading::is_readable;
-use schema_parts::table::KeywordOrigin;
 use schema_reports::instance::Instance;
 use schema_reports::location::OutOfMemory;
+use schema_traits::table::KeywordOrigin;
 use serde_json::{Map, Value};
 use std::alloc::Global;
 

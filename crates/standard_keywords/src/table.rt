@@ -1,36 +1,36 @@
 //! The keyword table of the standard.
 ghost use Rattle.std.specs.Prelude.{◌≡◌, IfOk, string_bytes};
 ghost use Rattle.serde_json.specs.Find.{get_member};
-ghost use Rattle.schema_parts.specs.MakerViews.{begun, name_of};
+ghost use Rattle.schema_traits.specs.MakerViews.{begun, name_of};
 ghost use Rattle.keyword_makers.specs.MakerViews.{waiting_of};
 ghost use Rattle.standard_assertions.specs.Shapes.{shape_of as assertion_of};
 ghost use Rattle.standard_keywords.specs.StandardScripts.{refused_at};
 ghost use Rattle.standard_keywords.specs.declared.patterns.UnreadablePatterns.TheVariants as unreadable;
-ghost use Rattle.schema_parts.specs.Readings.{fields};
+ghost use Rattle.schema_traits.specs.Readings.{fields};
 
 use crate::assertions::AssertionsOrRefusals;
 use crate::patterns::{UnreadablePatterns, pattern_refusal};
 use crate::treatment::{Treatment, treatment_of};
-use bench_keywords::keyword::BenchKeyword;
 use bench_parts::table::BenchTable;
-use format_keywords::keyword::FormatKeyword;
-use format_keywords::table::FormatTable;
-use gated_keywords::keyword::GatedKeyword;
-use gated_keywords::table::GatedTable;
-use joined_keywords::both::Both;
-use joined_keywords::routed::{Route, RoutedTables};
+use keyword_authoring::leaves::Telling;
+use keyword_joins::both::Both;
+use keyword_joins::routed::{Route, RoutedTables};
 use keyword_makers::by_object::TableByObject;
 use keyword_makers::maker::{Ending, PathsMaker, ends};
 use keyword_makers::paths::value_in;
 use keyword_makers::refusals::refused;
-use keyword_ways::leaves::Telling;
-use schema_keywords::keywords::{Draft, VocabularySet};
-use schema_parts::table::{KeywordOrigin, KeywordTable, MakerReply, MakerStep};
+use schema_drafts::keywords::{Draft, VocabularySet};
 use schema_reports::location::OutOfMemory;
+use schema_traits::table::{KeywordOrigin, KeywordTable, MakerReply, MakerStep};
 use serde_json::{Map, Value};
 use standard_applicators::applicator::StandardApplicator;
 use standard_applicators::table::StandardApplicatorTable;
 use standard_assertions::assertion::Assertion;
+use standard_basics::keyword::BasicKeyword;
+use standard_formats::keyword::FormatKeyword;
+use standard_formats::table::FormatTable;
+use standard_pattern_properties::keyword::GatedKeyword;
+use standard_pattern_properties::table::GatedTable;
 use std::alloc::Global;
 
 /// A keyword of the standard.
@@ -39,7 +39,7 @@ pub type StandardKeyword = Both<Telling<Assertion>, Applied>;
 /// One of them that is no assertion by itself.
 pub type Applied = Both<
     StandardApplicator,
-    Both<GatedKeyword, Both<Telling<FormatKeyword>, BenchKeyword>>,
+    Both<GatedKeyword, Both<Telling<FormatKeyword>, BasicKeyword>>,
 >;
 
 type Maker = Both<
@@ -48,7 +48,7 @@ type Maker = Both<
         PathsMaker<StandardApplicator>,
         Both<
             PathsMaker<GatedKeyword>,
-            Both<PathsMaker<Telling<FormatKeyword>>, PathsMaker<BenchKeyword>>,
+            Both<PathsMaker<Telling<FormatKeyword>>, PathsMaker<BasicKeyword>>,
         >,
     >,
 >;
@@ -97,7 +97,7 @@ impl Route for ApplicatorRoute {
     }
 }
 
-/// Of the rest, what `gated_keywords` makes goes to its table.
+/// Of the rest, what `standard_pattern_properties` makes goes to its table.
 #[derive(Drop)]
 pub struct GateRoute {}
 
@@ -200,14 +200,14 @@ fn refused_at(
 
 impl KeywordTable<StandardKeyword> for StandardTable {
     ghost use Rattle.std.specs.Prelude.{false, refl};
-    ghost use Rattle.joined_keywords.specs.BothScripts.{both_waiting};
-    ghost use Rattle.bench_keywords.specs.Shapes.{shape_of};
-    ghost use Rattle.format_keywords.specs.FormatMaking.{makes_rightly as formats_rightly};
-    ghost use Rattle.format_keywords.specs.Shapes.{shape_of as format_of};
+    ghost use Rattle.keyword_joins.specs.BothScripts.{both_waiting};
+    ghost use Rattle.standard_basics.specs.Shapes.{shape_of};
+    ghost use Rattle.standard_formats.specs.FormatMaking.{makes_rightly as formats_rightly};
+    ghost use Rattle.standard_formats.specs.Shapes.{shape_of as format_of};
     ghost use Rattle.standard_keywords.specs.StandardScripts.{standard_script};
     ghost use Rattle.standard_keywords.specs.StandardLaws.{makes_rightly};
     ghost use Rattle.standard_applicators.specs.MakerLaws.{makes_rightly as applicators_rightly};
-    ghost use Rattle.gated_keywords.specs.Making.{makes_rightly as gates_rightly};
+    ghost use Rattle.standard_pattern_properties.specs.Making.{makes_rightly as gates_rightly};
 
     type Maker = Maker;
 

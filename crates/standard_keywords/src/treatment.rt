@@ -1,18 +1,18 @@
 //! What becomes of each keyword of the standard.
 ghost use Rattle.std.specs.Prelude.{◌≡◌, string_bytes};
-ghost use Rattle.schema_keywords.specs.KeywordViews.{draft_of};
-ghost use Rattle.keyword_ways.specs.Texts.{is_among};
+ghost use Rattle.schema_drafts.specs.KeywordViews.{draft_of};
+ghost use Rattle.keyword_authoring.specs.Texts.{is_among};
 ghost use Rattle.bench_parts.specs.Makers.{has_prefix};
-ghost use Rattle.schema_parts.specs.Showing.{Shows};
+ghost use Rattle.schema_traits.specs.Showing.{Shows};
 ghost use Rattle.standard_keywords.specs.Treatments.{is_applied, is_asserted, is_basic, is_formatted, is_gated, is_older_items};
 ghost use Rattle.standard_keywords.specs.Treatments.{of_branches, of_counts, of_each_draft, of_lists_and_objects};
 ghost use Rattle.standard_keywords.specs.Treatments.{of_numbers, of_places};
 ghost use Rattle.standard_keywords.specs.Treatments.{is_silent, of_texts_and_members, refusal_text, treated};
-ghost use Rattle.schema_parts.specs.Readings.{fields};
+ghost use Rattle.schema_traits.specs.Readings.{fields};
 
 use bench_parts::table::schema_values::is_older_list;
 use keyword_makers::paths::value_in;
-use schema_keywords::keywords::Draft;
+use schema_drafts::keywords::Draft;
 use schema_reports::location::OutOfMemory;
 use serde_json::{Map, Value};
 use std::alloc::Global;
@@ -24,11 +24,11 @@ pub enum Treatment {
     Asserted,
     /// `standard_applicators` makes it.
     Applied,
-    /// `gated_keywords` makes it.
+    /// `standard_pattern_properties` makes it.
     Gated,
     /// The bench's table makes it.
     Basic,
-    /// `format_keywords` makes it, where it asserts.
+    /// `standard_formats` makes it, where it asserts.
     Formatted,
     /// Nothing is made of it: it asserts nothing.
     Silent,
@@ -140,14 +140,14 @@ fn is_applied(draft: Draft, object: &Map<String, Value>, name: &str) -> bool
     is_of_each_draft(name) || is_older_items(draft, object, name) || is_older
 }
 
-/// Whether `gated_keywords` makes the keyword of a name.
+/// Whether `standard_pattern_properties` makes the keyword of a name.
 fn is_gated(name: &str) -> bool
     ensures gated { result ≡ is_gated name.now }
 {
     name == "patternProperties" || name == "additionalProperties"
 }
 
-/// Whether `format_keywords` makes the keyword of a name.
+/// Whether `standard_formats` makes the keyword of a name.
 fn is_formatted(name: &str) -> bool
     ensures formatted { result ≡ is_formatted name.now }
 {

@@ -4,23 +4,23 @@ use Rattle.std.specs.Prelude.{Contains, slice_get}
 use Rattle.std.proofs.lemmas.Option.{get_or_from_slice_get, slice_get_within}
 use Rattle.serde_json.specs.Data.{Data}
 use Rattle.serde_json.specs.View.{view}
-use Rattle.schema_definitions.specs.Drafts.{Draft}
-use Rattle.schema_definitions.specs.Keywords.{Answer}
-use Rattle.schema_parts.specs.declared.keyword.Validate.{Ghosts as KeywordMembers}
-use Rattle.schema_parts.specs.declared.resolver.Resolver.{Ghosts as ResolverMembers}
-use Rattle.schema_parts.specs.declared.table.KeywordTable.{Ghosts as TableMembers}
+use Rattle.theory_definitions.specs.Drafts.{Draft}
+use Rattle.theory_definitions.specs.Keywords.{Answer}
+use Rattle.schema_traits.specs.declared.keyword.Validate.{Ghosts as KeywordMembers}
+use Rattle.schema_traits.specs.declared.resolver.Resolver.{Ghosts as ResolverMembers}
+use Rattle.schema_traits.specs.declared.table.KeywordTable.{Ghosts as TableMembers}
 use Rattle.regex_matcher.specs.RegexMatching.{Kept}
 use Rattle.schema_validator.specs.Called.{IsCompiledFrom, MeansPlainly}
 use Rattle.schema_validator.specs.Handed.{Handed, Options, handed}
-use Rattle.schema_answers.specs.Program.{Program}
-use Rattle.bench_resolver.specs.BenchDocuments.{BenchDocument, GivenDocument}
+use Rattle.schema_compiled.specs.Program.{Program}
+use Rattle.standard_resolver.specs.ResolverDocuments.{HeldDocuments, GivenDocument}
 use Rattle.standard_keywords.specs.declared.patterns.UnreadablePatterns.TheVariants as unreadable
 use Rattle.standard_keywords.specs.declared.table.StandardTable.{StandardTable}
 use Rattle.meta_schemas.specs.MetaUris.{uri_of}
 use Rattle.standard_meta.specs.DraftMeanings.{IsCompiledOf, MeansDraft, handed_by, regexes, unchecked}
 
-module _ {State S C Maker Run K : Type 0} (resolvers : ResolverMembers BenchDocument State S) (tables : TableMembers StandardTable C Maker Run K)
-    (keywords : KeywordMembers C Run K) (r : BenchDocument) (m : Kept) (table : StandardTable) (options : Options) (schema : Data)
+module _ {State S C Maker Run K : Type 0} (resolvers : ResolverMembers HeldDocuments State S) (tables : TableMembers StandardTable C Maker Run K)
+    (keywords : KeywordMembers C Run K) (r : HeldDocuments) (m : Kept) (table : StandardTable) (options : Options) (schema : Data)
   where
     -- what is handed in with a table
     abbrev parts : StandardTable → Handed S K (Run × Answer) C Kept
@@ -45,8 +45,8 @@ module _ {State S C Maker Run K : Type 0} (resolvers : ResolverMembers BenchDocu
 among_documents : (documents : List GivenDocument) (k : ℕ) (d : GivenDocument) → slice_get documents k ≡ Some d → Contains documents d
 among_documents documents k d at = (k, slice_get_within documents k d at, get_or_from_slice_get documents k d d at)
 
-module _ {State S C Maker Run K : Type 0} (resolvers : ResolverMembers BenchDocument State S) (tables : TableMembers StandardTable C Maker Run K)
-    (keywords : KeywordMembers C Run K) (documents : List GivenDocument) (draft : Draft) (r : BenchDocument) (m : Kept) (root : GivenDocument) where
+module _ {State S C Maker Run K : Type 0} (resolvers : ResolverMembers HeldDocuments State S) (tables : TableMembers StandardTable C Maker Run K)
+    (keywords : KeywordMembers C Run K) (documents : List GivenDocument) (draft : Draft) (r : HeldDocuments) (m : Kept) (root : GivenDocument) where
   pub means_draft : (k : ℕ) (v p : Program C Kept) → slice_get documents k ≡ Some root → root.uri ≡ uri_of draft → r.uri ≡ root.uri → r.document ≡ root.value
       → IsCompiledOf resolvers tables keywords r m (view root.value) v → p ≡ v → MeansDraft resolvers tables keywords documents draft p
   means_draft k v p at uri same_uri same_document compiled same = record {

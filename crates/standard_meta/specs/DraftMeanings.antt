@@ -3,17 +3,17 @@
 use Rattle.std.specs.Prelude.{Contains, List, false, ◌≡◌}
 use Rattle.serde_json.specs.Data.{Data}
 use Rattle.serde_json.specs.View.{view}
-use Rattle.schema_definitions.specs.Drafts.{Draft}
-use Rattle.schema_definitions.specs.Keywords.{Answer}
-use Rattle.schema_parts.specs.declared.keyword.Validate.{Ghosts as KeywordMembers}
-use Rattle.schema_parts.specs.declared.matcher.Matcher.{Ghosts as MatcherMembers}
-use Rattle.schema_parts.specs.declared.resolver.Resolver.{Ghosts as ResolverMembers}
-use Rattle.schema_parts.specs.declared.table.KeywordTable.{Ghosts as TableMembers}
+use Rattle.theory_definitions.specs.Drafts.{Draft}
+use Rattle.theory_definitions.specs.Keywords.{Answer}
+use Rattle.schema_traits.specs.declared.keyword.Validate.{Ghosts as KeywordMembers}
+use Rattle.schema_traits.specs.declared.matcher.Matcher.{Ghosts as MatcherMembers}
+use Rattle.schema_traits.specs.declared.resolver.Resolver.{Ghosts as ResolverMembers}
+use Rattle.schema_traits.specs.declared.table.KeywordTable.{Ghosts as TableMembers}
 use Rattle.regex_matcher.specs.RegexMatching.{Kept, finishes_each, regex_matcher}
-use Rattle.bench_resolver.specs.BenchDocuments.{BenchDocument, GivenDocument}
+use Rattle.standard_resolver.specs.ResolverDocuments.{HeldDocuments, GivenDocument}
 use Rattle.schema_validator.specs.Called.{IsCompiledFrom, MeansPlainly}
 use Rattle.schema_validator.specs.Handed.{Handed, Options, default_options, handed}
-use Rattle.schema_answers.specs.Program.{Program}
+use Rattle.schema_compiled.specs.Program.{Program}
 use Rattle.standard_keywords.specs.declared.patterns.UnreadablePatterns.TheVariants as unreadable
 use Rattle.standard_keywords.specs.declared.table.StandardTable.{StandardTable}
 use Rattle.meta_schemas.specs.MetaUris.{uri_of}
@@ -23,24 +23,24 @@ abbrev pub regexes : MatcherMembers Kept
 regexes = record { matching = λ m. regex_matcher m.unreadable; finishing = λ m. finishes_each m.unreadable }
 
 -- what is handed in beside the options: a resolver, the table that refuses patterns that cannot be read, and a matcher
-abbrev pub handed_by : {State S C Maker Run K : Type 0} → ResolverMembers BenchDocument State S → TableMembers StandardTable C Maker Run K → KeywordMembers C Run K
-    → BenchDocument → Kept → Handed S K (Run × Answer) C Kept
+abbrev pub handed_by : {State S C Maker Run K : Type 0} → ResolverMembers HeldDocuments State S → TableMembers StandardTable C Maker Run K → KeywordMembers C Run K
+    → HeldDocuments → Kept → Handed S K (Run × Answer) C Kept
 handed_by resolvers tables keywords resolver matcher = handed resolvers tables keywords regexes resolver (record { unreadable = unreadable.Refused }) matcher
 
 -- a meta-schema is not checked by another
 abbrev pub unchecked : Options
 unchecked = record default_options { checks = false }
 
-module _ {State S C Maker Run K : Type 0} (resolvers : ResolverMembers BenchDocument State S) (tables : TableMembers StandardTable C Maker Run K)
+module _ {State S C Maker Run K : Type 0} (resolvers : ResolverMembers HeldDocuments State S) (tables : TableMembers StandardTable C Maker Run K)
     (keywords : KeywordMembers C Run K) where
   -- a validator that was compiled from a schema, by a resolver and a matcher, and means the schema plainly
-  pub record IsCompiledOf (resolver : BenchDocument) (matcher : Kept) (schema : Data) (p : Program C Kept) : Type 0 where
+  pub record IsCompiledOf (resolver : HeldDocuments) (matcher : Kept) (schema : Data) (p : Program C Kept) : Type 0 where
     pub means : MeansPlainly (handed_by resolvers tables keywords resolver matcher) unchecked schema p
     pub program : IsCompiledFrom (handed_by resolvers tables keywords resolver matcher) unchecked schema unchecked.nested p
 
   -- that of the document under the URI of a draft's meta-schema
   pub record MeansDraft (documents : List GivenDocument) (draft : Draft) (p : Program C Kept) : Type 0 where
-    pub resolver : BenchDocument
+    pub resolver : HeldDocuments
     pub matcher : Kept
     pub uri : resolver.uri ≡ uri_of draft
     pub among : Contains documents (record { uri = resolver.uri; value = resolver.document })

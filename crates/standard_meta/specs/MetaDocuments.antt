@@ -1,9 +1,9 @@
 -- The meta-schemas as documents, each under its URI: those of the drafts, the oldest first, and then those of the vocabularies.
 -- (Core 2020-12, 8.1.1 and 8.1.2)
 use Rattle.std.specs.Prelude.{List, [], map, ℕ, ◌++◌, ◌∷◌}
-use Rattle.schema_definitions.specs.Drafts.{Draft, draft_2019_09, draft_2020_12, draft_4, draft_6, draft_7, draft_unknown}
-use Rattle.schema_definitions.specs.Instance.{Text}
-use Rattle.bench_resolver.specs.BenchDocuments.{GivenDocument}
+use Rattle.theory_definitions.specs.Drafts.{Draft, draft_2019_09, draft_2020_12, draft_4, draft_6, draft_7, draft_unknown}
+use Rattle.theory_definitions.specs.Instance.{Text}
+use Rattle.standard_resolver.specs.ResolverDocuments.{GivenDocument}
 use Rattle.meta_schemas.specs.MetaUris.{uri_of, vocabulary_uris}
 use Rattle.standard_meta.specs.declared.documents.MetaDocument.{MetaDocument}
 

@@ -2,7 +2,7 @@
 ghost use Rattle.std.specs.Prelude.{◌≡◌, ◌++◌, IfOk, Some, map, slice_get};
 ghost use Rattle.serde_json.specs.Read.{read as read_text};
 ghost use Rattle.serde_json.specs.View.{view};
-ghost use Rattle.schema_keywords.specs.KeywordViews.{draft_of};
+ghost use Rattle.schema_drafts.specs.KeywordViews.{draft_of};
 ghost use Rattle.meta_schemas.specs.MetaUris.{uri_of, vocabulary_uris};
 ghost use Rattle.standard_meta.specs.MetaDocuments.{draft_uris, given_of, place_of, uris_of};
 

@@ -1,20 +1,18 @@
 //! The meta validators.
 ghost use Rattle.std.specs.Prelude.{◌≡◌, IfOk};
 ghost use Rattle.serde_json.specs.View.{view};
-ghost use Rattle.first_checker.specs.DraftChecks.{EachChecks};
+ghost use Rattle.meta_checker.specs.DraftChecks.{EachChecks};
 ghost use Rattle.standard_meta.specs.DraftMeanings.{IsCompiledOf, MeansDraft};
-ghost use Rattle.schema_parts.specs.MatcherViews.{FinishesEach};
+ghost use Rattle.schema_traits.specs.MatcherViews.{FinishesEach};
 ghost use Rattle.regex_matcher.specs.RegexMatching.{regex_matcher};
-ghost use Rattle.schema_keywords.specs.KeywordViews.{draft_of};
+ghost use Rattle.schema_drafts.specs.KeywordViews.{draft_of};
 
 use crate::documents::{MetaDocument, MetaDocuments};
 use crate::error::MetaError;
 use crate::wholeness::StandardFractions;
 use bench_parts::meta::BenchMeta;
-use bench_resolver::resolver::BenchResolver;
-use bench_resolver::resolver::documents::Document;
-use first_checker::checker::Checker;
-use first_checker::drafts::{CheckerMaker, DraftCheckers};
+use meta_checker::checker::Checker;
+use meta_checker::drafts::{CheckerMaker, DraftCheckers};
 use regex_matcher::matcher::RegexMatcher;
 use regex_matcher::unreadable::Unreadable;
 use schema_engine::compiler::BuildError;
@@ -26,6 +24,8 @@ use schema_reports::location::OutOfMemory;
 use schema_reports::reports::ValidationError;
 use serde_json::Value;
 use standard_keywords::table::{StandardKeyword, StandardTable};
+use standard_resolver::resolver::DocumentResolver;
+use standard_resolver::resolver::documents::Document;
 use std::alloc::Global;
 
 type StandardChecker<'p> = Checker<StandardKeyword, RegexMatcher<'p>>;
@@ -54,7 +54,7 @@ fn resolver_of<'p>(
     documents: &'p MetaDocuments,
     draft: Draft,
     root: &'p MetaDocument,
-) -> Result<BenchResolver<'p>, OutOfMemory>
+) -> Result<DocumentResolver<'p>, OutOfMemory>
     ensures uri { IfOk result (λ r. r.uri ≡ root.now.uri.now) }
     ensures document { IfOk result (λ r. r.document ≡ root.now.value) }
 {
@@ -63,19 +63,19 @@ fn resolver_of<'p>(
         value: &root.value,
     };
     let others = others(alloc, documents, root.uri)?;
-    BenchResolver::with_documents(alloc, draft, first, others, VocabularySet::new(alloc))
+    DocumentResolver::with_documents(alloc, draft, first, others, VocabularySet::new(alloc))
 }
 
 /// Compiles the meta-schema of a draft. What it says of matches is what the matcher says.
 fn validator_of<'p>(
     alloc: Global,
     root: &'p MetaDocument,
-    resolver: &BenchResolver<'p>,
+    resolver: &DocumentResolver<'p>,
     matcher: &RegexMatcher<'p>,
 ) -> Result<Validator<StandardKeyword, RegexMatcher<'p>>, BuildError>
     ensures finishes { IfOk result (λ v. FinishesEach (regex_matcher matcher.now.unreadable)
         → FinishesEach (regex_matcher v.matcher.unreadable)) }
-    ensures compiled { IfOk result (λ v. IsCompiledOf ⟦<BenchResolver<'p> as Resolver>⟧ ⟦<StandardTable as KeywordTable<StandardKeyword>>⟧
+    ensures compiled { IfOk result (λ v. IsCompiledOf ⟦<DocumentResolver<'p> as Resolver>⟧ ⟦<StandardTable as KeywordTable<StandardKeyword>>⟧
         ⟦<StandardKeyword as Validate>⟧ resolver.now matcher.now (view root.now.value) v) }
 {
     let options = ValidationOptions::new(alloc).should_validate_schema(false);
@@ -89,7 +89,7 @@ fn checker_of<'p>(
     documents: &'p MetaDocuments,
     draft: Draft,
 ) -> Result<StandardChecker<'p>, MetaError>
-    ensures means { IfOk result (MeansDraft ⟦<BenchResolver<'p> as Resolver>⟧ ⟦<StandardTable as KeywordTable<StandardKeyword>>⟧
+    ensures means { IfOk result (MeansDraft ⟦<DocumentResolver<'p> as Resolver>⟧ ⟦<StandardTable as KeywordTable<StandardKeyword>>⟧
         ⟦<StandardKeyword as Validate>⟧ documents.now.documents (draft_of draft)) }
 {
     let root = documents.of_draft(draft);
@@ -115,7 +115,7 @@ struct MetaMaker<'p> {
 impl<'p> CheckerMaker<StandardKeyword, RegexMatcher<'p>> for MetaMaker<'p> {
     type Error = MetaError;
 
-    ghost checks = { λ m. MeansDraft ⟦<BenchResolver<'p> as Resolver>⟧ ⟦<StandardTable as KeywordTable<StandardKeyword>>⟧
+    ghost checks = { λ m. MeansDraft ⟦<DocumentResolver<'p> as Resolver>⟧ ⟦<StandardTable as KeywordTable<StandardKeyword>>⟧
         ⟦<StandardKeyword as Validate>⟧ m.documents.now.documents };
 
     fn checker(&self, alloc: Global, draft: Draft) -> Result<StandardChecker<'p>, MetaError> {
@@ -138,7 +138,7 @@ impl<'p> StandardMeta<'p> {
     /// Fails out of memory. That a meta-schema is refused or unfit does not come up.
     pub fn new(alloc: Global, documents: &'p MetaDocuments) -> Result<StandardMeta<'p>, MetaError>
         ensures each { IfOk result (λ m. EachChecks (MeansDraft
-            ⟦<BenchResolver<'p> as Resolver>⟧ ⟦<StandardTable as KeywordTable<StandardKeyword>>⟧ ⟦<StandardKeyword as Validate>⟧
+            ⟦<DocumentResolver<'p> as Resolver>⟧ ⟦<StandardTable as KeywordTable<StandardKeyword>>⟧ ⟦<StandardKeyword as Validate>⟧
             documents.now.documents) m.checkers) }
     {
         let checkers = DraftCheckers::by(alloc, &MetaMaker { documents })?;
@@ -147,7 +147,7 @@ impl<'p> StandardMeta<'p> {
 }
 
 impl<'p> MetaValidators for StandardMeta<'p> {
-    ghost use Rattle.first_checker.specs.DraftChecks.{checked_by};
+    ghost use Rattle.meta_checker.specs.DraftChecks.{checked_by};
     ghost use Rattle.standard_meta.specs.DraftMeanings.{regexes};
 
     ghost checked = { λ m. checked_by ⟦<StandardKeyword as Validate>⟧ regexes m.checkers };

@@ -1,15 +1,15 @@
 //! Whether a keyword of the standard shows a fraction of its schema.
 ghost use Rattle.std.specs.Prelude.{◌≡◌};
-ghost use Rattle.bench_keywords.specs.BenchShape.{is_whole};
-ghost use Rattle.bench_keywords.specs.Shapes.{shape_of};
+ghost use Rattle.standard_basics.specs.BasicShape.{is_whole};
+ghost use Rattle.standard_basics.specs.Shapes.{shape_of};
 ghost use Rattle.standard_assertions.specs.Assertions.{shows_no_fraction};
 
-use bench_keywords::keyword::BenchKeyword;
-use joined_keywords::both::Both;
-use schema_parts::keyword::Validate;
+use keyword_joins::both::Both;
+use schema_traits::keyword::Validate;
 use shown_fractions::nodes::TellsFractions;
 use shown_fractions::values::has_fraction;
 use standard_assertions::assertion::Assertion;
+use standard_basics::keyword::BasicKeyword;
 use standard_keywords::table::{Applied, StandardKeyword};
 
 /// Tells of a keyword of the standard whether it shows a fraction of its schema.
@@ -35,11 +35,11 @@ fn assertion_shows_none(assertion: &Assertion) -> bool
 }
 
 /// Whether a keyword of the bench shows none.
-fn basic_shows_none(keyword: &BenchKeyword) -> bool
+fn basic_shows_none(keyword: &BasicKeyword) -> bool
     ensures whole { result ≡ is_whole (shape_of keyword.now) }
 {
     match keyword {
-        BenchKeyword::Not(schema) => !has_fraction(schema),
+        BasicKeyword::Not(schema) => !has_fraction(schema),
         _ => true,
     }
 }

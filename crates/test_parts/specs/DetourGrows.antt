@@ -1,17 +1,17 @@
 -- A detour is monotone where the keyword is that it stands for, and hands on the units that that one does.
 use Rattle.std.proofs.Common.{◌≡◌, Bool, true}
-use Rattle.schema_meaning.specs.Greatest.{IsMonotone}
-use Rattle.schema_meaning.specs.UnitsLead.{EachHandsUnitsOn, HandsUnitsOn}
-use Rattle.bench_keywords.specs.BenchShape.{says_monotone}
-use Rattle.bench_keywords.specs.Grows.{bench_grows, bench_hands_units_on}
-use Rattle.bench_keywords.specs.Laws.{none_absorbed}
-use Rattle.bench_keywords.specs.Words.{words}
+use Rattle.theory_meaning.specs.Greatest.{IsMonotone}
+use Rattle.theory_meaning.specs.UnitsLead.{EachHandsUnitsOn, HandsUnitsOn}
+use Rattle.standard_basics.specs.BasicShape.{says_monotone}
+use Rattle.standard_basics.specs.Grows.{basics_grow, basics_hand_units_on}
+use Rattle.standard_basics.specs.Laws.{none_absorbed}
+use Rattle.standard_basics.specs.Words.{words}
 use Rattle.test_parts.specs.Detours.{Detour, detour_words, nothing_absorbed}
 
 pub detour_grows : (texts : Bool) (m : Detour) → says_monotone m.1 ≡ true → IsMonotone (detour_words texts) m
-detour_grows texts m h s matches a b where_yes holds = bench_grows texts m.1 h s matches a b where_yes holds
+detour_grows texts m h s matches a b where_yes holds = basics_grow texts m.1 h s matches a b where_yes holds
 
 pub detour_hands_on : (texts : Bool) → EachHandsUnitsOn (detour_words texts) nothing_absorbed
 detour_hands_on texts m s matches u =
-    let handed : HandsUnitsOn (words texts) none_absorbed m.1 s matches u = bench_hands_units_on texts m.1 s matches u in
+    let handed : HandsUnitsOn (words texts) none_absorbed m.1 s matches u = basics_hand_units_on texts m.1 s matches u in
     record { own = handed.own; absorbed = handed.absorbed }

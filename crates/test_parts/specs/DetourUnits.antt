@@ -1,13 +1,13 @@
 -- In each mode that wants no units, a detour asks no child for its units.
 use Rattle.std.proofs.Common.{Bool, suc, sym, zero, ℕ, ◌∙◌}
-use Rattle.schema_definitions.specs.Instance.{Subject}
-use Rattle.schema_definitions.specs.Keywords.{Answer, Reply, no_reply}
-use Rattle.schema_parts.specs.KeywordViews.{fresh}
-use Rattle.schema_parts.specs.UnitQuestions.{AlwaysAsksForLess, AsksNoUnits}
-use Rattle.bench_keywords.specs.declared.names.NamesRun.{NamesRun}
+use Rattle.theory_definitions.specs.Instance.{Subject}
+use Rattle.theory_definitions.specs.Keywords.{Answer, Reply, no_reply}
+use Rattle.schema_traits.specs.KeywordViews.{fresh}
+use Rattle.schema_traits.specs.UnitQuestions.{AlwaysAsksForLess, AsksNoUnits}
+use Rattle.standard_basics.specs.declared.names.NamesRun.{NamesRun}
 use Rattle.test_parts.specs.Detours.{Detour, detour_words, matches_before}
-use Rattle.bench_keywords.specs.Words.{run_way, words}
-use Rattle.keyword_ways.specs.WayUnits.{WantsNone, mode-kept, step_for_less}
+use Rattle.standard_basics.specs.Words.{run_way, words}
+use Rattle.keyword_authoring.specs.WayUnits.{WantsNone, mode-kept, step_for_less}
 
 -- each turn keeps the run's mode
 turns_for_less : (texts : Bool) (m : Detour) (s : Subject) (n left : ℕ) (r : NamesRun × Answer) (reply : Reply) → WantsNone r.0.progress.mode

@@ -1,13 +1,13 @@
 -- A detour's run for the verdict asks for verdicts.
 use Rattle.std.proofs.Common.{Bool, refl, suc, zero, ℕ}
-use Rattle.schema_definitions.specs.Instance.{Subject}
-use Rattle.schema_definitions.specs.Keywords.{Answer, Reply, for_verdict, no_reply}
-use Rattle.schema_definitions.specs.Remembering.{AlwaysAsksVerdict, EachAsksVerdicts}
-use Rattle.schema_parts.specs.KeywordViews.{fresh}
-use Rattle.bench_keywords.specs.declared.names.NamesRun.{NamesRun}
+use Rattle.theory_definitions.specs.Instance.{Subject}
+use Rattle.theory_definitions.specs.Keywords.{Answer, Reply, for_verdict, no_reply}
+use Rattle.theory_definitions.specs.Remembering.{AlwaysAsksVerdict, EachAsksVerdicts}
+use Rattle.schema_traits.specs.KeywordViews.{fresh}
+use Rattle.standard_basics.specs.declared.names.NamesRun.{NamesRun}
 use Rattle.test_parts.specs.Detours.{Detour, detour_words, matches_before}
-use Rattle.bench_keywords.specs.Words.{run_way, words}
-use Rattle.keyword_ways.specs.WayVerdicts.{WantsVerdict, step_for_verdict}
+use Rattle.standard_basics.specs.Words.{run_way, words}
+use Rattle.keyword_authoring.specs.WayVerdicts.{WantsVerdict, step_for_verdict}
 
 -- each turn keeps the run's mode
 turns_for_verdict : (texts : Bool) (m : Detour) (s : Subject) (n left : ℕ) (r : NamesRun × Answer) (reply : Reply) → WantsVerdict r.0.progress.mode

@@ -2,27 +2,27 @@
 -- and drops the replies. Then it goes on as the keyword that it stands for. The tests alone make one.
 use Rattle.std.proofs.Common.{Bool, List, arith, inl, inr, length, refl, subst, suc, sym, zero, ℕ, [], ◌+◌, ◌<◌, ◌≡◌, ◌≤◌, ◌⊎◌}
 use Rattle.std.specs.Prelude.{slice_get, unwrap_or}
-use Rattle.schema_definitions.specs.Instance.{Subject, Text}
-use Rattle.schema_definitions.specs.Reports.{Unit_, report_of}
-use Rattle.schema_definitions.specs.Matching.{Matching}
-use Rattle.schema_definitions.specs.Keywords.{Answer, Answers, Keywords, Marked, Question, Reply, Turn, ask, done, ecma, mark, match_text, unmark, for_all, for_first, for_units, for_verdict}
-use Rattle.schema_definitions.specs.Keywords as spec
-use Rattle.schema_definitions.specs.Laws.{Agrees, AnsweredAlike, AsksRightly, IsRight}
-use Rattle.schema_definitions.specs.Turns.{FunctionLaws, Standing, TurnLaws, next, reply_to, standing, step_at, turned}
-use Rattle.schema_parts.specs.KeywordViews.{fresh}
-use Rattle.schema_parts.specs.declared.keyword.Mode.TheVariants as mode
-use Rattle.keyword_ways.specs.declared.run.Stage.TheVariants.{Begun}
-use Rattle.bench_keywords.specs.BenchShape.{BenchShape}
-use Rattle.bench_keywords.specs.declared.names.NamesRun.{NamesRun}
-use Rattle.bench_keywords.specs.Counts.{subject_string}
-use Rattle.keyword_ways.specs.Ways.{match_point}
-use Rattle.keyword_ways.specs.WayRuns.{fits_at, fits_begun, replies_by}
-use Rattle.bench_keywords.specs.Words.{ends_in, fits_in, run_way, turns_left, words}
-use Rattle.bench_keywords.specs.Laws.{functions_keep, none_absorbed, turns_keep}
+use Rattle.theory_definitions.specs.Instance.{Subject, Text}
+use Rattle.theory_definitions.specs.Reports.{Unit_, report_of}
+use Rattle.theory_definitions.specs.Matching.{Matching}
+use Rattle.theory_definitions.specs.Keywords.{Answer, Answers, Keywords, Marked, Question, Reply, Turn, ask, done, ecma, mark, match_text, unmark, for_all, for_first, for_units, for_verdict}
+use Rattle.theory_definitions.specs.Keywords as spec
+use Rattle.theory_definitions.specs.Laws.{Agrees, AnsweredAlike, AsksRightly, IsRight}
+use Rattle.theory_definitions.specs.Turns.{FunctionLaws, Standing, TurnLaws, next, reply_to, standing, step_at, turned}
+use Rattle.schema_traits.specs.KeywordViews.{fresh}
+use Rattle.schema_traits.specs.declared.keyword.Mode.TheVariants as mode
+use Rattle.keyword_authoring.specs.declared.run.Stage.TheVariants.{Begun}
+use Rattle.standard_basics.specs.BasicShape.{BasicShape}
+use Rattle.standard_basics.specs.declared.names.NamesRun.{NamesRun}
+use Rattle.standard_basics.specs.Counts.{subject_string}
+use Rattle.keyword_authoring.specs.Ways.{match_point}
+use Rattle.keyword_authoring.specs.WayRuns.{fits_at, fits_begun, replies_by}
+use Rattle.standard_basics.specs.Words.{ends_in, fits_in, run_way, turns_left, words}
+use Rattle.standard_basics.specs.Laws.{functions_keep, none_absorbed, turns_keep}
 
 -- the patterns of the detour, and the keyword that it stands for
 abbrev pub Detour : Type 0
-Detour = List Text × BenchShape
+Detour = List Text × BasicShape
 
 -- how many matches of the detour are left, and the keyword's own run
 abbrev pub Detouring : Type 0

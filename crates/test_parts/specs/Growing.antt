@@ -1,11 +1,11 @@
 -- A resolver that never comes back to a state: each lookup leads to the root, in a state that is one more.
 use Rattle.std.specs.Prelude.{Err, None, Ok, Result, Some, [], codes, if◌then◌else◌, nat_eq, nat_lt, suc, true, ℕ}
-use Rattle.schema_definitions.specs.Instance.{Text}
-use Rattle.schema_definitions.specs.Drafts.{draft_7}
-use Rattle.schema_definitions.specs.Resolving.{Found, Resolver}
-use Rattle.bench_subschemas.specs.BenchResolving.{root_place}
-use Rattle.bench_resolver.specs.BenchDocuments.{BenchDocument}
-use Rattle.bench_resolver.specs.BenchAnswers.{bench_resolving}
+use Rattle.theory_definitions.specs.Instance.{Text}
+use Rattle.theory_definitions.specs.Drafts.{draft_7}
+use Rattle.theory_definitions.specs.Resolving.{Found, Resolver}
+use Rattle.standard_subschemas.specs.SubschemaRules.{root_place}
+use Rattle.standard_resolver.specs.ResolverDocuments.{HeldDocuments}
+use Rattle.standard_resolver.specs.ResolverAnswers.{document_resolving}
 
 -- the state is how many lookups there were, which is refused where it would pass what 64 bits hold
 abbrev pub next : ℕ → Result (Found ℕ) Text
@@ -15,10 +15,10 @@ next n =
     else
     Err (codes "no more states")
 
-abbrev pub growing : BenchDocument → Resolver ℕ
+abbrev pub growing : HeldDocuments → Resolver ℕ
 growing r = record {
   same_state = nat_eq;
-  value = (bench_resolving r).value;
+  value = (document_resolving r).value;
   root = λ uri. Some (record { place = root_place; state = 0 });
   lookup = λ n reference dynamic. next n;
   lookup_recursive = next;

@@ -1,7 +1,7 @@
 -- A table that makes `allOf` a keyword that marks its two children.
 use Rattle.std.specs.Prelude.{bytes_eq, codes, if◌then◌else◌, ⊤}
 use Rattle.serde_json.specs.Data.{Data}
-use Rattle.schema_definitions.specs.Instance.{Text}
+use Rattle.theory_definitions.specs.Instance.{Text}
 use Rattle.keyword_makers.specs.ByValue.{MadeMember}
 use Rattle.keyword_makers.specs.declared.by_value.Children.TheVariants as children
 use Rattle.keyword_makers.specs.declared.by_value.MemberKeyword.TheVariants.{Keyword, Nothing}

@@ -1,18 +1,18 @@
 //! A keyword that asks for more matches when it is asked for errors than when it is asked for the verdict.
 ghost use Rattle.std.specs.Prelude.{◌≡◌, ◌<◌, IfOk, length, map, string_bytes};
 ghost use Rattle.schema_reports.specs.InstanceViews.{subject_of};
-ghost use Rattle.schema_parts.specs.KeywordViews.{mode_of, turn_of};
+ghost use Rattle.schema_traits.specs.KeywordViews.{mode_of, turn_of};
 ghost use Rattle.test_parts.specs.Detours.{match_at, matches_before, pattern_at, text_in};
 
-use bench_keywords::keyword::BenchKeyword;
-use bench_keywords::names::NamesRun;
-use bench_keywords::texts::text_of;
-use node_table::node::name::KeywordName;
-use node_table::node::{Entry, EntryForm, NodeForm, Nodes};
-use schema_keywords::keywords::BuiltinKeyword;
-use schema_parts::keyword::{Answer, Mode, Reply, Step, Validate};
+use schema_drafts::keywords::BuiltinKeyword;
+use schema_node_table::node::name::KeywordName;
+use schema_node_table::node::{Entry, EntryForm, NodeForm, Nodes};
 use schema_reports::instance::Instance;
 use schema_reports::location::{Location, OutOfMemory};
+use schema_traits::keyword::{Answer, Mode, Reply, Step, Validate};
+use standard_basics::keyword::BasicKeyword;
+use standard_basics::names::NamesRun;
+use standard_basics::texts::text_of;
 use std::alloc::Global;
 use std::marker::Model;
 
@@ -23,7 +23,7 @@ pub struct DetourKeyword {
     /// The patterns of the detour; the last is asked first.
     pub patterns: Vec<String>,
     /// The keyword that it stands for.
-    pub keyword: BenchKeyword,
+    pub keyword: BasicKeyword,
 }
 
 /// What is known of a keyword apart from its representation; it holds no value.
@@ -32,7 +32,7 @@ pub struct DetourShape {}
 
 impl Model for DetourShape {
     ghost use Rattle.std.specs.Prelude.{[]};
-    ghost use Rattle.bench_keywords.specs.BenchShape.{requires};
+    ghost use Rattle.standard_basics.specs.BasicShape.{requires};
     ghost use Rattle.test_parts.specs.Detours.{Detour};
 
     ghost Value = { Detour };
@@ -85,8 +85,8 @@ impl Validate for DetourKeyword {
     ghost use Rattle.test_parts.specs.DetourUnits.{detour_asks_no_units};
     ghost use Rattle.test_parts.specs.DetourVerdicts.{detour_asks_verdicts};
     ghost use Rattle.std.specs.Prelude.{map, refl, string_bytes};
-    ghost use Rattle.bench_keywords.specs.BenchShape.{is_whole, says_monotone};
-    ghost use Rattle.bench_keywords.specs.Shapes.{shape_of};
+    ghost use Rattle.standard_basics.specs.BasicShape.{is_whole, says_monotone};
+    ghost use Rattle.standard_basics.specs.Shapes.{shape_of};
     ghost use Rattle.test_parts.specs.Detours.{detour_ends, detour_fits, detour_functions, detour_left, detour_turns, detour_words};
     ghost use Rattle.test_parts.specs.Detours.{detour_can, nothing_absorbed};
 

@@ -1,7 +1,7 @@
 //! Vocabularies of which one draft alone requires more.
-use bench_resolver::resolver::vocabularies::DraftVocabularies;
-use schema_keywords::keywords::{Vocabulary, VocabularySet};
+use schema_drafts::keywords::{Vocabulary, VocabularySet};
 use schema_reports::location::OutOfMemory;
+use standard_resolver::resolver::vocabularies::DraftVocabularies;
 use std::alloc::Global;
 
 /// These vocabularies, and a custom one.

@@ -1,9 +1,9 @@
 //! A matcher whose engine fails, and which once wants memory, at a question of its own choice.
-use schema_matches::site::{Match, Reason};
-use schema_parts::matcher::Matcher;
 use schema_reports::location::OutOfMemory;
+use schema_traits::matcher::Matcher;
 use std::alloc::{AllocError, Global};
 use std::cell::Cell;
+use unfinished_matches::site::{Match, Reason};
 
 /// A matcher that leaves every match unfinished, since its engine fails. It counts down to the question at which it wants memory, where
 /// that is not 0, and once it has wanted memory it fails as before.
@@ -37,7 +37,7 @@ impl Clone for FailingMatcher {
 
 impl Matcher for FailingMatcher {
     ghost use Rattle.std.specs.Prelude.{refl, true};
-    ghost use Rattle.schema_definitions.specs.Matching.{engine, unfinished};
+    ghost use Rattle.theory_definitions.specs.Matching.{engine, unfinished};
 
     ghost matching = { λ _. record { is_match = λ p s. unfinished engine; is_ecma = λ p. true } };
 

@@ -1,10 +1,10 @@
 //! The numbers that makers were given, as the keywords that they made hold them.
-use law_tests::items::ItemsKeyword;
-use node_table::node::Nodes;
-use node_table::node::validators::NodeValidator;
-use schema_parts::keyword::Validate;
-use schema_parts::numbers::{PendingSchemaNode, SchemaNode};
+use schema_node_table::node::Nodes;
+use schema_node_table::node::validators::NodeValidator;
 use schema_reports::location::OutOfMemory;
+use schema_traits::keyword::Validate;
+use schema_traits::numbers::{PendingSchemaNode, SchemaNode};
+use test_laws::items::ItemsKeyword;
 
 /// A keyword that may hold the number that its maker was given.
 pub trait Numbered: Validate {

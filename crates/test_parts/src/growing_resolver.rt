@@ -1,22 +1,22 @@
 //! A resolver whose state grows by one with each lookup: a schema that refers to itself never comes back to a key.
 ghost use Rattle.std.specs.Prelude.{◌≡◌, MatchResult, Ok};
-ghost use Rattle.schema_parts.specs.ResolverViews.{Refuses, found_of};
+ghost use Rattle.schema_traits.specs.ResolverViews.{Refuses, found_of};
 ghost use Rattle.test_parts.specs.Growing.{next};
 
-use bench_resolver::resolver::BenchResolver;
-use bench_resolver::resolver::places::root_place;
-use schema_keywords::keywords::{Draft, VocabularySet};
-use schema_parts::resolver::{LookupError, Resolver, Target};
-use schema_parts::schema_place::SchemaPlace;
+use schema_drafts::keywords::{Draft, VocabularySet};
 use schema_reports::location::OutOfMemory;
+use schema_traits::resolver::{LookupError, Resolver, Target};
+use schema_traits::schema_place::SchemaPlace;
 use serde_json::Value;
+use standard_resolver::resolver::DocumentResolver;
+use standard_resolver::resolver::places::root_place;
 use std::alloc::Global;
 
 /// A resolver of one document of draft 7, whose state is how many lookups there were; each leads to the document's root.
 #[derive(Drop)]
 pub struct GrowingResolver<'a> {
     /// The resolver that finds the document's values.
-    pub document: BenchResolver<'a>,
+    pub document: DocumentResolver<'a>,
 }
 
 /// The root, with one lookup more.
@@ -36,7 +36,7 @@ fn next(alloc: Global, lookups: u64) -> Result<Target<u64>, LookupError>
 
 impl<'a> Resolver for GrowingResolver<'a> {
     ghost use Rattle.std.proofs.lemmas.Bool.{eq-eqb as true_where_same, eqb-true as same_where_true};
-    ghost use Rattle.bench_resolver.specs.ResolverLaws.{values_stand_inside};
+    ghost use Rattle.standard_resolver.specs.ResolverLaws.{values_stand_inside};
     ghost use Rattle.test_parts.specs.Growing.{growing};
 
     type State = u64;

@@ -1,9 +1,9 @@
 //! A table that makes `allOf` a keyword that marks its children.
 use keyword_makers::by_value::{Children, MakesByValue, MemberKeyword};
-use law_tests::both_once::BothOnce;
 use schema_reports::location::OutOfMemory;
 use serde_json::Value;
 use std::alloc::Global;
+use test_laws::both_once::BothOnce;
 
 /// `allOf`, of two subschemas, by a keyword that marks both.
 #[derive(Drop)]

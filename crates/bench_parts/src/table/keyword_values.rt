@@ -2,27 +2,27 @@
 ghost use Rattle.std.specs.Prelude.{◌≡◌, IfOk, map, option_map, string_bytes};
 ghost use Rattle.serde_json.specs.View.{items_view, view};
 ghost use Rattle.bench_parts.specs.Makers.{count_shape, pattern_shape, required_shape, texts_of, type_shape};
-ghost use Rattle.bench_keywords.specs.Shapes.{shape_of};
+ghost use Rattle.standard_basics.specs.Shapes.{shape_of};
 
-use bench_keywords::counts::CountKind;
-use bench_keywords::keyword::BenchKeyword;
-use bench_keywords::type_names::{type_named, types_of};
 use keyword_makers::members::push_text;
 use schema_reports::location::OutOfMemory;
 use serde_json::Value;
+use standard_basics::counts::CountKind;
+use standard_basics::keyword::BasicKeyword;
+use standard_basics::type_names::{type_named, types_of};
 use std::alloc::Global;
 
 /// `type`.
-pub fn type_keyword(alloc: Global, value: &Value) -> Result<Option<BenchKeyword>, OutOfMemory>
+pub fn type_keyword(alloc: Global, value: &Value) -> Result<Option<BasicKeyword>, OutOfMemory>
     ensures shaped { IfOk result (λ keyword. option_map shape_of keyword ≡ type_shape (view value.now)) }
 {
     match value {
         Value::String(name) => match type_named(name.as_str()) {
-            Some(name) => Ok(Some(BenchKeyword::Type(name))),
+            Some(name) => Ok(Some(BasicKeyword::Type(name))),
             None => Ok(None),
         },
         Value::Array(values) => match types_of(alloc, values.as_slice())? {
-            Some(names) => Ok(Some(BenchKeyword::Types(names))),
+            Some(names) => Ok(Some(BasicKeyword::Types(names))),
             None => Ok(None),
         },
         _ => Ok(None),
@@ -44,12 +44,12 @@ pub fn texts_of(alloc: Global, values: &[Value]) -> Result<Option<Vec<String>>, 
 }
 
 /// `required`.
-pub fn required_keyword(alloc: Global, value: &Value) -> Result<Option<BenchKeyword>, OutOfMemory>
+pub fn required_keyword(alloc: Global, value: &Value) -> Result<Option<BasicKeyword>, OutOfMemory>
     ensures shaped { IfOk result (λ keyword. option_map shape_of keyword ≡ required_shape (view value.now)) }
 {
     match value {
         Value::Array(values) => match texts_of(alloc, values.as_slice())? {
-            Some(names) => Ok(Some(BenchKeyword::Required(names))),
+            Some(names) => Ok(Some(BasicKeyword::Required(names))),
             None => Ok(None),
         },
         _ => Ok(None),
@@ -57,24 +57,24 @@ pub fn required_keyword(alloc: Global, value: &Value) -> Result<Option<BenchKeyw
 }
 
 /// `pattern`.
-pub fn pattern_keyword(alloc: Global, value: &Value) -> Result<Option<BenchKeyword>, OutOfMemory>
+pub fn pattern_keyword(alloc: Global, value: &Value) -> Result<Option<BasicKeyword>, OutOfMemory>
     ensures shaped { IfOk result (λ keyword. option_map shape_of keyword ≡ pattern_shape (view value.now)) }
 {
     match value {
         Value::String(text) => {
             let pattern = String::from_str(alloc, text.as_str())?;
-            Ok(Some(BenchKeyword::Pattern(pattern)))
+            Ok(Some(BasicKeyword::Pattern(pattern)))
         }
         _ => Ok(None),
     }
 }
 
 /// A keyword that counts.
-pub fn count_keyword(kind: CountKind, value: &Value) -> Option<BenchKeyword>
+pub fn count_keyword(kind: CountKind, value: &Value) -> Option<BasicKeyword>
     ensures shaped { option_map shape_of result ≡ count_shape kind (view value.now) }
 {
     match value.as_u64() {
-        Some(limit) => Some(BenchKeyword::Count(kind, limit)),
+        Some(limit) => Some(BasicKeyword::Count(kind, limit)),
         None => None,
     }
 }

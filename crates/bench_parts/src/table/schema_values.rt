@@ -2,14 +2,14 @@
 ghost use Rattle.std.specs.Prelude.{◌≡◌, codes, option_and_then};
 ghost use Rattle.serde_json.specs.Find.{as_array, get_member};
 ghost use Rattle.serde_json.specs.View.{view};
-ghost use Rattle.schema_keywords.specs.KeywordViews.{draft_of};
-ghost use Rattle.keyword_ways.specs.Items.{count_in};
+ghost use Rattle.schema_drafts.specs.KeywordViews.{draft_of};
+ghost use Rattle.keyword_authoring.specs.Items.{count_in};
 ghost use Rattle.bench_parts.specs.Makers.{has_prefix, is_older_list, items_before};
-ghost use Rattle.schema_parts.specs.Readings.{fields};
+ghost use Rattle.schema_traits.specs.Readings.{fields};
 
 use keyword_makers::lists::list_length;
 use keyword_makers::paths::value_in;
-use schema_keywords::keywords::Draft;
+use schema_drafts::keywords::Draft;
 use serde_json::{Map, Value};
 
 /// Whether `items` goes on after `prefixItems` in this draft.

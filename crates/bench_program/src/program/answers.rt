@@ -2,16 +2,16 @@
 ghost use Rattle.std.specs.Prelude.{◌≡◌, ◌++◌, true, IfOk, string_bytes};
 ghost use Rattle.serde_json.specs.Data.{Data};
 ghost use Rattle.serde_json.specs.View.{view};
-ghost use Rattle.schema_definitions.specs.Making.{Table};
-ghost use Rattle.schema_definitions.specs.Matching.{Matcher};
-ghost use Rattle.schema_definitions.specs.Resolving.{Resolver};
+ghost use Rattle.theory_definitions.specs.Making.{Table};
+ghost use Rattle.theory_definitions.specs.Matching.{Matcher};
+ghost use Rattle.theory_definitions.specs.Resolving.{Resolver};
 ghost use Rattle.schema_output.specs.Output.{output_list};
 ghost use Rattle.schema_reports.specs.ReportViews.{error_of};
 ghost use Rattle.schema_reports.specs.UnitViews.{unit_of};
 ghost use Rattle.schema_validator.specs.Handed.{Options};
-ghost use Rattle.bench_resolver.specs.BenchStates.{Point};
-ghost use Rattle.bench_keywords.specs.BenchShape.{BenchShape};
-ghost use Rattle.schema_parts.specs.Showing.{Shows};
+ghost use Rattle.standard_resolver.specs.DocumentStates.{Point};
+ghost use Rattle.standard_basics.specs.BasicShape.{BasicShape};
+ghost use Rattle.schema_traits.specs.Showing.{Shows};
 ghost use Rattle.bench_program.specs.ProgramMeaning.{AnswersPlainly, BenchHasUnits, BenchMeans, FromDepth, InEverySense};
 ghost use Rattle.bench_program.specs.ProgramRuns.{answer_status};
 ghost use Rattle.bench_program.specs.ProgramTexts.{IsJsonLine, error_line, verdict_text};
@@ -19,7 +19,6 @@ ghost use Rattle.bench_program.specs.declared.program.requests.Call.TheVariants.
 
 use crate::program::Status;
 use crate::program::requests::Call;
-use bench_keywords::keyword::BenchKeyword;
 use bench_parts::matcher::BenchMatcher;
 use schema_engine::context::Work;
 use schema_engine::validator::Validator;
@@ -27,6 +26,7 @@ use schema_output::evaluation::Evaluation;
 use schema_reports::location::OutOfMemory;
 use schema_reports::reports::ValidationError;
 use serde_json::Value;
+use standard_basics::keyword::BasicKeyword;
 use std::alloc::Global;
 
 /// What is printed of an instance, and whether it is accepted.
@@ -67,7 +67,7 @@ fn push_error(text: &mut String, alloc: Global, error: &ValidationError) -> Resu
 /// The verdict of an instance, as `true` or `false`.
 fn verdict(
     alloc: Global,
-    validator: &Validator<BenchKeyword, BenchMatcher>,
+    validator: &Validator<BasicKeyword, BenchMatcher>,
     instance: &Value,
 ) -> Result<Answer, OutOfMemory>
     ensures senses { InEverySense validator.now (view instance.now) IsValid result }
@@ -93,7 +93,7 @@ fn verdict_text(alloc: Global, accepted: bool) -> Result<String, OutOfMemory>
 /// The first error of an instance, or `ok`.
 fn first(
     alloc: Global,
-    validator: &Validator<BenchKeyword, BenchMatcher>,
+    validator: &Validator<BasicKeyword, BenchMatcher>,
     instance: &Value,
 ) -> Result<Answer, OutOfMemory>
     ensures senses { InEverySense validator.now (view instance.now) Validate result }
@@ -119,7 +119,7 @@ fn first(
 /// All errors of an instance, a line for each.
 fn errors(
     alloc: Global,
-    validator: &Validator<BenchKeyword, BenchMatcher>,
+    validator: &Validator<BasicKeyword, BenchMatcher>,
     instance: &Value,
 ) -> Result<Answer, OutOfMemory>
     ensures senses { InEverySense validator.now (view instance.now) IterErrors result }
@@ -138,7 +138,7 @@ fn errors(
 /// The list of an instance's evaluation, as JSON on one line.
 fn evaluation(
     alloc: Global,
-    validator: &Validator<BenchKeyword, BenchMatcher>,
+    validator: &Validator<BasicKeyword, BenchMatcher>,
     instance: &Value,
 ) -> Result<Answer, OutOfMemory>
     ensures senses { InEverySense validator.now (view instance.now) Evaluate result }
@@ -168,13 +168,13 @@ fn list_line(alloc: Global, evaluation: &Evaluation) -> Result<String, OutOfMemo
 #[tactic(auto, using(crate::proofs::MeantAnswers::answered_plainly))]
 pub fn ask(
     alloc: Global,
-    validator: &Validator<BenchKeyword, BenchMatcher>,
+    validator: &Validator<BasicKeyword, BenchMatcher>,
     call: Call,
     instance: &Value,
 ) -> Result<Answer, OutOfMemory>
     ensures senses { InEverySense validator.now (view instance.now) call result }
     ensures means { IfOk result
-        (λ a. (resolver : Resolver Point) (table : Table BenchShape) (matcher : Matcher) (options : Options) (schema : Data)
+        (λ a. (resolver : Resolver Point) (table : Table BasicShape) (matcher : Matcher) (options : Options) (schema : Data)
         → BenchMeans resolver table matcher options schema validator.now
         → BenchHasUnits resolver table matcher options schema validator.now
         → AnswersPlainly resolver table matcher options schema validator.now.runs

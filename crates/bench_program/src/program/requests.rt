@@ -2,7 +2,7 @@
 ghost use Rattle.std.specs.Prelude.{◌≡◌, IfOk, IfErr, map, option_map, string_bytes};
 ghost use Rattle.serde_json.specs.View.{view};
 ghost use Rattle.bench_parts.specs.Makers.{texts_of};
-ghost use Rattle.schema_parts.specs.Showing.{Shows};
+ghost use Rattle.schema_traits.specs.Showing.{Shows};
 ghost use Rattle.bench_program.specs.ProgramFaults.{FaultStands, Unlisted, Unread};
 ghost use Rattle.bench_program.specs.ProgramViews.{texts, words_of};
 ghost use Rattle.bench_program.specs.ProgramWords.{Holds, IsListOf, IsTextOf, call_in, call_named, listed, words_in};

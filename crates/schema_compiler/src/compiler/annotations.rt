@@ -2,13 +2,13 @@
 ghost use Rattle.std.specs.Prelude.{◌≡◌, ◌++◌, OnOk, map, option_map, string_bytes, if◌then◌else◌};
 ghost use Rattle.serde_json.specs.Data.{put};
 ghost use Rattle.serde_json.specs.View.{view, members_view};
-ghost use Rattle.schema_definitions.specs.Units.{object_of, without};
-ghost use Rattle.schema_keywords.specs.KeywordViews.{draft_of};
+ghost use Rattle.theory_definitions.specs.Units.{object_of, without};
+ghost use Rattle.schema_drafts.specs.KeywordViews.{draft_of};
 
 use crate::compiler::setup::Compiler;
 use schema_keys::key::SchemaKey;
-use schema_parts::resolver::Resolver;
 use schema_reports::location::OutOfMemory;
+use schema_traits::resolver::Resolver;
 use serde_json::{Map, Value};
 
 impl<'p, R: Resolver, T> Compiler<'p, R, T> {

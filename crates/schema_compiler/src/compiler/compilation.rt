@@ -9,16 +9,16 @@ ghost use Rattle.schema_keys.specs.declared.error.BuildError.TheVariants as buil
 
 use crate::compiler::reservations::Reservations;
 use crate::compiler::setup::Compiler;
-use node_table::node::{NodeForm, Nodes};
 use schema_keys::context::Context;
 use schema_keys::error::BuildError;
 use schema_keys::key::SchemaKey;
 use schema_keys::keys::Keys;
-use schema_parts::keyword::Validate;
-use schema_parts::numbers::{Edge, SchemaNode};
-use schema_parts::resolver::Resolver;
-use schema_parts::table::KeywordTable;
+use schema_node_table::node::{NodeForm, Nodes};
 use schema_reports::location::{Location, OutOfMemory};
+use schema_traits::keyword::Validate;
+use schema_traits::numbers::{Edge, SchemaNode};
+use schema_traits::resolver::Resolver;
+use schema_traits::table::KeywordTable;
 use serde_json::Value;
 use std::alloc::Global;
 use std::hash::Hash;

@@ -1,15 +1,15 @@
 //! Keywords in the order of their priorities; those of one priority stay in the order in which they came.
 ghost use Rattle.std.specs.Prelude.{◌≡◌, ◌≤◌, IfOk, None, map, length, insert, option_map, string_bytes, OnOk};
-ghost use Rattle.schema_parts.specs.Showing.{Shows, Yields};
-ghost use Rattle.schema_definitions.specs.Guarded.{NodePart};
-ghost use Rattle.node_table.specs.NodeViews.{entry_of, form_of, plan_of};
+ghost use Rattle.schema_traits.specs.Showing.{Shows, Yields};
+ghost use Rattle.theory_definitions.specs.Guarded.{NodePart};
+ghost use Rattle.schema_node_table.specs.NodeViews.{entry_of, form_of, plan_of};
 ghost use Rattle.schema_compiler.specs.Ordering.{placed_after};
 ghost use Rattle.schema_compiler.specs.Steps.{alone};
 
 use crate::compiler::compilation::PlannedNode;
-use node_table::node::name::KeywordName;
-use node_table::node::{Entry, EntryForm, NodeForm};
-use schema_keywords::keywords::BuiltinKeyword;
+use schema_drafts::keywords::BuiltinKeyword;
+use schema_node_table::node::name::KeywordName;
+use schema_node_table::node::{Entry, EntryForm, NodeForm};
 use schema_reports::location::OutOfMemory;
 use std::alloc::Global;
 

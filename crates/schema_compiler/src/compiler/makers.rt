@@ -1,19 +1,19 @@
 //! The maker of one keyword: how it begins, and what it is told of what it asked for.
 ghost use Rattle.std.specs.Prelude.{◌≡◌, ◌++◌, ◌∷◌, [], OnOk, length, map, option_map};
-ghost use Rattle.schema_parts.specs.Showing.{Shows};
-ghost use Rattle.schema_parts.specs.MakerViews.{begun, is_own, maker_reply_of, name_of};
-ghost use Rattle.schema_parts.specs.EdgeViews.{edge_of};
+ghost use Rattle.schema_traits.specs.Showing.{Shows};
+ghost use Rattle.schema_traits.specs.MakerViews.{begun, is_own, maker_reply_of, name_of};
+ghost use Rattle.schema_traits.specs.EdgeViews.{edge_of};
 ghost use Rattle.schema_keys.specs.Compiling.{answers};
 ghost use Rattle.schema_compiler.specs.Gives.{script_of};
 
 use crate::compiler::setup::Compiler;
 use schema_keys::context::Context;
 use schema_keys::key::SchemaKey;
-use schema_parts::keyword::Validate;
-use schema_parts::numbers::Edge;
-use schema_parts::resolver::Resolver;
-use schema_parts::table::{KeywordOrigin, KeywordTable, MakerReply};
 use schema_reports::location::OutOfMemory;
+use schema_traits::keyword::Validate;
+use schema_traits::numbers::Edge;
+use schema_traits::resolver::Resolver;
+use schema_traits::table::{KeywordOrigin, KeywordTable, MakerReply};
 use serde_json::{Map, Value};
 
 impl<'p, R: Resolver, T> Compiler<'p, R, T> {

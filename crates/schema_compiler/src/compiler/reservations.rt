@@ -1,15 +1,15 @@
 //! The numbers that makers reserve: each is in force until its maker ends, and stands for a node of the keyword that was made
 //! alone, or of no entry. They are only ever marked, and counted apart from the numbers of nodes.
 ghost use Rattle.std.specs.Prelude.{◌≡◌, ◌++◌, ◌∷◌, [], IfOk, OnErr, OnOk, length, map};
-ghost use Rattle.schema_parts.specs.MakerViews.{purpose_of};
-ghost use Rattle.schema_parts.specs.ResolverViews.{place_of};
+ghost use Rattle.schema_traits.specs.MakerViews.{purpose_of};
+ghost use Rattle.schema_traits.specs.ResolverViews.{place_of};
 ghost use Rattle.schema_compiler.specs.Reserving.{is_for, with_node, with_nodes_from};
 ghost use Rattle.schema_compiler.specs.ReservedViews.{FindsPending, TellsPending, TellsReserved, node_of, reserved_by, reserved_of};
 
-use schema_parts::numbers::PendingSchemaNode;
-use schema_parts::schema_place::SchemaPlace;
-use schema_parts::table::{MakerReply, PendingKind};
 use schema_reports::location::OutOfMemory;
+use schema_traits::numbers::PendingSchemaNode;
+use schema_traits::schema_place::SchemaPlace;
+use schema_traits::table::{MakerReply, PendingKind};
 use std::alloc::Global;
 use std::marker::Model;
 

@@ -9,9 +9,9 @@ use schema_keys::context::Context;
 use schema_keys::error::BuildError;
 use schema_keys::key::SchemaKey;
 use schema_keys::references::ReferenceKind;
-use schema_parts::keyword::Validate;
-use schema_parts::resolver::Resolver;
-use schema_parts::table::KeywordTable;
+use schema_traits::keyword::Validate;
+use schema_traits::resolver::Resolver;
+use schema_traits::table::KeywordTable;
 
 impl<'p, R: Resolver, T> Compiler<'p, R, T> {
     // Refuses a custom vocabulary that is not declared, where a reference's target requires it.

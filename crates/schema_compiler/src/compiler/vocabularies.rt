@@ -1,17 +1,17 @@
 //! Whether the custom vocabularies that a schema requires are declared.
 ghost use Rattle.std.specs.Prelude.{◌≡◌, [], OnOk, IfErr, map, string_bytes, bytes_eq};
 ghost use Rattle.std.specs.List.{list_any};
-ghost use Rattle.schema_definitions.specs.Drafts.{custom_vocabulary};
+ghost use Rattle.theory_definitions.specs.Drafts.{custom_vocabulary};
 ghost use Rattle.schema_compiler.specs.Carried.{lacking, task};
 ghost use Rattle.schema_keys.specs.Alone.{NamesFirst};
 ghost use Rattle.schema_keys.specs.Refusing.{Names};
 
 use crate::compiler::setup::Compiler;
+use schema_drafts::keywords::VocabularySet;
 use schema_keys::error::BuildError;
-use schema_keywords::keywords::VocabularySet;
-use schema_parts::keyword::Validate;
-use schema_parts::resolver::Resolver;
-use schema_parts::table::KeywordTable;
+use schema_traits::keyword::Validate;
+use schema_traits::resolver::Resolver;
+use schema_traits::table::KeywordTable;
 
 // Whether a custom vocabulary is declared.
 fn is_declared(declared: &[String], uri: &str) -> bool

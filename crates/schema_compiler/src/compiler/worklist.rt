@@ -1,7 +1,7 @@
 //! The worklist: keys that were found while as many targets of references as may nest were open. Each is compiled in a round
 //! of its own, in the order of finding, which is that of the numbers.
 ghost use Rattle.std.specs.Prelude.{◌<◌, length, suc};
-ghost use Rattle.node_table.specs.NodeTable.{Waits};
+ghost use Rattle.schema_node_table.specs.NodeTable.{Waits};
 ghost use Rattle.schema_compiler.specs.Gives.{ComesTo, ComesToEnd, GivesWorked, IsAt};
 
 use crate::compiler::compilation::{Compilation, Progress};
@@ -9,10 +9,10 @@ use crate::compiler::setup::Compiler;
 use schema_keys::error::BuildError;
 use schema_keys::key::SchemaKey;
 use schema_keys::values::Reading;
-use schema_parts::keyword::Validate;
-use schema_parts::numbers::SchemaNode;
-use schema_parts::resolver::Resolver;
-use schema_parts::table::KeywordTable;
+use schema_traits::keyword::Validate;
+use schema_traits::numbers::SchemaNode;
+use schema_traits::resolver::Resolver;
+use schema_traits::table::KeywordTable;
 use std::rc::Rc;
 
 impl<'p, R: Resolver, T> Compiler<'p, R, T> {

@@ -1,19 +1,19 @@
 //! The embedded resources of a document.
 ghost use Rattle.std.specs.Prelude.{◌≡◌, ◌<◌, ◌++◌, ℕ, is_some, map, suc, OnOk};
-ghost use Rattle.schema_meaning.specs.Documents.{embedded};
-ghost use Rattle.schema_keywords.specs.KeywordViews.{draft_of};
+ghost use Rattle.theory_meaning.specs.Documents.{embedded};
+ghost use Rattle.schema_drafts.specs.KeywordViews.{draft_of};
 ghost use Rattle.schema_keys.specs.CutViews.{cut_of};
 ghost use Rattle.schema_keys.specs.CheckHere.{parts_asked, depth_at, cuts_at};
-ghost use Rattle.schema_parts.specs.Showing.{Shows};
-ghost use Rattle.schema_parts.specs.ResolverViews.{IsReadAt};
+ghost use Rattle.schema_traits.specs.Showing.{Shows};
+ghost use Rattle.schema_traits.specs.ResolverViews.{IsReadAt};
 ghost use Rattle.schema_keys.specs.Readings.{read_value};
 
 use crate::check::SchemaCheck;
-use schema_keywords::keywords::Draft;
-use schema_parts::meta::MetaValidators;
-use schema_parts::resolver::Resolver;
-use schema_parts::schema_place::SchemaPlace;
+use schema_drafts::keywords::Draft;
 use schema_reports::location::OutOfMemory;
+use schema_traits::meta::MetaValidators;
+use schema_traits::resolver::Resolver;
+use schema_traits::schema_place::SchemaPlace;
 use serde_json::Value;
 
 /// What is cut out of a document: where an embedded resource lies, and its own draft.

@@ -2,18 +2,18 @@
 ghost use Rattle.std.specs.Prelude.{◌≡◌, ◌∷◌, [], IfOk, if◌then◌else◌};
 ghost use Rattle.serde_json.specs.Data.{no_members, object};
 ghost use Rattle.serde_json.specs.View.{items_view, members_view, view};
-ghost use Rattle.schema_definitions.specs.Drafts.{at_path};
-ghost use Rattle.schema_parts.specs.ResolverViews.{place_of};
-ghost use Rattle.schema_parts.specs.SchemaViews.{schema_step_of};
+ghost use Rattle.theory_definitions.specs.Drafts.{at_path};
+ghost use Rattle.schema_traits.specs.ResolverViews.{place_of};
+ghost use Rattle.schema_traits.specs.SchemaViews.{schema_step_of};
 ghost use Rattle.schema_keys.specs.CheckHere.{is_cut_out, masked_at, masked_items_at, masked_members_at};
-ghost use Rattle.schema_parts.specs.Showing.{Shows};
+ghost use Rattle.schema_traits.specs.Showing.{Shows};
 
 use crate::check::SchemaCheck;
 use crate::check::embedded::Cut;
-use schema_parts::meta::MetaValidators;
-use schema_parts::resolver::Resolver;
-use schema_parts::schema_place::{SchemaPlace, SchemaStep};
 use schema_reports::location::OutOfMemory;
+use schema_traits::meta::MetaValidators;
+use schema_traits::resolver::Resolver;
+use schema_traits::schema_place::{SchemaPlace, SchemaStep};
 use serde_json::{Map, Value};
 use std::rc::RcStr;
 

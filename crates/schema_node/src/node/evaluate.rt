@@ -4,23 +4,23 @@ ghost use Rattle.schema_node.specs.RunAnswers.{UnitOfChild, UnitOfEdge, UnitOfNo
 ghost use Rattle.schema_node.specs.RunAnswers.{UnitsOfKeyword};
 
 use crate::node::turns::keyword_answer;
-use node_table::node::{Entry, EntryForm, NodeForm};
-use run_steps::evaluation_order::{EntryUnits, UnitsInOrder};
-use run_steps::guarded::GuardedPair;
-use run_steps::question::{Engine, NamedKeyword, Question};
-use run_steps::spots::one_below;
-use run_steps::units::{
-    accepting_unit, entries_unit, refusing_unit, unasked_unit, units_of_keyword, units_of_reference,
-};
-use schema_contexts::evaluation_path::EvaluationPath;
-use schema_contexts::marks::child_edge;
-use schema_contexts::validation::ValidationContext;
-use schema_parts::keyword::{Below, Validate};
-use schema_parts::matcher::Matcher;
-use schema_parts::numbers::{Edge, SchemaNode};
+use schema_node_table::node::{Entry, EntryForm, NodeForm};
 use schema_reports::evaluation::{ChildList, EvaluationNode};
 use schema_reports::location::OutOfMemory;
 use schema_reports::shared_location::SharedLocation;
+use schema_run_context::evaluation_path::EvaluationPath;
+use schema_run_context::marks::child_edge;
+use schema_run_context::validation::ValidationContext;
+use schema_run_steps::evaluation_order::{EntryUnits, UnitsInOrder};
+use schema_run_steps::guarded::GuardedPair;
+use schema_run_steps::question::{Engine, NamedKeyword, Question};
+use schema_run_steps::spots::one_below;
+use schema_run_steps::units::{
+    accepting_unit, entries_unit, refusing_unit, unasked_unit, units_of_keyword, units_of_reference,
+};
+use schema_traits::keyword::{Below, Validate};
+use schema_traits::matcher::Matcher;
+use schema_traits::numbers::{Edge, SchemaNode};
 
 // The unit of a node at a place. It is one more that is asked.
 #[cycle(run)]

@@ -7,20 +7,20 @@ ghost use Rattle.schema_node.specs.RunAnswers.{ReplyOfKeyword, ReplyOfNode, Repl
 
 use crate::node::turns::keyword_answer;
 use crate::node::verdict::{verdict_edge, verdict_form, verdict_node};
-use node_table::node::{Entry, EntryForm, NodeForm};
-use run_steps::evaluation_place::EvaluationPlace;
-use run_steps::faults::finished;
-use run_steps::guarded::GuardedPair;
-use run_steps::question::{Engine, NamedKeyword, Question};
-use run_steps::replies::{accepted, is_settled, joined, refused, stamped_reply};
-use run_steps::spots::one_below;
-use schema_contexts::marks::child_edge;
-use schema_contexts::validation::ValidationContext;
-use schema_parts::keyword::{Below, Mode, Reply, Validate};
-use schema_parts::matcher::Matcher;
-use schema_parts::numbers::{Edge, SchemaNode};
+use schema_node_table::node::{Entry, EntryForm, NodeForm};
 use schema_reports::instance::InstanceStep;
 use schema_reports::location::OutOfMemory;
+use schema_run_context::marks::child_edge;
+use schema_run_context::validation::ValidationContext;
+use schema_run_steps::evaluation_place::EvaluationPlace;
+use schema_run_steps::faults::finished;
+use schema_run_steps::guarded::GuardedPair;
+use schema_run_steps::question::{Engine, NamedKeyword, Question};
+use schema_run_steps::replies::{accepted, is_settled, joined, refused, stamped_reply};
+use schema_run_steps::spots::one_below;
+use schema_traits::keyword::{Below, Mode, Reply, Validate};
+use schema_traits::matcher::Matcher;
+use schema_traits::numbers::{Edge, SchemaNode};
 
 // The reply of a node at a place: its verdict where that is wanted, or else errors.
 pub(crate) fn node_reply<'i, K: Validate, M: Matcher>(

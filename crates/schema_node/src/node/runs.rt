@@ -1,26 +1,26 @@
 //! The runs of a table of nodes: the calls that a validator makes.
 ghost use Rattle.std.specs.Prelude.{◌≡◌, ◌<◌, List, length};
-ghost use Rattle.schema_definitions.specs.Keywords.{for_units};
-ghost use Rattle.schema_parts.specs.KeywordViews.{mode_of};
-ghost use Rattle.node_table.specs.NodeTable.{NodeEntry};
-ghost use Rattle.schema_contexts.specs.Progress.{NoDeeper};
+ghost use Rattle.theory_definitions.specs.Keywords.{for_units};
+ghost use Rattle.schema_traits.specs.KeywordViews.{mode_of};
+ghost use Rattle.schema_node_table.specs.NodeTable.{NodeEntry};
+ghost use Rattle.schema_run_context.specs.Progress.{NoDeeper};
 ghost use Rattle.schema_node.specs.FirstQuestions.{asking_first, asking_unit};
 ghost use Rattle.schema_node.specs.WholeRuns.{NodeIsEvaluated, NodeIsRun, NodeIsRunFurther, SubjectStandsIn};
-ghost use Rattle.schema_runs.specs.RunStates.{GoesOn, setting_over};
+ghost use Rattle.theory_runs.specs.RunStates.{GoesOn, setting_over};
 
 use crate::node::evaluate::evaluate_node;
 use crate::node::run::node_reply;
-use node_table::node::Nodes;
-use run_steps::evaluation_place::EvaluationPlace;
-use run_steps::question::{Engine, Question};
-use schema_contexts::evaluation_path::EvaluationPath;
-use schema_contexts::validation::ValidationContext;
-use schema_parts::keyword::{Mode, Reply, Validate};
-use schema_parts::matcher::Matcher;
-use schema_parts::numbers::SchemaNode;
+use schema_node_table::node::Nodes;
 use schema_reports::evaluation::EvaluationNode;
 use schema_reports::instance::{Instance, Place};
 use schema_reports::location::{Location, OutOfMemory};
+use schema_run_context::evaluation_path::EvaluationPath;
+use schema_run_context::validation::ValidationContext;
+use schema_run_steps::evaluation_place::EvaluationPlace;
+use schema_run_steps::question::{Engine, Question};
+use schema_traits::keyword::{Mode, Reply, Validate};
+use schema_traits::matcher::Matcher;
+use schema_traits::numbers::SchemaNode;
 use std::alloc::Global;
 
 /// What a run begins with: the instance at a place, the path that led there, and what is wanted.

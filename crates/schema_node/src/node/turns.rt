@@ -5,14 +5,14 @@ ghost use Rattle.schema_node.specs.RunAnswers.{AnswerOfChild, AnswerOfKeyword, T
 use crate::node::evaluate::evaluate_child;
 use crate::node::run::run_child;
 use crate::node::verdict::verdict_child;
-use run_steps::faults::begun;
-use run_steps::matches::step_match;
-use run_steps::question::{Engine, NamedKeyword, Question};
-use schema_contexts::validation::ValidationContext;
-use schema_parts::keyword::{Answer, Below, Mode, Reply, Step, Validate};
-use schema_parts::matcher::Matcher;
-use schema_parts::numbers::{Edge, SchemaNode};
 use schema_reports::location::OutOfMemory;
+use schema_run_context::validation::ValidationContext;
+use schema_run_steps::faults::begun;
+use schema_run_steps::matches::step_match;
+use schema_run_steps::question::{Engine, NamedKeyword, Question};
+use schema_traits::keyword::{Answer, Below, Mode, Reply, Step, Validate};
+use schema_traits::matcher::Matcher;
+use schema_traits::numbers::{Edge, SchemaNode};
 
 // What a keyword has found once its run is done. The run begins with no marks; those of the run that asks are set aside until it
 // has ended.

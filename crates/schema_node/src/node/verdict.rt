@@ -1,23 +1,23 @@
 //! Runs of nodes for the verdict alone. A level of an instance takes little room on the stack: no reply is moved, only a yes or a no.
-ghost use Rattle.schema_parts.specs.KeywordViews.{below_of};
-ghost use Rattle.schema_parts.specs.EdgeViews.{edge_of};
-ghost use Rattle.schema_runs.specs.Answered.{a_guarded, a_node, a_plan, a_shared};
-ghost use Rattle.schema_runs.specs.Answered.{the_child, the_entries};
+ghost use Rattle.schema_traits.specs.KeywordViews.{below_of};
+ghost use Rattle.schema_traits.specs.EdgeViews.{edge_of};
+ghost use Rattle.theory_runs.specs.Answered.{a_guarded, a_node, a_plan, a_shared};
+ghost use Rattle.theory_runs.specs.Answered.{the_child, the_entries};
 ghost use Rattle.schema_node.specs.Premises.{EdgeIsAsked, EntryIsAsked, VerdictIsAsked};
 ghost use Rattle.schema_node.specs.RunAnswers.{EdgeIsTold, EntryIsTold, VerdictIsTold};
 
 use crate::node::verdict_asking::asked_verdict;
 use crate::node::verdict_turns::keyword_verdict;
-use node_table::node::{Entry, EntryForm, NodeForm};
-use run_steps::guarded::GuardedPair;
-use run_steps::question::{Engine, NamedKeyword, Question};
-use run_steps::spots::one_below;
-use schema_contexts::marks::child_edge;
-use schema_contexts::validation::ValidationContext;
-use schema_parts::keyword::{Below, Validate};
-use schema_parts::matcher::Matcher;
-use schema_parts::numbers::{Edge, SchemaNode};
+use schema_node_table::node::{Entry, EntryForm, NodeForm};
 use schema_reports::location::OutOfMemory;
+use schema_run_context::marks::child_edge;
+use schema_run_context::validation::ValidationContext;
+use schema_run_steps::guarded::GuardedPair;
+use schema_run_steps::question::{Engine, NamedKeyword, Question};
+use schema_run_steps::spots::one_below;
+use schema_traits::keyword::{Below, Validate};
+use schema_traits::matcher::Matcher;
+use schema_traits::numbers::{Edge, SchemaNode};
 
 // The verdict of a node at a place. It is one more that is asked.
 #[cycle(verdict)]

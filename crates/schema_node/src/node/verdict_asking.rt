@@ -1,10 +1,10 @@
 //! The verdict of a keyword that tells at once what it asks, where the matcher finishes every match.
 ghost use Rattle.std.specs.Prelude.{◌≡◌, Bool, true};
 ghost use Rattle.schema_reports.specs.InstanceViews.{subject_of};
-ghost use Rattle.schema_parts.specs.AskedAtOnce.{HoldsAsTold, tells_at_once};
-ghost use Rattle.schema_parts.specs.KeywordViews.{Tells};
+ghost use Rattle.schema_traits.specs.AskedAtOnce.{HoldsAsTold, tells_at_once};
+ghost use Rattle.schema_traits.specs.KeywordViews.{Tells};
 ghost use Rattle.asked_questions.specs.Questions.{StandsThere, question_in};
-ghost use Rattle.schema_runs.specs.Answered.{the_question};
+ghost use Rattle.theory_runs.specs.Answered.{the_question};
 ghost use Rattle.schema_node.specs.Premises.{FinishesAll, KeywordIsAsked, QuestionsAreAsked, VerdictIsAsked};
 ghost use Rattle.schema_node.specs.RunAnswers.{KeywordIsTold, VerdictIsTold};
 
@@ -14,16 +14,16 @@ use asked_questions::AskedQuestion;
 use asked_questions::counted::CountedQuestions;
 use asked_questions::members::MembersQuestions;
 use asked_questions::names::NamesQuestions;
-use run_steps::matches::finished_match;
-use run_steps::question::{Engine, NamedKeyword, Question};
-use schema_contexts::marks::child_edge;
-use schema_contexts::validation::ValidationContext;
-use schema_parts::asking::Asking;
-use schema_parts::keyword::Validate;
-use schema_parts::matcher::Matcher;
-use schema_parts::numbers::{Edge, SchemaNode};
 use schema_reports::instance::Instance;
 use schema_reports::location::OutOfMemory;
+use schema_run_context::marks::child_edge;
+use schema_run_context::validation::ValidationContext;
+use schema_run_steps::matches::finished_match;
+use schema_run_steps::question::{Engine, NamedKeyword, Question};
+use schema_traits::asking::Asking;
+use schema_traits::keyword::Validate;
+use schema_traits::matcher::Matcher;
+use schema_traits::numbers::{Edge, SchemaNode};
 
 // What a keyword tells at once that it asks, of a matcher that finishes each match; of another one its turns say it.
 #[inline(always)]

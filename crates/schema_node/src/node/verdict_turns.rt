@@ -2,22 +2,22 @@
 //! its answer is dropped in, have room of their own, and a turn is told no more than a yes or a no.
 ghost use Rattle.std.specs.Prelude.{◌≡◌, [], Bool, IfOk};
 ghost use Rattle.schema_reports.specs.InstanceViews.{subject_of};
-ghost use Rattle.schema_definitions.specs.Keywords.{for_verdict};
-ghost use Rattle.schema_parts.specs.KeywordViews.{fresh};
+ghost use Rattle.theory_definitions.specs.Keywords.{for_verdict};
+ghost use Rattle.schema_traits.specs.KeywordViews.{fresh};
 ghost use Rattle.schema_node.specs.Premises.{KeywordHasBegun, KeywordIsAsked};
 ghost use Rattle.schema_node.specs.RunAnswers.{KeywordIsTold, VerdictTurnsOfKeyword};
 
 use crate::node::verdict::verdict_child;
-use run_steps::faults::begun;
-use run_steps::matches::step_match;
-use run_steps::question::{Engine, NamedKeyword, Question};
-use run_steps::verdict_runs::{dropped, reply_with, verdict_of};
-use schema_contexts::validation::ValidationContext;
-use schema_parts::keyword::{Answer, Mode, Step, Validate};
-use schema_parts::matcher::Matcher;
-use schema_parts::numbers::SchemaNode;
 use schema_reports::instance::Instance;
 use schema_reports::location::OutOfMemory;
+use schema_run_context::validation::ValidationContext;
+use schema_run_steps::faults::begun;
+use schema_run_steps::matches::step_match;
+use schema_run_steps::question::{Engine, NamedKeyword, Question};
+use schema_run_steps::verdict_runs::{dropped, reply_with, verdict_of};
+use schema_traits::keyword::{Answer, Mode, Step, Validate};
+use schema_traits::matcher::Matcher;
+use schema_traits::numbers::SchemaNode;
 use std::alloc::Global;
 
 // The verdict of a keyword by its run. The run begins with no marks; those of the run that asks are set aside until it has ended.

@@ -1,6 +1,6 @@
 //! What stands at a place.
 ghost use Rattle.std.specs.Prelude.{◌≡◌, map, option_map};
-ghost use Rattle.schema_definitions.specs.Instance.{after_step, subject_from};
+ghost use Rattle.theory_definitions.specs.Instance.{after_step, subject_from};
 ghost use Rattle.schema_reports.specs.InstanceViews.{step_of, subject_of};
 
 use super::{Instance, InstanceStep, Place};

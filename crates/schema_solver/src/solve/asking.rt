@@ -3,7 +3,7 @@
 ghost use Rattle.std.specs.Prelude.{◌≡◌, true};
 ghost use Rattle.serde_json.specs.Data.{object};
 ghost use Rattle.serde_json.specs.View.{members_view};
-ghost use Rattle.schema_definitions.specs.Instance.{a_value};
+ghost use Rattle.theory_definitions.specs.Instance.{a_value};
 ghost use Rattle.schema_reports.specs.InstanceViews.{subject_of};
 ghost use Rattle.asked_questions.specs.Members.{at_their_names};
 ghost use Rattle.asked_questions.specs.Questions.{StandsThere, at_names};
@@ -18,16 +18,16 @@ use asked_questions::AskedQuestion;
 use asked_questions::counted::CountedQuestions;
 use asked_questions::members::MembersQuestions;
 use asked_questions::names::NamesQuestions;
-use node_table::node::name::KeywordName;
-use run_steps::matches::finished_match;
-use run_steps::question::NamedKeyword;
-use schema_contexts::marks::child_edge;
-use schema_pairs::context::SolverContext;
-use schema_parts::ascending::AscendingNames;
-use schema_parts::asking::Asking;
-use schema_parts::keyword::Validate;
-use schema_parts::matcher::Matcher;
-use schema_parts::numbers::{Edge, SchemaNode};
+use schema_node_table::node::name::KeywordName;
+use schema_run_context::marks::child_edge;
+use schema_run_steps::matches::finished_match;
+use schema_run_steps::question::NamedKeyword;
+use schema_solver_state::context::SolverContext;
+use schema_traits::ascending::AscendingNames;
+use schema_traits::asking::Asking;
+use schema_traits::keyword::Validate;
+use schema_traits::matcher::Matcher;
+use schema_traits::numbers::{Edge, SchemaNode};
 use serde_json::{Map, Value};
 
 // The verdict of a keyword by what it asks at once, or else by its turns. Its children are lent as they are kept, in one word, so that what

@@ -6,13 +6,13 @@ ghost use Rattle.schema_solver.specs.Calls.{Answers, CanAsk, PairMayBegin};
 use crate::question::{Asked, SolverEngine, Stopped};
 use crate::solve::entries::{solve_node, solve_node_apart};
 use crate::told::Told;
-use run_steps::spots::one_below;
-use schema_contexts::marks::child_edge;
-use schema_pairs::context::SolverContext;
-use schema_pairs::pair::SolverPair;
-use schema_parts::keyword::{Below, Validate};
-use schema_parts::matcher::Matcher;
-use schema_parts::numbers::{Edge, SchemaNode};
+use schema_run_context::marks::child_edge;
+use schema_run_steps::spots::one_below;
+use schema_solver_state::context::SolverContext;
+use schema_solver_state::pair::SolverPair;
+use schema_traits::keyword::{Below, Validate};
+use schema_traits::matcher::Matcher;
+use schema_traits::numbers::{Edge, SchemaNode};
 
 // The verdict of a keyword's child, here or one step below; yes where its request got none.
 #[cycle(verdict)]

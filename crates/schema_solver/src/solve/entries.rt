@@ -9,12 +9,12 @@ use crate::question::{Asked, SolverEngine};
 use crate::solve::asking::solve_asked;
 use crate::solve::edges::solve_edge;
 use crate::told::Told;
-use node_table::node::{Entry, EntryForm, NodeForm};
-use schema_pairs::context::SolverContext;
-use schema_parts::keyword::Validate;
-use schema_parts::matcher::Matcher;
-use schema_parts::numbers::{Edge, SchemaNode};
+use schema_node_table::node::{Entry, EntryForm, NodeForm};
 use schema_reports::instance::Instance;
+use schema_solver_state::context::SolverContext;
+use schema_traits::keyword::Validate;
+use schema_traits::matcher::Matcher;
+use schema_traits::numbers::{Edge, SchemaNode};
 
 // The verdict of a node at a place.
 #[cycle(verdict)]

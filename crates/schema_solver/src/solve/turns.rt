@@ -1,22 +1,22 @@
 //! The turns of a keyword's run for its verdict, by a solver.
 ghost use Rattle.std.specs.Prelude.{◌≡◌, [], IfErr, IfOk, false, true};
-ghost use Rattle.schema_pairs.specs.Saying.{said_as};
+ghost use Rattle.schema_solver_state.specs.Saying.{said_as};
 ghost use Rattle.schema_solver.specs.Solved.{the_keyword};
 ghost use Rattle.schema_solver.specs.Calls.{Answers, AnswersByTurns, BeginsRun, CanAsk, HasBegunRun};
 
 use crate::question::{Asked, SolverEngine, Stopped};
 use crate::solve::edges::solve_child;
 use crate::told::Told;
-use run_steps::faults::begun;
-use run_steps::matches::finished_match;
-use run_steps::question::NamedKeyword;
-use run_steps::verdict_runs::{dropped, reply_with, verdict_of};
-use schema_pairs::context::SolverContext;
-use schema_parts::keyword::{Answer, Mode, Step, Validate};
-use schema_parts::matcher::Matcher;
-use schema_parts::numbers::SchemaNode;
 use schema_reports::instance::Instance;
 use schema_reports::location::OutOfMemory;
+use schema_run_steps::faults::begun;
+use schema_run_steps::matches::finished_match;
+use schema_run_steps::question::NamedKeyword;
+use schema_run_steps::verdict_runs::{dropped, reply_with, verdict_of};
+use schema_solver_state::context::SolverContext;
+use schema_traits::keyword::{Answer, Mode, Step, Validate};
+use schema_traits::matcher::Matcher;
+use schema_traits::numbers::SchemaNode;
 use std::alloc::Global;
 
 // The verdict of a keyword by its run. The run begins with no marks; those of the run that asks are set aside until it has ended. What the

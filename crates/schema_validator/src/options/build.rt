@@ -5,7 +5,7 @@ ghost use Rattle.schema_validator.specs.Building.{AcceptsAsBuilt, CanBeBuilt, Ha
 ghost use Rattle.schema_validator.specs.Building.{PointsAsBuilt, RefusesToBuild, UnitsPointAsBuilt};
 ghost use Rattle.schema_validator.specs.Checked.{PassesCheck};
 ghost use Rattle.schema_validator.specs.RootWords.{FailsIfChecked, PassesIfChecked};
-ghost use Rattle.schema_answers.specs.Solved.{HasSolver};
+ghost use Rattle.schema_compiled.specs.Solved.{HasSolver};
 
 use crate::compiled::of_compiled_within;
 use crate::options::ValidationOptions;
@@ -15,12 +15,12 @@ use schema_compiler::compiler::compile;
 use schema_keys::check::validate_schema;
 use schema_keys::error::BuildError;
 use schema_keys::key::SchemaKey;
-use schema_parts::keyword::Validate;
-use schema_parts::matcher::Matcher;
-use schema_parts::meta::MetaValidators;
-use schema_parts::numbers::SchemaNode;
-use schema_parts::resolver::Resolver;
-use schema_parts::table::KeywordTable;
+use schema_traits::keyword::Validate;
+use schema_traits::matcher::Matcher;
+use schema_traits::meta::MetaValidators;
+use schema_traits::numbers::SchemaNode;
+use schema_traits::resolver::Resolver;
+use schema_traits::table::KeywordTable;
 use schema_verdicts::eligible::Solver;
 use serde_json::Value;
 use std::alloc::Global;

@@ -1,16 +1,16 @@
 //! The key of a schema's root.
 ghost use Rattle.std.specs.Prelude.{◌≡◌, IfOk, IfErr};
 ghost use Rattle.schema_keys.specs.KeyViews.{key_of};
-ghost use Rattle.schema_parts.specs.Showing.{Shows};
+ghost use Rattle.schema_traits.specs.Showing.{Shows};
 ghost use Rattle.schema_validator.specs.RootWords.{HasRootDraft, IsKeyOfRoot, RefusesRootKey, key_begun, root_base};
 
 use crate::options::ValidationOptions;
+use schema_drafts::keywords::Draft;
 use schema_keys::error::BuildError;
 use schema_keys::key::SchemaKey;
-use schema_keywords::keywords::Draft;
-use schema_parts::resolver::Resolver;
-use schema_parts::schema_place::SchemaPlace;
 use schema_reports::location::{Location, OutOfMemory};
+use schema_traits::resolver::Resolver;
+use schema_traits::schema_place::SchemaPlace;
 use serde_json::Value;
 use std::alloc::Global;
 

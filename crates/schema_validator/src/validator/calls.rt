@@ -1,24 +1,24 @@
 //! The calls of a validator, within its limit of steps.
 ghost use Rattle.std.specs.Prelude.{◌≡◌, IfOk, IfSome, Some, true, OnSome};
 ghost use Rattle.serde_json.specs.View.{view};
-ghost use Rattle.schema_answers.specs.Asked.{DecidesFromSomeDepth, ErrorsFromSomeDepth, FirstFromSomeDepth};
-ghost use Rattle.schema_answers.specs.Asked.{DecidesInEverySense, ErrorsInEverySense, FirstInEverySense};
-ghost use Rattle.schema_answers.specs.Asked.{ErrorsPointAsNodes, FirstPointsAsNodes};
-ghost use Rattle.schema_answers.specs.Asked.{EvaluatesFromSomeDepth, EvaluatesInEverySense};
-ghost use Rattle.schema_answers.specs.Asked.{UnitsFromSomeDepth, UnitsInEverySense};
+ghost use Rattle.schema_compiled.specs.Asked.{DecidesFromSomeDepth, ErrorsFromSomeDepth, FirstFromSomeDepth};
+ghost use Rattle.schema_compiled.specs.Asked.{DecidesInEverySense, ErrorsInEverySense, FirstInEverySense};
+ghost use Rattle.schema_compiled.specs.Asked.{ErrorsPointAsNodes, FirstPointsAsNodes};
+ghost use Rattle.schema_compiled.specs.Asked.{EvaluatesFromSomeDepth, EvaluatesInEverySense};
+ghost use Rattle.schema_compiled.specs.Asked.{UnitsFromSomeDepth, UnitsInEverySense};
 ghost use Rattle.schema_validator.specs.CallWords.{AreSoOrGiveLimit, AreSoOrTell, EachBorrows, FirstBorrows, FirstIsSoOrTells, IsSoOrNo};
 ghost use Rattle.schema_validator.specs.Greatest.{DecidesAccepted, ErrorsAccepted, EvaluatesAccepted, FirstAccepted};
-ghost use Rattle.schema_answers.specs.Solved.{IsDecidedWithin};
+ghost use Rattle.schema_compiled.specs.Solved.{IsDecidedWithin};
 
 use crate::validator::Validator;
-use schema_answers::stopping::{limit_failure, limit_failure_alone};
-use schema_contexts::work::Work;
+use schema_compiled::stopping::{limit_failure, limit_failure_alone};
 use schema_output::error_units::unit_of_errors;
 use schema_output::evaluation::Evaluation;
-use schema_parts::keyword::Validate;
-use schema_parts::matcher::Matcher;
 use schema_reports::location::OutOfMemory;
 use schema_reports::reports::{ErrorIterator, ValidationError};
+use schema_run_context::work::Work;
+use schema_traits::keyword::Validate;
+use schema_traits::matcher::Matcher;
 use serde_json::Value;
 use std::alloc::Global;
 

@@ -1,12 +1,12 @@
 //! Clones of validators.
 ghost use Rattle.std.specs.Prelude.{◌≡◌, IfOk};
-ghost use Rattle.node_table.specs.Cloned.{shaped_nodes};
-ghost use Rattle.schema_answers.specs.Cloned.{AnswerSame, SaySame};
+ghost use Rattle.schema_node_table.specs.Cloned.{shaped_nodes};
+ghost use Rattle.schema_compiled.specs.Cloned.{AnswerSame, SaySame};
 
 use crate::validator::Validator;
-use schema_parts::cloning::CloneKeyword;
-use schema_parts::matcher::Matcher;
 use schema_reports::location::OutOfMemory;
+use schema_traits::cloning::CloneKeyword;
+use schema_traits::matcher::Matcher;
 use std::alloc::Global;
 
 impl<K: CloneKeyword, M: Matcher> Validator<K, M> {

@@ -1,8 +1,8 @@
 use Rattle.std.proofs.Common.{Some, ap, length, map, arith, ◌<◌, ℕ}
 use Rattle.std.specs.Option.{option_and_then}
 use Rattle.serde_json.specs.Data.{Data}
-use Rattle.schema_definitions.specs.Instance.{a_value}
-use Rattle.schema_parts.specs.AskedAtOnce.{child_at}
+use Rattle.theory_definitions.specs.Instance.{a_value}
+use Rattle.schema_traits.specs.AskedAtOnce.{child_at}
 use Rattle.asked_questions.proofs.Steps.{item_there, more_numbers}
 use Rattle.asked_questions.proofs.counted.next_listed.Goals as goal
 

@@ -3,9 +3,9 @@ use Rattle.std.proofs.lemmas.List.{length-map}
 use Rattle.std.specs.Rc.{rc_str_bytes}
 use Rattle.std.specs.declared.alloc.Global.{Global}
 use Rattle.serde_json.specs.declared.value.Value.{Value}
-use Rattle.schema_definitions.specs.Instance.{after_step, to_member}
-use Rattle.schema_parts.specs.Ascending.{place_from}
-use Rattle.schema_parts.specs.AskedAtOnce.{child_below}
+use Rattle.theory_definitions.specs.Instance.{after_step, to_member}
+use Rattle.schema_traits.specs.Ascending.{place_from}
+use Rattle.schema_traits.specs.AskedAtOnce.{child_below}
 use Rattle.asked_questions.specs.Members.{HaveAllOf}
 use Rattle.asked_questions.specs.Questions.{AsksFirst, at_names}
 use Rattle.asked_questions.proofs.MemberWalks.{found_asked, found_goes_on, found_stands, found_within, none_asked, passed_asked, passed_goes_on}

@@ -1,5 +1,5 @@
 use Rattle.std.proofs.Common.{◌≡◌, drop}
-use Rattle.schema_definitions.specs.Instance.{Subject}
+use Rattle.theory_definitions.specs.Instance.{Subject}
 use Rattle.asked_questions.specs.Members.{HaveAllOf}
 use Rattle.asked_questions.specs.Questions.{at_names}
 use Rattle.asked_questions.proofs.members.next_member.Given as goal

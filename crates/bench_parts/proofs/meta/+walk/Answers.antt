@@ -7,8 +7,8 @@ use Rattle.serde_json.specs.Written.{has_float}
 use Rattle.serde_json.specs.View.{items_view, members_view, view}
 use Rattle.serde_json.specs.declared.value.Value.{Value}
 use Rattle.serde_json.proofs.Views.{Entry}
-use Rattle.schema_definitions.specs.Instance.{Text, member_of, to_item, to_member}
-use Rattle.schema_keywords.specs.KeywordViews.{draft_of}
+use Rattle.theory_definitions.specs.Instance.{Text, member_of, to_item, to_member}
+use Rattle.schema_drafts.specs.KeywordViews.{draft_of}
 use Rattle.bench_parts.specs.BenchMeta.{HasNoFaultItself, member_fault}
 use Rattle.bench_parts.specs.MetaPlaces.{steps_to}
 use Rattle.bench_parts.proofs.MetaFaults.{ItemsLeft, MembersLeft, Tells, found_item, next_item, next_member}

@@ -1,7 +1,7 @@
 use Rattle.std.proofs.Common.{◌≡◌, ◌++◌, List, drop}
 use Rattle.serde_json.specs.View.{items_view, members_view}
 use Rattle.serde_json.proofs.Views.{Entry}
-use Rattle.schema_keywords.specs.KeywordViews.{draft_of}
+use Rattle.schema_drafts.specs.KeywordViews.{draft_of}
 use Rattle.bench_parts.specs.MetaPlaces.{steps_to}
 use Rattle.bench_parts.proofs.MetaFaults.{ItemsLeft, MembersLeft}
 use Rattle.bench_parts.proofs.meta.+walk.Given as goal

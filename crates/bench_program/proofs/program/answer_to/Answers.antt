@@ -1,16 +1,16 @@
 use Rattle.std.proofs.Common.{List, ap, inl, inr, map, string_bytes, subst}
-use Rattle.schema_definitions.specs.Instance.{Text}
+use Rattle.theory_definitions.specs.Instance.{Text}
 use Rattle.std.proofs.lemmas.Result.{err_from_is_err_and}
 use Rattle.serde_json.specs.View.{view}
 use Rattle.schema_validator.specs.Handed.{default_nested, default_options, parts_of}
 use Rattle.schema_validator.specs.ProgramOf.{IsProgramOf}
 use Rattle.schema_validator.specs.Roots.{Builds, RefusesBuild}
-use Rattle.bench_resolver.specs.BenchAnswers.{bench_resolving}
+use Rattle.standard_resolver.specs.ResolverAnswers.{document_resolving}
 use Rattle.bench_parts.specs.BenchMatching.{bench_matcher}
 use Rattle.bench_program.specs.ProgramMeaning.{Asked, BenchHasUnits, BenchMeans, IsRefused, bench_table}
 use Rattle.bench_program.specs.ProgramViews.{texts}
-use Rattle.bench_keywords.specs.Shapes.{shape_of}
-use Rattle.bench_keywords.specs.Words.{words}
+use Rattle.standard_basics.specs.Shapes.{shape_of}
+use Rattle.standard_basics.specs.Words.{words}
 use Rattle.bench_program.proofs.BuildFaults.{build_fault}
 use Rattle.bench_program.proofs.program.answer_to.Goals as goal
 
@@ -33,7 +33,7 @@ returns-in_err-validator-clause-fault c =
     } in
     let refused : IsRefused asked e = elim c.in_err-validator.ensures.refused [
       | inl cause ↦ inl (λ spoken.
-          subst (λ (ps : List Text). RefusesBuild (parts_of (bench_resolving r) bench_table (bench_matcher ps) (words spoken) default_options) schema default_options.limit e)
+          subst (λ (ps : List Text). RefusesBuild (parts_of (document_resolving r) bench_table (bench_matcher ps) (words spoken) default_options) schema default_options.limit e)
           c.new-matcher.ensures.patterns (cause spoken))
       | inr fails ↦ inr fails
     ] in
@@ -63,12 +63,12 @@ returns-clause-answer c =
         resolver = r;
         resolves = record { rule = given.rule; document = ap view given.document; uri = given.uri; alone = given.alone; draft = given.draft; drafts = rw c.new.ensures.empty at given.drafts; custom = rw c.new.ensures.empty at given.custom };
       };
-      builds = λ spoken. subst (λ (ps : List Text). Builds (parts_of (bench_resolving r) bench_table (bench_matcher ps) (words spoken) default_options) schema default_options.limit) same (c.in_ok-validator.ensures.built spoken);
+      builds = λ spoken. subst (λ (ps : List Text). Builds (parts_of (document_resolving r) bench_table (bench_matcher ps) (words spoken) default_options) schema default_options.limit) same (c.in_ok-validator.ensures.built spoken);
       passes = c.in_ok-validator.ensures.passed;
-      plain = rw c.in_ok-validator.ensures.program.runs_are at (c.in_ok-ask.ensures.means (bench_resolving r) bench_table (bench_matcher unfinished) default_options schema
-          (subst (λ (ps : List Text). BenchMeans (bench_resolving r) bench_table (bench_matcher ps) default_options schema validator) same c.in_ok-validator.ensures.means)
-          (subst (λ (ps : List Text). BenchHasUnits (bench_resolving r) bench_table (bench_matcher ps) default_options schema validator) same c.in_ok-validator.ensures.units));
+      plain = rw c.in_ok-validator.ensures.program.runs_are at (c.in_ok-ask.ensures.means (document_resolving r) bench_table (bench_matcher unfinished) default_options schema
+          (subst (λ (ps : List Text). BenchMeans (document_resolving r) bench_table (bench_matcher ps) default_options schema validator) same c.in_ok-validator.ensures.means)
+          (subst (λ (ps : List Text). BenchHasUnits (document_resolving r) bench_table (bench_matcher ps) default_options schema validator) same c.in_ok-validator.ensures.units));
       program = validator;
-      compiled = subst (λ (ps : List Text). IsProgramOf (bench_resolving r) bench_table (bench_matcher ps) default_options default_nested schema shape_of bench_matcher validator) same c.in_ok-validator.ensures.program;
+      compiled = subst (λ (ps : List Text). IsProgramOf (document_resolving r) bench_table (bench_matcher ps) default_options default_nested schema shape_of bench_matcher validator) same c.in_ok-validator.ensures.program;
       guarded = c.in_ok-ask.ensures.depth;
     }

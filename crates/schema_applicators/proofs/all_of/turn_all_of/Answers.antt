@@ -1,5 +1,5 @@
 use Rattle.std.proofs.Common.{◌∙◌, sym}
-use Rattle.keyword_ways.specs.Items.{child_here}
+use Rattle.keyword_authoring.specs.Items.{child_here}
 use Rattle.schema_applicators.proofs.all_of.turn_all_of.Goals as goal
 
 pub returns-clause-turns : goal.returns-clause-turns

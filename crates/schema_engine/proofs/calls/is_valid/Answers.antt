@@ -1,11 +1,11 @@
 use Rattle.std.specs.Prelude.{Bool}
 use Rattle.std.proofs.lemmas.Result.{err_from_is_err_and}
 use Rattle.serde_json.specs.View.{view}
-use Rattle.schema_keywords.specs.KeywordTable.{builtin_in}
-use Rattle.schema_definitions.specs.Cover.{is_valid}
-use Rattle.schema_definitions.specs.Laws.{EachKeeps}
-use Rattle.schema_meaning.specs.Headline.{VerdictSays}
-use Rattle.schema_meaning.proofs.TurnsGiveRuns.{keeps_of_turns}
+use Rattle.schema_drafts.specs.KeywordTable.{builtin_in}
+use Rattle.theory_definitions.specs.Cover.{is_valid}
+use Rattle.theory_definitions.specs.Laws.{EachKeeps}
+use Rattle.theory_meaning.specs.Headline.{VerdictSays}
+use Rattle.theory_meaning.proofs.TurnsGiveRuns.{keeps_of_turns}
 use Rattle.schema_validator.specs.Handed.{default_options, default_runs, handed, table_of}
 use Rattle.schema_validator.proofs.PlainAnswers.{plainly_from}
 use Rattle.schema_engine.proofs.GreatestCalls.{says_greatest}

@@ -1,6 +1,6 @@
 use Rattle.std.specs.Prelude.{Bool}
-use Rattle.schema_definitions.specs.Laws.{EachKeeps}
-use Rattle.schema_meaning.proofs.TurnsGiveRuns.{keeps_of_turns}
+use Rattle.theory_definitions.specs.Laws.{EachKeeps}
+use Rattle.theory_meaning.proofs.TurnsGiveRuns.{keeps_of_turns}
 use Rattle.schema_engine.proofs.FreeCalls as lemmas
 use Rattle.schema_engine.proofs.laws.validator_calls_agree.Goals as goal
 

@@ -1,11 +1,11 @@
 use Rattle.std.proofs.Common.{◌∙◌, ap, sym, true≢false, rules}
 use denote.Enum.Bare.{same_true}
-use Rattle.schema_keywords.specs.contracts.keywords.Draft.{the_type}
+use Rattle.schema_drafts.specs.contracts.keywords.Draft.{the_type}
 use Rattle.std.proofs.lemmas.Bool.{eqb-true, eq-eqb}
 use Rattle.schema_keys.specs.KeyViews.{key_of}
-use Rattle.schema_definitions.specs.Plan.{Key}
+use Rattle.theory_definitions.specs.Plan.{Key}
 use Rattle.schema_keys.proofs.SameKeys.{schema_place_true, vocabularies_true, one_key, places_differ, vocabularies_differ}
-use Rattle.schema_keywords.specs.KeywordViews.{draft_of}
+use Rattle.schema_drafts.specs.KeywordViews.{draft_of}
 use Rattle.schema_keys.proofs.key.same_key.Goals as goal
 
 pub returns-then-not-eq : goal.returns-then-not-eq

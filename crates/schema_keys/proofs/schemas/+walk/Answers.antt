@@ -3,7 +3,7 @@ use Rattle.std.proofs.lemmas.List.{drop_more}
 use Rattle.serde_json.specs.View.{items_view, members_view, view}
 use Rattle.serde_json.specs.declared.value.Value.{Value}
 use Rattle.serde_json.proofs.Views.{Entry}
-use Rattle.schema_definitions.specs.Instance.{Place, Text, to_item, to_member}
+use Rattle.theory_definitions.specs.Instance.{Place, Text, to_item, to_member}
 use Rattle.schema_keys.proofs.Lists.{turned}
 use Rattle.schema_keys.specs.DocumentSchemas.{IndicesFit, schemas_in, schemas_in_items, schemas_in_members}
 use Rattle.schema_keys.proofs.DocumentPlaces.{fit_below}

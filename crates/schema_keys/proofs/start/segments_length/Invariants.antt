@@ -1,5 +1,5 @@
 use Rattle.std.proofs.Common.{◌≡◌, ◌+◌, drop}
-use Rattle.schema_definitions.specs.Plan.{segments_length}
+use Rattle.theory_definitions.specs.Plan.{segments_length}
 use Rattle.schema_keys.proofs.start.segments_length.Given as goal
 
 abbrev pub invariant-loop-x : goal.invariant-loop-x

@@ -2,66 +2,66 @@ use Rattle.std.proofs.lemmas.List.Elements.{All-nil}
 use Rattle.std.proofs.lemmas.Grind.{common_steps}
 use Rattle.std.specs.Prelude.{All, option_and_then}
 use Rattle.schema_reports.specs.ReportViews.{BorrowsItsPlace}
-use Rattle.schema_parts.specs.FaultViews.{PassesBorrowed}
+use Rattle.schema_traits.specs.FaultViews.{PassesBorrowed}
 use Rattle.std.proofs.Common.{rules, arith, ◌≡◌, ◌≤◌, ◌∙◌, ◌==◌, ◌+◌, Bool, sym, refl, ap, subst, map, option_map, length, Some, false, true, List, [], ◌∷◌, ◌++◌, drop}
 use Rattle.schema_reports.specs.InstanceViews.{subject_of, step_of}
-use Rattle.schema_definitions.specs.Keywords.{Question, ask, ecma, mark, match_text, no_reply, truth, unmark}
-use Rattle.run_steps.specs.EvaluationPlaces.{CarriesItsNumber, steps_to}
-use Rattle.run_steps.specs.GuardedPairs.{place_of}
-use Rattle.schema_runs.proofs.Placing.{carries_on, may_on, pair_busy, pair_entered, stands_at, stands_below, stands_on}
-use Rattle.schema_contexts.specs.Progress.{places_in}
-use Rattle.schema_parts.specs.declared.numbers.SchemaNode.{SchemaNode}
+use Rattle.theory_definitions.specs.Keywords.{Question, ask, ecma, mark, match_text, no_reply, truth, unmark}
+use Rattle.schema_run_steps.specs.EvaluationPlaces.{CarriesItsNumber, steps_to}
+use Rattle.schema_run_steps.specs.GuardedPairs.{place_of}
+use Rattle.theory_runs.proofs.Placing.{carries_on, may_on, pair_busy, pair_entered, stands_at, stands_below, stands_on}
+use Rattle.schema_run_context.specs.Progress.{places_in}
+use Rattle.schema_traits.specs.declared.numbers.SchemaNode.{SchemaNode}
 use Rattle.std.specs.List.{list_any}
-use Rattle.schema_contexts.specs.EvaluationPaths.{path_of}
-use Rattle.schema_definitions.specs.Meaning.{Where}
-use Rattle.schema_meaning.specs.Numbered.{left, subject_in}
-use Rattle.schema_definitions.specs.Runs.{keyword_met, plan_met, site_at}
-use Rattle.schema_definitions.specs.Unfinished.{Remembered}
-use Rattle.schema_definitions.specs.Matching.{Matcher, completed, matching, settled}
-use Rattle.schema_definitions.specs.Guarded.{node_at, node_never, same_edge, node_always, node_reference}
-use Rattle.schema_parts.specs.KeywordViews.{below_of, marked_of, mode_of, reply_of, answer_of}
-use Rattle.schema_contexts.specs.Matches.{after_match, settling}
-use Rattle.schema_runs.specs.NodeMeets.{ChildMeets, EdgeMeets, EntryMeets, FormMeets, child_run, part_looked, parts_looked, reading}
-use Rattle.node_table.specs.NodeTable.{numbered, shaped_part}
-use Rattle.schema_parts.specs.EdgeViews.{edge_of}
-use Rattle.node_table.specs.NodeViews.{entry_of, node_of, plan_of}
-use Rattle.run_steps.specs.Askings.{entry_where}
-use Rattle.run_steps.specs.ReplyModes.{refuses, reply_by}
-use Rattle.run_steps.specs.NodeRuns.{EdgeReplies, child_says, edge_needs, parts_say}
-use Rattle.schema_contexts.specs.Progress.{Context, NoDeeper, busy_at}
-use Rattle.schema_runs.specs.RightVerdicts.{LaysOut}
-use Rattle.run_steps.specs.Askings.{asking, Asking}
-use Rattle.schema_runs.specs.RunStates.{Keeps, MeetsNode, MeetsParts, NodeSays, RemembersRightly, StaysRight, setting}
-use Rattle.schema_parts.specs.declared.keyword.Reply.TheVariants as told
-use Rattle.schema_runs.proofs.GoesOn.{asked_across, computed_meets, computed_says, computed_stays, right_matched, right_same}
-use Rattle.schema_runs.proofs.RightVerdicts.{laid_below}
-use Rattle.schema_contexts.proofs.Pairs.{busy-below, busy-pushed, deeper-below, deeper-pushed}
-use Rattle.run_steps.proofs.KeywordTurns.{falls_turned, faults_lie, keyword_says, right_reply, silent, silent_reads, tells_nothing, asked_on, asks_there, begins_on, can_after, ended_on, mark_taken_on, marked_on, matched_on, matches_there, told_pattern_on, ask_goes_on, match_goes_on, ecma_goes_on, mark_goes_on, unmark_goes_on}
-use Rattle.schema_meaning.proofs.Alike.{asked_alike}
-use Rattle.schema_parts.proofs.Replies.{if_ok_always, if_ok_both, if_ok_mono}
-use Rattle.run_steps.proofs.NodeRuns.{agrees_answers, agrees_says, child_here, edge_busy, falls_below, falls_here, form_reference, leaf_accepts, needs_of_entered, node_by_plan, one_entry, settled_entries, stands_in, start_entries, where_is}
-use Rattle.schema_contexts.proofs.Matches.{after_assumes, moved, meets_append, meets_same}
-use Rattle.run_steps.proofs.AskedMatches.{step_asks}
-use Rattle.schema_runs.proofs.KeywordMeets.{meets_all, meets_asked, meets_begun, meets_mark_taken, meets_marked, meets_matched, meets_nothing}
-use Rattle.schema_runs.proofs.NodeMeets.{end_met, last_met, leaf_holds, leaf_no, leaf_yes, meets_below, meets_busy, meets_here, meets_never, meets_reference, meets_these, next_met, nothing_refused, other_entry, stops_at, meets_by_plan, stops}
-use Rattle.schema_parts.proofs.Drops.{drop_at, drop_past}
-use Rattle.run_steps.proofs.NodeParts.{absolute_is, keyword_children, part_at, plain_there, plan_is, reference_edge, replies_refused, tells_keyword, plan_none}
-use Rattle.node_table.specs.declared.node.Entry.{Entry}
-use Rattle.run_steps.specs.EntryUnits.{entry_units_of, placed_of}
-use Rattle.schema_definitions.specs.UnitOrder.{each_placed}
-use Rattle.schema_definitions.specs.Units.{true_unit}
+use Rattle.schema_run_context.specs.EvaluationPaths.{path_of}
+use Rattle.theory_definitions.specs.Meaning.{Where}
+use Rattle.theory_meaning.specs.Numbered.{left, subject_in}
+use Rattle.theory_definitions.specs.Runs.{keyword_met, plan_met, site_at}
+use Rattle.theory_definitions.specs.Unfinished.{Remembered}
+use Rattle.theory_definitions.specs.Matching.{Matcher, completed, matching, settled}
+use Rattle.theory_definitions.specs.Guarded.{node_at, node_never, same_edge, node_always, node_reference}
+use Rattle.schema_traits.specs.KeywordViews.{below_of, marked_of, mode_of, reply_of, answer_of}
+use Rattle.schema_run_context.specs.Matches.{after_match, settling}
+use Rattle.theory_runs.specs.NodeMeets.{ChildMeets, EdgeMeets, EntryMeets, FormMeets, child_run, part_looked, parts_looked, reading}
+use Rattle.schema_node_table.specs.NodeTable.{numbered, shaped_part}
+use Rattle.schema_traits.specs.EdgeViews.{edge_of}
+use Rattle.schema_node_table.specs.NodeViews.{entry_of, node_of, plan_of}
+use Rattle.schema_run_steps.specs.Askings.{entry_where}
+use Rattle.schema_run_steps.specs.ReplyModes.{refuses, reply_by}
+use Rattle.schema_run_steps.specs.NodeRuns.{EdgeReplies, child_says, edge_needs, parts_say}
+use Rattle.schema_run_context.specs.Progress.{Context, NoDeeper, busy_at}
+use Rattle.theory_runs.specs.RightVerdicts.{LaysOut}
+use Rattle.schema_run_steps.specs.Askings.{asking, Asking}
+use Rattle.theory_runs.specs.RunStates.{Keeps, MeetsNode, MeetsParts, NodeSays, RemembersRightly, StaysRight, setting}
+use Rattle.schema_traits.specs.declared.keyword.Reply.TheVariants as told
+use Rattle.theory_runs.proofs.GoesOn.{asked_across, computed_meets, computed_says, computed_stays, right_matched, right_same}
+use Rattle.theory_runs.proofs.RightVerdicts.{laid_below}
+use Rattle.schema_run_context.proofs.Pairs.{busy-below, busy-pushed, deeper-below, deeper-pushed}
+use Rattle.schema_run_steps.proofs.KeywordTurns.{falls_turned, faults_lie, keyword_says, right_reply, silent, silent_reads, tells_nothing, asked_on, asks_there, begins_on, can_after, ended_on, mark_taken_on, marked_on, matched_on, matches_there, told_pattern_on, ask_goes_on, match_goes_on, ecma_goes_on, mark_goes_on, unmark_goes_on}
+use Rattle.theory_meaning.proofs.Alike.{asked_alike}
+use Rattle.schema_traits.proofs.Replies.{if_ok_always, if_ok_both, if_ok_mono}
+use Rattle.schema_run_steps.proofs.NodeRuns.{agrees_answers, agrees_says, child_here, edge_busy, falls_below, falls_here, form_reference, leaf_accepts, needs_of_entered, node_by_plan, one_entry, settled_entries, stands_in, start_entries, where_is}
+use Rattle.schema_run_context.proofs.Matches.{after_assumes, moved, meets_append, meets_same}
+use Rattle.schema_run_steps.proofs.AskedMatches.{step_asks}
+use Rattle.theory_runs.proofs.KeywordMeets.{meets_all, meets_asked, meets_begun, meets_mark_taken, meets_marked, meets_matched, meets_nothing}
+use Rattle.theory_runs.proofs.NodeMeets.{end_met, last_met, leaf_holds, leaf_no, leaf_yes, meets_below, meets_busy, meets_here, meets_never, meets_reference, meets_these, next_met, nothing_refused, other_entry, stops_at, meets_by_plan, stops}
+use Rattle.schema_traits.proofs.Drops.{drop_at, drop_past}
+use Rattle.schema_run_steps.proofs.NodeParts.{absolute_is, keyword_children, part_at, plain_there, plan_is, reference_edge, replies_refused, tells_keyword, plan_none}
+use Rattle.schema_node_table.specs.declared.node.Entry.{Entry}
+use Rattle.schema_run_steps.specs.EntryUnits.{entry_units_of, placed_of}
+use Rattle.theory_definitions.specs.UnitOrder.{each_placed}
+use Rattle.theory_definitions.specs.Units.{true_unit}
 use Rattle.serde_json.specs.View.{view}
-use Rattle.schema_meaning.proofs.TurnsGiveRuns.{keeps_of_turns}
-use Rattle.schema_runs.specs.UnitStates.{MayEvaluate, PartsGive, child_unit, parts_units}
-use Rattle.schema_runs.proofs.NodeUnits.{entered_meets, finds_moved, finds_units, form_moved, gives_always, gives_below, gives_busy, gives_entered, gives_here, gives_keyword, gives_never, gives_reference, gives_these, placed_last, placed_next, tells_moved}
-use Rattle.schema_runs.proofs.UnitsAsked.{answer_is, child_valid, told_is}
-use Rattle.schema_contexts.specs.Works.{Spends}
-use Rattle.schema_runs.proofs.FreeEdges.{free_meets}
-use Rattle.schema_runs.proofs.Counted.{carried, given, may_evaluate, may_run, replied}
-use Rattle.schema_runs.proofs.Spending.{asks_spends, spends_between, spends_none, spends_on, spends_same}
-use Rattle.schema_runs.proofs.Children.{may_below, needs_below, replied_below}
-use Rattle.schema_runs.proofs.Finishing.{edge_accepts, meets_after, verdict_meets}
-use Rattle.schema_runs.proofs.Measures.{lower_same, lower_edge, lower_across, lower_entered, no_deeper, as_many, no_fewer}
+use Rattle.theory_meaning.proofs.TurnsGiveRuns.{keeps_of_turns}
+use Rattle.theory_runs.specs.UnitStates.{MayEvaluate, PartsGive, child_unit, parts_units}
+use Rattle.theory_runs.proofs.NodeUnits.{entered_meets, finds_moved, finds_units, form_moved, gives_always, gives_below, gives_busy, gives_entered, gives_here, gives_keyword, gives_never, gives_reference, gives_these, placed_last, placed_next, tells_moved}
+use Rattle.theory_runs.proofs.UnitsAsked.{answer_is, child_valid, told_is}
+use Rattle.schema_run_context.specs.Works.{Spends}
+use Rattle.theory_runs.proofs.FreeEdges.{free_meets}
+use Rattle.theory_runs.proofs.Counted.{carried, given, may_evaluate, may_run, replied}
+use Rattle.theory_runs.proofs.Spending.{asks_spends, spends_between, spends_none, spends_on, spends_same}
+use Rattle.theory_runs.proofs.Children.{may_below, needs_below, replied_below}
+use Rattle.theory_runs.proofs.Finishing.{edge_accepts, meets_after, verdict_meets}
+use Rattle.theory_runs.proofs.Measures.{lower_same, lower_edge, lower_across, lower_entered, no_deeper, as_many, no_fewer}
 use Rattle.schema_node.proofs.node.+run.Goals as goal
 
 pub run::run_child-run_edge-requires : goal.run::run_child-run_edge-requires

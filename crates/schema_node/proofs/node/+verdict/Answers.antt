@@ -1,71 +1,71 @@
 use Rattle.std.proofs.Common.{◌≡◌, ◌∙◌, ◌==◌, ◌+◌, ◌≤◌, Bool, arith, suc, sym, refl, rules, ap, subst, map, option_map, length, Some, false, true, true≢false, inl, inr, List, [], ◌∷◌, ◌++◌, drop}
 use Rattle.std.proofs.lemmas.Grind.{common_steps}
 use Rattle.schema_reports.specs.InstanceViews.{subject_of, step_of}
-use Rattle.schema_definitions.specs.Keywords.{Question, ask, ecma, for_verdict, mark, match_text, no_reply, truth, unmark}
-use Rattle.run_steps.specs.EvaluationPlaces.{steps_to}
-use Rattle.run_steps.specs.GuardedPairs.{place_of}
-use Rattle.schema_runs.proofs.Placing.{carries_on, keeps_on, may_on, pair_entered, pair_known, pair_lasting, pair_unknown, stands_at, stands_below, stands_on}
-use Rattle.schema_contexts.specs.Progress.{places_in}
-use Rattle.schema_parts.specs.declared.asking.Asking.TheVariants as ask
-use Rattle.schema_parts.specs.declared.numbers.SchemaNode.{SchemaNode}
+use Rattle.theory_definitions.specs.Keywords.{Question, ask, ecma, for_verdict, mark, match_text, no_reply, truth, unmark}
+use Rattle.schema_run_steps.specs.EvaluationPlaces.{steps_to}
+use Rattle.schema_run_steps.specs.GuardedPairs.{place_of}
+use Rattle.theory_runs.proofs.Placing.{carries_on, keeps_on, may_on, pair_entered, pair_known, pair_lasting, pair_unknown, stands_at, stands_below, stands_on}
+use Rattle.schema_run_context.specs.Progress.{places_in}
+use Rattle.schema_traits.specs.declared.asking.Asking.TheVariants as ask
+use Rattle.schema_traits.specs.declared.numbers.SchemaNode.{SchemaNode}
 use Rattle.std.specs.List.{list_any}
-use Rattle.schema_contexts.specs.EvaluationPaths.{path_of}
-use Rattle.schema_definitions.specs.Meaning.{Where}
-use Rattle.schema_meaning.specs.Numbered.{left, subject_in}
-use Rattle.schema_definitions.specs.Laws.{IsRight}
-use Rattle.schema_definitions.specs.Runs.{keyword_met, plan_met, site_at}
-use Rattle.schema_definitions.specs.Unfinished.{Remembered}
-use Rattle.schema_definitions.specs.Matching.{Matcher, completed, matching, settled}
-use Rattle.schema_definitions.specs.Guarded.{node_at, node_never, same_edge, node_always}
-use Rattle.schema_parts.specs.KeywordViews.{below_of, marked_of, mode_of, reply_of, answer_of, Tells, turn_of}
-use Rattle.schema_contexts.specs.Matches.{after_match, settling}
-use Rattle.schema_runs.specs.NodeMeets.{ChildMeets, EdgeMeets, FormMeets, NodeMeets, child_run, part_looked, parts_looked, reading}
-use Rattle.node_table.specs.NodeTable.{numbered, shaped_form, shaped_part}
-use Rattle.schema_parts.specs.EdgeViews.{edge_of}
-use Rattle.node_table.specs.NodeViews.{entry_of, form_of, node_of, plan_of}
-use Rattle.run_steps.specs.NodeRuns.{ChildReplies, EdgeReplies, Reading, Reads, child_says, edge_needs, parts_say}
-use Rattle.schema_contexts.specs.Progress.{Context, NoDeeper, busy_at}
-use Rattle.schema_runs.specs.RightVerdicts.{LaysOut}
-use Rattle.run_steps.specs.Askings.{asking}
-use Rattle.schema_runs.specs.RunStates.{EdgeSays, FormRemembers, FormSays, Keeps, MeetsNode, NodeSays, StaysRight, setting}
-use Rattle.schema_contexts.specs.Verdicts.{one_more}
-use Rattle.schema_parts.specs.declared.keyword.Reply.TheVariants as told
-use Rattle.schema_runs.proofs.GoesOn.{alone_remembers, asked_across, computed_meets, computed_says, ended_remembers, kept_remembers, kept_stays, pairs_back, planned_remembers, read_meets_edge, read_remembers, read_says, reference_remembers, right_matched, right_same}
-use Rattle.schema_runs.proofs.RightVerdicts.{laid_below, read_entered}
-use Rattle.schema_runs.proofs.Visits.{always_counts, busy_counts, computed_counts, ended_counts, free_counts, keyword_counts, never_counts, next_counts, planned_counts, read_counts}
-use Rattle.schema_runs.specs.Visits.{NodeCounts}
-use Rattle.schema_contexts.proofs.Pairs.{busy-below, busy-pushed, deeper-below, deeper-pushed}
-use Rattle.run_steps.proofs.KeywordTurns.{falls_turned, right_at_once, tells_nothing, asked_on, asks_there, begins_on, can_after, ended_on, mark_taken_on, marked_on, matched_on, matches_there, told_pattern_on, ask_goes_on, match_goes_on, ecma_goes_on, mark_goes_on, unmark_goes_on}
-use Rattle.schema_meaning.proofs.Alike.{asked_alike}
-use Rattle.schema_parts.proofs.Replies.{if_ok_always, if_ok_mono}
-use Rattle.run_steps.proofs.NodeRuns.{agrees_answers, agrees_says, child_below, child_here, edge_busy, falls_below, falls_here, form_reference, free_case, needs_of_entered, node_by_plan, one_entry, settled_entries, stands_in, start_entries, where_is}
-use Rattle.schema_contexts.proofs.Matches.{after_assumes, moved, meets_same}
-use Rattle.run_steps.proofs.AskedMatches.{step_asks}
-use Rattle.schema_runs.proofs.KeywordMeets.{meets_all, meets_asked, meets_at_once, meets_begun, meets_mark_taken, meets_marked, meets_matched, meets_nothing}
-use Rattle.schema_runs.proofs.NodeMeets.{end_met, last_met, meets_below, meets_busy, meets_here, meets_reference, meets_these, next_met, other_entry, stops_at, meets_by_plan}
-use Rattle.schema_parts.proofs.Drops.{drop_at, drop_past}
-use Rattle.run_steps.proofs.NodeParts.{keyword_children, part_at, plan_is, reference_edge, tells_keyword, plan_none}
-use Rattle.node_table.specs.declared.node.Entry.{Entry}
+use Rattle.schema_run_context.specs.EvaluationPaths.{path_of}
+use Rattle.theory_definitions.specs.Meaning.{Where}
+use Rattle.theory_meaning.specs.Numbered.{left, subject_in}
+use Rattle.theory_definitions.specs.Laws.{IsRight}
+use Rattle.theory_definitions.specs.Runs.{keyword_met, plan_met, site_at}
+use Rattle.theory_definitions.specs.Unfinished.{Remembered}
+use Rattle.theory_definitions.specs.Matching.{Matcher, completed, matching, settled}
+use Rattle.theory_definitions.specs.Guarded.{node_at, node_never, same_edge, node_always}
+use Rattle.schema_traits.specs.KeywordViews.{below_of, marked_of, mode_of, reply_of, answer_of, Tells, turn_of}
+use Rattle.schema_run_context.specs.Matches.{after_match, settling}
+use Rattle.theory_runs.specs.NodeMeets.{ChildMeets, EdgeMeets, FormMeets, NodeMeets, child_run, part_looked, parts_looked, reading}
+use Rattle.schema_node_table.specs.NodeTable.{numbered, shaped_form, shaped_part}
+use Rattle.schema_traits.specs.EdgeViews.{edge_of}
+use Rattle.schema_node_table.specs.NodeViews.{entry_of, form_of, node_of, plan_of}
+use Rattle.schema_run_steps.specs.NodeRuns.{ChildReplies, EdgeReplies, Reading, Reads, child_says, edge_needs, parts_say}
+use Rattle.schema_run_context.specs.Progress.{Context, NoDeeper, busy_at}
+use Rattle.theory_runs.specs.RightVerdicts.{LaysOut}
+use Rattle.schema_run_steps.specs.Askings.{asking}
+use Rattle.theory_runs.specs.RunStates.{EdgeSays, FormRemembers, FormSays, Keeps, MeetsNode, NodeSays, StaysRight, setting}
+use Rattle.schema_run_context.specs.Verdicts.{one_more}
+use Rattle.schema_traits.specs.declared.keyword.Reply.TheVariants as told
+use Rattle.theory_runs.proofs.GoesOn.{alone_remembers, asked_across, computed_meets, computed_says, ended_remembers, kept_remembers, kept_stays, pairs_back, planned_remembers, read_meets_edge, read_remembers, read_says, reference_remembers, right_matched, right_same}
+use Rattle.theory_runs.proofs.RightVerdicts.{laid_below, read_entered}
+use Rattle.theory_runs.proofs.Visits.{always_counts, busy_counts, computed_counts, ended_counts, free_counts, keyword_counts, never_counts, next_counts, planned_counts, read_counts}
+use Rattle.theory_runs.specs.Visits.{NodeCounts}
+use Rattle.schema_run_context.proofs.Pairs.{busy-below, busy-pushed, deeper-below, deeper-pushed}
+use Rattle.schema_run_steps.proofs.KeywordTurns.{falls_turned, right_at_once, tells_nothing, asked_on, asks_there, begins_on, can_after, ended_on, mark_taken_on, marked_on, matched_on, matches_there, told_pattern_on, ask_goes_on, match_goes_on, ecma_goes_on, mark_goes_on, unmark_goes_on}
+use Rattle.theory_meaning.proofs.Alike.{asked_alike}
+use Rattle.schema_traits.proofs.Replies.{if_ok_always, if_ok_mono}
+use Rattle.schema_run_steps.proofs.NodeRuns.{agrees_answers, agrees_says, child_below, child_here, edge_busy, falls_below, falls_here, form_reference, free_case, needs_of_entered, node_by_plan, one_entry, settled_entries, stands_in, start_entries, where_is}
+use Rattle.schema_run_context.proofs.Matches.{after_assumes, moved, meets_same}
+use Rattle.schema_run_steps.proofs.AskedMatches.{step_asks}
+use Rattle.theory_runs.proofs.KeywordMeets.{meets_all, meets_asked, meets_at_once, meets_begun, meets_mark_taken, meets_marked, meets_matched, meets_nothing}
+use Rattle.theory_runs.proofs.NodeMeets.{end_met, last_met, meets_below, meets_busy, meets_here, meets_reference, meets_these, next_met, other_entry, stops_at, meets_by_plan}
+use Rattle.schema_traits.proofs.Drops.{drop_at, drop_past}
+use Rattle.schema_run_steps.proofs.NodeParts.{keyword_children, part_at, plan_is, reference_edge, tells_keyword, plan_none}
+use Rattle.schema_node_table.specs.declared.node.Entry.{Entry}
 use Rattle.serde_json.specs.View.{view}
-use Rattle.schema_meaning.proofs.TurnsGiveRuns.{keeps_of_turns}
-use Rattle.schema_runs.specs.UnitStates.{child_unit, reply_with}
-use Rattle.schema_runs.proofs.NodeUnits.{finds_moved}
-use Rattle.schema_runs.proofs.UnitsAsked.{answer_is, child_valid, told_is}
-use Rattle.run_steps.specs.VerdictRuns.{told_reply}
-use Rattle.schema_runs.proofs.VerdictTurns.{asked_verdict, asks_begun, asks_on, stepped_by, turned_by, verdict_told}
-use Rattle.schema_runs.proofs.Verdicts.{joins_verdict, keyword_replies, stamps_verdict, verdict_replies, yes_says}
-use Rattle.schema_runs.proofs.Measures.{lower_same, lower_across, lower_reference, lower_entered, lower_shared, as_many, no_fewer}
-use Rattle.schema_contexts.specs.Works.{Spends}
-use Rattle.schema_runs.proofs.Counted.{answers, is_asked}
-use Rattle.schema_runs.proofs.Spending.{asks_spends, spends_between, spends_none, spends_on}
-use Rattle.schema_runs.proofs.Shared.{meets_again, read_again, shared_counts, stays_kept}
-use Rattle.node_table.proofs.ClosedNumbers.{reaches_numbered}
-use Rattle.schema_definitions.specs.Laws.{EachKeeps}
-use Rattle.schema_definitions.specs.Instance.{after_step}
+use Rattle.theory_meaning.proofs.TurnsGiveRuns.{keeps_of_turns}
+use Rattle.theory_runs.specs.UnitStates.{child_unit, reply_with}
+use Rattle.theory_runs.proofs.NodeUnits.{finds_moved}
+use Rattle.theory_runs.proofs.UnitsAsked.{answer_is, child_valid, told_is}
+use Rattle.schema_run_steps.specs.VerdictRuns.{told_reply}
+use Rattle.theory_runs.proofs.VerdictTurns.{asked_verdict, asks_begun, asks_on, stepped_by, turned_by, verdict_told}
+use Rattle.theory_runs.proofs.Verdicts.{joins_verdict, keyword_replies, stamps_verdict, verdict_replies, yes_says}
+use Rattle.theory_runs.proofs.Measures.{lower_same, lower_across, lower_reference, lower_entered, lower_shared, as_many, no_fewer}
+use Rattle.schema_run_context.specs.Works.{Spends}
+use Rattle.theory_runs.proofs.Counted.{answers, is_asked}
+use Rattle.theory_runs.proofs.Spending.{asks_spends, spends_between, spends_none, spends_on}
+use Rattle.theory_runs.proofs.Shared.{meets_again, read_again, shared_counts, stays_kept}
+use Rattle.schema_node_table.proofs.ClosedNumbers.{reaches_numbered}
+use Rattle.theory_definitions.specs.Laws.{EachKeeps}
+use Rattle.theory_definitions.specs.Instance.{after_step}
 use Rattle.asked_questions.specs.Questions.{StandsThere, at_names, below_in, question_in}
 use Rattle.asked_questions.proofs.AnswersSay.{likewise, otherwise, present_there, says_by_questions}
-use Rattle.schema_runs.proofs.AskedAtOnce.{SaysByTheRest, match_says, meets_on, met_none, question_ends, question_goes_on, questions_begin, questions_end}
-use Rattle.schema_runs.proofs.Children.{answered_below, answered_here, may_below, may_here, needs_below, needs_here}
+use Rattle.theory_runs.proofs.AskedAtOnce.{SaysByTheRest, match_says, meets_on, met_none, question_ends, question_goes_on, questions_begin, questions_end}
+use Rattle.theory_runs.proofs.Children.{answered_below, answered_here, may_below, may_here, needs_below, needs_here}
 use Rattle.schema_node.proofs.node.+verdict.Goals as goal
 
 pub verdict::verdict_child-verdict_edge-requires : goal.verdict::verdict_child-verdict_edge-requires

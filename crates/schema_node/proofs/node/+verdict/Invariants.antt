@@ -1,32 +1,32 @@
 use Rattle.std.proofs.Common.{◌≡◌, ◌≤◌, ◌<◌, ◌+◌, ◌*◌, ◌++◌, ℕ, Bool, List, false, true, length, map, drop, option_map}
 use Rattle.serde_json.specs.Data.{Data}
 use Rattle.schema_reports.specs.InstanceViews.{subject_of}
-use Rattle.schema_definitions.specs.Reports.{Outcome}
-use Rattle.schema_definitions.specs.Meaning.{both}
-use Rattle.schema_meaning.specs.Numbered.{left, subject_in}
-use Rattle.schema_definitions.specs.Guarded.{node_at, same_edge}
-use Rattle.schema_definitions.specs.Runs.{Met, keyword_met, plan_met}
-use Rattle.run_steps.specs.EvaluationPlaces.{steps_to}
-use Rattle.schema_contexts.specs.EvaluationPaths.{path_of}
-use Rattle.schema_parts.specs.KeywordViews.{answer_of, mode_of}
-use Rattle.node_table.specs.NodeTable.{numbered, shaped_part}
-use Rattle.schema_parts.specs.EdgeViews.{edge_of}
-use Rattle.node_table.specs.NodeViews.{entry_of}
-use Rattle.schema_contexts.specs.Matches.{MeetsEach, settling}
-use Rattle.schema_runs.specs.NodeMeets.{child_run, parts_looked, reading}
-use Rattle.run_steps.specs.NodeRuns.{Reading, Reads, Replies, child_says, edge_needs, parts_say}
-use Rattle.run_steps.specs.Askings.{asking}
-use Rattle.schema_runs.specs.RunStates.{Keeps, PartsRemember, StaysRight, setting}
-use Rattle.run_steps.specs.VerdictRuns.{told_reply}
-use Rattle.schema_runs.specs.VerdictTurns.{AsksVerdictsOn}
-use Rattle.schema_runs.specs.Visits.{LeadsNowhere, PartsCount}
-use Rattle.schema_runs.proofs.AskedAtOnce.{MeetsNothing, SaysByTheRest}
-use Rattle.schema_runs.proofs.KeywordMeets.{MeetsSoFar}
-use Rattle.schema_contexts.specs.Progress.{busy_at}
-use Rattle.schema_contexts.specs.Works.{Spends}
-use Rattle.run_steps.specs.Turning.{EvaluatesOn}
-use Rattle.schema_runs.specs.UnitStates.{child_unit}
-use Rattle.schema_parts.specs.declared.keyword.Reply.TheVariants as told
+use Rattle.theory_definitions.specs.Reports.{Outcome}
+use Rattle.theory_definitions.specs.Meaning.{both}
+use Rattle.theory_meaning.specs.Numbered.{left, subject_in}
+use Rattle.theory_definitions.specs.Guarded.{node_at, same_edge}
+use Rattle.theory_definitions.specs.Runs.{Met, keyword_met, plan_met}
+use Rattle.schema_run_steps.specs.EvaluationPlaces.{steps_to}
+use Rattle.schema_run_context.specs.EvaluationPaths.{path_of}
+use Rattle.schema_traits.specs.KeywordViews.{answer_of, mode_of}
+use Rattle.schema_node_table.specs.NodeTable.{numbered, shaped_part}
+use Rattle.schema_traits.specs.EdgeViews.{edge_of}
+use Rattle.schema_node_table.specs.NodeViews.{entry_of}
+use Rattle.schema_run_context.specs.Matches.{MeetsEach, settling}
+use Rattle.theory_runs.specs.NodeMeets.{child_run, parts_looked, reading}
+use Rattle.schema_run_steps.specs.NodeRuns.{Reading, Reads, Replies, child_says, edge_needs, parts_say}
+use Rattle.schema_run_steps.specs.Askings.{asking}
+use Rattle.theory_runs.specs.RunStates.{Keeps, PartsRemember, StaysRight, setting}
+use Rattle.schema_run_steps.specs.VerdictRuns.{told_reply}
+use Rattle.theory_runs.specs.VerdictTurns.{AsksVerdictsOn}
+use Rattle.theory_runs.specs.Visits.{LeadsNowhere, PartsCount}
+use Rattle.theory_runs.proofs.AskedAtOnce.{MeetsNothing, SaysByTheRest}
+use Rattle.theory_runs.proofs.KeywordMeets.{MeetsSoFar}
+use Rattle.schema_run_context.specs.Progress.{busy_at}
+use Rattle.schema_run_context.specs.Works.{Spends}
+use Rattle.schema_run_steps.specs.Turning.{EvaluatesOn}
+use Rattle.theory_runs.specs.UnitStates.{child_unit}
+use Rattle.schema_traits.specs.declared.keyword.Reply.TheVariants as told
 use Rattle.schema_node.proofs.node.+verdict.Given as goal
 
 abbrev pub decreases-verdict::verdict_node : goal.decreases-verdict::verdict_node

@@ -1,6 +1,6 @@
 use Rattle.std.proofs.Common.{◌≡◌, ◌++◌, Bool, map, drop}
 use Rattle.std.specs.List.{flat_map}
-use Rattle.schema_definitions.specs.Reports.{units_of}
+use Rattle.theory_definitions.specs.Reports.{units_of}
 use Rattle.schema_reports.specs.UnitViews.{unit_of}
 use Rattle.schema_output.specs.EntryViews.{shown_of}
 use Rattle.schema_output.specs.Output.{reports_in_each, shown_by}

@@ -1,6 +1,6 @@
 use Rattle.std.proofs.Common.{◌≡◌, ◌++◌, map, drop, true}
 use Rattle.serde_json.specs.View.{view}
-use Rattle.schema_definitions.specs.Reports.{units_of}
+use Rattle.theory_definitions.specs.Reports.{units_of}
 use Rattle.schema_reports.specs.UnitViews.{unit_of}
 use Rattle.schema_output.specs.Output.{reports_in_each, unit_object}
 use Rattle.schema_output.proofs.list.+push_objects.Given as goal

@@ -1,6 +1,6 @@
 use Rattle.std.proofs.Common.{◌≡◌, ◌+◌, ◌++◌, ◌∷◌, ◌∙◌, [], append_assoc, arith, ap, drop, map, refl, string_bytes, subst, sym, true}
 use Rattle.std.proofs.lemmas.List.{drop_all, drop_more}
-use Rattle.schema_definitions.specs.Reports.{report_of, units_of}
+use Rattle.theory_definitions.specs.Reports.{report_of, units_of}
 use Rattle.schema_reports.specs.UnitViews.{unit_of}
 use Rattle.schema_output.specs.Output.{reports_in_each, unit_object}
 use Rattle.schema_output.specs.Texts.{Follow, Prints, objects_below}

@@ -1,6 +1,6 @@
 use Rattle.std.proofs.Common.{drop, map, string_bytes, true}
-use Rattle.schema_definitions.specs.Instance.{Text}
-use Rattle.schema_definitions.specs.Reports.{units_of}
+use Rattle.theory_definitions.specs.Instance.{Text}
+use Rattle.theory_definitions.specs.Reports.{units_of}
 use Rattle.schema_reports.specs.UnitViews.{unit_of}
 use Rattle.schema_output.specs.Output.{reports_in_each, unit_object}
 use Rattle.schema_output.specs.Texts.{Follow}

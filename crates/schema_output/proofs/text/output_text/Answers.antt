@@ -1,5 +1,5 @@
 use Rattle.std.proofs.Common.{◌≡◌, ◌++◌, ◌∙◌, ap, string_bytes, subst, sym, true}
-use Rattle.schema_definitions.specs.Reports.{report_of}
+use Rattle.theory_definitions.specs.Reports.{report_of}
 use Rattle.schema_reports.specs.UnitViews.{unit_of}
 use Rattle.schema_output.specs.Output.{output_list, unit_object}
 use Rattle.schema_output.specs.Texts.{Follow, IsJsonText, Prints, closing, objects_below, opening}

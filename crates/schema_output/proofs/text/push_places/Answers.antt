@@ -1,7 +1,7 @@
 use Rattle.std.proofs.Common.{◌≡◌, ◌++◌, ◌∙◌, ap, ap₂, codes, string_bytes, subst, sym}
 use Rattle.std.proofs.lemmas.Result.{IfOk-equal}
 use Rattle.json.specs.Print.{escape, quoted}
-use Rattle.schema_definitions.specs.Instance.{Text}
+use Rattle.theory_definitions.specs.Instance.{Text}
 use Rattle.schema_output.specs.Texts.{plain_places_text, valid_text}
 use Rattle.schema_output.proofs.PlainPlaces.{plain_places}
 use Rattle.schema_output.proofs.Pushes.{behind, pushed_whole}

@@ -9,7 +9,7 @@ use Rattle.serde_json.specs.Data.{item}
 use Rattle.serde_json.specs.View.{items_view, members_view, view}
 use Rattle.serde_json.specs.declared.value.Value.{Value}
 use Rattle.serde_json.proofs.Views.{Entry}
-use Rattle.schema_definitions.specs.Instance.{item_places, member_places}
+use Rattle.theory_definitions.specs.Instance.{item_places, member_places}
 use Rattle.schema_places.specs.Rows.{Laid, NamesAscendInItems, NamesAscendInMembers, item_numbers, item_rows, items_below, laid, member_rows, members_below, name_numbers, own_name}
 use Rattle.schema_places.proofs.Laying.{container_done, item_row, length_items, length_members, member_row, names_step}
 use Rattle.schema_places.proofs.Sitting.{count_items, count_members, items_ready, members_ready}

@@ -1,6 +1,6 @@
 use Rattle.std.proofs.Common.{◌≡◌, ◌∙◌, ap, sym, ℕ, ◌+◌, arith}
 use Rattle.std.specs.Prelude.{slice_get}
-use Rattle.schema_definitions.specs.Instance.{to_item}
+use Rattle.theory_definitions.specs.Instance.{to_item}
 use Rattle.schema_reports.specs.InstanceViews.{step_of}
 use Rattle.schema_reports.specs.declared.instance.InstanceStep.{InstanceStep}
 use Rattle.schema_places.specs.Rows.{leads_to_items, led_by}

@@ -1,5 +1,5 @@
 use Rattle.std.proofs.Common.{◌≡◌, map, drop}
-use Rattle.schema_definitions.specs.Instance.{same_place}
+use Rattle.theory_definitions.specs.Instance.{same_place}
 use Rattle.schema_reports.specs.InstanceViews.{step_of}
 use Rattle.schema_reports.proofs.instance.same_steps.Given as goal
 

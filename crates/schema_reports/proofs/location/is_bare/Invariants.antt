@@ -1,5 +1,5 @@
 use Rattle.std.proofs.Common.{◌≡◌, take, true}
-use Rattle.schema_definitions.specs.Pointer.{escaped}
+use Rattle.theory_definitions.specs.Pointer.{escaped}
 use Rattle.schema_reports.proofs.location.is_bare.Given as goal
 
 abbrev pub invariant-loop-byte : goal.invariant-loop-byte

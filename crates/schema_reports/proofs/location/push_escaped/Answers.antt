@@ -4,7 +4,7 @@ use Rattle.std.proofs.lemmas.List.{length_push}
 use Rattle.std.proofs.lemmas.Iterator.Consumers.{YieldsList-turn, YieldsList-end}
 use Rattle.std.specs.Str.{chars}
 use lib.Utf8.{encode, encodes}
-use Rattle.schema_definitions.specs.Pointer.{escaped}
+use Rattle.theory_definitions.specs.Pointer.{escaped}
 use Rattle.schema_reports.proofs.Escaped.{escaped_left, escaped_end, spelled}
 use Rattle.schema_reports.proofs.location.push_escaped.Goals as goal
 

@@ -1,7 +1,7 @@
 use Rattle.std.proofs.Common.{◌≡◌, ◌++◌, length, drop, string_bytes}
 use Rattle.std.specs.Str.{chars}
 use lib.Utf8.{encodes}
-use Rattle.schema_definitions.specs.Pointer.{escaped}
+use Rattle.theory_definitions.specs.Pointer.{escaped}
 use Rattle.schema_reports.proofs.location.push_escaped.Given as goal
 
 abbrev pub invariant-loop-c : goal.invariant-loop-c

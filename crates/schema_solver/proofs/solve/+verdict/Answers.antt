@@ -1,52 +1,52 @@
 use Rattle.std.proofs.Common.{◌≡◌, ◌∙◌, ◌+◌, ◌*◌, ◌<◌, ◌≤◌, ◌||◌, not, ℕ, Bool, suc, zero, arith, sym, refl, rules, ap, ap₂, subst, drop, map, option_map, string_bytes, length, Some, None, false, true, List, [], ◌∷◌, ◌++◌}
 use Rattle.serde_json.specs.View.{view}
-use Rattle.schema_definitions.specs.Keywords.{down, here, Answer, Question, ask, done, ecma, mark, match_text, no_reply, truth, unmark}
-use Rattle.schema_definitions.specs.Laws.{EachKeeps}
-use Rattle.schema_definitions.specs.Instance.{after_step}
-use Rattle.schema_definitions.specs.Guarded.{node_keyword}
+use Rattle.theory_definitions.specs.Keywords.{down, here, Answer, Question, ask, done, ecma, mark, match_text, no_reply, truth, unmark}
+use Rattle.theory_definitions.specs.Laws.{EachKeeps}
+use Rattle.theory_definitions.specs.Instance.{after_step}
+use Rattle.theory_definitions.specs.Guarded.{node_keyword}
 use Rattle.std.proofs.lemmas.Bool.{or_left, or_right}
 use Rattle.std.specs.Prelude.{Contains, IfOk, IfSome, Ok, Option, take}
 use Rattle.std.proofs.lemmas.List.{take_rest}
 use Rattle.std.proofs.lemmas.Result.{IfErr-weaker}
-use Rattle.schema_meaning.specs.Numbered.{left}
-use Rattle.schema_meaning.proofs.TurnsGiveRuns.{keeps_of_turns}
+use Rattle.theory_meaning.specs.Numbered.{left}
+use Rattle.theory_meaning.proofs.TurnsGiveRuns.{keeps_of_turns}
 use Rattle.schema_reports.specs.InstanceViews.{step_of, subject_of}
-use Rattle.schema_parts.specs.EdgeViews.{edge_of}
+use Rattle.schema_traits.specs.EdgeViews.{edge_of}
 use Rattle.asked_questions.specs.Members.{at_their_names}
 use Rattle.asked_questions.specs.Questions.{SaysByQuestions, StandsThere, at_names, below_in, question_in}
-use Rattle.schema_parts.specs.KeywordViews.{below_of, answer_of, keyword_point, marked_of, mode_of, reply_of, spot_point, turn_of}
-use Rattle.schema_parts.specs.declared.asking.Asking.TheVariants as asking
-use Rattle.schema_parts.specs.declared.numbers.SchemaNode.{SchemaNode}
-use Rattle.schema_parts.proofs.Drops.{drop_at, drop_past}
-use Rattle.schema_parts.proofs.Replies.{if_ok_both, if_ok_mono}
+use Rattle.schema_traits.specs.KeywordViews.{below_of, answer_of, keyword_point, marked_of, mode_of, reply_of, spot_point, turn_of}
+use Rattle.schema_traits.specs.declared.asking.Asking.TheVariants as asking
+use Rattle.schema_traits.specs.declared.numbers.SchemaNode.{SchemaNode}
+use Rattle.schema_traits.proofs.Drops.{drop_at, drop_past}
+use Rattle.schema_traits.proofs.Replies.{if_ok_both, if_ok_mono}
 use Rattle.schema_places.specs.Numbers.{OwnNumbers}
-use Rattle.schema_contexts.specs.Progress.{busy_at, root_places}
-use Rattle.schema_contexts.proofs.Pairs.{busy-below}
-use Rattle.node_table.specs.NodeTable.{numbered, shaped_form, shaped_part}
-use Rattle.node_table.specs.NodeViews.{entry_of, node_of, plan_of}
-use Rattle.node_table.specs.declared.node.Entry.{Entry}
-use Rattle.run_steps.specs.EvaluationPlaces.{CarriesItsNumber, steps_to}
-use Rattle.run_steps.proofs.NodeParts.{later, part_at, plan_is, reference_edge, keyword_children}
-use Rattle.schema_greatest.specs.Stages.{ChildTells, EdgeTells, Fits, FormTells, PartsTell, parts_by}
-use Rattle.schema_greatest.proofs.Says.{child_some, edge_below, edge_by_node, edge_by_pair, node_says_parts}
+use Rattle.schema_run_context.specs.Progress.{busy_at, root_places}
+use Rattle.schema_run_context.proofs.Pairs.{busy-below}
+use Rattle.schema_node_table.specs.NodeTable.{numbered, shaped_form, shaped_part}
+use Rattle.schema_node_table.specs.NodeViews.{entry_of, node_of, plan_of}
+use Rattle.schema_node_table.specs.declared.node.Entry.{Entry}
+use Rattle.schema_run_steps.specs.EvaluationPlaces.{CarriesItsNumber, steps_to}
+use Rattle.schema_run_steps.proofs.NodeParts.{later, part_at, plan_is, reference_edge, keyword_children}
+use Rattle.theory_fixed_points.specs.Stages.{ChildTells, EdgeTells, Fits, FormTells, PartsTell, parts_by}
+use Rattle.theory_fixed_points.proofs.Says.{child_some, edge_below, edge_by_node, edge_by_pair, node_says_parts}
 use Rattle.schema_solver.specs.Asked.{is_followed_in, solver_by}
-use Rattle.schema_pairs.specs.Contexts.{Solver, found_of, has_pair, solver_places}
+use Rattle.schema_solver_state.specs.Contexts.{Solver, found_of, has_pair, solver_places}
 use Rattle.schema_solver.specs.Needs.{SaysByTheRest, SaysTheRest, pair_needs}
-use Rattle.schema_pairs.specs.Answering.{Accepts, Begins, Refuses}
-use Rattle.schema_pairs.specs.Saying.{WhatIsSaid}
+use Rattle.schema_solver_state.specs.Answering.{Accepts, Begins, Refuses}
+use Rattle.schema_solver_state.specs.Saying.{WhatIsSaid}
 use Rattle.schema_solver.specs.Solved.{MayAsk, Solves, Stops, a_pair, the_asker}
 use Rattle.schema_solver.specs.Solving.{Goes, HasRoom, InEach, MaySolve, is_cut, solving_in}
-use Rattle.schema_pairs.specs.SolverPairs.{IsNumbered, place_of}
-use Rattle.run_steps.specs.VerdictRuns.{told_reply}
+use Rattle.schema_solver_state.specs.SolverPairs.{IsNumbered, place_of}
+use Rattle.schema_run_steps.specs.VerdictRuns.{told_reply}
 use Rattle.schema_solver.proofs.Asking.{edge_among, may_cross, may_go_below}
 use Rattle.schema_solver.proofs.Crossing.{apart_mark, at_pair, cut_guards, entry_accepts, entry_refuses, last_says, rest_says, falls_across, falls_across_below, falls_entered, needs_of_cut, needs_of_free, pair_new, pair_ran, ran_kept, says_at_once, solvable_here, told_accepts, told_refuses}
 use Rattle.schema_solver.proofs.Going.{goes_below, goes_none, goes_on, may_after}
 use Rattle.schema_solver.proofs.PairSteps.{begun_may, within_begun}
 use Rattle.schema_solver.specs.ToldAtOnce.{waiting}
 use Rattle.schema_solver.proofs.solve.+verdict.Goals.{entries::solve_entries-in-None+in-None-waits, entries::solve_entries-in-Some+else-not-valid, edges::solve_edge-then-edge-via-then-edge, edges::solve_edge-then-edge-via-else-edge+then-not-is_followed}
-use Rattle.schema_definitions.specs.Matching.{Pair}
-use Rattle.run_steps.specs.NodeRuns.{HasChildren, HasForm, form_at_work}
-use Rattle.run_steps.proofs.KeywordTurns.{asks_there, can_after, falls_turned, tells_nothing, ask_goes_on, match_goes_on, ecma_goes_on, mark_goes_on, unmark_goes_on}
+use Rattle.theory_definitions.specs.Matching.{Pair}
+use Rattle.schema_run_steps.specs.NodeRuns.{HasChildren, HasForm, form_at_work}
+use Rattle.schema_run_steps.proofs.KeywordTurns.{asks_there, can_after, falls_turned, tells_nothing, ask_goes_on, match_goes_on, ecma_goes_on, mark_goes_on, unmark_goes_on}
 use Rattle.schema_solver.proofs.Turned.{asked_verdict, asks_begun, asks_on, begun_with, can_begun, carries_on, goes_marked, leads_asked, leads_begun, leads_ended, leads_marked, leads_matched, leads_told, leads_unmarked, says_after, stepped_by, turned_by}
 use Rattle.asked_questions.proofs.AnswersSay.{present_there, says_by_questions}
 use Rattle.schema_solver.proofs.ByQuestions.{match_says, question_ends, question_goes_on, questions_begin, questions_end}

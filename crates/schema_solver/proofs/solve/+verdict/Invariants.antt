@@ -1,21 +1,21 @@
 use Rattle.std.proofs.Common.{◌≡◌, ◌+◌, ◌*◌, ◌<◌, ◌++◌, List, drop, length, map, false, true, option_map}
 use Rattle.std.specs.Prelude.{IfSome}
 use Rattle.serde_json.specs.View.{view}
-use Rattle.schema_meaning.specs.Numbered.{left}
+use Rattle.theory_meaning.specs.Numbered.{left}
 use Rattle.schema_reports.specs.InstanceViews.{subject_of}
-use Rattle.schema_parts.specs.EdgeViews.{edge_of}
-use Rattle.schema_contexts.specs.Progress.{busy_at}
-use Rattle.node_table.specs.NodeTable.{numbered, shaped_part}
-use Rattle.node_table.specs.NodeViews.{entry_of}
-use Rattle.node_table.specs.declared.node.Entry.{Entry}
-use Rattle.run_steps.specs.EvaluationPlaces.{steps_to}
+use Rattle.schema_traits.specs.EdgeViews.{edge_of}
+use Rattle.schema_run_context.specs.Progress.{busy_at}
+use Rattle.schema_node_table.specs.NodeTable.{numbered, shaped_part}
+use Rattle.schema_node_table.specs.NodeViews.{entry_of}
+use Rattle.schema_node_table.specs.declared.node.Entry.{Entry}
+use Rattle.schema_run_steps.specs.EvaluationPlaces.{steps_to}
 use Rattle.schema_solver.specs.Asked.{is_followed_in, solver_by}
-use Rattle.schema_pairs.specs.Contexts.{found_of}
+use Rattle.schema_solver_state.specs.Contexts.{found_of}
 use Rattle.schema_solver.specs.Needs.{SaysByTheRest, SaysTheRest, edge_needs, pair_needs}
 use Rattle.schema_solver.specs.Solving.{Goes, InEach, is_cut}
 use Rattle.schema_solver.specs.ToldAtOnce.{waiting}
-use Rattle.schema_parts.specs.KeywordViews.{answer_of}
-use Rattle.run_steps.specs.VerdictRuns.{told_reply}
+use Rattle.schema_traits.specs.KeywordViews.{answer_of}
+use Rattle.schema_run_steps.specs.VerdictRuns.{told_reply}
 use Rattle.schema_solver.specs.TurningOn.{AsksOn, TurnsOn}
 use Rattle.schema_solver.proofs.solve.+verdict.Given as goal
 

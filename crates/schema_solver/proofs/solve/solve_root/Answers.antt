@@ -1,15 +1,15 @@
 use Rattle.std.proofs.Common.{◌≡◌, ◌∙◌, Bool, [], ap, inr, refl, subst, sym}
 use Rattle.std.specs.Prelude.{is_some}
 use Rattle.serde_json.specs.View.{view}
-use Rattle.schema_definitions.specs.Instance.{a_value}
-use Rattle.schema_definitions.specs.Laws.{EachKeeps}
-use Rattle.schema_meaning.proofs.TurnsGiveRuns.{keeps_of_turns}
-use Rattle.node_table.proofs.RankedTable.{ranked_table}
-use Rattle.run_steps.specs.EvaluationPlaces.{steps_to}
-use Rattle.schema_greatest.specs.Stages.{Tells}
+use Rattle.theory_definitions.specs.Instance.{a_value}
+use Rattle.theory_definitions.specs.Laws.{EachKeeps}
+use Rattle.theory_meaning.proofs.TurnsGiveRuns.{keeps_of_turns}
+use Rattle.schema_node_table.proofs.RankedTable.{ranked_table}
+use Rattle.schema_run_steps.specs.EvaluationPlaces.{steps_to}
+use Rattle.theory_fixed_points.specs.Stages.{Tells}
 use Rattle.schema_solver.specs.Asked.{solver_of}
-use Rattle.schema_pairs.specs.Contexts.{found_of, solver_places}
-use Rattle.schema_pairs.specs.Answering.{fresh}
+use Rattle.schema_solver_state.specs.Contexts.{found_of, solver_places}
+use Rattle.schema_solver_state.specs.Answering.{fresh}
 use Rattle.schema_solver.specs.Solving.{Goes, InEach, IsLate, MaySolve, StaysWithin}
 use Rattle.schema_solver.proofs.Going.{end_few, end_holds, end_rests, end_says, end_sound, end_within, fresh_may, root_late, root_within}
 use Rattle.schema_solver.proofs.Stopping.{not_leaning}

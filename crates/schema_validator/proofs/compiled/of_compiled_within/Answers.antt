@@ -1,12 +1,12 @@
 use Rattle.std.proofs.Common.{sym, ◌∙◌, ap, subst, length}
-use Rattle.schema_definitions.specs.Laws.{EachKeeps}
-use Rattle.schema_meaning.specs.Headline.{Plainly, PlainlyWithUnits}
-use Rattle.schema_keywords.specs.KeywordTable.{builtin_in}
-use Rattle.schema_meaning.specs.Means as means
-use Rattle.schema_meaning.proofs.TurnsGiveRuns.{keeps_of_turns}
-use Rattle.node_table.specs.NodeTable.{numbered}
-use Rattle.schema_meaning.specs.Fractions.{AreWhole}
-use Rattle.schema_answers.specs.Program.{HaveUnits, Program, Means}
+use Rattle.theory_definitions.specs.Laws.{EachKeeps}
+use Rattle.theory_meaning.specs.Headline.{Plainly, PlainlyWithUnits}
+use Rattle.schema_drafts.specs.KeywordTable.{builtin_in}
+use Rattle.theory_meaning.specs.Means as means
+use Rattle.theory_meaning.proofs.TurnsGiveRuns.{keeps_of_turns}
+use Rattle.schema_node_table.specs.NodeTable.{numbered}
+use Rattle.theory_meaning.specs.Fractions.{AreWhole}
+use Rattle.schema_compiled.specs.Program.{HaveUnits, Program, Means}
 use Rattle.schema_validator.specs.Handed.{table_of, parts_of}
 use Rattle.schema_validator.proofs.Built.{whole_from, means_from, units_from}
 use Rattle.schema_validator.proofs.compiled.of_compiled_within.Goals as goal

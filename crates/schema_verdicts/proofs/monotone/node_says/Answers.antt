@@ -1,10 +1,10 @@
 use Rattle.std.proofs.Common.{◌∙◌, Some, ap, sym}
 use Rattle.std.specs.List.{list_all}
 use Rattle.schema_verdicts.specs.Saying.{form_says}
-use Rattle.node_table.specs.NodeViews.{form_of}
-use Rattle.node_table.specs.declared.node.Entry.{Entry}
+use Rattle.schema_node_table.specs.NodeViews.{form_of}
+use Rattle.schema_node_table.specs.declared.node.Entry.{Entry}
 use Rattle.schema_verdicts.proofs.Says.{entries_say, form_in}
-use Rattle.node_table.specs.declared.node.NodeForm.TheVariants.{Keywords}
+use Rattle.schema_node_table.specs.declared.node.NodeForm.TheVariants.{Keywords}
 use Rattle.schema_verdicts.proofs.monotone.node_says.Goals as goal
 
 pub returns-in-Keywords : goal.returns-in-Keywords

@@ -1,10 +1,10 @@
 use Rattle.std.proofs.Common.{◌∙◌, Some, ap, sym}
 use Rattle.std.specs.List.{list_all}
 use Rattle.shown_fractions.specs.Shown.{form_is_whole}
-use Rattle.node_table.specs.NodeViews.{form_of}
-use Rattle.node_table.specs.declared.node.Entry.{Entry}
+use Rattle.schema_node_table.specs.NodeViews.{form_of}
+use Rattle.schema_node_table.specs.declared.node.Entry.{Entry}
 use Rattle.shown_fractions.proofs.Tables.{entries_say, form_in}
-use Rattle.node_table.specs.declared.node.NodeForm.TheVariants.{Keywords}
+use Rattle.schema_node_table.specs.declared.node.NodeForm.TheVariants.{Keywords}
 use Rattle.shown_fractions.proofs.nodes.node_shows_none.Goals as goal
 
 pub returns-in-Keywords : goal.returns-in-Keywords

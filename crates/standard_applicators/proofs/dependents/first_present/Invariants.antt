@@ -1,6 +1,6 @@
 use Rattle.std.proofs.Common.{◌≡◌, map, drop, string_bytes}
 use Rattle.schema_reports.specs.InstanceViews.{subject_of}
-use Rattle.keyword_ways.specs.Somes.{first_some, some_from}
+use Rattle.keyword_authoring.specs.Somes.{first_some, some_from}
 use Rattle.standard_applicators.specs.Dependents.{dependents_from}
 use Rattle.standard_applicators.proofs.dependents.first_present.Given as goal
 

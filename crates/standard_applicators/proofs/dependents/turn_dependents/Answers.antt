@@ -1,9 +1,9 @@
 use Rattle.std.proofs.Common.{◌≤◌, [], List, Option, map, length, string_bytes, arith}
 use Rattle.std.proofs.lemmas.List.{length-map}
 use Rattle.schema_reports.specs.InstanceViews.{subject_of}
-use Rattle.schema_definitions.specs.Keywords.{Question}
-use Rattle.schema_parts.specs.KeywordViews.{answer_of}
-use Rattle.keyword_ways.proofs.NextQuestions.{some_stepped, some_turned}
+use Rattle.theory_definitions.specs.Keywords.{Question}
+use Rattle.schema_traits.specs.KeywordViews.{answer_of}
+use Rattle.keyword_authoring.proofs.NextQuestions.{some_stepped, some_turned}
 use Rattle.standard_applicators.specs.Dependents.{dependents_from}
 use Rattle.standard_applicators.proofs.NextDependents.{length-dependents}
 use Rattle.standard_applicators.proofs.dependents.turn_dependents.Goals as goal

@@ -1,7 +1,7 @@
 use Rattle.std.proofs.Common.{◌≡◌, ◌∙◌, sym, subst}
-use Rattle.schema_parts.specs.KeywordViews.{answer_of, reply_of, turn_of}
-use Rattle.keyword_ways.specs.Items.{first_at_item, each_from}
-use Rattle.keyword_ways.specs.Ways.{passes_on, way_step, way_turn}
+use Rattle.schema_traits.specs.KeywordViews.{answer_of, reply_of, turn_of}
+use Rattle.keyword_authoring.specs.Items.{first_at_item, each_from}
+use Rattle.keyword_authoring.specs.Ways.{passes_on, way_step, way_turn}
 use Rattle.standard_applicators.proofs.items.turn_later_items.Goals as goal
 
 pub returns-clause-turns : goal.returns-clause-turns

@@ -1,4 +1,4 @@
-use Rattle.keyword_ways.specs.Items.{is_list}
+use Rattle.keyword_authoring.specs.Items.{is_list}
 use Rattle.standard_applicators.proofs.ContainsMeant.{contains_faults, contains_hold}
 use Rattle.standard_applicators.proofs.meanings.contains_means.Goals as goal
 

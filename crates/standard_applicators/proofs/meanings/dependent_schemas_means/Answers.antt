@@ -1,4 +1,4 @@
-use Rattle.keyword_ways.specs.Somes.{somes}
+use Rattle.keyword_authoring.specs.Somes.{somes}
 use Rattle.standard_applicators.specs.Dependents.{dependents_from}
 use Rattle.standard_applicators.proofs.Meant.{dependents_hold, faults_passed}
 use Rattle.standard_applicators.proofs.meanings.dependent_schemas_means.Goals as goal

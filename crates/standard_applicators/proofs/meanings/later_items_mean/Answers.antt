@@ -1,5 +1,5 @@
 use Rattle.std.proofs.Common.{◌-◌}
-use Rattle.keyword_ways.specs.Items.{item_count}
+use Rattle.keyword_authoring.specs.Items.{item_count}
 use Rattle.standard_applicators.specs.Meanings.{at_items, schema_at}
 use Rattle.standard_applicators.proofs.Meant.{faults_passed, later_hold}
 use Rattle.standard_applicators.proofs.meanings.later_items_mean.Goals as goal

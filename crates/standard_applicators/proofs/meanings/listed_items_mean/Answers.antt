@@ -1,5 +1,5 @@
 use Rattle.std.proofs.Common.{min}
-use Rattle.keyword_ways.specs.Items.{each_from, item_count}
+use Rattle.keyword_authoring.specs.Items.{each_from, item_count}
 use Rattle.standard_applicators.specs.Meanings.{schema_at}
 use Rattle.standard_applicators.proofs.Meant.{faults_passed, listed_hold}
 use Rattle.standard_applicators.proofs.meanings.listed_items_mean.Goals as goal

@@ -1,7 +1,7 @@
 use Rattle.std.proofs.Common.{codes, nat_le, sym, ◌∙◌}
 use Rattle.std.proofs.lemmas.Bool.{le-leb, leb-true}
 use Rattle.schema_reports.specs.ReportViews.{spoken}
-use Rattle.keyword_ways.specs.Items.{item_count}
+use Rattle.keyword_authoring.specs.Items.{item_count}
 use Rattle.standard_applicators.specs.Unexpected.{error_text}
 use Rattle.standard_applicators.proofs.Meant.{nil_unless, one_unless}
 use Rattle.standard_applicators.proofs.meanings.no_later_items_means.Goals as goal

@@ -1,12 +1,12 @@
 use Rattle.std.proofs.Common.{true, false, ◌+◌, ◌∙◌, ◌≡◌, ◌<◌, ◌∷◌, ap, codes, drop, length, rules, sym}
 use Rattle.std.specs.List.{list_any}
-use Rattle.schema_parts.specs.declared.keyword.Mode.TheVariants as mode
+use Rattle.schema_traits.specs.declared.keyword.Mode.TheVariants as mode
 use Rattle.schema_reports.specs.InstanceViews.{subject_of}
-use Rattle.schema_parts.specs.KeywordViews.{answer_of}
-use Rattle.schema_parts.proofs.Drops.{drop_at}
-use Rattle.schema_definitions.specs.Keywords.{own}
+use Rattle.schema_traits.specs.KeywordViews.{answer_of}
+use Rattle.schema_traits.proofs.Drops.{drop_at}
+use Rattle.theory_definitions.specs.Keywords.{own}
 use Rattle.schema_reports.specs.ReportViews.{spoken}
-use Rattle.keyword_ways.specs.Ways.{noted, noted_one, plain}
+use Rattle.keyword_authoring.specs.Ways.{noted, noted_one, plain}
 use Rattle.standard_applicators.specs.Wanting.{is_unmet}
 use Rattle.standard_applicators.proofs.UnmetWants.{none_unmet, some_unmet, texts_later, told_texts, told_unmet}
 use Rattle.standard_applicators.proofs.wants.tell_unmet.Goals.{then-is_unmet+in_ok-text+in_ok-note, else-is_unmet}

@@ -1,9 +1,9 @@
 use Rattle.std.proofs.Common.{◌≡◌, Bool, drop, codes, All}
 use Rattle.serde_json.specs.Data.{Data}
-use Rattle.schema_parts.specs.FaultViews.{faults_in, PassesBorrowed}
+use Rattle.schema_traits.specs.FaultViews.{faults_in, PassesBorrowed}
 use Rattle.schema_reports.specs.InstanceViews.{subject_of}
-use Rattle.schema_parts.specs.KeywordViews.{answer_of}
-use Rattle.keyword_ways.specs.Ways.{noted}
+use Rattle.schema_traits.specs.KeywordViews.{answer_of}
+use Rattle.keyword_authoring.specs.Ways.{noted}
 use Rattle.standard_applicators.proofs.UnmetWants.{told_texts}
 use Rattle.standard_applicators.proofs.wants.tell_unmet.Given as goal
 

@@ -1,7 +1,7 @@
 use Rattle.std.proofs.Common.{◌≡◌, drop}
 use Rattle.serde_json.specs.View.{items_view}
 use Rattle.schema_reports.specs.InstanceViews.{subject_of}
-use Rattle.schema_parts.specs.KeywordViews.{is_nil}
+use Rattle.schema_traits.specs.KeywordViews.{is_nil}
 use Rattle.standard_assertions.specs.Dependents.{missing_names}
 use Rattle.standard_assertions.proofs.dependents.has_each.Given as goal
 

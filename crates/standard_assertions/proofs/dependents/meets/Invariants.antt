@@ -1,7 +1,7 @@
 use Rattle.std.proofs.Common.{◌≡◌}
 use Rattle.serde_json.specs.View.{members_view}
 use Rattle.schema_reports.specs.InstanceViews.{subject_of}
-use Rattle.schema_parts.specs.KeywordViews.{is_nil}
+use Rattle.schema_traits.specs.KeywordViews.{is_nil}
 use Rattle.standard_assertions.specs.Dependents.{wanted_by_each}
 use Rattle.standard_assertions.proofs.dependents.meets.Given as goal
 

@@ -1,7 +1,7 @@
 use Rattle.std.proofs.Common.{◌≡◌, ◌++◌, drop, map, string_bytes}
 use Rattle.serde_json.specs.View.{items_view}
 use Rattle.schema_reports.specs.InstanceViews.{subject_of}
-use Rattle.bench_keywords.specs.Words.{required_text}
+use Rattle.standard_basics.specs.Words.{required_text}
 use Rattle.standard_assertions.specs.Dependents.{missing_names}
 use Rattle.standard_assertions.proofs.dependents.push_missing.Given as goal
 

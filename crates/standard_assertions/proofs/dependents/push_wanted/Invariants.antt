@@ -1,7 +1,7 @@
 use Rattle.std.proofs.Common.{◌≡◌, ◌++◌, map, string_bytes}
 use Rattle.serde_json.specs.View.{members_view}
 use Rattle.schema_reports.specs.InstanceViews.{subject_of}
-use Rattle.bench_keywords.specs.Words.{required_text}
+use Rattle.standard_basics.specs.Words.{required_text}
 use Rattle.standard_assertions.specs.Dependents.{wanted_by_each}
 use Rattle.standard_assertions.proofs.dependents.push_wanted.Given as goal
 

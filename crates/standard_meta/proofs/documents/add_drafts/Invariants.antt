@@ -1,5 +1,5 @@
 use Rattle.std.proofs.Common.{◌≡◌, ◌++◌, drop, map}
-use Rattle.schema_keywords.specs.KeywordViews.{draft_of}
+use Rattle.schema_drafts.specs.KeywordViews.{draft_of}
 use Rattle.meta_schemas.specs.MetaUris.{uri_of}
 use Rattle.standard_meta.specs.MetaDocuments.{draft_uris, given_of, uris_of}
 use Rattle.standard_meta.proofs.documents.add_drafts.Given as goal

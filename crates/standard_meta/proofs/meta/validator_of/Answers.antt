@@ -1,5 +1,5 @@
 use Rattle.std.proofs.Common.{ap, false, sym, ◌∙◌}
-use Rattle.schema_parts.proofs.Replies.{if_ok_mono}
+use Rattle.schema_traits.proofs.Replies.{if_ok_mono}
 use Rattle.schema_validator.specs.Handed.{Options}
 use Rattle.standard_meta.proofs.Meanings.{compiled_by}
 use Rattle.standard_meta.proofs.meta.validator_of.Goals as goal

@@ -1,7 +1,7 @@
 use Rattle.std.proofs.Common.{drop, refl, ℕ}
 use Rattle.serde_json.specs.Data.{object}
 use Rattle.serde_json.specs.View.{members_view}
-use Rattle.schema_definitions.specs.Instance.{a_value}
+use Rattle.theory_definitions.specs.Instance.{a_value}
 use Rattle.asked_questions.specs.Questions.{at_names}
 use Rattle.asked_questions.proofs.FirstAsked.{says_first}
 use Rattle.asked_questions.proofs.members.MembersQuestions.next.Goals as goal

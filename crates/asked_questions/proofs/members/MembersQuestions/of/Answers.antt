@@ -1,7 +1,7 @@
 use Rattle.std.proofs.Common.{subst, sym}
 use Rattle.serde_json.specs.Data.{object}
 use Rattle.serde_json.specs.View.{members_view}
-use Rattle.schema_definitions.specs.Instance.{a_value}
+use Rattle.theory_definitions.specs.Instance.{a_value}
 use Rattle.asked_questions.specs.Members.{HaveAllOf}
 use Rattle.asked_questions.proofs.MemberWalks.{all_had}
 use Rattle.asked_questions.proofs.members.MembersQuestions.of.Goals as goal

@@ -1,7 +1,7 @@
 use Rattle.std.proofs.Common.{refl}
 use Rattle.serde_json.specs.Data.{object}
 use Rattle.serde_json.specs.View.{members_view}
-use Rattle.schema_definitions.specs.Instance.{a_value}
+use Rattle.theory_definitions.specs.Instance.{a_value}
 use Rattle.asked_questions.specs.Members.{at_their_names}
 use Rattle.asked_questions.proofs.FirstAsked.{says_first}
 use Rattle.asked_questions.proofs.names.NamesQuestions.next.Goals as goal

@@ -1,6 +1,6 @@
 use Rattle.std.proofs.Common.{◌≡◌, ◌∙◌, ◌==◌, [], ◌∷◌, ℕ, Bool, Global, List, String, ap, arith, length, map, refl, string_bytes, subst, suc, sym, true}
 use Rattle.std.proofs.lemmas.Bool.{eqb-true, ne_eqb}
-use Rattle.schema_parts.specs.MatcherViews.{FinishesEach}
+use Rattle.schema_traits.specs.MatcherViews.{FinishesEach}
 use Rattle.bench_parts.specs.BenchMatching.{bench_matcher, leaves_none}
 use Rattle.bench_parts.proofs.matcher.BenchMatcherMatcher.finishes.Goals as goal
 

@@ -1,7 +1,7 @@
 use Rattle.std.proofs.Common.{List, map, string_bytes, subst, true, ◌≡◌}
 use Rattle.schema_reports.specs.ReportViews.{error_of}
 use Rattle.schema_reports.specs.declared.reports.ValidationError.{ValidationError}
-use Rattle.schema_parts.specs.KeywordViews.{is_nil}
+use Rattle.schema_traits.specs.KeywordViews.{is_nil}
 use Rattle.bench_program.specs.ProgramTexts.{errors_text}
 use Rattle.bench_program.proofs.ErrorLists.{all_counted, all_printed}
 use Rattle.bench_program.proofs.program.answers.errors.Goals as goal

@@ -1,6 +1,6 @@
 use Rattle.std.proofs.Common.{map, string_bytes, true, ◌&&◌, ◌++◌, ◌≡◌}
 use Rattle.schema_reports.specs.ReportViews.{error_of}
-use Rattle.schema_parts.specs.KeywordViews.{is_nil}
+use Rattle.schema_traits.specs.KeywordViews.{is_nil}
 use Rattle.bench_program.specs.ProgramTexts.{errors_text}
 use Rattle.bench_program.proofs.program.answers.errors.Given as goal
 

@@ -1,6 +1,6 @@
 use Rattle.std.proofs.Common.{ap, is_none, option_map, sym, true, ◌++◌, ◌∙◌}
 use Rattle.schema_reports.specs.ReportViews.{error_of}
-use Rattle.schema_answers.specs.Answers.{refusal_of}
+use Rattle.schema_compiled.specs.Answers.{refusal_of}
 use Rattle.bench_program.specs.ProgramTexts.{error_line, first_text}
 use Rattle.bench_program.proofs.program.answers.first.Goals as goal
 

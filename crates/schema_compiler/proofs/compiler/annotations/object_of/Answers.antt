@@ -3,7 +3,7 @@ use Rattle.std.specs.Prelude.{Some}
 use Rattle.serde_json.specs.Data.{object}
 use Rattle.serde_json.specs.View.{members_view}
 use Rattle.serde_json.proofs.Views.{Entry, view-Object}
-use Rattle.schema_definitions.specs.Units.{object_of}
+use Rattle.theory_definitions.specs.Units.{object_of}
 use Rattle.schema_compiler.proofs.compiler.annotations.object_of.Goals as goal
 
 some_object : (es : List Entry) → (length es ≡ 0 → ⊥) → Some (object (members_view es)) ≡ object_of (members_view es)

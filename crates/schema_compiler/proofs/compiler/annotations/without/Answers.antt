@@ -1,8 +1,8 @@
 use Rattle.std.proofs.Common.{◌≡◌, ◌∙◌, ◌+◌, ◌∷◌, Global, List, String, ap, arith, drop, map, string_bytes, suc, sym, ℕ}
 use Rattle.std.proofs.Math.Seq.{drop-cons}
 use Rattle.serde_json.specs.View.{members_view}
-use Rattle.schema_definitions.specs.Instance.{Text}
-use Rattle.schema_definitions.specs.Units.{without, without_name}
+use Rattle.theory_definitions.specs.Instance.{Text}
+use Rattle.theory_definitions.specs.Units.{without, without_name}
 use Rattle.schema_compiler.proofs.Absorbed.{without_entry}
 use Rattle.schema_compiler.proofs.compiler.annotations.without.Goals as goal
 

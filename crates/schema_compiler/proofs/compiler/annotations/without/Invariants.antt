@@ -1,7 +1,7 @@
 use Rattle.std.proofs.Common.{◌≡◌, drop, map}
 use Rattle.std.specs.Prelude.{string_bytes}
 use Rattle.serde_json.specs.View.{members_view}
-use Rattle.schema_definitions.specs.Units.{without}
+use Rattle.theory_definitions.specs.Units.{without}
 use Rattle.schema_compiler.proofs.compiler.annotations.without.Given as goal
 
 abbrev pub invariant-loop-name : goal.invariant-loop-name

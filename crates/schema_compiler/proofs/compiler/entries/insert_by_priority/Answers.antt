@@ -1,5 +1,5 @@
 use Rattle.std.proofs.Common.{◌∙◌, refl}
-use Rattle.node_table.specs.NodeViews.{entry_of}
+use Rattle.schema_node_table.specs.NodeViews.{entry_of}
 use Rattle.schema_compiler.proofs.Placing.{mapped_insert}
 use Rattle.schema_compiler.proofs.compiler.entries.insert_by_priority.Goals as goal
 

@@ -4,8 +4,8 @@ use Rattle.std.specs.List.{position_or_len}
 use Rattle.std.proofs.lemmas.Iterator.{YieldsList-from_slice}
 use Rattle.std.proofs.lemmas.Iterator.Search.{position_from_yields_List}
 use Rattle.std.proofs.lemmas.List.Sums.{prefix_len-le-length}
-use Rattle.node_table.specs.declared.node.Entry.{Entry}
-use Rattle.node_table.specs.NodeViews.{entry_of}
+use Rattle.schema_node_table.specs.declared.node.Entry.{Entry}
+use Rattle.schema_node_table.specs.NodeViews.{entry_of}
 use Rattle.schema_compiler.specs.Ordering.{placed_after}
 use Rattle.schema_compiler.proofs.Placing.{first_or_end, placed_first}
 use Rattle.schema_compiler.proofs.compiler.entries.place_for.Goals as goal

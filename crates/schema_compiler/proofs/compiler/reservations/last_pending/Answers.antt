@@ -1,8 +1,8 @@
 use Rattle.std.proofs.Common.{◌≡◌, ◌-◌, inl, inr, Some, false, length, map, refl, ap, sym, ◌∙◌, subst, arith}
 use Rattle.std.specs.Prelude.{option_map, slice_get}
 use Rattle.std.proofs.lemmas.Option.{slice_get-map, slice_get_read}
-use Rattle.schema_parts.specs.MakerViews.{purpose_of}
-use Rattle.schema_parts.specs.ResolverViews.{place_of}
+use Rattle.schema_traits.specs.MakerViews.{purpose_of}
+use Rattle.schema_traits.specs.ResolverViews.{place_of}
 use Rattle.schema_compiler.specs.Reserving.{Reserved, is_for}
 use Rattle.schema_compiler.specs.ReservedViews.{reserved_of}
 use Rattle.schema_keys.proofs.Lists.{equal_or, some_is}

@@ -1,7 +1,7 @@
 use Rattle.std.proofs.Common.{◌≡◌, ℕ, ◌≤◌, Some, false, length, map}
 use Rattle.std.specs.Prelude.{slice_get}
-use Rattle.schema_parts.specs.MakerViews.{purpose_of}
-use Rattle.schema_parts.specs.ResolverViews.{place_of}
+use Rattle.schema_traits.specs.MakerViews.{purpose_of}
+use Rattle.schema_traits.specs.ResolverViews.{place_of}
 use Rattle.schema_compiler.specs.Reserving.{Reserved, is_for}
 use Rattle.schema_compiler.specs.ReservedViews.{reserved_of}
 use Rattle.schema_compiler.proofs.compiler.reservations.last_pending.Given as goal

@@ -1,4 +1,4 @@
-use Rattle.schema_parts.specs.ResolverViews.{place_of}
+use Rattle.schema_traits.specs.ResolverViews.{place_of}
 use Rattle.schema_keys.proofs.CheckedDocuments.{AcceptedFrom, FollowsFrom, height}
 use Rattle.schema_keys.proofs.check.SchemaCheck.+check_documents.Given as goal
 

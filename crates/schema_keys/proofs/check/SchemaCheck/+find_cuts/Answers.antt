@@ -4,10 +4,10 @@ use Rattle.serde_json.specs.Data.{Data, null}
 use Rattle.serde_json.specs.View.{view}
 use Rattle.serde_json.specs.declared.value.Value.{Value}
 use Rattle.std.proofs.lemmas.List.{map-append}
-use Rattle.schema_definitions.specs.Drafts as spec
-use Rattle.schema_keywords.specs.KeywordViews.{draft_of}
-use Rattle.schema_meaning.specs.Documents.{Cut, cuts, embedded}
-use Rattle.schema_parts.specs.ResolverViews.{place_of, placed_in, placed_of}
+use Rattle.theory_definitions.specs.Drafts as spec
+use Rattle.schema_drafts.specs.KeywordViews.{draft_of}
+use Rattle.theory_meaning.specs.Documents.{Cut, cuts, embedded}
+use Rattle.schema_traits.specs.ResolverViews.{place_of, placed_in, placed_of}
 use Rattle.schema_keys.specs.Compiling.{Each, resolving_parts}
 use Rattle.schema_keys.specs.CutViews.{cut_of}
 use Rattle.schema_keys.specs.declared.check.embedded.Cut as code

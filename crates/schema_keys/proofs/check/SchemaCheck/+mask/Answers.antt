@@ -8,10 +8,10 @@ use Rattle.serde_json.specs.Data.{no_members, object}
 use Rattle.serde_json.specs.View.{members_view, view}
 use Rattle.serde_json.specs.declared.value.Value.{Value}
 use Rattle.serde_json.proofs.Views.{Entry, members_view-insert_entry}
-use Rattle.schema_definitions.specs.Instance.{Text, to_member}
-use Rattle.schema_definitions.specs.Drafts.{SchemaPlace}
-use Rattle.schema_meaning.specs.Documents.{masked, is_cut}
-use Rattle.schema_parts.specs.ResolverViews.{place_of}
+use Rattle.theory_definitions.specs.Instance.{Text, to_member}
+use Rattle.theory_definitions.specs.Drafts.{SchemaPlace}
+use Rattle.theory_meaning.specs.Documents.{masked, is_cut}
+use Rattle.schema_traits.specs.ResolverViews.{place_of}
 use Rattle.schema_keys.specs.Compiling.{resolving_parts}
 use Rattle.schema_keys.specs.CutViews.{cut_of}
 use Rattle.schema_keys.proofs.MaskedDocuments.{below, child, children_from, children_listed, items_listed, items_of, put_child}

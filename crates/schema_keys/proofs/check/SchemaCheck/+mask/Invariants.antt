@@ -1,8 +1,8 @@
 use Rattle.std.proofs.Common.{◌≡◌, ◌++◌, List, drop, map}
 use Rattle.serde_json.specs.View.{members_view, view}
 use Rattle.serde_json.proofs.Views.{Entry}
-use Rattle.schema_meaning.specs.Documents.{masked_members}
-use Rattle.schema_parts.specs.ResolverViews.{place_of}
+use Rattle.theory_meaning.specs.Documents.{masked_members}
+use Rattle.schema_traits.specs.ResolverViews.{place_of}
 use Rattle.schema_keys.specs.Compiling.{resolving_parts}
 use Rattle.schema_keys.specs.CutViews.{cut_of}
 use Rattle.schema_keys.proofs.MaskedDocuments.{children_from}

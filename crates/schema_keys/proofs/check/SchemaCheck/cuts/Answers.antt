@@ -1,8 +1,8 @@
 use Rattle.std.proofs.Common.{◌∙◌, ap, map, suc, sym}
 use Rattle.serde_json.specs.Data.{depth}
-use Rattle.schema_definitions.specs.Plan.{schema_at}
-use Rattle.schema_keywords.specs.KeywordViews.{draft_of}
-use Rattle.schema_parts.specs.ResolverViews.{place_of}
+use Rattle.theory_definitions.specs.Plan.{schema_at}
+use Rattle.schema_drafts.specs.KeywordViews.{draft_of}
+use Rattle.schema_traits.specs.ResolverViews.{place_of}
 use Rattle.schema_keys.specs.Compiling.{resolving_parts}
 use Rattle.schema_keys.specs.CutViews.{cut_of}
 use Rattle.schema_keys.proofs.CheckedDocuments.{none_cut}

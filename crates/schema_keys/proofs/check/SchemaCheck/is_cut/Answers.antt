@@ -1,7 +1,7 @@
 use Rattle.std.proofs.Common.{◌∙◌, rules, tests}
 use Rattle.std.proofs.lemmas.Iterator.{YieldsList-from_slice}
 use Rattle.std.proofs.lemmas.Iterator.Search.{any_from_yields_List}
-use Rattle.schema_definitions.specs.Instance.{same_place}
+use Rattle.theory_definitions.specs.Instance.{same_place}
 use Rattle.schema_keys.proofs.CustomVocabularies.{any_mapped}
 use Rattle.schema_keys.specs.CutViews.{cut_of}
 use Rattle.schema_keys.proofs.check.SchemaCheck.is_cut.Goals as goal

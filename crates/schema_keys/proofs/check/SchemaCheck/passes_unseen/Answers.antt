@@ -2,7 +2,7 @@ use Rattle.std.proofs.Common.{◌∙◌, ap, sym}
 use Rattle.serde_json.specs.View.{view}
 use Rattle.serde_json.specs.declared.value.Value.{Value}
 use Rattle.serde_json.proofs.Views.{view-Object}
-use Rattle.schema_meaning.specs.Documents.{passes_unseen}
+use Rattle.theory_meaning.specs.Documents.{passes_unseen}
 use Rattle.schema_keys.specs.Compiling.{resolving_parts}
 use Rattle.schema_keys.proofs.MaskedDocuments.{unseen_object}
 use Rattle.schema_keys.proofs.check.SchemaCheck.passes_unseen.Goals as goal

@@ -1,6 +1,6 @@
 use Rattle.std.proofs.Common.{rules}
 use Rattle.serde_json.specs.View.{view}
-use Rattle.schema_keywords.specs.KeywordViews.{draft_of}
+use Rattle.schema_drafts.specs.KeywordViews.{draft_of}
 use Rattle.schema_keys.proofs.CheckedDocuments.{error_kept}
 use Rattle.schema_keys.proofs.check.SchemaCheck.refusal.Goals as goal
 

@@ -2,9 +2,9 @@ use Rattle.std.proofs.Common.{◌≡◌, ◌∙◌, [], List, ap, false, map, su
 use Rattle.std.specs.Prelude.{IfOk, MatchOption, None}
 use Rattle.serde_json.specs.Data.{Data}
 use Rattle.serde_json.specs.View.{view}
-use Rattle.schema_meaning.specs.Documents.{Cut, masked}
-use Rattle.schema_keywords.specs.KeywordViews.{draft_of}
-use Rattle.schema_parts.specs.ResolverViews.{place_of}
+use Rattle.theory_meaning.specs.Documents.{Cut, masked}
+use Rattle.schema_drafts.specs.KeywordViews.{draft_of}
+use Rattle.schema_traits.specs.ResolverViews.{place_of}
 use Rattle.schema_keys.specs.Compiling.{resolving_parts}
 use Rattle.schema_keys.specs.Checking.{IsErrorBelow}
 use Rattle.schema_keys.specs.CutViews.{cut_of}

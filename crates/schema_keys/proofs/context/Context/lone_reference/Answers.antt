@@ -2,8 +2,8 @@ use Rattle.std.proofs.Common.{◌≡◌, ◌∙◌, Bool, ap, sym, true, false, 
 use Rattle.std.specs.Prelude.{codes, not, option_map}
 use Rattle.serde_json.specs.View.{view, members_view}
 use Rattle.serde_json.proofs.Views.{view-lookup, view_of_ref}
-use Rattle.schema_definitions.specs.Drafts.{ref_stands_alone}
-use Rattle.schema_keywords.specs.KeywordViews.{draft_of}
+use Rattle.theory_definitions.specs.Drafts.{ref_stands_alone}
+use Rattle.schema_drafts.specs.KeywordViews.{draft_of}
 use Rattle.schema_keys.proofs.Members.{member_of-get_member}
 use Rattle.schema_keys.proofs.context.Context.lone_reference.Goals as goal
 

@@ -1,9 +1,9 @@
 use Rattle.std.proofs.Common.{◌≡◌, arith, refl, rules}
 use Rattle.std.proofs.lemmas.Grind.{common_steps}
-use Rattle.schema_definitions.specs.Keywords.{for_verdict}
-use Rattle.schema_parts.specs.KeywordViews.{mode_of}
-use Rattle.schema_parts.specs.declared.keyword.Mode as code
-use Rattle.schema_parts.proofs.Replies.{if_ok_always, if_ok_mono}
+use Rattle.theory_definitions.specs.Keywords.{for_verdict}
+use Rattle.schema_traits.specs.KeywordViews.{mode_of}
+use Rattle.schema_traits.specs.declared.keyword.Mode as code
+use Rattle.schema_traits.proofs.Replies.{if_ok_always, if_ok_mono}
 use Rattle.schema_node.proofs.node.run.node_reply.Goals as goal
 
 -- errors are wanted where no verdict is

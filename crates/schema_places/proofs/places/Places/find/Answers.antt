@@ -1,6 +1,6 @@
 use Rattle.std.proofs.Common.{◌≡◌, ◌<◌, ◌∙◌, ◌++◌, [], List, ap, length, map, subst}
 use Rattle.serde_json.specs.View.{view}
-use Rattle.schema_definitions.specs.Instance.{Place}
+use Rattle.theory_definitions.specs.Instance.{Place}
 use Rattle.schema_reports.specs.InstanceViews.{step_of}
 use Rattle.schema_places.specs.Numbers.{number_of, place_at}
 use Rattle.schema_places.proofs.Closing.{root_first}

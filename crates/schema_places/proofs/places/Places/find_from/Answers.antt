@@ -1,6 +1,6 @@
 use Rattle.std.proofs.Common.{◌∙◌, ◌+◌, ◌++◌, List, ap, drop, map, sym}
 use Rattle.std.proofs.lemmas.List.{append-nil, drop_all, drop_more}
-use Rattle.schema_definitions.specs.Instance.{Place}
+use Rattle.theory_definitions.specs.Instance.{Place}
 use Rattle.schema_reports.specs.InstanceViews.{step_of}
 use Rattle.schema_reports.specs.declared.instance.InstanceStep.{InstanceStep}
 use Rattle.schema_places.specs.Numbers.{number_of, place_at}

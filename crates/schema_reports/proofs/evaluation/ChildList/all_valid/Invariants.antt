@@ -1,6 +1,6 @@
 use Rattle.std.specs.Prelude.{Bool, drop, map, ◌≡◌}
 use Rattle.std.specs.List.{list_all}
-use Rattle.schema_definitions.specs.Reports.{report_of}
+use Rattle.theory_definitions.specs.Reports.{report_of}
 use Rattle.schema_reports.specs.UnitViews.{unit_of}
 use Rattle.schema_reports.proofs.evaluation.ChildList.all_valid.Given as goal
 

@@ -1,6 +1,6 @@
 use Rattle.std.proofs.Common.{◌∙◌, option_map, ap, sym}
 use Rattle.serde_json.specs.View.{view}
-use Rattle.schema_definitions.specs.Instance.{a_value, after_step, to_member}
+use Rattle.theory_definitions.specs.Instance.{a_value, after_step, to_member}
 use Rattle.schema_reports.specs.InstanceViews.{subject_of}
 use Rattle.schema_reports.proofs.Found.{after_member}
 use Rattle.schema_reports.proofs.instance.Instance.member.Goals as goal

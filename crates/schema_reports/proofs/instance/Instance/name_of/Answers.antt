@@ -1,6 +1,6 @@
 use Rattle.std.proofs.Common.{◌∙◌, option_map, Some, ap, sym}
 use Rattle.serde_json.specs.View.{view}
-use Rattle.schema_definitions.specs.Instance.{a_name, after_step, to_name}
+use Rattle.theory_definitions.specs.Instance.{a_name, after_step, to_name}
 use Rattle.schema_reports.specs.InstanceViews.{subject_of}
 use Rattle.schema_reports.proofs.Found.{after_name}
 use Rattle.schema_reports.proofs.instance.Instance.name_of.Goals as goal

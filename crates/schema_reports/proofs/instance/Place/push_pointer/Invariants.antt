@@ -1,6 +1,6 @@
 use Rattle.std.proofs.Common.{◌≡◌, ◌++◌, map, drop}
 use Rattle.schema_reports.specs.InstanceViews.{step_of}
-use Rattle.schema_definitions.specs.Pointer.{pointer_to}
+use Rattle.theory_definitions.specs.Pointer.{pointer_to}
 use Rattle.schema_reports.proofs.instance.Place.push_pointer.Given as goal
 
 abbrev pub invariant-loop-step : goal.invariant-loop-step

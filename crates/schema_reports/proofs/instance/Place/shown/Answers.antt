@@ -1,7 +1,7 @@
 use Rattle.std.proofs.Common.{map, ap, ◌∙◌, rules}
 use Rattle.std.proofs.lemmas.List.Elements.{filter_from_retain}
 use Rattle.schema_reports.specs.InstanceViews.{step_of}
-use Rattle.schema_definitions.specs.Pointer.{is_shown, shown_place}
+use Rattle.theory_definitions.specs.Pointer.{is_shown, shown_place}
 use Rattle.schema_reports.proofs.ShownSteps.{filtered_map}
 use Rattle.schema_reports.proofs.instance.Place.shown.Goals as goal
 

@@ -1,5 +1,5 @@
 use Rattle.std.proofs.Common.{◌≡◌, drop, map}
-use Rattle.schema_definitions.specs.Instance.{subject_from}
+use Rattle.theory_definitions.specs.Instance.{subject_from}
 use Rattle.schema_reports.specs.InstanceViews.{step_of, subject_of}
 use Rattle.schema_reports.proofs.instance.at.at_steps.Given as goal
 

@@ -1,7 +1,7 @@
 use Rattle.std.proofs.Common.{IfSome, ap, map, option_map}
 use Rattle.std.specs.Prelude.{None, Option, Some}
-use Rattle.schema_parts.specs.EdgeViews.{edge_of}
-use Rattle.node_table.specs.NodeViews.{form_of}
+use Rattle.schema_traits.specs.EdgeViews.{edge_of}
+use Rattle.schema_node_table.specs.NodeViews.{form_of}
 use Rattle.schema_solver.proofs.solve.entries.told_at_once.Goals as goal
 
 weaker : {A : Type 0} → (o : Option A) → (P Q : A → Type 0) → ((a : A) → P a → Q a) → IfSome o P → IfSome o Q

@@ -3,10 +3,10 @@ use Rattle.std.specs.Prelude.{Ok, option_map, string_bytes}
 use Rattle.std.proofs.lemmas.Option.{slice_get_within}
 use Rattle.std.proofs.lemmas.Result.{err_from_is_err_and}
 use Rattle.serde_json.specs.View.{view}
-use Rattle.schema_keywords.specs.KeywordTable.{builtin_in}
-use Rattle.schema_keywords.specs.KeywordViews.{draft_of}
-use Rattle.schema_definitions.specs.Plan.{Key}
-use Rattle.schema_definitions.specs.Laws.{EachKeeps}
+use Rattle.schema_drafts.specs.KeywordTable.{builtin_in}
+use Rattle.schema_drafts.specs.KeywordViews.{draft_of}
+use Rattle.theory_definitions.specs.Plan.{Key}
+use Rattle.theory_definitions.specs.Laws.{EachKeeps}
 use Rattle.schema_keys.specs.Builtins.{builtin}
 use Rattle.schema_keys.specs.Checking.{AcceptsSchema}
 use Rattle.schema_keys.specs.Compiling.{no_table, no_keywords, no_matcher}
@@ -16,11 +16,11 @@ use Rattle.schema_validator.specs.Compiled.{IsWhole}
 use Rattle.schema_validator.specs.Handed.{Options, handed, parts_of, table_of}
 use Rattle.schema_validator.specs.Roots.{root_parts}
 use Rattle.schema_validator.proofs.Compilations.{compiled_from_roots, compiles_in, in_order_in, reach_in, refuses_in, whole_in, whole_too}
-use Rattle.schema_meaning.specs.ErrorsLead.{EachKeepsAbsorbing}
-use Rattle.schema_meaning.proofs.TurnsGiveRuns.{keeps_of_turns}
+use Rattle.theory_meaning.specs.ErrorsLead.{EachKeepsAbsorbing}
+use Rattle.theory_meaning.proofs.TurnsGiveRuns.{keeps_of_turns}
 use Rattle.schema_validator.proofs.Greatest.{accepts_as_schema}
 use Rattle.schema_validator.proofs.Pointing.{points_into, units_point_into}
-use Rattle.schema_answers.proofs.Solved.{solves_made}
+use Rattle.schema_compiled.proofs.Solved.{solves_made}
 use Rattle.schema_validator.proofs.OtherParts.{compiles_too}
 use Rattle.schema_validator.proofs.RootKeys.{one_root_key, root_key_too, root_too}
 use Rattle.schema_validator.proofs.FirstCauses.{compiled_first, document_first}

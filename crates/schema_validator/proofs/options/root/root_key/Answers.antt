@@ -1,7 +1,7 @@
 use Rattle.std.proofs.Common.{sym, ◌∙◌, ap}
 use Rattle.std.specs.Prelude.{option_map}
-use Rattle.schema_keywords.specs.KeywordViews.{draft_of}
-use Rattle.schema_parts.specs.ResolverViews.{place_of, entrance_of}
+use Rattle.schema_drafts.specs.KeywordViews.{draft_of}
+use Rattle.schema_traits.specs.ResolverViews.{place_of, entrance_of}
 use Rattle.schema_validator.proofs.options.root.root_key.Goals as goal
 
 pub returns-in_ok-key_at-in-Some-clause-key : goal.returns-in_ok-key_at-in-Some-clause-key

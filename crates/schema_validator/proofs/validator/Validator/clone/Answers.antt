@@ -1,6 +1,6 @@
 use Rattle.std.proofs.Common.{subst}
-use Rattle.schema_answers.specs.Cloned.{AnswerSame, SaySame}
-use Rattle.schema_answers.specs.Program.{Program}
+use Rattle.schema_compiled.specs.Cloned.{AnswerSame, SaySame}
+use Rattle.schema_compiled.specs.Program.{Program}
 use Rattle.schema_validator.proofs.validator.Validator.clone.Goals as goal
 
 pub returns-clause-says : goal.returns-clause-says

@@ -1,8 +1,8 @@
 use Rattle.std.proofs.Common.{subst, sym}
 use Rattle.serde_json.specs.View.{view}
 use Rattle.schema_reports.specs.declared.evaluation.EvaluationNode.{EvaluationNode}
-use Rattle.schema_answers.specs.Stopped.{GivesLimit}
-use Rattle.schema_answers.proofs.AtLimits.{gives_limit, stops, unless}
+use Rattle.schema_compiled.specs.Stopped.{GivesLimit}
+use Rattle.schema_compiled.proofs.AtLimits.{gives_limit, stops, unless}
 use Rattle.schema_validator.proofs.validator.Validator.evaluate.Goals as goal
 
 pub returns-in-Ok-clause-depth : goal.returns-in-Ok-clause-depth

@@ -1,14 +1,14 @@
 use Rattle.std.proofs.Common.{Bool, subst, sym}
 use Rattle.serde_json.specs.View.{view}
-use Rattle.schema_definitions.specs.Cover.{Sense}
-use Rattle.schema_definitions.specs.Laws.{EachKeeps}
+use Rattle.theory_definitions.specs.Cover.{Sense}
+use Rattle.theory_definitions.specs.Laws.{EachKeeps}
 use Rattle.schema_reports.specs.declared.evaluation.EvaluationNode.{EvaluationNode}
-use Rattle.schema_meaning.proofs.SensesMeant.{of_every_sense}
-use Rattle.schema_meaning.proofs.TurnsGiveRuns.{keeps_of_turns}
-use Rattle.node_table.specs.NodeTable.{numbered}
-use Rattle.schema_answers.specs.Asked.{EvaluatesFromSomeDepth}
+use Rattle.theory_meaning.proofs.SensesMeant.{of_every_sense}
+use Rattle.theory_meaning.proofs.TurnsGiveRuns.{keeps_of_turns}
+use Rattle.schema_node_table.specs.NodeTable.{numbered}
+use Rattle.schema_compiled.specs.Asked.{EvaluatesFromSomeDepth}
 use Rattle.schema_calls.specs.Evaluated.{EvaluationAnswered}
-use Rattle.schema_answers.specs.Program.{HasUnits, Program}
+use Rattle.schema_compiled.specs.Program.{HasUnits, Program}
 use Rattle.schema_validator.proofs.Greatest.{evaluates_accepted}
 use Rattle.schema_validator.proofs.PlainAnswers.{units_in_every_sense}
 use Rattle.schema_validator.proofs.validator.Validator.evaluate_within.Goals as goal

@@ -1,7 +1,7 @@
 use Rattle.std.proofs.Common.{◌∙◌, ap, refl}
-use Rattle.schema_contexts.specs.Works.{allowed}
-use Rattle.schema_answers.proofs.AtLimits.{stops, unless}
-use Rattle.schema_answers.proofs.Solved.{not_stopped}
+use Rattle.schema_run_context.specs.Works.{allowed}
+use Rattle.schema_compiled.proofs.AtLimits.{stops, unless}
+use Rattle.schema_compiled.proofs.Solved.{not_stopped}
 use Rattle.schema_validator.proofs.validator.Validator.is_valid.Goals as goal
 
 pub returns-in-Ok-clause-depth : goal.returns-in-Ok-clause-depth

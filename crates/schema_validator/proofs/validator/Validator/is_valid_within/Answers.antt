@@ -1,13 +1,13 @@
 use Rattle.std.proofs.Common.{Bool, subst}
 use Rattle.serde_json.specs.View.{view}
-use Rattle.schema_definitions.specs.Cover.{Sense, is_valid}
-use Rattle.schema_definitions.specs.Laws.{EachKeeps}
-use Rattle.schema_meaning.specs.Headline.{VerdictSays}
-use Rattle.schema_meaning.proofs.SensesMeant.{of_every_sense}
-use Rattle.schema_meaning.proofs.TurnsGiveRuns.{keeps_of_turns}
-use Rattle.node_table.specs.NodeTable.{numbered}
-use Rattle.schema_answers.specs.Asked.{DecidesFromSomeDepth}
-use Rattle.schema_answers.specs.Program.{Program}
+use Rattle.theory_definitions.specs.Cover.{Sense, is_valid}
+use Rattle.theory_definitions.specs.Laws.{EachKeeps}
+use Rattle.theory_meaning.specs.Headline.{VerdictSays}
+use Rattle.theory_meaning.proofs.SensesMeant.{of_every_sense}
+use Rattle.theory_meaning.proofs.TurnsGiveRuns.{keeps_of_turns}
+use Rattle.schema_node_table.specs.NodeTable.{numbered}
+use Rattle.schema_compiled.specs.Asked.{DecidesFromSomeDepth}
+use Rattle.schema_compiled.specs.Program.{Program}
 use Rattle.schema_validator.proofs.Greatest.{decides_accepted}
 use Rattle.schema_validator.proofs.validator.Validator.is_valid_within.Goals as goal
 

@@ -4,8 +4,8 @@ use Rattle.std.proofs.lemmas.List.Elements.{All-cons, All-nil}
 use Rattle.serde_json.specs.View.{view}
 use Rattle.schema_reports.specs.ReportViews.{BorrowsItsPlace}
 use Rattle.schema_reports.specs.declared.reports.ValidationError.{ValidationError}
-use Rattle.schema_answers.specs.Stopped.{OnlyTellsLimit}
-use Rattle.schema_answers.proofs.AtLimits.{stops, tells_borrows, unless}
+use Rattle.schema_compiled.specs.Stopped.{OnlyTellsLimit}
+use Rattle.schema_compiled.proofs.AtLimits.{stops, tells_borrows, unless}
 use Rattle.schema_validator.proofs.validator.Validator.iter_errors.Goals as goal
 
 pub returns-in-Ok-clause-depth : goal.returns-in-Ok-clause-depth

@@ -1,18 +1,18 @@
 use Rattle.std.proofs.Common.{Bool, List, subst, sym}
 use Rattle.std.specs.Prelude.{All}
 use Rattle.serde_json.specs.View.{view}
-use Rattle.schema_definitions.specs.Guarded.{guarded_sense}
-use Rattle.schema_definitions.specs.Cover.{Sense}
-use Rattle.schema_definitions.specs.Laws.{EachKeeps}
-use Rattle.schema_meaning.specs.Numbered.{subject_in}
-use Rattle.schema_meaning.specs.Means.{FromSomeDepth}
+use Rattle.theory_definitions.specs.Guarded.{guarded_sense}
+use Rattle.theory_definitions.specs.Cover.{Sense}
+use Rattle.theory_definitions.specs.Laws.{EachKeeps}
+use Rattle.theory_meaning.specs.Numbered.{subject_in}
+use Rattle.theory_meaning.specs.Means.{FromSomeDepth}
 use Rattle.schema_reports.specs.ReportViews.{BorrowsItsPlace}
 use Rattle.schema_reports.specs.declared.reports.ValidationError.{ValidationError}
-use Rattle.schema_meaning.proofs.SensesMeant.{of_every_sense}
-use Rattle.schema_meaning.proofs.TurnsGiveRuns.{keeps_of_turns}
-use Rattle.node_table.specs.NodeTable.{numbered}
-use Rattle.schema_answers.specs.Asked.{ErrorsFromSomeDepth}
-use Rattle.schema_answers.specs.Program.{Program}
+use Rattle.theory_meaning.proofs.SensesMeant.{of_every_sense}
+use Rattle.theory_meaning.proofs.TurnsGiveRuns.{keeps_of_turns}
+use Rattle.schema_node_table.specs.NodeTable.{numbered}
+use Rattle.schema_compiled.specs.Asked.{ErrorsFromSomeDepth}
+use Rattle.schema_compiled.specs.Program.{Program}
 use Rattle.schema_calls.specs.Spoken.{EachIsGiven, ErrorsAnswered}
 use Rattle.schema_validator.proofs.Greatest.{errors_accepted}
 use Rattle.schema_validator.proofs.Pointing.{each_is_given}

@@ -1,13 +1,13 @@
 use Rattle.std.proofs.Common.{Bool, subst}
 use Rattle.std.specs.Prelude.{IfErr, IfOk}
 use Rattle.serde_json.specs.View.{view}
-use Rattle.schema_keywords.specs.KeywordTable.{builtin_in}
+use Rattle.schema_drafts.specs.KeywordTable.{builtin_in}
 use Rattle.schema_keys.specs.declared.error.BuildError.{BuildError}
 use Rattle.schema_validator.specs.Called.{BuildRefused, IsCompiledFrom}
 use Rattle.schema_validator.specs.FirstCauses.{FirstOfBuild}
 use Rattle.schema_validator.specs.Greatest.{AcceptsAsSchema}
 use Rattle.schema_validator.specs.Handed.{Options, handed, parts_of, table_of}
-use Rattle.schema_answers.specs.Program.{Program}
+use Rattle.schema_compiled.specs.Program.{Program}
 use Rattle.schema_validator.specs.Promised.{HasSchemasUnits, MeansSchema, PointsIntoSchema, UnitsPointIntoSchema}
 use Rattle.schema_validator.specs.Roots.{Builds}
 use Rattle.schema_validator.proofs.validator.Validator.new.Goals as goal

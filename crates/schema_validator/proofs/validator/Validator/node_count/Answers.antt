@@ -1,7 +1,7 @@
 use Rattle.std.proofs.Common.{◌<◌, length, subst}
-use Rattle.schema_meaning.specs.Numbered.{Ranked}
-use Rattle.node_table.specs.NodeTable.{numbered}
-use Rattle.schema_answers.specs.Program.{Program}
+use Rattle.theory_meaning.specs.Numbered.{Ranked}
+use Rattle.schema_node_table.specs.NodeTable.{numbered}
+use Rattle.schema_compiled.specs.Program.{Program}
 use Rattle.schema_validator.proofs.validator.Validator.node_count.Goals as goal
 
 pub returns : goal.returns

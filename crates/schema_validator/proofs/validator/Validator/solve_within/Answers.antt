@@ -3,18 +3,18 @@ use Rattle.std.proofs.Math.Bool.{and-true}
 use Rattle.std.proofs.lemmas.Option.{IfSome_then}
 use Rattle.std.specs.Prelude.{IfOk, IfSome, OnErr, Option, is_some}
 use Rattle.serde_json.specs.View.{view}
-use Rattle.schema_definitions.specs.Laws.{EachKeeps}
-use Rattle.schema_meaning.proofs.TurnsGiveRuns.{keeps_of_turns}
-use Rattle.node_table.specs.NodeTable.{numbered}
-use Rattle.schema_parts.proofs.Replies.{if_ok_mono}
-use Rattle.schema_parts.specs.MatcherViews.{FinishesEach}
+use Rattle.theory_definitions.specs.Laws.{EachKeeps}
+use Rattle.theory_meaning.proofs.TurnsGiveRuns.{keeps_of_turns}
+use Rattle.schema_node_table.specs.NodeTable.{numbered}
+use Rattle.schema_traits.proofs.Replies.{if_ok_mono}
+use Rattle.schema_traits.specs.MatcherViews.{FinishesEach}
 use Rattle.schema_verdicts.specs.Saying.{EachSays}
 use Rattle.schema_verdicts.specs.declared.eligible.SolvedVerdict.{SolvedVerdict}
-use Rattle.schema_answers.specs.Asked.{DecidesFromSomeDepth}
-use Rattle.schema_answers.specs.Program.{Program}
-use Rattle.schema_answers.specs.Solved.{BeganFew, RestsOnContext, StopsLate}
+use Rattle.schema_compiled.specs.Asked.{DecidesFromSomeDepth}
+use Rattle.schema_compiled.specs.Program.{Program}
+use Rattle.schema_compiled.specs.Solved.{BeganFew, RestsOnContext, StopsLate}
 use Rattle.schema_validator.proofs.Greatest.{decides_accepted}
-use Rattle.schema_answers.proofs.Solved.{enough_decide}
+use Rattle.schema_compiled.proofs.Solved.{enough_decide}
 use Rattle.schema_validator.proofs.validator.Validator.solve_within.Goals as goal
 
 pub solved-requires : goal.solved-requires

@@ -1,6 +1,6 @@
 use Rattle.std.proofs.Common.{◌≡◌, ◌∙◌, ℕ, subst, sym}
 use Rattle.std.specs.Prelude.{IfSome, Option, Some}
-use Rattle.schema_answers.proofs.AtLimits.{some_is, where_some}
+use Rattle.schema_compiled.proofs.AtLimits.{some_is, where_some}
 use Rattle.schema_validator.proofs.validator.Validator.stopped_at.Goals as goal
 
 pub returns : goal.returns

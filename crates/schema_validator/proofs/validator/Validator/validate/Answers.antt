@@ -1,6 +1,6 @@
 use Rattle.std.proofs.Common.{refl}
 use Rattle.serde_json.specs.View.{view}
-use Rattle.schema_answers.proofs.AtLimits.{stops, tells_borrows, unless}
+use Rattle.schema_compiled.proofs.AtLimits.{stops, tells_borrows, unless}
 use Rattle.schema_validator.proofs.validator.Validator.validate.Goals as goal
 
 pub returns-in-Ok-clause-depth : goal.returns-in-Ok-clause-depth

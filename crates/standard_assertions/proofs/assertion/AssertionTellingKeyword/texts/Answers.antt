@@ -1,6 +1,6 @@
 use Rattle.std.proofs.Common.{[], ap, length, string_bytes, sym, ◌∙◌, ◌∷◌, ◌≡◌}
 use Rattle.std.proofs.lemmas.List.{length-map}
-use Rattle.schema_parts.proofs.Replies.{if_ok_mono}
+use Rattle.schema_traits.proofs.Replies.{if_ok_mono}
 use Rattle.schema_reports.specs.InstanceViews.{subject_of}
 use Rattle.standard_assertions.specs.Assertions.{error_text, error_texts}
 use Rattle.standard_assertions.proofs.Told.{told_once}

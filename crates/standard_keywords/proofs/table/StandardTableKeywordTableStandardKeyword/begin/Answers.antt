@@ -1,10 +1,10 @@
 use Rattle.std.proofs.Common.{◌∙◌, ap, string_bytes}
 use Rattle.serde_json.specs.Find.{get_member}
 use Rattle.serde_json.specs.View.{members_view}
-use Rattle.schema_keywords.specs.KeywordViews.{draft_of}
-use Rattle.schema_parts.specs.MakerViews.{begun, is_own, name_of}
-use Rattle.joined_keywords.specs.BothScripts.{waiting_as}
-use Rattle.joined_keywords.specs.declared.both.Both.TheVariants.{First}
+use Rattle.schema_drafts.specs.KeywordViews.{draft_of}
+use Rattle.schema_traits.specs.MakerViews.{begun, is_own, name_of}
+use Rattle.keyword_joins.specs.BothScripts.{waiting_as}
+use Rattle.keyword_joins.specs.declared.both.Both.TheVariants.{First}
 use Rattle.standard_keywords.proofs.SameScripts.{refused_waits, same_script}
 use Rattle.standard_keywords.specs.StandardScripts.{treated_script, unless_refused}
 use Rattle.standard_keywords.proofs.table.StandardTableKeywordTableStandardKeyword.begin.Goals as goal

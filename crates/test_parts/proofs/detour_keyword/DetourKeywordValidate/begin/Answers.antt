@@ -1,6 +1,6 @@
 use Rattle.std.proofs.Common.{ℕ, ◌≡◌}
-use Rattle.schema_definitions.specs.Keywords.{Answer}
-use Rattle.bench_keywords.specs.declared.names.NamesRun.{NamesRun}
+use Rattle.theory_definitions.specs.Keywords.{Answer}
+use Rattle.standard_basics.specs.declared.names.NamesRun.{NamesRun}
 use Rattle.test_parts.specs.Detours.{Detouring}
 use Rattle.test_parts.proofs.detour_keyword.DetourKeywordValidate.begin.Goals as goal
 

@@ -9,16 +9,16 @@ use Rattle.serde_json.specs.Data.{Data, Members, null}
 use Rattle.serde_json.specs.Find.{as_bool, as_object}
 use Rattle.serde_json.specs.View.{view, members_view}
 use Rattle.serde_json.proofs.Views.{Entry}
-use Rattle.schema_definitions.specs.Instance.{Text}
-use Rattle.schema_definitions.specs.Pointer.{pointer_to, joined}
-use Rattle.schema_definitions.specs.Plan.{Edge, Part, Plan, checks_formats, making, is_recursive_ref, option_list, to_ref}
-use Rattle.schema_meaning.specs.Reach.{at_first, maker_edges, reference_edges}
-use Rattle.schema_meaning.specs.Refusals.{Cause}
-use Rattle.schema_definitions.specs.Units.{absorbed_by, absorbed_in, object_of, unknown, without}
-use Rattle.schema_definitions.specs.Guarded.{NodePart, NodePlan, form_edges, node_edges, node_these}
-use Rattle.schema_parts.specs.MakerViews.{maker_reply_of}
-use Rattle.schema_parts.specs.EdgeViews.{edge_of}
-use Rattle.node_table.specs.NodeViews.{entry_of, plan_of}
+use Rattle.theory_definitions.specs.Instance.{Text}
+use Rattle.theory_definitions.specs.Pointer.{pointer_to, joined}
+use Rattle.theory_definitions.specs.Plan.{Edge, Part, Plan, checks_formats, making, is_recursive_ref, option_list, to_ref}
+use Rattle.theory_meaning.specs.Reach.{at_first, maker_edges, reference_edges}
+use Rattle.theory_meaning.specs.Refusals.{Cause}
+use Rattle.theory_definitions.specs.Units.{absorbed_by, absorbed_in, object_of, unknown, without}
+use Rattle.theory_definitions.specs.Guarded.{NodePart, NodePlan, form_edges, node_edges, node_these}
+use Rattle.schema_traits.specs.MakerViews.{maker_reply_of}
+use Rattle.schema_traits.specs.EdgeViews.{edge_of}
+use Rattle.schema_node_table.specs.NodeViews.{entry_of, plan_of}
 use Rattle.schema_keys.specs.KeyViews.{key_of, kind_of}
 use Rattle.schema_compiler.specs.Carried.{filled, task}
 use Rattle.schema_keys.specs.Compiling.{reference_asked}
@@ -27,7 +27,7 @@ use Rattle.schema_compiler.specs.Steps.{MakesPart, MakesPlan, part_edges}
 use Rattle.schema_compiler.specs.UnderWay.{Goes, Reaches}
 use Rattle.schema_compiler.specs.Carried.{Table}
 use Rattle.schema_compiler.specs.declared.compiler.compilation.Progress.{Progress}
-use Rattle.schema_meaning.specs.Reach.{Reached}
+use Rattle.theory_meaning.specs.Reach.{Reached}
 use Rattle.schema_compiler.proofs.Growing.{refusal_map, from_key, blames_key, grown_none, grown_map, step_none}
 use Rattle.schema_compiler.proofs.Lower.{lower_grown}
 use Rattle.schema_compiler.proofs.Tables.{finished_grown, finished_table, finishes, numbered_after, put_grown, put_number, reserved_after}

@@ -2,11 +2,11 @@ use Rattle.std.proofs.Common.{◌≡◌, ◌+◌, ◌-◌, ◌*◌, ◌++◌, Li
 use Rattle.std.specs.Prelude.{string_bytes, option_map}
 use Rattle.serde_json.specs.View.{members_view}
 use Rattle.serde_json.proofs.Views.{Entry}
-use Rattle.schema_definitions.specs.Plan.{making}
-use Rattle.schema_definitions.specs.Units.{absorbed_in, unknown}
-use Rattle.schema_parts.specs.MakerViews.{maker_reply_of}
-use Rattle.schema_parts.specs.EdgeViews.{edge_of}
-use Rattle.node_table.specs.NodeViews.{entry_of}
+use Rattle.theory_definitions.specs.Plan.{making}
+use Rattle.theory_definitions.specs.Units.{absorbed_in, unknown}
+use Rattle.schema_traits.specs.MakerViews.{maker_reply_of}
+use Rattle.schema_traits.specs.EdgeViews.{edge_of}
+use Rattle.schema_node_table.specs.NodeViews.{entry_of}
 use Rattle.schema_keys.specs.KeyViews.{key_of}
 use Rattle.schema_compiler.specs.Carried.{filled}
 use Rattle.schema_compiler.specs.Options.{given_parts}

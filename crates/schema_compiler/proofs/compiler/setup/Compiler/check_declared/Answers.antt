@@ -1,8 +1,8 @@
 use Rattle.std.proofs.Common.{◌≡◌, ◌∙◌, List, [], ap, map, sym, subst}
 use Rattle.std.specs.Prelude.{IfErr, IfOk, flat_map}
-use Rattle.schema_definitions.specs.Instance.{Text}
-use Rattle.schema_definitions.specs.Drafts.{custom_vocabulary}
-use Rattle.schema_meaning.specs.Refusals.{Cause, undeclared}
+use Rattle.theory_definitions.specs.Instance.{Text}
+use Rattle.theory_definitions.specs.Drafts.{custom_vocabulary}
+use Rattle.theory_meaning.specs.Refusals.{Cause, undeclared}
 use Rattle.schema_compiler.specs.Options.{given_parts}
 use Rattle.schema_keys.specs.Alone.{NamesFirst}
 use Rattle.schema_keys.specs.Refusing.{Names}

@@ -1,7 +1,7 @@
 use Rattle.std.proofs.Common.{◌≡◌, map, drop}
 use Rattle.std.specs.Prelude.{flat_map, string_bytes}
-use Rattle.schema_definitions.specs.Drafts.{custom_vocabulary}
-use Rattle.schema_meaning.specs.Refusals.{undeclared}
+use Rattle.theory_definitions.specs.Drafts.{custom_vocabulary}
+use Rattle.theory_meaning.specs.Refusals.{undeclared}
 use Rattle.schema_compiler.specs.Options.{given_parts}
 use Rattle.schema_compiler.proofs.compiler.setup.Compiler.check_each.Given as goal
 

@@ -2,8 +2,8 @@ use Rattle.std.proofs.Common.{refl, ap, ◌∙◌}
 use Rattle.std.specs.Prelude.{not, option_map}
 use Rattle.std.proofs.lemmas.Option.{slice_get-map}
 use Rattle.std.proofs.lemmas.Result.{err_from_is_err_and}
-use Rattle.schema_meaning.specs.Reach.{asked_edges}
-use Rattle.node_table.specs.NodeViews.{plan_of}
+use Rattle.theory_meaning.specs.Reach.{asked_edges}
+use Rattle.schema_node_table.specs.NodeViews.{plan_of}
 use Rattle.schema_keys.specs.Compiling.{ReachedFrom}
 use Rattle.schema_keys.specs.KeyViews.{key_of}
 use Rattle.schema_compiler.specs.Carried.{Table, filled, task}

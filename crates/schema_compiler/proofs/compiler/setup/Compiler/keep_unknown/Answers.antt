@@ -2,7 +2,7 @@ use Rattle.std.proofs.Common.{◌≡◌, false, refl, sym, ap, ◌∙◌}
 use Rattle.std.specs.Prelude.{string_bytes}
 use Rattle.serde_json.specs.View.{members_view}
 use Rattle.serde_json.proofs.Views.{members_view-insert_entry}
-use Rattle.schema_keywords.specs.KeywordViews.{draft_of}
+use Rattle.schema_drafts.specs.KeywordViews.{draft_of}
 use Rattle.schema_compiler.proofs.compiler.setup.Compiler.keep_unknown.Goals as goal
 
 pub returns-in_ok-insert : goal.returns-in_ok-insert

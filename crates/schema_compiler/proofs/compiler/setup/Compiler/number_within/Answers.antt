@@ -1,6 +1,6 @@
 use Rattle.std.proofs.Common.{◌∷◌, [], arith, map, refl}
 use Rattle.std.proofs.lemmas.List.{length-map}
-use Rattle.schema_meaning.specs.Reach.{at_first}
+use Rattle.theory_meaning.specs.Reach.{at_first}
 use Rattle.schema_keys.specs.KeyViews.{key_of}
 use Rattle.schema_keys.proofs.Lists.{length-more}
 use Rattle.schema_compiler.proofs.Tables.{pushed_distinct}

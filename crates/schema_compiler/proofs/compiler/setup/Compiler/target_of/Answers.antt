@@ -1,10 +1,10 @@
 use Rattle.std.proofs.Common.{◌≡◌, Option, Some, None, refl, [], true, false}
 use Rattle.std.specs.Prelude.{MatchOption, flat_map}
 use Rattle.std.proofs.lemmas.Result.{err_from_is_err_and}
-use Rattle.schema_definitions.specs.Instance.{Text}
-use Rattle.schema_definitions.specs.Pointer.{joined}
-use Rattle.schema_definitions.specs.Plan.{is_self, reference_edge, is_recursive_ref}
-use Rattle.schema_meaning.specs.Refusals.{undeclared}
+use Rattle.theory_definitions.specs.Instance.{Text}
+use Rattle.theory_definitions.specs.Pointer.{joined}
+use Rattle.theory_definitions.specs.Plan.{is_self, reference_edge, is_recursive_ref}
+use Rattle.theory_meaning.specs.Refusals.{undeclared}
 use Rattle.schema_keys.specs.Compiling.{resolving_parts}
 use Rattle.schema_keys.specs.KeyViews.{key_of, kind_of}
 use Rattle.schema_compiler.specs.Options.{given_parts}

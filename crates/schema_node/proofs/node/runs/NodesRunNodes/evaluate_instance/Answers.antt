@@ -1,17 +1,17 @@
 use Rattle.std.proofs.Common.{◌∙◌, ap, length, refl, subst, sym}
 use Rattle.schema_reports.specs.InstanceViews.{subject_of}
-use Rattle.schema_meaning.specs.Numbered.{subject_in}
-use Rattle.schema_meaning.proofs.NodeRuns.{runs_say_outcomes}
-use Rattle.schema_contexts.specs.Matches.{settling}
-use Rattle.schema_runs.specs.NodeMeets.{reading}
-use Rattle.node_table.specs.NodeTable.{numbered}
-use Rattle.schema_contexts.specs.Progress.{Context, NoDeeper, busy_at, places_in}
-use Rattle.schema_contexts.proofs.Matches.{completes_once}
-use Rattle.node_table.proofs.RankedTable.{ranked_table}
-use Rattle.schema_parts.proofs.Replies.{if_ok_mono}
-use Rattle.schema_runs.proofs.RightVerdicts.{layout_from, lays_out_from, none_right, root_lays_out}
-use Rattle.schema_runs.specs.UnitStates.{evaluating}
-use Rattle.schema_runs.proofs.Placing.{stands_on}
+use Rattle.theory_meaning.specs.Numbered.{subject_in}
+use Rattle.theory_meaning.proofs.NodeRuns.{runs_say_outcomes}
+use Rattle.schema_run_context.specs.Matches.{settling}
+use Rattle.theory_runs.specs.NodeMeets.{reading}
+use Rattle.schema_node_table.specs.NodeTable.{numbered}
+use Rattle.schema_run_context.specs.Progress.{Context, NoDeeper, busy_at, places_in}
+use Rattle.schema_run_context.proofs.Matches.{completes_once}
+use Rattle.schema_node_table.proofs.RankedTable.{ranked_table}
+use Rattle.schema_traits.proofs.Replies.{if_ok_mono}
+use Rattle.theory_runs.proofs.RightVerdicts.{layout_from, lays_out_from, none_right, root_lays_out}
+use Rattle.theory_runs.specs.UnitStates.{evaluating}
+use Rattle.theory_runs.proofs.Placing.{stands_on}
 use Rattle.schema_node.proofs.node.runs.NodesRunNodes.evaluate_instance.Goals as goal
 
 pub evaluate_node-requires : goal.evaluate_node-requires

@@ -1,12 +1,12 @@
 use Rattle.std.proofs.Common.{◌∙◌, ap, length, subst, sym}
 use Rattle.schema_reports.specs.InstanceViews.{subject_of}
-use Rattle.schema_meaning.specs.Numbered.{subject_in}
-use Rattle.node_table.specs.NodeTable.{numbered}
-use Rattle.schema_contexts.specs.Progress.{Context, NoDeeper}
-use Rattle.schema_parts.proofs.Replies.{if_ok_mono}
-use Rattle.schema_runs.proofs.RightVerdicts.{layout_from, lays_out_from, none_right, root_lays_out}
+use Rattle.theory_meaning.specs.Numbered.{subject_in}
+use Rattle.schema_node_table.specs.NodeTable.{numbered}
+use Rattle.schema_run_context.specs.Progress.{Context, NoDeeper}
+use Rattle.schema_traits.proofs.Replies.{if_ok_mono}
+use Rattle.theory_runs.proofs.RightVerdicts.{layout_from, lays_out_from, none_right, root_lays_out}
 use Rattle.schema_node.specs.FirstQuestions.{asking_first}
-use Rattle.schema_runs.proofs.Placing.{stands_on}
+use Rattle.theory_runs.proofs.Placing.{stands_on}
 use Rattle.schema_node.proofs.node.runs.NodesRunNodes.run.Goals as goal
 
 pub run_further-requires : goal.run_further-requires

@@ -1,16 +1,16 @@
 use Rattle.std.proofs.Common.{◌∙◌, suc, arith, length, refl}
 use Rattle.schema_reports.specs.InstanceViews.{subject_of}
-use Rattle.schema_meaning.specs.Numbered.{left, subject_in}
-use Rattle.schema_parts.specs.KeywordViews.{mode_of}
-use Rattle.schema_contexts.specs.Matches.{settling}
-use Rattle.schema_runs.specs.NodeMeets.{reading}
-use Rattle.node_table.specs.NodeTable.{numbered}
-use Rattle.schema_contexts.specs.Progress.{busy_at, places_in}
-use Rattle.run_steps.proofs.KeywordTurns.{silent, silent_reads}
-use Rattle.schema_contexts.proofs.Matches.{completes_once}
-use Rattle.schema_runs.proofs.NodeOutcomes.{reply_is}
-use Rattle.node_table.proofs.RankedTable.{ranked_table}
-use Rattle.schema_parts.proofs.Replies.{if_ok_mono}
+use Rattle.theory_meaning.specs.Numbered.{left, subject_in}
+use Rattle.schema_traits.specs.KeywordViews.{mode_of}
+use Rattle.schema_run_context.specs.Matches.{settling}
+use Rattle.theory_runs.specs.NodeMeets.{reading}
+use Rattle.schema_node_table.specs.NodeTable.{numbered}
+use Rattle.schema_run_context.specs.Progress.{busy_at, places_in}
+use Rattle.schema_run_steps.proofs.KeywordTurns.{silent, silent_reads}
+use Rattle.schema_run_context.proofs.Matches.{completes_once}
+use Rattle.theory_runs.proofs.NodeOutcomes.{reply_is}
+use Rattle.schema_node_table.proofs.RankedTable.{ranked_table}
+use Rattle.schema_traits.proofs.Replies.{if_ok_mono}
 use Rattle.schema_node.proofs.node.runs.NodesRunNodes.run_further.Goals as goal
 
 pub node_reply-requires : goal.node_reply-requires

@@ -2,9 +2,9 @@ use Rattle.std.proofs.Common.{◌≡◌, ◌∙◌, [], Bool, List, subst, sym}
 use Rattle.std.specs.Prelude.{IfErr, IfOk, None, Some, flat_map, option_map, string_bytes}
 use Rattle.std.proofs.lemmas.Result.{IfErr-weaker, IfOk-weaker, err_from_is_err_and}
 use Rattle.serde_json.specs.View.{view}
-use Rattle.schema_definitions.specs.Instance.{Place}
-use Rattle.schema_keywords.specs.KeywordViews.{draft_of}
-use Rattle.schema_meaning.specs.Refusals.{undeclared}
+use Rattle.theory_definitions.specs.Instance.{Place}
+use Rattle.schema_drafts.specs.KeywordViews.{draft_of}
+use Rattle.theory_meaning.specs.Refusals.{undeclared}
 use Rattle.schema_keys.specs.Alone.{RefusesVocabularies}
 use Rattle.schema_keys.specs.Builtins.{builtin}
 use Rattle.schema_compiler.specs.Compilation.{all_parts}

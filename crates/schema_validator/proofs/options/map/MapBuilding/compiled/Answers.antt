@@ -3,12 +3,12 @@ use Rattle.std.specs.Prelude.{option_map, string_bytes}
 use Rattle.std.proofs.lemmas.Option.{slice_get_within}
 use Rattle.std.proofs.lemmas.Result.{err_from_is_err_and}
 use Rattle.serde_json.specs.View.{view}
-use Rattle.schema_meaning.specs.ErrorsLead.{EachKeepsAbsorbing}
-use Rattle.schema_keywords.specs.KeywordTable.{builtin_in}
-use Rattle.schema_keywords.specs.KeywordViews.{draft_of}
-use Rattle.schema_definitions.specs.Laws.{EachKeeps}
-use Rattle.schema_meaning.proofs.TurnsGiveRuns.{keeps_of_turns}
-use Rattle.node_table.specs.NodeTable.{NodeEntry}
+use Rattle.theory_meaning.specs.ErrorsLead.{EachKeepsAbsorbing}
+use Rattle.schema_drafts.specs.KeywordTable.{builtin_in}
+use Rattle.schema_drafts.specs.KeywordViews.{draft_of}
+use Rattle.theory_definitions.specs.Laws.{EachKeeps}
+use Rattle.theory_meaning.proofs.TurnsGiveRuns.{keeps_of_turns}
+use Rattle.schema_node_table.specs.NodeTable.{NodeEntry}
 use Rattle.schema_keys.specs.Builtins.{builtin}
 use Rattle.schema_compiler.specs.Compilation.{IsCompilationAlone, RefusesAlone, all_parts}
 use Rattle.schema_keys.specs.KeyViews.{key_of}
@@ -16,7 +16,7 @@ use Rattle.schema_validator.specs.Handed.{Options, handed, table_of}
 use Rattle.schema_validator.proofs.CompiledAlone.{alone_in, compiled_alone, program_alone, refuses_alone_in, within_alone}
 use Rattle.schema_validator.proofs.Greatest.{accepts_as_key}
 use Rattle.schema_validator.proofs.Pointing.{points_from_key, units_point_from_key}
-use Rattle.schema_answers.proofs.Solved.{solves_made}
+use Rattle.schema_compiled.proofs.Solved.{solves_made}
 use Rattle.schema_validator.proofs.options.map.MapBuilding.compiled.Goals as goal
 
 pub of_compiled_within-requires : goal.of_compiled_within-requires

@@ -2,13 +2,13 @@ use Rattle.std.proofs.Common.{◌≡◌, ◌∙◌, ◌+◌, ◌++◌, ◌∷◌
 use Rattle.std.proofs.lemmas.List.{take_more}
 use Rattle.std.proofs.lemmas.Result.{err_from_is_err_and}
 use Rattle.serde_json.specs.View.{view}
-use Rattle.schema_definitions.specs.Instance.{Place}
+use Rattle.theory_definitions.specs.Instance.{Place}
 use Rattle.schema_keys.specs.KeyViews.{key_of}
 use Rattle.schema_keys.proofs.Lists.{in_of}
 use Rattle.schema_validator.specs.Entries.{HoldsPlaces}
 use Rattle.schema_validator.specs.Handed.{handed}
 use Rattle.schema_validator.specs.MapViews.{Entries}
-use Rattle.schema_answers.specs.Program.{Program}
+use Rattle.schema_compiled.specs.Program.{Program}
 use Rattle.schema_validator.proofs.HeldPlaces.{holds_more, holds_none}
 use Rattle.schema_validator.proofs.options.map.MapBuilding.map_of.Goals as goal
 

@@ -1,8 +1,0 @@
-use Rattle.std.proofs.Common.{◌≡◌, ◌++◌, drop, map}
-use Rattle.schema_parts.specs.ResolverViews.{place_of, placed_of}
-use Rattle.bench_subschemas.specs.FoundViews.{found_of, placed_at}
-use Rattle.bench_subschemas.proofs.subschemas.placed_found.Given as goal
-
-abbrev pub invariant-loop-one : goal.invariant-loop-one
-invariant-loop-one l = map (placed_at (place_of l.place)) (map found_of l.found)
-    ≡ map placed_of l.placed.items ++ map (placed_at (place_of l.place)) (map found_of (drop l.one-index l.found))

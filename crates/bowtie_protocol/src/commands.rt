@@ -1,0 +1,158 @@
+//! Commands, and what is replied.
+
+use crate::cases::{Case, Engine};
+use crate::replies::{STARTED, fault, obeyed};
+use schema_drafts::keywords::Draft;
+use serde_json::Value;
+use std::alloc::{AllocError, Global};
+
+/// What comes of a line: a line that is replied, or the end.
+#[derive(Drop)]
+pub(crate) enum Turn {
+    Reply(String),
+    Stop,
+}
+
+/// What a command asks for.
+#[derive(Clone, Copy)]
+enum Word {
+    Start,
+    Dialect,
+    Run,
+    Stop,
+    Unknown,
+}
+
+/// What a command asks for, by its word.
+fn word_named(name: &str) -> Word {
+    match name {
+        "start" => Word::Start,
+        "dialect" => Word::Dialect,
+        "run" => Word::Run,
+        "stop" => Word::Stop,
+        _ => Word::Unknown,
+    }
+}
+
+/// The draft of a dialect.
+fn draft_of(uri: &str) -> Option<Draft> {
+    match uri {
+        "http://json-schema.org/draft-04/schema" | "http://json-schema.org/draft-04/schema#" =>
+            Some(Draft::Draft4),
+        "http://json-schema.org/draft-06/schema" | "http://json-schema.org/draft-06/schema#" =>
+            Some(Draft::Draft6),
+        "http://json-schema.org/draft-07/schema" | "http://json-schema.org/draft-07/schema#" =>
+            Some(Draft::Draft7),
+        "https://json-schema.org/draft/2019-09/schema"
+        | "https://json-schema.org/draft/2019-09/schema#" => Some(Draft::Draft201909),
+        "https://json-schema.org/draft/2020-12/schema"
+        | "https://json-schema.org/draft/2020-12/schema#" => Some(Draft::Draft202012),
+        _ => None,
+    }
+}
+
+/// The text that a command has under a name, or no text.
+fn text_in<'c>(command: &'c Value, name: &str) -> &'c str {
+    command.get(name).and_then(Value::as_str).unwrap_or("")
+}
+
+/// The number that a command goes by, if it has one.
+fn seq_of(command: &Value) -> Option<&Value> {
+    command.get("seq")
+}
+
+/// A reply, as a line.
+fn reply(alloc: Global, value: Value) -> Result<Turn, AllocError> {
+    let text = value.to_string(alloc);
+    drop(value);
+    Ok(Turn::Reply(text?))
+}
+
+/// Tells what is wrong with a command.
+fn refuse(alloc: Global, seq: Option<&Value>, message: &str) -> Result<Turn, AllocError> {
+    reply(alloc, fault(alloc, seq, message)?)
+}
+
+/// Tells what the implementation is.
+fn start(alloc: Global, command: &Value) -> Result<Turn, AllocError> {
+    if command.get("version").and_then(Value::as_u64) == Some(1) {
+        Ok(Turn::Reply(String::from_str(alloc, STARTED)?))
+    } else {
+        refuse(alloc, None, "the version of the protocol is not 1")
+    }
+}
+
+/// Sets the draft of schemas that do not say theirs.
+fn speak(alloc: Global, draft: &mut Draft, command: &Value) -> Result<Turn, AllocError> {
+    match draft_of(text_in(command, "dialect")) {
+        Some(spoken) => {
+            *draft = spoken;
+            reply(alloc, obeyed(alloc, true)?)
+        }
+        None => reply(alloc, obeyed(alloc, false)?),
+    }
+}
+
+/// Asks a schema of several instances.
+fn run<E: Engine>(
+    alloc: Global,
+    engine: &E,
+    draft: Draft,
+    seq: Option<&Value>,
+    body: &Value,
+) -> Result<Turn, AllocError> {
+    match body.get("schema") {
+        Some(schema) => {
+            let case = Case { seq, body, schema };
+            reply(alloc, engine.answer(alloc, draft, case)?)
+        }
+        None => refuse(alloc, seq, "the case has no schema"),
+    }
+}
+
+/// What comes of a command.
+fn obey<E: Engine>(
+    alloc: Global,
+    engine: &E,
+    draft: &mut Draft,
+    command: &Value,
+) -> Result<Turn, AllocError> {
+    let seq = seq_of(command);
+    match word_named(text_in(command, "cmd")) {
+        Word::Start => start(alloc, command),
+        Word::Dialect => speak(alloc, draft, command),
+        Word::Run => match command.get("case") {
+            Some(body) => run(alloc, engine, *draft, seq, body),
+            None => refuse(alloc, seq, "there is no case"),
+        },
+        Word::Stop => Ok(Turn::Stop),
+        Word::Unknown => refuse(alloc, seq, "the command is not known"),
+    }
+}
+
+/// Tells why a line is no command.
+fn refuse_line(alloc: Global, error: &serde_json::Error) -> Result<Turn, AllocError> {
+    let text = format!(in alloc; "the line cannot be read: {error}")?;
+    refuse(alloc, None, text.as_str())
+}
+
+/// What comes of a line.
+pub(crate) fn take<E: Engine>(
+    alloc: Global,
+    engine: &E,
+    draft: &mut Draft,
+    line: &[u8],
+) -> Result<Turn, AllocError> {
+    match Value::from_slice(alloc, line) {
+        Ok(command) => {
+            let turn = obey(alloc, engine, draft, &command);
+            drop(command);
+            turn
+        }
+        Err(error) => {
+            let turn = refuse_line(alloc, &error);
+            drop(error);
+            turn
+        }
+    }
+}

@@ -1,7 +1,0 @@
-use Rattle.std.proofs.Common.{◌≡◌, drop}
-use Rattle.serde_json.specs.View.{items_view, view}
-use Rattle.case_rows.specs.Wanted.{is_in}
-use Rattle.case_rows.proofs.comparing.is_in.Given as goal
-
-abbrev pub invariant-loop-other : goal.invariant-loop-other
-invariant-loop-other l = is_in (view l.value) (items_view l.all) ≡ is_in (view l.value) (items_view (drop l.other-index l.all))

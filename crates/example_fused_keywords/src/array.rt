@@ -1,0 +1,225 @@
+//! `minItems`, and `items` that absorbs it and `type`.
+ghost use Rattle.std.specs.Prelude.{◌≡◌, ◌+◌, ◌^◌, ◌<◌, Bool, IfOk, IfSome, map, option_map, true};
+ghost use Rattle.schema_reports.specs.InstanceViews.{subject_of};
+ghost use Rattle.theory_definitions.specs.Keywords.{for_first};
+ghost use Rattle.theory_definitions.specs.Laws.{first_fault};
+ghost use Rattle.schema_traits.specs.FaultViews.{faults_in};
+ghost use Rattle.schema_traits.specs.KeywordViews.{answer_of, fault_of, reply_of, turn_of, with_errors, with_gives};
+ghost use Rattle.keyword_authoring.specs.Items.{first_at_item};
+ghost use Rattle.keyword_authoring.specs.Ways.{asked, at_first, passes_on, way_turn};
+ghost use Rattle.example_fused_keywords.specs.Openings.{asked_count, before_of, checks_hold, errors, first_gives, opening, run_questions};
+ghost use Rattle.keyword_authoring.specs.AnswerWords.{BecomesTold, IfTold};
+ghost use Rattle.keyword_authoring.specs.TurnWords.{Steps};
+ghost use Rattle.example_fused_keywords.specs.Borrowing.{BorrowsAll, KeepsAll};
+ghost use Rattle.keyword_authoring.specs.Borrowing.{Borrows, Retains};
+
+use crate::checks::Check;
+use keyword_authoring::items::item_count;
+use keyword_authoring::passing::next_number;
+use keyword_authoring::run::{Progress, Stage};
+use schema_reports::evaluation_result::EvaluationResult;
+use schema_reports::instance::Instance;
+use schema_reports::location::OutOfMemory;
+use schema_traits::keyword::{Answer, Below, Fault, Found, Mode, Reply, Step};
+use std::alloc::Global;
+
+/// A keyword of an array: some checks, and then its only child at each of its items, or at none.
+#[derive(Clone, Copy)]
+pub enum ArrayKeyword {
+    /// `minItems`, with its limit.
+    MinItems(u64),
+    /// `items`, which absorbs `type` "array" and `minItems`: how many items come before its own, and the limit.
+    ArrayShape(usize, u64),
+}
+
+/// The question of the only child at an item.
+fn ask_at_item<'s>(number: Option<usize>, mode: Mode) -> Step<'s>
+    ensures step { turn_of result ≡ asked mode (option_map first_at_item number) }
+{
+    match number {
+        Some(item) => Step::Ask(0, Below::Item(item), mode),
+        None => Step::Done,
+    }
+}
+
+/// The first of these errors, if there is one.
+fn first_of<'i>(alloc: Global, faults: Vec<Fault<'i>>) -> Result<Answer<'i>, OutOfMemory>
+    ensures first { IfOk result (λ a. (texts : Bool) → answer_of texts a
+        ≡ with_errors for_first (first_fault (map (fault_of texts) faults.entry.items))) }
+    ensures borrows { IfOk result (λ a. KeepsAll faults.entry.items (faults_in a)) }
+{
+    match faults.into_iter().next() {
+        Some(fault) => Ok(Answer::First(Some(Box::new(alloc, fault)?))),
+        None => Ok(Answer::First(None)),
+    }
+}
+
+impl ArrayKeyword {
+    /// How many items come before those that are asked.
+    fn before(self) -> usize
+        ensures before { result ≡ before_of self }
+    {
+        match self {
+            ArrayKeyword::MinItems(_) => 0,
+            ArrayKeyword::ArrayShape(before, _) => before,
+        }
+    }
+
+    /// Whether the instance passes its checks.
+    fn checks_hold(self, instance: Instance<'_>) -> bool
+        ensures holds { result ≡ checks_hold self (subject_of instance.entry) }
+    {
+        match self {
+            ArrayKeyword::MinItems(least) => Check::HasLeast(least).holds(instance),
+            ArrayKeyword::ArrayShape(_, least) => {
+                Check::IsArray.holds(instance) && Check::HasLeast(least).holds(instance)
+            }
+        }
+    }
+
+    /// How many items a run in this mode asks: none, where a check that fails has ended it.
+    fn asked_count(self, mode: Mode, instance: Instance<'_>) -> usize
+        ensures count { result ≡ asked_count mode self (subject_of instance.entry) }
+        ensures fits { before_of self + result < 2 ^ 64 }
+    {
+        let ends = mode == Mode::Verdict || mode == Mode::First;
+        if ends && !self.checks_hold(instance) {
+            return 0;
+        }
+        match self {
+            ArrayKeyword::MinItems(_) => 0,
+            ArrayKeyword::ArrayShape(before, _) => {
+                let all = item_count(instance);
+                if before < all { all - before } else { 0 }
+            }
+        }
+    }
+
+    /// Whether the keyword holds of the instance, where a run for the verdict asks at no item: its checks alone decide then.
+    pub fn holds_at_once(self, instance: Instance<'_>) -> Option<bool>
+        ensures asks_none { IfSome result (λ _. asked_count Mode.Verdict self (subject_of instance.entry) ≡ 0) }
+        ensures holds { IfSome result (λ valid. checks_hold self (subject_of instance.entry) ≡ valid) }
+    {
+        if self.asked_count(Mode::Verdict, instance) > 0 {
+            return None;
+        }
+        Some(self.checks_hold(instance))
+    }
+
+    /// The errors of its checks.
+    fn errors<'i>(
+        self,
+        alloc: Global,
+        instance: Instance<'i>,
+    ) -> Result<Vec<Fault<'i>>, OutOfMemory>
+        ensures errors { IfOk result (λ faults. IfTold true instance.entry (λ texts s. map (fault_of texts) faults.items ≡ errors texts
+            self s)) }
+        ensures borrows { IfOk result (λ faults. BorrowsAll faults.items) }
+    {
+        let mut faults = Vec::new(alloc);
+        match self {
+            ArrayKeyword::MinItems(least) => {
+                Check::HasLeast(least).push_error(alloc, false, instance, &mut faults)?;
+                Ok(faults)
+            }
+            ArrayKeyword::ArrayShape(_, least) => {
+                Check::IsArray.push_error(alloc, true, instance, &mut faults)?;
+                Check::HasLeast(least).push_error(alloc, true, instance, &mut faults)?;
+                Ok(faults)
+            }
+        }
+    }
+
+    /// What its checks give in an evaluation.
+    fn evaluation<'i>(
+        self,
+        alloc: Global,
+        instance: Instance<'i>,
+    ) -> Result<Answer<'i>, OutOfMemory>
+        ensures gives { IfOk result (λ a. IfTold true instance.entry (λ texts s. answer_of texts a ≡ with_gives
+            (first_gives texts self s))) }
+        ensures borrows { IfOk result (λ a. BorrowsAll (faults_in a)) }
+    {
+        let mut absorbed = Vec::new(alloc);
+        match self {
+            ArrayKeyword::MinItems(least) => {
+                let own = Check::HasLeast(least).result(alloc, instance)?;
+                let found = Box::new(alloc, Found { own, absorbed })?;
+                Ok(Answer::Evaluation(found))
+            }
+            ArrayKeyword::ArrayShape(_, least) => {
+                absorbed.push(Check::IsArray.absorbed_result(alloc, instance)?)?;
+                absorbed.push(Check::HasLeast(least).absorbed_result(alloc, instance)?)?;
+                let own = EvaluationResult::valid_empty(alloc);
+                let found = Box::new(alloc, Found { own, absorbed })?;
+                Ok(Answer::Evaluation(found))
+            }
+        }
+    }
+
+    /// What a run in this mode finds by its checks.
+    fn opened<'i>(
+        self,
+        alloc: Global,
+        mode: Mode,
+        instance: Instance<'i>,
+    ) -> Result<Answer<'i>, OutOfMemory>
+        ensures opened { IfOk result (λ a. IfTold true instance.entry (λ texts s. answer_of texts a ≡ opening texts mode self s)) }
+        ensures borrows { IfOk result (λ a. BorrowsAll (faults_in a)) }
+    {
+        match mode {
+            Mode::Verdict => Ok(Answer::Verdict(self.checks_hold(instance))),
+            Mode::First => {
+                let faults = self.errors(alloc, instance)?;
+                first_of(alloc, faults)
+            }
+            Mode::All => Ok(Answer::All(self.errors(alloc, instance)?)),
+            Mode::Evaluate => self.evaluation(alloc, instance),
+        }
+    }
+
+    /// Puts what the checks find into the answer, in the first turn.
+    fn open<'i>(
+        self,
+        alloc: Global,
+        run: &Progress,
+        instance: Instance<'i>,
+        answer: &mut Answer<'i>,
+    ) -> Result<(), OutOfMemory>
+        ensures opened { IfOk result (λ _. BecomesTold true instance.entry (λ texts s a. at_first run.now.stage
+            (opening texts run.now.mode self s) a) answer.old answer.new) }
+        ensures borrows { Retains answer.old answer.new result }
+    {
+        match run.stage {
+            Stage::Begun => {
+                *answer = self.opened(alloc, run.mode, instance)?;
+                Ok(())
+            }
+            _ => Ok(()),
+        }
+    }
+
+    /// Takes a turn: the first one puts what the checks find into the answer, and then the child is asked at one item after the
+    /// other. Fails only if memory cannot be allocated.
+    pub fn turn<'s, 'i>(
+        self,
+        alloc: Global,
+        run: &mut Progress,
+        instance: Instance<'i>,
+        reply: Reply<'i>,
+        answer: &mut Answer<'i>,
+    ) -> Result<Step<'s>, OutOfMemory>
+        ensures turns { IfOk result (λ _. IfTold true instance.entry (λ texts s. way_turn (passes_on (run_questions run.old.mode self s))
+            (run.old, at_first run.old.stage (opening texts run.old.mode self s) (answer_of texts answer.old)) (reply_of texts reply.entry)
+            ≡ (run.new, answer_of texts answer.new))) }
+        ensures steps { Steps (passes_on (run_questions run.old.mode self (subject_of instance.entry))) run.old answer.old reply.entry
+            result }
+        ensures borrows { Borrows reply.entry answer.old answer.new result }
+    {
+        let mode = run.mode;
+        let count = self.asked_count(mode, instance);
+        self.open(alloc, run, instance, answer)?;
+        let number = next_number(alloc, self.before(), count, run, reply, answer)?;
+        Ok(ask_at_item(number, mode))
+    }
+}

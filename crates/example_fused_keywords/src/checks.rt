@@ -1,0 +1,163 @@
+//! What an array is checked for beside its items.
+ghost use Rattle.std.specs.Prelude.{◌≡◌, ◌++◌, Bool, IfOk, decimal, map, string_bytes, true};
+ghost use Rattle.serde_json.specs.Data.{Data};
+ghost use Rattle.schema_reports.specs.EvaluationResults.{gives_of, named_of};
+ghost use Rattle.schema_reports.specs.InstanceViews.{subject_of};
+ghost use Rattle.schema_reports.specs.ReportViews.{spoken};
+ghost use Rattle.schema_traits.specs.FaultViews.{PassesBorrowed};
+ghost use Rattle.schema_traits.specs.KeywordViews.{fault_of};
+ghost use Rattle.example_fused_keywords.specs.Checks.{absorbed_unit, counted_items, error_at, error_text, errors_at, holds, name, own_unit};
+ghost use Rattle.example_fused_keywords.specs.Checks.{spot_name};
+ghost use Rattle.keyword_authoring.specs.AnswerWords.{IfTold};
+ghost use Rattle.keyword_authoring.specs.TextWords.{Adds, ShowsText};
+ghost use Rattle.example_fused_keywords.specs.Borrowing.{KeepsAll};
+
+use keyword_authoring::items::{is_list, item_count};
+use schema_reports::evaluation::ErrorDescription;
+use schema_reports::evaluation_result::{AbsorbedResult, EvaluationResult};
+use schema_reports::instance::Instance;
+use schema_reports::location::OutOfMemory;
+use schema_traits::keyword::{Fault, OwnError};
+use std::alloc::Global;
+
+/// A check of an instance.
+#[derive(Clone, Copy)]
+pub enum Check {
+    /// It is an array: `type` with the value "array".
+    IsArray,
+    /// It is no array, or one of so many items at least: `minItems`.
+    HasLeast(u64),
+}
+
+/// What stands after the limit in an error's text.
+fn counted_items(limit: u64) -> &'static str
+    ensures counted { result.now ≡ counted_items limit }
+{
+    if limit == 1 { " item" } else { " items" }
+}
+
+/// Adds a number in decimal.
+fn push_decimal(text: &mut String, number: u64) -> Result<(), OutOfMemory>
+    ensures decimal { IfOk result (λ _. Adds (decimal number) text.old text.new) }
+{
+    write!(text, "{number}")
+}
+
+/// An error of this name at the keyword itself, or at the one of the same name that it absorbs.
+fn own_fault<'i>(
+    alloc: Global,
+    absorbed: bool,
+    name: &str,
+    text: String,
+) -> Result<Fault<'i>, OutOfMemory>
+    ensures own { IfOk result (λ fault. (texts : Bool) → fault_of texts fault
+        ≡ error_at (spot_name absorbed name.now) name.now (spoken texts (string_bytes text))) }
+    ensures borrows { IfOk result (λ fault. (root : Data) → PassesBorrowed root fault) }
+{
+    let at = if absorbed {
+        Some(String::from_str(alloc, name)?)
+    } else {
+        None
+    };
+    Ok(Fault::Own(OwnError {
+        absorbed: at,
+        path: String::new(alloc),
+        below: Vec::new(alloc),
+        keyword: String::from_str(alloc, name)?,
+        text,
+    }))
+}
+
+impl Check {
+    /// The name of its keyword.
+    pub fn name(self) -> &'static str
+        ensures name { result.now ≡ name self }
+    {
+        match self {
+            Check::IsArray => "type",
+            Check::HasLeast(_) => "minItems",
+        }
+    }
+
+    /// Whether the instance passes it.
+    pub fn holds(self, instance: Instance<'_>) -> bool
+        ensures holds { result ≡ holds self (subject_of instance.entry) }
+    {
+        match self {
+            Check::IsArray => is_list(instance),
+            Check::HasLeast(limit) => !is_list(instance) || limit <= item_count(instance) as u64,
+        }
+    }
+
+    /// The text of its error.
+    fn text(self, alloc: Global, instance: Instance<'_>) -> Result<String, OutOfMemory>
+        ensures text { IfOk result (ShowsText instance.entry (error_text self)) }
+    {
+        let mut text = instance.text(alloc)?;
+        match self {
+            Check::IsArray => {
+                text.push_str(" is not of type \"array\"")?;
+                Ok(text)
+            }
+            Check::HasLeast(limit) => {
+                text.push_str(" has less than ")?;
+                push_decimal(&mut text, limit)?;
+                text.push_str(counted_items(limit))?;
+                Ok(text)
+            }
+        }
+    }
+
+    /// Adds its error where the instance does not pass it: at the keyword itself, or at the one that it absorbs. Fails only if
+    /// memory cannot be allocated.
+    pub fn push_error<'i>(
+        self,
+        alloc: Global,
+        absorbed: bool,
+        instance: Instance<'i>,
+        faults: &mut Vec<Fault<'i>>,
+    ) -> Result<(), OutOfMemory>
+        ensures pushed { IfOk result (λ _. IfTold true instance.entry (λ texts s. map (fault_of texts) faults.new.items ≡ map
+            (fault_of texts) faults.old.items ++ errors_at texts absorbed self s)) }
+        ensures borrows { IfOk result (λ _. KeepsAll faults.old.items faults.new.items) }
+    {
+        if self.holds(instance) {
+            return Ok(());
+        }
+        let text = self.text(alloc, instance)?;
+        faults.push(own_fault(alloc, absorbed, self.name(), text)?)?;
+        Ok(())
+    }
+
+    /// What it gives in an evaluation: it is valid, or has its error. Fails only if memory cannot be allocated.
+    pub fn result(
+        self,
+        alloc: Global,
+        instance: Instance<'_>,
+    ) -> Result<EvaluationResult, OutOfMemory>
+        ensures unit { IfOk result (λ r. IfTold true instance.entry (λ texts s. gives_of texts r ≡ own_unit texts self s)) }
+    {
+        if self.holds(instance) {
+            return Ok(EvaluationResult::valid_empty(alloc));
+        }
+        let text = self.text(alloc, instance)?;
+        let keyword = String::from_str(alloc, self.name())?;
+        let mut errors = Vec::new(alloc);
+        errors.push(ErrorDescription { keyword, text })?;
+        Ok(EvaluationResult::invalid_empty(alloc, errors))
+    }
+
+    /// What it gives as a keyword that is absorbed. Fails only if memory cannot be allocated.
+    pub fn absorbed_result(
+        self,
+        alloc: Global,
+        instance: Instance<'_>,
+    ) -> Result<AbsorbedResult, OutOfMemory>
+        ensures unit { IfOk result (λ r. IfTold true instance.entry (λ texts s. named_of texts r ≡ absorbed_unit texts self s)) }
+    {
+        Ok(AbsorbedResult {
+            keyword: String::from_str(alloc, self.name())?,
+            result: self.result(alloc, instance)?,
+        })
+    }
+}

@@ -1,7 +1,0 @@
-use Rattle.std.proofs.Common.{◌∙◌, ap}
-use Rattle.keyword_ways.specs.Texts.{is_among}
-use Rattle.gated_keywords.proofs.ListedNames.{has_text}
-use Rattle.gated_keywords.proofs.listed.Listed.has.Goals as goal
-
-pub returns : goal.returns
-returns c = record { has = c.contains.ensures ∙ (has_text c.args.name.now c.self.inside.names.keys ∙ ap (λ names. is_among names c.args.name.now) c.self.view_is) }

@@ -1,7 +1,0 @@
-use Rattle.std.proofs.Common.{◌≡◌, ◌++◌}
-use Rattle.serde_json.specs.View.{members_view}
-use Rattle.keyword_ways.specs.Members.{names_in}
-use Rattle.gated_keywords.proofs.members.names_in.Given as goal
-
-abbrev pub invariant-loop-name : goal.invariant-loop-name
-invariant-loop-name l = l.names ++ names_in (members_view l.name-iterator) ≡ names_in (members_view l.members.entries)

@@ -1,0 +1,65 @@
+-- What a build promises of its validator, over all that is handed in: what the clauses of `ValidationOptions::build` say, in one; and
+-- over the sources, which a resolver of them, the standard's table and the matcher of their patterns are made for. (Core 2020-12, 8.2)
+use Rattle.std.specs.Prelude.{List}
+use Rattle.serde_json.specs.Data.{Data}
+use Rattle.serde_json.specs.View.{view}
+use Rattle.theory_definitions.specs.Instance.{Text}
+use Rattle.theory_definitions.specs.Keywords.{Answer}
+use Rattle.schema_traits.specs.declared.keyword.Validate.{Ghosts as KeywordMembers}
+use Rattle.schema_traits.specs.declared.resolver.Resolver.{Ghosts as ResolverMembers}
+use Rattle.schema_traits.specs.declared.table.KeywordTable.{Ghosts as TableMembers}
+use Rattle.regex_matcher.specs.RegexMatching.{Kept, careful}
+use Rattle.schema_keys.specs.Checking.{MetaChecks}
+use Rattle.schema_keys.specs.declared.error.BuildError.{BuildError}
+use Rattle.schema_validator.specs.Called.{BuildRefused, HasPlainUnits, IsCompiledFrom, MeansPlainly, PointsPlainly, SchemaBuilds, UnitsPointPlainly}
+use Rattle.schema_validator.specs.Checked.{PassesCheck}
+use Rattle.schema_validator.specs.FirstCauses.{FirstOfBuild}
+use Rattle.schema_validator.specs.Greatest.{AcceptsAsSchema}
+use Rattle.schema_validator.specs.Handed.{Handed, Options}
+use Rattle.schema_compiled.specs.Program.{Program}
+use Rattle.schema_compiled.specs.Solved.{HasSolver}
+use Rattle.standard_resolver.specs.ResolverDocuments.{HeldDocuments}
+use Rattle.standard_keywords.specs.declared.table.StandardTable.{StandardTable}
+use Rattle.standard_meta.specs.DraftMeanings.{handed_by}
+use Rattle.jsonschema.specs.Sources.{IsResolverOf, SchemaSources, options_by}
+
+-- the matcher that has these patterns at hand, and leaves unfinished what cannot be read, if there is any
+abbrev pub careful_matcher : List Text → Kept
+careful_matcher patterns = record { unreadable = careful patterns; patterns = patterns }
+
+module _ {State S C Maker Run K : Type 0} (resolvers : ResolverMembers HeldDocuments State S) (tables : TableMembers StandardTable C Maker Run K)
+    (keywords : KeywordMembers C Run K) where
+  -- what is handed in with a resolver and patterns
+  abbrev pub parts_by : HeldDocuments → List Text → Handed S K (Run × Answer) C Kept
+  parts_by r patterns = handed_by resolvers tables keywords r (careful_matcher patterns)
+
+  module _ (r : HeldDocuments) (patterns : List Text) (refuses : MetaChecks) (options : Options) (schema : Data) where
+    -- what is built of a schema by a resolver that has it
+    pub record IsBuilt (p : Program C Kept) : Type 0 where
+      pub means : MeansPlainly (parts_by r patterns) options schema p
+      pub units : HasPlainUnits (parts_by r patterns) options schema p
+      pub points : PointsPlainly (parts_by r patterns) options schema p
+      pub units_point : UnitsPointPlainly (parts_by r patterns) options schema p
+      pub greatest : AcceptsAsSchema (parts_by r patterns) options schema p
+      pub program : IsCompiledFrom (parts_by r patterns) options schema options.nested p
+      pub solver : HasSolver p
+      pub builds : SchemaBuilds (parts_by r patterns) options schema
+      pub passed : PassesCheck (resolvers.resolving r) refuses options schema
+
+    -- the error names a cause that stands, and the first of several
+    pub record IsRefused (e : BuildError) : Type 0 where
+      pub refused : BuildRefused (parts_by r patterns) refuses options schema e
+      pub first : FirstOfBuild (parts_by r patterns) refuses options schema e
+
+  module _ (refuses : MetaChecks) (options : Options) (s : SchemaSources) (patterns : List Text) where
+    -- what is built of the schema by a resolver of the sources, with their draft and URI among the options
+    pub record IsBuiltOf (p : Program C Kept) : Type 0 where
+      pub resolver : HeldDocuments
+      pub resolves : IsResolverOf s resolver
+      pub built : IsBuilt resolver patterns refuses (options_by s options) (view s.schema) p
+
+    -- an error of such a build
+    pub record IsRefusedOf (e : BuildError) : Type 0 where
+      pub resolver : HeldDocuments
+      pub resolves : IsResolverOf s resolver
+      pub refused : IsRefused resolver patterns refuses (options_by s options) (view s.schema) e

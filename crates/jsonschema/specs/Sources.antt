@@ -1,0 +1,47 @@
+-- What a validator is built from: a schema, the URI that it is found under and the draft of what says none, where they are set, and the
+-- documents that its references may lead to, each under its URI. (Core 2020-12, 8.2 and 9.1)
+use Rattle.std.specs.Prelude.{List, None, Option, Some, [], codes, map, unwrap_or, ◌∷◌, ◌≡◌}
+use Rattle.serde_json.specs.Data.{Data}
+use Rattle.serde_json.specs.Find.{get}
+use Rattle.serde_json.specs.View.{view}
+use Rattle.serde_json.specs.declared.value.Value.{Value}
+use Rattle.theory_definitions.specs.Drafts.{Draft, draft_2020_12}
+use Rattle.theory_definitions.specs.Instance.{Text}
+use Rattle.standard_resolver.specs.ResolverDocuments.{HeldDocuments, GivenDocument, HasCustom, HasDrafts}
+use Rattle.standard_subschemas.specs.declared.rules.Rule.TheVariants.{Standard}
+use Rattle.schema_validator.specs.Handed.{Options}
+
+pub record SchemaSources : Type 0 where
+  pub schema : Value
+  pub uri : Option Text
+  pub draft : Option Draft
+  pub documents : List GivenDocument
+
+-- the values, the schema's first
+abbrev pub values_of : SchemaSources → List Data
+values_of s = view s.schema ∷ map (λ d. view d.value) s.documents
+
+abbrev pub default_draft_of : SchemaSources → Draft
+default_draft_of s = unwrap_or s.draft draft_2020_12
+
+-- what says its draft keeps it
+abbrev pub draft_option : SchemaSources → Option Draft → Option Draft
+draft_option s o = elim (get (codes "$schema") (view s.schema)) [ Some d ↦ o | None ↦ elim s.draft [ Some draft ↦ Some draft | None ↦ o ] ]
+
+-- the URI that the schema is found under
+abbrev pub uri_of : SchemaSources → Text
+uri_of s = unwrap_or s.uri (codes "json-schema:///")
+
+-- the options of a build, with the sources' draft and URI
+abbrev pub options_by : SchemaSources → Options → Options
+options_by s options = record options { draft = draft_option s options.draft; base = Some (uri_of s) }
+
+-- the resolver holds the schema and the documents, and requires no vocabularies beside those of each draft
+pub record IsResolverOf (s : SchemaSources) (r : HeldDocuments) : Type 0 where
+  pub rule : r.rule ≡ Standard
+  pub uri : r.uri ≡ uri_of s
+  pub document : r.document ≡ s.schema
+  pub others : r.others ≡ s.documents
+  pub default_draft : r.default_draft ≡ default_draft_of s
+  pub drafts : HasDrafts [] r.vocabularies
+  pub custom : HasCustom [] r.vocabularies

@@ -1,0 +1,165 @@
+//! What a validator is built from.
+ghost use Rattle.std.specs.Prelude.{◌≡◌, ◌++◌, ◌∷◌, [], IfErr, IfOk, None, Some, map};
+ghost use Rattle.schema_drafts.specs.KeywordViews.{draft_of};
+ghost use Rattle.standard_resolver.specs.DocumentViews.{given_of};
+ghost use Rattle.regex_matcher.specs.SchemaPatterns.{IsAdded, IsFaultOf, patterns_of};
+ghost use Rattle.serde_json.specs.View.{view};
+ghost use Rattle.schema_traits.specs.Showing.{Yields};
+ghost use Rattle.jsonschema.specs.Sources.{values_of};
+
+use regex_matcher::error::PatternError;
+use regex_matcher::patterns::Patterns;
+use schema_engine::keywords::Draft;
+use schema_engine::location::OutOfMemory;
+use serde_json::Value;
+use standard_meta::documents::MetaDocuments;
+use standard_resolver::resolver::documents::Document;
+use std::alloc::Global;
+use std::marker::Model;
+
+/// A schema, and the documents that its references may lead to, each under its URI.
+#[derive(Drop)]
+pub struct Sources<'a> {
+    pub(crate) schema: &'a Value,
+    pub(crate) uri: Option<String>,
+    pub(crate) draft: Option<Draft>,
+    pub(crate) documents: Vec<Document<'a>>,
+}
+
+impl<'a> Model for Sources<'a> {
+    ghost use Rattle.std.specs.Prelude.{map, option_map, string_bytes};
+    ghost use Rattle.std.specs.Coded.{codes};
+    ghost use Rattle.serde_json.specs.contracts.value.Value as value;
+    ghost use Rattle.schema_drafts.specs.KeywordViews.{draft_of};
+    ghost use Rattle.standard_resolver.specs.DocumentViews.{given_of};
+    ghost use Rattle.jsonschema.specs.Sources.{SchemaSources};
+
+    ghost Value = { SchemaSources };
+
+    ghost coded = { Prim.hlevel (codes, value.the_row.coded) };
+
+    ghost view = { λ s. record {
+      schema = s.schema.now;
+      uri = option_map string_bytes s.uri;
+      draft = option_map draft_of s.draft;
+      documents = map given_of s.documents.items;
+    } };
+}
+
+/// Adds the meta-schemas to documents.
+fn add_meta_schemas<'a>(
+    alloc: Global,
+    metas: &'a MetaDocuments,
+    documents: &mut Vec<Document<'a>>,
+) -> Result<(), OutOfMemory>
+    ensures added { IfOk result (λ _. map given_of documents.new.items ≡ map given_of documents.old.items ++ metas.now.documents) }
+{
+    for meta in metas.documents() {
+        documents.push(Document {
+            uri: String::from_str(alloc, meta.uri)?,
+            value: &meta.value,
+        })?;
+    }
+    Ok(())
+}
+
+impl<'a> Sources<'a> {
+    /// A schema alone. Allocates nothing.
+    pub fn new(alloc: Global, schema: &'a Value) -> Sources<'a>
+        ensures alone { result ≡ record { schema = schema.now; uri = None; draft = None; documents = [] } }
+    {
+        Sources {
+            schema,
+            uri: None,
+            draft: None,
+            documents: Vec::new(alloc),
+        }
+    }
+
+    /// Finds the schema under this URI, whatever identifier it has.
+    ///
+    /// # Errors
+    ///
+    /// Fails only if memory cannot be allocated.
+    pub fn with_uri(self, alloc: Global, uri: &str) -> Result<Sources<'a>, OutOfMemory>
+        ensures uri { Yields result (record self.entry { uri = Some uri.now }) }
+    {
+        let mut sources = self;
+        sources.uri = Some(String::from_str(alloc, uri)?);
+        Ok(sources)
+    }
+
+    /// Reads what does not say its draft in this one; where this is not set, in 2020-12. Allocates nothing.
+    pub fn with_default_draft(self, draft: Draft) -> Sources<'a>
+        ensures draft { result ≡ record self.entry { draft = Some (draft_of draft) } }
+    {
+        let mut sources = self;
+        sources.draft = Some(draft);
+        sources
+    }
+
+    /// Adds a document, which references find under this URI.
+    ///
+    /// # Errors
+    ///
+    /// Fails only if memory cannot be allocated.
+    pub fn with_document(
+        self,
+        alloc: Global,
+        uri: &str,
+        document: &'a Value,
+    ) -> Result<Sources<'a>, OutOfMemory>
+        ensures document { Yields result
+            (record self.entry { documents = self.entry.documents ++ record { uri = uri.now; value = document.now } ∷ [] }) }
+    {
+        let mut sources = self;
+        sources.documents.push(Document {
+            uri: String::from_str(alloc, uri)?,
+            value: document,
+        })?;
+        Ok(sources)
+    }
+
+    /// Adds the meta-schemas of the drafts and of the vocabularies, after the documents that are there. References find them under the
+    /// standard's URIs.
+    ///
+    /// # Errors
+    ///
+    /// Fails only if memory cannot be allocated.
+    pub fn with_meta_schemas(
+        self,
+        alloc: Global,
+        metas: &'a MetaDocuments,
+    ) -> Result<Sources<'a>, OutOfMemory>
+        ensures documents { Yields result (record self.entry { documents = self.entry.documents ++ metas.now.documents }) }
+    {
+        let mut sources = self;
+        add_meta_schemas(alloc, metas, &mut sources.documents)?;
+        Ok(sources)
+    }
+
+    // The values of the schema and of the documents, in this order.
+    fn values(&self, alloc: Global) -> Result<Vec<&'a Value>, OutOfMemory>
+        ensures values { IfOk result (λ vs. map (λ v. view v.now) vs.items ≡ values_of self.now) }
+    {
+        let mut values = Vec::new(alloc);
+        values.push(self.schema)?;
+        for document in &self.documents {
+            values.push(document.value)?;
+        }
+        Ok(values)
+    }
+
+    /// Compiles the patterns of the schema and of the documents, each once. A validator borrows them.
+    ///
+    /// # Errors
+    ///
+    /// Fails if memory cannot be allocated, or if a pattern can be read and is too big to compile.
+    pub fn patterns(&self, alloc: Global) -> Result<Patterns, PatternError>
+        ensures patterns { IfOk result (IsAdded [] (patterns_of (values_of self.now))) }
+        ensures fault { IfErr result (IsFaultOf (patterns_of (values_of self.now))) }
+    {
+        let values = self.values(alloc)?;
+        Patterns::for_schemas(alloc, values.as_slice())
+    }
+}

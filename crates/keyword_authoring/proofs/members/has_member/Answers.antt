@@ -1,0 +1,20 @@
+use Rattle.std.proofs.Common.{◌∙◌, sym, ap, is_some, option_map}
+use Rattle.serde_json.specs.View.{view, members_view}
+use Rattle.theory_definitions.specs.Instance.{after_step, to_member}
+use Rattle.schema_reports.specs.InstanceViews.{subject_of}
+use Rattle.keyword_authoring.proofs.MemberNames.{has_member-none, has_member-object}
+use Rattle.keyword_authoring.proofs.members.has_member.Goals as goal
+
+pub returns-in-Some : goal.returns-in-Some
+returns-in-Some c = record {
+  member = c.is_named.ensures.named ∙ (sym (has_member-object c.args.name.now (view c.in-Value.value.now) (members_view c.in-Some.members.now.entries)
+      (sym c.as_object.ensures ∙ ap (option_map (λ m. members_view m.now.entries)) c.in-Some.is))
+      ∙ ap (λ i. is_some (after_step (to_member c.args.name.now) (subject_of i))) (sym c.in-Value.is));
+}
+
+pub returns-in-None : goal.returns-in-None
+returns-in-None c = record {
+  member = sym (has_member-none c.args.name.now (view c.in-Value.value.now)
+      (sym c.as_object.ensures ∙ ap (option_map (λ m. members_view m.now.entries)) c.in-None.is))
+      ∙ ap (λ i. is_some (after_step (to_member c.args.name.now) (subject_of i))) (sym c.in-Value.is);
+}

@@ -1,0 +1,23 @@
+-- What becomes of the places that the errors in an answer borrow.
+use Rattle.std.specs.Prelude.{All, IfOk, Result}
+use Rattle.serde_json.specs.Data.{Data}
+use Rattle.schema_reports.specs.ReportViews.{BorrowsItsPlace}
+use Rattle.schema_traits.specs.FaultViews.{PassesBorrowed, errors_in, faults_in}
+use Rattle.schema_traits.specs.declared.keyword.Answer.{Answer}
+use Rattle.schema_traits.specs.declared.keyword.Reply.{Reply}
+
+-- each error that the answer after passes on borrows its place, where each of the answer before does
+abbrev pub KeepsBorrows : Answer → Answer → Type 0
+KeepsBorrows old new = (root : Data) → All (PassesBorrowed root) (faults_in old) → All (PassesBorrowed root) (faults_in new)
+
+-- so it is where each error of a reply borrows its place too
+abbrev pub TakesBorrows : Reply → Answer → Answer → Type 0
+TakesBorrows reply old new = (root : Data) → All (BorrowsItsPlace root) (errors_in reply) → All (PassesBorrowed root) (faults_in old) → All (PassesBorrowed root) (faults_in new)
+
+-- the first where there is an answer
+abbrev pub Retains : {A E : Type 0} → Answer → Answer → Result A E → Type 0
+Retains old new result = IfOk result (λ _. KeepsBorrows old new)
+
+-- the second where there is an answer
+abbrev pub Borrows : {A E : Type 0} → Reply → Answer → Answer → Result A E → Type 0
+Borrows reply old new result = IfOk result (λ _. TakesBorrows reply old new)

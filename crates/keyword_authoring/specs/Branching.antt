@@ -1,0 +1,13 @@
+-- A run that branches, by the numbers of its children, each of which is asked at the keyword's own place.
+use Rattle.std.specs.Prelude.{Bool, Option, option_map, ℕ}
+use Rattle.theory_definitions.specs.Keywords.{Question}
+use Rattle.keyword_authoring.specs.Items.{child_here}
+use Rattle.keyword_authoring.specs.Ways.{Way, branches, chosen}
+
+-- the first child is asked, and then the one of the branch that follows, where there is one
+abbrev pub branches_here : Option ℕ → Option ℕ → Way
+branches_here accepted refused = branches (child_here 0) (option_map child_here accepted) (option_map child_here refused)
+
+-- the question of the branch that a verdict leads to
+abbrev pub chosen_here : Bool → Option ℕ → Option ℕ → Option Question
+chosen_here accepts accepted refused = chosen accepts (option_map child_here accepted) (option_map child_here refused)

@@ -1,0 +1,8 @@
+-- What is said of keywords in every case.
+use Rattle.std.specs.Prelude.{Bool}
+use Rattle.theory_definitions.specs.Instance.{Subject}
+use Rattle.theory_definitions.specs.Matching.{Matching}
+
+-- of every instance, whether texts are spoken of or not, and whichever texts the patterns match
+abbrev pub Always : (Bool → Subject → Matching → Type 0) → Type 0
+Always Says = (texts : Bool) (s : Subject) (matches : Matching) → Says texts s matches

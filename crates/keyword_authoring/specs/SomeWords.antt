@@ -1,0 +1,18 @@
+-- A run that asks those of its numbered questions that are there: what it asks next.
+use Rattle.std.specs.Prelude.{List, Option, ℕ, ◌≡◌}
+use Rattle.theory_definitions.specs.Keywords.{Question}
+use Rattle.schema_traits.specs.KeywordViews.{turn_of}
+use Rattle.schema_traits.specs.declared.keyword.Mode.{Mode}
+use Rattle.schema_traits.specs.declared.keyword.Step.{Step}
+use Rattle.keyword_authoring.specs.Asking.{some_at}
+use Rattle.keyword_authoring.specs.Somes.{question_of}
+use Rattle.keyword_authoring.specs.Ways.{asked, stage_some}
+use Rattle.keyword_authoring.specs.declared.run.Progress.{Progress}
+
+-- the run stands where the first question is asked that is there from a number on
+abbrev pub StandsAtSome : List (Option Question) → Option ℕ → Progress → Progress → Type 0
+StandsAtSome os start run run' = run' ≡ record run { stage = stage_some (some_at os start) }
+
+-- the step asks it
+abbrev pub AsksSome : List (Option Question) → Option ℕ → Mode → Step → Type 0
+AsksSome os start mode step = turn_of step ≡ asked mode (question_of (some_at os start))

@@ -1,0 +1,317 @@
+//! What is added to the answer of a run.
+ghost use Rattle.std.specs.Prelude.{◌≡◌, ◌++◌, [], Bool, IfOk, map};
+ghost use Rattle.serde_json.specs.Data.{Data};
+ghost use Rattle.schema_reports.specs.ReportViews.{error_of};
+ghost use Rattle.theory_definitions.specs.Keywords.{passed};
+ghost use Rattle.schema_traits.specs.declared.keyword.Fault.TheVariants.{Passed};
+ghost use Rattle.schema_traits.specs.FaultViews.{faults_in, PassesBorrowed};
+ghost use Rattle.schema_traits.specs.KeywordViews.{answer_of, fault_of, reply_of};
+ghost use Rattle.keyword_authoring.specs.FaultLists.{first_kept};
+ghost use Rattle.keyword_authoring.specs.Tallies.{says_yes};
+ghost use Rattle.keyword_authoring.specs.Ways.{evaluated, goes_on, with_first};
+ghost use Rattle.keyword_authoring.specs.Borrowing.{KeepsBorrows, TakesBorrows, Borrows, Retains};
+ghost use Rattle.keyword_authoring.specs.AnswerWords.{Refuses, Notes, Takes, own_fault, Becomes};
+ghost use Rattle.schema_traits.specs.Readings.{Lists};
+ghost use Rattle.schema_traits.specs.Showing.{Shows};
+
+use crate::units::{invalidate, with_unit};
+use schema_reports::evaluation::ErrorDescription;
+use schema_reports::location::OutOfMemory;
+use schema_reports::reports::ValidationError;
+use schema_traits::keyword::{Answer, Fault, Mode, OwnError, Reply};
+use std::alloc::Global;
+use std::mem;
+
+/// The answer with the verdict no.
+fn refused<'i>(alloc: Global, answer: Answer<'i>) -> Answer<'i>
+    ensures refused { Refuses answer.entry result }
+    ensures faults { faults_in result ≡ faults_in answer.entry }
+{
+    match answer {
+        Answer::Verdict(_) => Answer::Verdict(false),
+        Answer::First(first) => match first {
+            None => Answer::Verdict(false),
+            Some(fault) => Answer::First(Some(fault)),
+        },
+        Answer::All(faults) => {
+            if faults.is_empty() {
+                drop(faults);
+                Answer::Verdict(false)
+            } else {
+                Answer::All(faults)
+            }
+        }
+        Answer::Evaluation(mut found) => {
+            invalidate(alloc, &mut found.own);
+            Answer::Evaluation(found)
+        }
+    }
+}
+
+/// The answer with this first error, where it has none.
+fn with_first<'i>(answer: Answer<'i>, fault: Box<Fault<'i>>) -> Answer<'i>
+    ensures first { Becomes answer.entry (λ texts a. with_first a a.errors (fault_of texts fault.entry.value)) result }
+    ensures faults { faults_in result ≡ first_kept (faults_in answer.entry) fault.entry.value }
+{
+    match answer {
+        Answer::Verdict(_) => Answer::First(Some(fault)),
+        Answer::First(first) => match first {
+            None => Answer::First(Some(fault)),
+            Some(kept) => {
+                drop(fault);
+                Answer::First(Some(kept))
+            }
+        },
+        Answer::All(faults) => {
+            if faults.is_empty() {
+                drop(faults);
+                Answer::First(Some(fault))
+            } else {
+                drop(fault);
+                Answer::All(faults)
+            }
+        }
+        Answer::Evaluation(found) => {
+            drop(found);
+            Answer::First(Some(fault))
+        }
+    }
+}
+
+/// The errors of an answer.
+fn faults_of<'i>(alloc: Global, answer: Answer<'i>) -> Result<Vec<Fault<'i>>, OutOfMemory>
+    ensures errors { IfOk result (λ faults. (texts : Bool) → map (fault_of texts) faults.items ≡ (answer_of texts answer.entry).errors) }
+    ensures faults { Lists result (faults_in answer.entry) }
+{
+    match answer {
+        Answer::Verdict(_) => Ok(Vec::new(alloc)),
+        Answer::First(first) => {
+            let mut faults = Vec::new(alloc);
+            if let Some(fault) = first {
+                faults.push(Box::into_inner(fault))?;
+            }
+            Ok(faults)
+        }
+        Answer::All(faults) => Ok(faults),
+        Answer::Evaluation(found) => {
+            drop(found);
+            Ok(Vec::new(alloc))
+        }
+    }
+}
+
+/// The answer that refuses, with an error of the keyword's own for its unit.
+fn evaluated<'i>(
+    alloc: Global,
+    keyword: &str,
+    text: String,
+    before: Answer<'i>,
+) -> Result<Answer<'i>, OutOfMemory>
+    ensures evaluated { IfOk result (Becomes before.entry (λ texts a. evaluated a (own_fault texts keyword.now text))) }
+    ensures faults { Shows faults_in result [] }
+{
+    let mut found = before.into_evaluation(alloc)?;
+    let keyword = String::from_str(alloc, keyword)?;
+    found
+        .own
+        .mark_errored(alloc, ErrorDescription { keyword, text })?;
+    Ok(Answer::Evaluation(found))
+}
+
+/// Makes the answer say no, with no error. Where a verdict alone is wanted, this is what a keyword does that refuses. Nothing is
+/// allocated.
+pub fn refuse<'i>(alloc: Global, answer: &mut Answer<'i>)
+    ensures refused { Refuses answer.old answer.new }
+    ensures borrows { KeepsBorrows answer.old answer.new }
+{
+    let before = mem::replace(answer, Answer::Verdict(false));
+    *answer = refused(alloc, before);
+}
+
+/// Notes an error of the keyword's own. Where a verdict is wanted, it refuses alone; in an evaluation the error is in
+/// the unit.
+pub fn note<'i>(
+    alloc: Global,
+    mode: Mode,
+    keyword: &str,
+    text: String,
+    answer: &mut Answer<'i>,
+) -> Result<(), OutOfMemory>
+    ensures noted { IfOk result (λ _. Notes mode keyword.now text answer.old answer.new) }
+    ensures borrows { Retains answer.old answer.new result }
+{
+    let before = mem::replace(answer, Answer::Verdict(false));
+    *answer = with_own(alloc, mode, keyword, text, before)?;
+    Ok(())
+}
+
+/// The answer with an error of the keyword's own.
+fn with_own<'i>(
+    alloc: Global,
+    mode: Mode,
+    keyword: &str,
+    text: String,
+    before: Answer<'i>,
+) -> Result<Answer<'i>, OutOfMemory>
+    ensures noted { IfOk result (Notes mode keyword.now text before.entry) }
+    ensures borrows { IfOk result (KeepsBorrows before.entry) }
+{
+    match mode {
+        Mode::Verdict => {
+            drop(text);
+            Ok(refused(alloc, before))
+        }
+        Mode::Evaluate => evaluated(alloc, keyword, text, before),
+        Mode::First => with_own_first(alloc, keyword, text, before),
+        Mode::All => with_own_last(alloc, keyword, text, before),
+    }
+}
+
+/// The answer with an error of the keyword's own as its first, where it has none.
+fn with_own_first<'i>(
+    alloc: Global,
+    keyword: &str,
+    text: String,
+    before: Answer<'i>,
+) -> Result<Answer<'i>, OutOfMemory>
+    ensures noted { IfOk result (Notes Mode.First keyword.now text before.entry) }
+    ensures borrows { IfOk result (KeepsBorrows before.entry) }
+{
+    let fault = own_fault(alloc, keyword, text)?;
+    Ok(with_first(before, Box::new(alloc, fault)?))
+}
+
+/// The answer with an error of the keyword's own after the others.
+fn with_own_last<'i>(
+    alloc: Global,
+    keyword: &str,
+    text: String,
+    before: Answer<'i>,
+) -> Result<Answer<'i>, OutOfMemory>
+    ensures noted { IfOk result (Notes Mode.All keyword.now text before.entry) }
+    ensures borrows { IfOk result (KeepsBorrows before.entry) }
+{
+    let mut faults = faults_of(alloc, before)?;
+    faults.push(own_fault(alloc, keyword, text)?)?;
+    Ok(Answer::All(faults))
+}
+
+/// An error at the keyword itself.
+fn own_fault<'i>(alloc: Global, keyword: &str, text: String) -> Result<Fault<'i>, OutOfMemory>
+    ensures own { IfOk result (λ fault. (texts : Bool) → fault_of texts fault ≡ own_fault texts keyword.now text) }
+    ensures borrows { IfOk result (λ fault. (root : Data) → PassesBorrowed root fault) }
+{
+    Ok(Fault::Own(OwnError {
+        absorbed: None,
+        path: String::new(alloc),
+        below: Vec::new(alloc),
+        keyword: String::from_str(alloc, keyword)?,
+        text,
+    }))
+}
+
+/// Whether a reply lets its run go on.
+pub fn goes_on(reply: &Reply<'_>) -> bool
+    ensures goes_on { (texts : Bool) → result ≡ goes_on (reply_of texts reply.now) }
+{
+    match reply {
+        Reply::Nothing => true,
+        Reply::Truth(holds) => *holds,
+        Reply::First(first) => first.is_none(),
+        Reply::All(_) => true,
+        Reply::Unit(_) => true,
+    }
+}
+
+/// Whether a reply says yes: a verdict, or a unit's.
+pub fn says_yes(reply: &Reply<'_>) -> bool
+    ensures yes { (texts : Bool) → result ≡ says_yes (reply_of texts reply.now) }
+{
+    match reply {
+        Reply::Nothing => false,
+        Reply::Truth(yes) => *yes,
+        Reply::First(_) => false,
+        Reply::All(_) => false,
+        Reply::Unit(node) => node.report.valid,
+    }
+}
+
+/// Takes what a child answered. A verdict that lets the answer be moves nothing.
+pub fn take<'i>(alloc: Global, reply: Reply<'i>, answer: &mut Answer<'i>) -> Result<(), OutOfMemory>
+    ensures taken { IfOk result (λ _. Takes reply.entry answer.old answer.new) }
+    ensures borrows { Borrows reply.entry answer.old answer.new result }
+{
+    match reply {
+        Reply::Truth(holds) => {
+            if !holds {
+                refuse(alloc, answer);
+            }
+            Ok(())
+        }
+        told => take_told(alloc, told, answer),
+    }
+}
+
+/// Takes what a child told. Its room on the stack is its own, so that a verdict pays nothing for it.
+#[inline(never)]
+fn take_told<'i>(
+    alloc: Global,
+    reply: Reply<'i>,
+    answer: &mut Answer<'i>,
+) -> Result<(), OutOfMemory>
+    ensures taken { IfOk result (λ _. Takes reply.entry answer.old answer.new) }
+    ensures borrows { Borrows reply.entry answer.old answer.new result }
+{
+    let before = mem::replace(answer, Answer::Verdict(false));
+    *answer = with_reply(alloc, reply, before)?;
+    Ok(())
+}
+
+/// The answer with what a child answered.
+fn with_reply<'i>(
+    alloc: Global,
+    reply: Reply<'i>,
+    before: Answer<'i>,
+) -> Result<Answer<'i>, OutOfMemory>
+    ensures taken { IfOk result (Takes reply.entry before.entry) }
+    ensures borrows { IfOk result (TakesBorrows reply.entry before.entry) }
+{
+    match reply {
+        Reply::Nothing => Ok(before),
+        Reply::Truth(holds) => {
+            if holds {
+                Ok(before)
+            } else {
+                Ok(refused(alloc, before))
+            }
+        }
+        Reply::First(first) => match first {
+            None => Ok(before),
+            Some(error) => {
+                let fault = Fault::Passed(Box::into_inner(error));
+                Ok(with_first(before, Box::new(alloc, fault)?))
+            }
+        },
+        Reply::All(errors) => {
+            let mut faults = faults_of(alloc, before)?;
+            pass_all(errors, &mut faults)?;
+            Ok(Answer::All(faults))
+        }
+        Reply::Unit(node) => with_unit(alloc, Box::into_inner(node), before),
+    }
+}
+
+/// Passes errors on, in order.
+fn pass_all<'i>(
+    errors: Vec<ValidationError<'i>>,
+    faults: &mut Vec<Fault<'i>>,
+) -> Result<(), OutOfMemory>
+    ensures passed { IfOk result (λ _. (texts : Bool) → map (fault_of texts) faults.new.items
+        ≡ map (fault_of texts) faults.old.items ++ map passed (map (error_of texts) errors.entry.items)) }
+    ensures added { IfOk result (λ _. faults.new.items ≡ faults.old.items ++ map Passed errors.entry.items) }
+{
+    for error in errors {
+        faults.push(Fault::Passed(error))?;
+    }
+    Ok(())
+}

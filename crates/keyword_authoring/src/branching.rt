@@ -1,0 +1,73 @@
+//! A run that branches: it asks whether one child accepts, and passes on what the child of the branch that follows answers.
+ghost use Rattle.std.specs.Prelude.{◌≡◌};
+ghost use Rattle.schema_traits.specs.KeywordViews.{turn_of};
+ghost use Rattle.keyword_authoring.specs.Ways.{asked, branch_number, stage_at};
+ghost use Rattle.keyword_authoring.specs.TurnWords.{Turns, Steps};
+ghost use Rattle.keyword_authoring.specs.Branching.{branches_here, chosen_here};
+ghost use Rattle.keyword_authoring.specs.Borrowing.{Borrows};
+
+use crate::answers::{says_yes, take};
+use crate::run::{Progress, Stage};
+use schema_reports::location::OutOfMemory;
+use schema_traits::keyword::{Answer, Below, Mode, Reply, Step};
+use std::alloc::Global;
+
+/// Asks the branch that a verdict leads to, if there is one, and ends the run else.
+fn ask_branch<'s>(
+    accepts: bool,
+    accepted: Option<usize>,
+    refused: Option<usize>,
+    run: &mut Progress,
+) -> Step<'s>
+    ensures stage { run.new ≡ record run.old { stage = stage_at (branch_number accepts) (chosen_here accepts accepted refused) } }
+    ensures step { turn_of result ≡ asked run.old.mode (chosen_here accepts accepted refused) }
+{
+    let branch = if accepts { accepted } else { refused };
+    match branch {
+        Some(child) => {
+            run.stage = Stage::Asked(if accepts { 1 } else { 2 });
+            Step::Ask(child, Below::Here, run.mode)
+        }
+        None => {
+            run.stage = Stage::Ended;
+            Step::Done
+        }
+    }
+}
+
+/// Takes a turn of a run that branches: it asks whether its first child accepts, and then the branch that follows, whose answer
+/// it passes on. A branch is the number of a child, where there is one.
+#[inline(always)]
+pub fn branch_on<'s, 'i>(
+    alloc: Global,
+    accepted: Option<usize>,
+    refused: Option<usize>,
+    run: &mut Progress,
+    reply: Reply<'i>,
+    answer: &mut Answer<'i>,
+) -> Result<Step<'s>, OutOfMemory>
+    ensures turns { Turns (branches_here accepted refused) run.old answer.old reply.entry run.new answer.new result }
+    ensures steps { Steps (branches_here accepted refused) run.old answer.old reply.entry result }
+    ensures borrows { Borrows reply.entry answer.old answer.new result }
+{
+    match run.stage {
+        Stage::Begun => {
+            drop(reply);
+            run.stage = Stage::Asked(0);
+            Ok(Step::Ask(0, Below::Here, Mode::Verdict))
+        }
+        Stage::Asked(place) => {
+            if place == 0 {
+                return Ok(ask_branch(says_yes(&reply), accepted, refused, run));
+            }
+            run.stage = Stage::Ended;
+            take(alloc, reply, answer)?;
+            Ok(Step::Done)
+        }
+        _ => {
+            drop(reply);
+            run.stage = Stage::Ended;
+            Ok(Step::Done)
+        }
+    }
+}

@@ -1,0 +1,55 @@
+//! Clones of keywords by a way. An author's type says that a clone of it has its source's shape, and what the engine takes of it can be
+//! cloned.
+ghost use Rattle.std.specs.Prelude.{◌≡◌};
+
+use crate::judge::{JudgeKeyword, Judged};
+use crate::leaf::{Leaf, LeafKeyword};
+use crate::leaves::{Telling, TellingKeyword};
+use crate::own::{ByTurns, OwnKeyword};
+use crate::planned::{Planned, PlannedKeyword};
+use schema_traits::cloning::CloneKeyword;
+
+/// A keyword that asks nothing and has one error, and that can be cloned. A clone has its source's shape.
+pub trait CloneLeaf: LeafKeyword + Clone {
+    ghost cloned: { (m n : Self) → Self.is_clone m n → Self.shape n ≡ Self.shape m };
+}
+
+/// A keyword that asks nothing, and that can be cloned. A clone has its source's shape.
+pub trait CloneTelling: TellingKeyword + Clone {
+    ghost cloned: { (m n : Self) → Self.is_clone m n → Self.shape n ≡ Self.shape m };
+}
+
+/// A keyword by a plan that can be cloned. A clone has its source's shape.
+pub trait ClonePlanned: PlannedKeyword + Clone {
+    ghost cloned: { (m n : Self) → Self.is_clone m n → Self.shape n ≡ Self.shape m };
+}
+
+/// A keyword that judges, and that can be cloned. A clone has its source's shape.
+pub trait CloneJudge: JudgeKeyword + Clone {
+    ghost cloned: { (m n : Self) → Self.is_clone m n → Self.shape n ≡ Self.shape m };
+}
+
+/// A keyword by its own turns that can be cloned. A clone has its source's shape.
+pub trait CloneOwn: OwnKeyword + Clone {
+    ghost cloned: { (m n : Self) → Self.is_clone m n → Self.shape n ≡ Self.shape m };
+}
+
+impl<L: CloneLeaf> CloneKeyword for Leaf<L> {
+    ghost cloned = { λ m n same. L.cloned m.keyword n.keyword same };
+}
+
+impl<T: CloneTelling> CloneKeyword for Telling<T> {
+    ghost cloned = { λ m n same. T.cloned m.keyword n.keyword same };
+}
+
+impl<P: ClonePlanned> CloneKeyword for Planned<P> {
+    ghost cloned = { λ m n same. P.cloned m.keyword n.keyword same };
+}
+
+impl<J: CloneJudge> CloneKeyword for Judged<J> {
+    ghost cloned = { λ m n same. J.cloned m.keyword n.keyword same };
+}
+
+impl<K: CloneOwn> CloneKeyword for ByTurns<K> {
+    ghost cloned = { λ m n same. K.cloned m.keyword n.keyword same };
+}

@@ -1,0 +1,177 @@
+//! A run that judges: it asks one numbered question after the other, and tells errors by how many are answered by yes.
+ghost use Rattle.std.specs.Prelude.{◌≡◌, ◌+◌, ℕ, Bool, IfOk, min, not};
+ghost use Rattle.theory_definitions.specs.Keywords.{Answer as AnswerOfRun, Question, Reply as ReplyOfRun};
+ghost use Rattle.schema_traits.specs.KeywordViews.{reply_of};
+ghost use Rattle.keyword_authoring.specs.Asking.{nth_at};
+ghost use Rattle.keyword_authoring.specs.Items.{child_here, each_from};
+ghost use Rattle.keyword_authoring.specs.Judging.{counted_of, judging_answer, judging_turn, kept_at};
+ghost use Rattle.keyword_authoring.specs.Judging.{JudgesAnswer, JudgesIn, JudgesStage, JudgesStep};
+ghost use Rattle.keyword_authoring.specs.Tallies.{Tally, asked_in, counted, is_settled, says_yes, wants_units};
+ghost use Rattle.keyword_authoring.specs.Ways.{asked, counted_at, judged_at, next_if, nth};
+ghost use Rattle.keyword_authoring.specs.Borrowing.{Retains};
+
+use crate::answers::says_yes;
+use crate::run::{Progress, Stage};
+use crate::units::keep_child;
+use schema_reports::location::OutOfMemory;
+use schema_traits::keyword::{Answer, Mode, Reply};
+use std::alloc::Global;
+
+/// What a turn of a run that judges does.
+#[derive(Clone, Copy)]
+pub enum Judging {
+    /// It asks the question of this number, in this mode.
+    Asks(usize, Mode),
+    /// It ends the run, in which so many accepted.
+    Judged(usize),
+    /// The run had ended.
+    Over,
+}
+
+/// How a keyword judges an instance.
+#[derive(Clone, Copy)]
+pub struct Judge {
+    /// How many questions it has.
+    pub count: usize,
+    /// After how many that are answered by yes further ones change nothing. Any number may be answered: the keyword is judged by how
+    /// many are answered by yes, or by this number where more are. One that wants at least so many answers by yes has enough with
+    /// that number, and one that wants at most so many with one more; the number of its questions is always enough.
+    pub enough: usize,
+    /// Whether it gives its questions' units.
+    pub shows: bool,
+}
+
+/// Whether a run in this mode asks for units.
+fn wants_units(shows: bool, mode: Mode) -> bool
+    ensures units { (t : Tally) → t.shows ≡ shows → result ≡ wants_units t mode }
+{
+    match mode {
+        Mode::Verdict => false,
+        Mode::First => false,
+        Mode::All => false,
+        Mode::Evaluate => shows,
+    }
+}
+
+/// The mode of its questions.
+fn asked_in(units: bool) -> Mode
+    ensures mode { result ≡ asked_in units }
+{
+    if units { Mode::Evaluate } else { Mode::Verdict }
+}
+
+/// How many accept after one more answer, so many at the most.
+fn tallied(enough: usize, accepts: bool, before: usize) -> usize
+    ensures tallied { result ≡ min enough (counted accepts before) }
+{
+    if accepts && before < enough {
+        before + 1
+    } else {
+        enough.min(before)
+    }
+}
+
+/// Whether further answers change nothing.
+fn is_settled(units: bool, enough: usize, accepted: usize) -> bool
+    ensures settled { result ≡ is_settled units enough accepted }
+{
+    !units && enough <= accepted
+}
+
+/// Asks the question of this place, if there is one, and ends the run else.
+#[tactic(auto, using(crate::proofs::EachQuestion::nth_each_here, crate::proofs::EachQuestion::nth_each_past))]
+fn judge_at(
+    place: Option<usize>,
+    accepted: usize,
+    count: usize,
+    units: bool,
+    run: &mut Progress,
+) -> Judging
+    ensures stage { (f : ℕ → Question) → run.new ≡ record run.old { stage = counted_of (each_from f 0 count) accepted place } }
+    ensures step { (f : ℕ → Question) → judging_turn f result ≡ asked (asked_in units) (nth_at (each_from f 0 count) place) }
+    ensures answer { (f : ℕ → Question) (t : Tally) (m : Mode) (a : AnswerOfRun) → judging_answer t m a result
+        ≡ judged_at t m accepted a (nth_at (each_from f 0 count) place) }
+{
+    if let Some(place) = place {
+        if place < count {
+            run.stage = Stage::Counted(place, accepted);
+            return Judging::Asks(place, asked_in(units));
+        }
+    }
+    run.stage = Stage::Ended;
+    Judging::Judged(accepted)
+}
+
+/// The place after the last, where there is one.
+#[tactic(auto, using(crate::proofs::EachQuestion::nth_each_past))]
+fn place_after(last: usize, count: usize, settled: bool) -> Option<usize>
+    ensures next { (f : ℕ → Question) → nth_at (each_from f 0 count) result ≡ next_if (not settled) (nth (last + 1) (each_from f 0 count)) }
+    ensures stage { (f : ℕ → Question) (n : ℕ) → counted_of (each_from f 0 count) n result
+        ≡ counted_at (last + 1) n (next_if (not settled) (nth (last + 1) (each_from f 0 count))) }
+{
+    if settled {
+        return None;
+    }
+    if last < count { Some(last + 1) } else { None }
+}
+
+/// Counts a reply that says yes or not, and says what the turn does.
+fn count_on(judge: Judge, run: &mut Progress, yes: bool) -> Judging
+    ensures stage { (f : ℕ → Question) (r : ReplyOfRun) → yes ≡ says_yes r → JudgesStage judge f run.old r run.new }
+    ensures step { (f : ℕ → Question) (r : ReplyOfRun) → yes ≡ says_yes r → JudgesStep judge f run.old r result }
+    ensures answer { (f : ℕ → Question) (a : AnswerOfRun) (r : ReplyOfRun) → yes ≡ says_yes r
+        → JudgesAnswer judge f run.old r a result (kept_at run.old.stage a r) }
+{
+    let units = wants_units(judge.shows, run.mode);
+    match run.stage {
+        Stage::Begun => judge_at(Some(0), 0, judge.count, units, run),
+        Stage::Counted(last, before) => {
+            let accepted = tallied(judge.enough, yes, before);
+            let settled = is_settled(units, judge.enough, accepted);
+            let place = place_after(last, judge.count, settled);
+            judge_at(place, accepted, judge.count, units, run)
+        }
+        _ => {
+            run.stage = Stage::Ended;
+            Judging::Over
+        }
+    }
+}
+
+/// Takes a turn of a run that judges, whatever the question of a number is. A unit that a child gave is put into the answer.
+pub fn judge_on<'i>(
+    alloc: Global,
+    judge: Judge,
+    run: &mut Progress,
+    reply: Reply<'i>,
+    answer: &mut Answer<'i>,
+) -> Result<Judging, OutOfMemory>
+    ensures stage { IfOk result (λ _. (texts : Bool) (f : ℕ → Question)
+        → JudgesStage judge f run.old (reply_of texts reply.entry) run.new) }
+    ensures step { IfOk result (λ judging. (texts : Bool) (f : ℕ → Question)
+        → JudgesStep judge f run.old (reply_of texts reply.entry) judging) }
+    ensures answer { IfOk result (λ judging. (texts : Bool) (f : ℕ → Question)
+        → JudgesIn judge f texts run.old reply.entry answer.old judging answer.new) }
+    ensures borrows { Retains answer.old answer.new result }
+{
+    let yes = says_yes(&reply);
+    keep_child(alloc, run.stage, reply, answer)?;
+    Ok(count_on(judge, run, yes))
+}
+
+/// Takes a turn of a run that judges its children, each at the keyword's own place. A unit that a child gave is put into the answer.
+pub fn judge_children<'i>(
+    alloc: Global,
+    judge: Judge,
+    run: &mut Progress,
+    reply: Reply<'i>,
+    answer: &mut Answer<'i>,
+) -> Result<Judging, OutOfMemory>
+    ensures stage { IfOk result (λ _. (texts : Bool) → JudgesStage judge child_here run.old (reply_of texts reply.entry) run.new) }
+    ensures step { IfOk result (λ judging. (texts : Bool) → JudgesStep judge child_here run.old (reply_of texts reply.entry) judging) }
+    ensures answer { IfOk result (λ judging. (texts : Bool) → JudgesIn judge child_here texts run.old reply.entry answer.old judging
+        answer.new) }
+    ensures borrows { Retains answer.old answer.new result }
+{
+    judge_on(alloc, judge, run, reply, answer)
+}

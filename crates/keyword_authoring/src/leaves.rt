@@ -1,0 +1,214 @@
+//! Keywords that ask nothing and have an error or several. An author says when such a keyword holds, its name and its errors' texts;
+//! all laws follow. `crate::leaf` is the same of one error, in a type that shows no fraction of the schema.
+ghost use Rattle.std.specs.Prelude.{◌≡◌, Bool, IfOk, IfSome, List, false, length, map, string_bytes, true};
+ghost use Rattle.theory_definitions.specs.Instance.{Subject, Text};
+ghost use Rattle.schema_reports.specs.InstanceViews.{subject_of};
+ghost use Rattle.theory_definitions.specs.Keywords.{done};
+ghost use Rattle.schema_reports.specs.ReportViews.{spoken};
+ghost use Rattle.schema_traits.specs.KeywordViews.{is_nil, turn_of};
+ghost use Rattle.keyword_authoring.specs.OwnWays.{telling_ways};
+ghost use Rattle.keyword_authoring.specs.Ways.{noted};
+ghost use Rattle.keyword_authoring.specs.AnswerWords.{IfNoFraction, TellsAtOnce, Becomes};
+ghost use Rattle.keyword_authoring.specs.TurnWords.{TellsTurn};
+ghost use Rattle.keyword_authoring.specs.Borrowing.{Borrows, Retains};
+ghost use Rattle.schema_traits.specs.Showing.{Shows, Yields};
+
+use crate::answers::{note, refuse};
+use crate::run::Progress;
+use crate::telling::tell_on;
+use schema_reports::instance::Instance;
+use schema_reports::location::OutOfMemory;
+use schema_traits::keyword::{Answer, Mode, Reply, Step, Validate};
+use std::alloc::Global;
+
+/// A keyword that asks nothing: it holds of an instance, or tells its errors, in order.
+pub trait TellingKeyword: Drop {
+    /// What is known of the keyword apart from its representation: the keyword itself, where it owns nothing.
+    type Shape;
+
+    ghost shape: { Self → Self.Shape };
+    // whether no text of it shows a fraction of the schema
+    ghost shows_no_fraction: { Self.Shape → Bool };
+    // the name that its errors go by
+    ghost called: { Self.Shape → Text };
+    // the texts of its errors, in order; none where it holds
+    ghost error_texts: { Self.Shape → Subject → List Text };
+
+    /// Returns the keyword's name.
+    fn name(&self) -> &str
+        ensures name { result.now ≡ called (shape self.now) };
+
+    /// Returns whether it holds of an instance, where that is told without memory; then a verdict takes no run.
+    fn holds_at_once(&self, instance: Instance<'_>) -> Option<bool>
+        ensures at_once { IfSome result (λ holds. holds ≡ is_nil (error_texts (shape self.now) (subject_of instance.entry))) };
+
+    /// Returns whether it holds of an instance.
+    ///
+    /// # Errors
+    ///
+    /// Memory cannot be allocated.
+    fn holds(&self, alloc: Global, instance: Instance<'_>) -> Result<bool, OutOfMemory>
+        ensures holds { Yields result (is_nil (error_texts (shape self.now) (subject_of instance.entry))) };
+
+    /// Returns the errors' texts, in order, where the keyword does not hold. They are asked for only where an error is wanted. Nothing
+    /// is promised of what they say where the instance or the keyword holds a fraction.
+    ///
+    /// # Errors
+    ///
+    /// Memory cannot be allocated.
+    fn texts(&self, alloc: Global, instance: Instance<'_>) -> Result<Vec<String>, OutOfMemory>
+        requires refuses { is_nil (error_texts (shape self.now) (subject_of instance)) ≡ false }
+        ensures count { IfOk result (λ found. length found.items ≡ length (error_texts (shape self.now) (subject_of instance.entry))) }
+        ensures texts { IfOk result (λ found. shows_no_fraction (shape self.now) ≡ true
+            → IfNoFraction instance.entry (λ s. map string_bytes found.items ≡ error_texts (shape self.now) s)) };
+}
+
+/// A keyword that asks nothing, as the engine takes it.
+#[derive(Clone, Drop)]
+pub struct Telling<T> {
+    pub keyword: T,
+}
+
+/// Notes an error for each of these texts, in order.
+fn note_each<'i>(
+    alloc: Global,
+    mode: Mode,
+    name: &str,
+    found: Vec<String>,
+    answer: &mut Answer<'i>,
+) -> Result<(), OutOfMemory>
+    ensures noted { IfOk result (λ _. Becomes answer.old (λ texts a. noted mode name.now a
+        (map (λ text. spoken texts (string_bytes text)) found.items)) answer.new) }
+    ensures borrows { Retains answer.old answer.new result }
+{
+    for text in found {
+        note(alloc, mode, name, text, answer)?;
+    }
+    Ok(())
+}
+
+/// Notes the keyword's errors. Where a verdict alone is wanted, no text is made.
+#[tactic(auto, using(crate::proofs::ToldTexts::told_verdict_alone, crate::proofs::ToldTexts::told_nothing))]
+fn tell_each<'i, T: TellingKeyword>(
+    keyword: &T,
+    alloc: Global,
+    mode: Mode,
+    instance: Instance<'i>,
+    answer: &mut Answer<'i>,
+) -> Result<(), OutOfMemory>
+    ensures told { IfOk result (λ _. TellsAtOnce T.shows_no_fraction (telling_ways T.called T.error_texts) (T.shape keyword.now)
+        instance.entry mode answer.old answer.new) }
+    ensures borrows { Retains answer.old answer.new result }
+{
+    if keyword.holds(alloc, instance)? {
+        return Ok(());
+    }
+    if mode == Mode::Verdict {
+        refuse(alloc, answer);
+        return Ok(());
+    }
+    let found = keyword.texts(alloc, instance)?;
+    note_each(alloc, mode, keyword.name(), found, answer)?;
+    Ok(())
+}
+
+/// Takes a turn of a keyword that asks nothing: in the first turn it tells its errors, if it has any, and the run ends.
+pub fn turn_telling<'s, 'i, T: TellingKeyword>(
+    keyword: &T,
+    alloc: Global,
+    run: &mut Progress,
+    instance: Instance<'i>,
+    reply: Reply<'i>,
+    answer: &mut Answer<'i>,
+) -> Result<Step<'s>, OutOfMemory>
+    ensures turns { TellsTurn T.shows_no_fraction (telling_ways T.called T.error_texts) (T.shape keyword.now) instance.entry run.old
+        answer.old reply.entry run.new answer.new result }
+    ensures step { Shows turn_of result done }
+    ensures borrows { Borrows reply.entry answer.old answer.new result }
+{
+    drop(reply);
+    if tell_on(run) {
+        tell_each(keyword, alloc, run.mode, instance, answer)?;
+    }
+    Ok(Step::Done)
+}
+
+impl<T: TellingKeyword> Validate for Telling<T> {
+    ghost use Rattle.keyword_authoring.specs.WayGrows.{own_grow, tellings_grow};
+    ghost use Rattle.keyword_authoring.specs.WayHandsOn.{own_hand_units_on};
+    ghost use Rattle.keyword_authoring.specs.WayUnits.{own_ask_no_units};
+    ghost use Rattle.keyword_authoring.specs.WayVerdicts.{own_ask_verdicts};
+    ghost use Rattle.std.specs.Prelude.{refl};
+    ghost use Rattle.keyword_authoring.specs.OwnWays.{own_absorbed, own_ends, own_fits, own_function_laws, own_words, telling_present};
+    ghost use Rattle.keyword_authoring.specs.OwnWays.{own_can_be, own_remaining, own_turn_laws};
+
+    type Run = Progress;
+
+    type Shape = T::Shape;
+
+    ghost words = { own_words (telling_ways T.called T.error_texts) };
+
+    ghost shape = { λ k. T.shape k.keyword };
+
+    ghost absorbed = { own_absorbed (telling_ways T.called T.error_texts) };
+
+    ghost is_whole = { T.shows_no_fraction };
+
+    ghost says_monotone = { λ _. true };
+
+    ghost remaining = { own_remaining (telling_ways T.called T.error_texts) };
+
+    ghost can_be = { own_can_be (telling_ways T.called T.error_texts) };
+
+    ghost ends = { own_ends (telling_ways T.called T.error_texts) };
+
+    ghost fits = { own_fits (telling_ways T.called T.error_texts) };
+
+    fn begin(
+        &self,
+        _alloc: Global,
+        _instance: Instance,
+        mode: Mode,
+    ) -> Result<Progress, OutOfMemory> {
+        Ok(Progress::begin(mode))
+    }
+
+    fn turn<'s, 'i: 's>(
+        &'s self,
+        alloc: Global,
+        run: &mut Progress,
+        instance: Instance<'i>,
+        reply: Reply<'i>,
+        answer: &mut Answer<'i>,
+    ) -> Result<Step<'s>, OutOfMemory> {
+        turn_telling(&self.keyword, alloc, run, instance, reply, answer)
+    }
+
+    #[tactic(auto, using(crate::proofs::AtOnce::telling_ends))]
+    fn is_valid_at_once(&self, instance: Instance<'_>) -> Option<bool> {
+        match self.keyword.holds_at_once(instance) {
+            Some(holds) => Some(holds),
+            None => None,
+        }
+    }
+
+    fn monotone(&self) -> bool {
+        true
+    }
+
+    ghost speaks = { λ texts. refl };
+
+    ghost answers = { λ texts run a. refl };
+
+    ghost turn_laws = { own_turn_laws (telling_ways T.called T.error_texts) };
+
+    ghost function_laws = { own_function_laws (telling_ways T.called T.error_texts) (telling_present T.called T.error_texts) };
+
+    ghost grows = { own_grow (telling_ways T.called T.error_texts) (λ _. true) (tellings_grow T.called T.error_texts) };
+
+    ghost hands_units_on = { own_hand_units_on (telling_ways T.called T.error_texts) };
+
+    ghost asks_no_units = { own_ask_no_units (telling_ways T.called T.error_texts) };
+
+    ghost asks_verdicts = { own_ask_verdicts (telling_ways T.called T.error_texts) };
+}

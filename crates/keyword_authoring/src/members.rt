@@ -1,0 +1,99 @@
+//! Members of instances.
+ghost use Rattle.std.specs.Prelude.{◌≡◌, [], IfSome, is_some, option_map, slice_index_or};
+ghost use Rattle.serde_json.specs.Data.{object};
+ghost use Rattle.serde_json.specs.Find.{get_member};
+ghost use Rattle.theory_definitions.specs.Instance.{a_value};
+ghost use Rattle.schema_reports.specs.InstanceViews.{subject_of};
+ghost use Rattle.keyword_authoring.specs.Members.{has_member, is_object, member_count, name_at, names_in, names_of_any, subject_names};
+ghost use Rattle.schema_traits.specs.Readings.{fields};
+
+use schema_reports::instance::Instance;
+use serde_json::{Map, Value};
+
+/// Whether the instance is an object.
+pub fn is_object(instance: Instance<'_>) -> bool
+    ensures object { result ≡ is_object (subject_of instance.entry) }
+{
+    match instance {
+        Instance::Value(value) => value.is_object(),
+        Instance::Name(_) => false,
+    }
+}
+
+/// Whether an object has a member of this name.
+fn is_named(members: &Map<String, Value>, name: &str) -> bool
+    ensures named { result ≡ is_some (get_member name.now (fields members.now)) }
+{
+    members.contains_key(name)
+}
+
+/// Whether the instance has a member of this name.
+#[inline(always)]
+pub fn has_member(instance: Instance<'_>, name: &str) -> bool
+    ensures member { result ≡ has_member name.now (subject_of instance.entry) }
+{
+    match instance {
+        Instance::Value(value) => match value.as_object() {
+            Some(members) => is_named(members, name),
+            None => false,
+        },
+        Instance::Name(_) => false,
+    }
+}
+
+/// How many members the instance has, which is none where it is no object.
+#[tactic(auto, using(crate::proofs::MemberCounts::names_in_length))]
+pub fn member_count(instance: Instance<'_>) -> usize
+    ensures count { result ≡ member_count (subject_of instance.entry) }
+{
+    match instance {
+        Instance::Name(_) => 0,
+        Instance::Value(value) => match value.as_object() {
+            Some(members) => members.len(),
+            None => 0,
+        },
+    }
+}
+
+/// The name of the member of a number, in the order of an object; an empty text where there is none.
+fn name_among(members: &Map<String, Value>, number: usize) -> &str
+    ensures name { result.now ≡ slice_index_or (names_in (fields members.now)) number [] }
+{
+    let mut left = number;
+    for (name, _) in members {
+        if left == 0 {
+            return name.as_str();
+        }
+        left -= 1;
+    }
+    ""
+}
+
+/// The name of the instance's member of a number, in the order of the object; an empty text where there is none. It is found by a walk
+/// over the members before it.
+pub fn name_at<'i>(instance: Instance<'i>, number: usize) -> &'i str
+    ensures name { result.now ≡ name_at (subject_of instance.entry) number }
+{
+    match instance {
+        Instance::Name(_) => "",
+        Instance::Value(value) => match value.as_object() {
+            Some(members) => name_among(members, number),
+            None => "",
+        },
+    }
+}
+
+/// The members of the instance, where it is an object.
+#[inline(always)]
+pub fn members_of<'i>(instance: Instance<'i>) -> Option<&'i Map<String, Value>>
+    ensures members { IfSome result (λ members. subject_of instance.entry ≡ a_value (object (fields members.now))) }
+    ensures names { names_of_any (option_map (λ m. fields m.now) result) ≡ subject_names (subject_of instance.entry) }
+{
+    match instance {
+        Instance::Name(_) => None,
+        Instance::Value(value) => match value {
+            Value::Object(members) => Some(members),
+            _ => None,
+        },
+    }
+}

@@ -1,0 +1,121 @@
+//! A run that passes on: it asks one question after the other, and passes on what each answers.
+ghost use Rattle.std.specs.Prelude.{◌≡◌, ◌≤◌, ◌+◌, ◌^◌, ◌<◌, ℕ, Bool, List, Option, length, option_map, IfOk};
+ghost use Rattle.theory_definitions.specs.Keywords.{Question};
+ghost use Rattle.schema_traits.specs.KeywordViews.{reply_of, turn_of};
+ghost use Rattle.schema_traits.specs.declared.keyword.Mode.{Mode as ModeOfRun};
+ghost use Rattle.keyword_authoring.specs.Asking.{IsNext, IsNextFrom, nth_at, stage_of};
+ghost use Rattle.keyword_authoring.specs.Items.{child_here, each_from};
+ghost use Rattle.keyword_authoring.specs.Ways.{asked, passes_on};
+ghost use Rattle.keyword_authoring.specs.TurnWords.{TurnsIn, StepsIn, AnswersIn};
+ghost use Rattle.keyword_authoring.specs.Borrowing.{Borrows};
+
+use crate::answers::{goes_on, take};
+use crate::run::{Progress, Stage};
+use schema_reports::location::OutOfMemory;
+use schema_traits::keyword::{Answer, Below, Mode, Reply, Step};
+use std::alloc::Global;
+
+/// Takes the reply to what was asked; where nothing was, there is nothing to take.
+fn take_asked<'i>(
+    alloc: Global,
+    stage: Stage,
+    reply: Reply<'i>,
+    answer: &mut Answer<'i>,
+) -> Result<(), OutOfMemory>
+    ensures answered { IfOk result (λ _. (texts : Bool) (qs : List Question) (m : ModeOfRun)
+        → AnswersIn texts (passes_on qs) m stage reply.entry answer.old answer.new) }
+    ensures borrows { Borrows reply.entry answer.old answer.new result }
+{
+    match stage {
+        Stage::Asked(_) => take(alloc, reply, answer),
+        _ => {
+            drop(reply);
+            Ok(())
+        }
+    }
+}
+
+/// Takes a reply, and says which question comes next, by its place in order; where not every number has a question, says from
+/// which number on the next one is looked for. There are at most `limit` of them.
+#[inline(always)]
+pub fn onward<'i>(
+    alloc: Global,
+    limit: usize,
+    run: &Progress,
+    reply: Reply<'i>,
+    answer: &mut Answer<'i>,
+) -> Result<Option<usize>, OutOfMemory>
+    ensures answered { IfOk result (λ place. (texts : Bool) (qs : List Question)
+        → AnswersIn texts (passes_on qs) run.now.mode run.now.stage reply.entry answer.old answer.new) }
+    ensures next { IfOk result (λ place. (texts : Bool) (qs : List Question) → length qs ≤ limit
+        → IsNext qs run.now.stage (reply_of texts reply.entry) place) }
+    ensures next_from { IfOk result (λ start. (texts : Bool) (os : List (Option Question)) → length os ≤ limit
+        → IsNextFrom os run.now.stage (reply_of texts reply.entry) start) }
+    ensures borrows { Borrows reply.entry answer.old answer.new result }
+{
+    let onward = goes_on(&reply);
+    take_asked(alloc, run.stage, reply, answer)?;
+    match run.stage {
+        Stage::Begun => Ok(Some(0)),
+        Stage::Asked(last) => {
+            if !onward {
+                return Ok(None);
+            }
+            if last < limit {
+                Ok(Some(last + 1))
+            } else {
+                Ok(None)
+            }
+        }
+        Stage::Counted(_, _) => Ok(None),
+        Stage::Ended => Ok(None),
+    }
+}
+
+/// The number that is asked about next, of `count` from `first` on; the run ends where there is none.
+#[tactic(auto, using(crate::proofs::EachQuestion::nth_each, crate::proofs::EachQuestion::nth_each_past))]
+fn number_at(place: Option<usize>, first: usize, count: usize, run: &mut Progress) -> Option<usize>
+    requires { first + count < 2 ^ 64 }
+    ensures stage { (f : ℕ → Question) → run.new ≡ record run.old { stage = stage_of (each_from f first count) place } }
+    ensures number { (f : ℕ → Question) → nth_at (each_from f first count) place ≡ option_map f result }
+{
+    if let Some(place) = place {
+        if place < count {
+            run.stage = Stage::Asked(place);
+            return Some(first + place);
+        }
+    }
+    run.stage = Stage::Ended;
+    None
+}
+
+/// Takes a turn of a run that passes on the answers to numbered questions: takes the reply, and says the number that is asked
+/// about next, of `count` from `first` on. The run ends where there is none.
+pub fn next_number<'i>(
+    alloc: Global,
+    first: usize,
+    count: usize,
+    run: &mut Progress,
+    reply: Reply<'i>,
+    answer: &mut Answer<'i>,
+) -> Result<Option<usize>, OutOfMemory>
+    requires { first + count < 2 ^ 64 }
+    ensures turns { IfOk result (λ _. (texts : Bool) (f : ℕ → Question)
+        → TurnsIn texts (passes_on (each_from f first count)) run.old answer.old reply.entry run.new answer.new) }
+    ensures steps { IfOk result (λ number. (texts : Bool) (f : ℕ → Question)
+        → StepsIn texts (passes_on (each_from f first count)) run.old answer.old reply.entry (asked run.old.mode (option_map f number))) }
+    ensures borrows { Borrows reply.entry answer.old answer.new result }
+{
+    let place = onward(alloc, count, run, reply, answer)?;
+    Ok(number_at(place, first, count, run))
+}
+
+/// The question of a child at the keyword's own place.
+pub fn ask_here<'s>(number: Option<usize>, mode: Mode) -> Step<'s>
+    ensures step { turn_of result ≡ asked mode (option_map child_here number) }
+{
+    match number {
+        Some(child) => Step::Ask(child, Below::Here, mode),
+        None => Step::Done,
+    }
+}

@@ -1,0 +1,35 @@
+//! How far a run has come.
+ghost use Rattle.std.specs.Prelude.{◌≡◌};
+ghost use Rattle.schema_traits.specs.KeywordViews.{mode_of};
+ghost use Rattle.keyword_authoring.specs.Ways.{way_begin};
+
+use schema_traits::keyword::Mode;
+
+/// How far a run has come: before its first turn, after the question of this place in order, or at its end.
+#[derive(Clone, Copy)]
+pub enum Stage {
+    Begun,
+    Asked(usize),
+    /// After the question of this place in order, where so many accepted before it.
+    Counted(usize, usize),
+    Ended,
+}
+
+/// The run of a keyword.
+#[derive(Clone, Copy)]
+pub struct Progress {
+    pub mode: Mode,
+    pub stage: Stage,
+}
+
+impl Progress {
+    /// A run in this mode, before its first turn.
+    pub fn begin(mode: Mode) -> Progress
+        ensures begins { way_begin (mode_of mode) ≡ result }
+    {
+        Progress {
+            mode,
+            stage: Stage::Begun,
+        }
+    }
+}

@@ -1,0 +1,18 @@
+//! A run that tells: it notes the keyword's own errors in its first turn, and asks nothing.
+ghost use Rattle.std.specs.Prelude.{◌≡◌, if◌then◌else◌};
+ghost use Rattle.theory_definitions.specs.Keywords.{Answer as AnswerOfRun};
+ghost use Rattle.keyword_authoring.specs.declared.run.Stage.TheVariants.{Ended};
+ghost use Rattle.keyword_authoring.specs.Ways.{at_first};
+
+use crate::run::{Progress, Stage};
+
+/// Takes a turn of a run that tells, and says whether the keyword's errors are to be noted in it: in the first turn, and in no
+/// other.
+pub fn tell_on(run: &mut Progress) -> bool
+    ensures stage { run.new ≡ record run.old { stage = Ended } }
+    ensures first { (told answer : AnswerOfRun) → at_first run.old.stage told answer ≡ (if result then told else answer) }
+{
+    let first = matches!(run.stage, Stage::Begun);
+    run.stage = Stage::Ended;
+    first
+}

@@ -1,7 +1,0 @@
-use Rattle.std.proofs.Common.{◌∙◌, ap, option_map}
-use Rattle.serde_json.specs.View.{view}
-use Rattle.serde_json.proofs.Views.{view-lookup, view_of_ref}
-use Rattle.law_tests.proofs.printing_table.value_in.Goals as goal
-
-pub returns : goal.returns
-returns c = record { value = view_of_ref c.get.result ∙ (ap (option_map view) c.get.ensures.value ∙ view-lookup c.args.name.now c.args.object.now.entries) }

@@ -1,4 +1,0 @@
-use Rattle.law_tests.proofs.refusing.RefusingValidate.turn.Goals as goal
-
-pub returns-clause-borrows : goal.returns-clause-borrows
-returns-clause-borrows c = λ root replied before. c.in_ok-tell.ensures.borrows root before

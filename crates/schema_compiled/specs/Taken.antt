@@ -1,0 +1,17 @@
+-- What the runs of a call take of its budget.
+use Rattle.std.specs.Prelude.{ℕ, suc, true, ◌+◌, ◌≡◌, ◌≤◌}
+use Rattle.serde_json.specs.Data.{Data}
+use Rattle.theory_definitions.specs.Cover.{Call}
+use Rattle.schema_run_context.specs.Works.{Budget, Spends}
+use Rattle.unfinished_search.specs.RunCounts.{MakesRuns}
+use Rattle.schema_traits.specs.declared.keyword.Validate.{Ghosts as KeywordMembers}
+use Rattle.schema_traits.specs.declared.matcher.Matcher.{Ghosts as MatcherMembers}
+use Rattle.schema_compiled.specs.Program.{FromSomeDepth, Program}
+
+-- C is a keyword of the code, K what is known of it, M a matcher of the code
+module _ {C Run K M : Type 0} (keywords : KeywordMembers C Run K) (matchers : MatcherMembers M) (p : Program C M) (instance : Data) (call : Call) (old new : Budget) where
+  -- no more is left than before; and where there is a limit, as many fewer at least as the call makes runs after its first one: by what the
+  -- nodes say from some depth on, which settles how many these are
+  pub record TakesByRuns : Type 0 where
+    pub spends : Spends old new
+    pub runs : old.limited ≡ true → FromSomeDepth keywords.shape keywords.words keywords.is_whole matchers.matching p instance (λ texts v. (n : ℕ) × MakesRuns v p.runs call (suc n) × (new.left + n ≤ old.left))

@@ -1,0 +1,527 @@
+//! Compiled nodes with all that a call of them needs, and what their runs and their solver answer of an instance.
+ghost use Rattle.std.specs.Prelude.{◌≡◌, ◌&&◌, ◌<◌, ◌≤◌, [], false, true, None, Option, IfOk, All, IfSome, IsSome, OnErr, OnOk};
+ghost use Rattle.std.specs.Prelude.{is_some, length, slice_get};
+ghost use Rattle.schema_traits.specs.Showing.{Shows};
+ghost use Rattle.serde_json.specs.View.{view};
+ghost use Rattle.schema_drafts.specs.KeywordViews.{draft_of};
+ghost use Rattle.schema_run_context.specs.Works.{Asks, Spends};
+ghost use Rattle.theory_definitions.specs.Unfinished.{starting};
+ghost use Rattle.schema_reports.specs.ReportViews.{BorrowsItsPlace};
+ghost use Rattle.schema_traits.specs.FaultViews.{errors_in};
+ghost use Rattle.schema_traits.specs.KeywordViews.{mode_of, reply_of};
+ghost use Rattle.schema_traits.specs.MatcherViews.{FinishesEach};
+ghost use Rattle.schema_run_steps.specs.ReplyModes.{reply_by};
+ghost use Rattle.theory_definitions.specs.Cover.{evaluate, is_valid, iter_errors, validate};
+ghost use Rattle.theory_definitions.specs.Reports.{Outcome};
+ghost use Rattle.theory_definitions.specs.Keywords.{for_all, for_first, for_units, for_verdict};
+ghost use Rattle.schema_compiled.specs.Asked.{DecidesFromSomeDepth, ErrorsFromSomeDepth, FirstFromSomeDepth};
+ghost use Rattle.schema_compiled.specs.Asked.{EvaluatesFromSomeDepth, IfYes};
+ghost use Rattle.schema_compiled.specs.Asked.{RunGivesUnit, UnitsFromSomeDepth};
+ghost use Rattle.schema_compiled.specs.SharedErrors.{AreShared, TakesAsBegun};
+ghost use Rattle.schema_compiled.specs.Solved.{AllSayMonotone, BeganFew, IsCountedIn, IsDecidedWithin, RestsOnContext, StopsOnlyLate};
+ghost use Rattle.schema_compiled.specs.Program.{program_with};
+ghost use Rattle.schema_compiled.specs.Taken.{TakesByRuns};
+ghost use Rattle.schema_compiled.specs.Asked.{RunDecides, RunFindsFirst, RunListsErrors, RunMeets, RunReplies};
+ghost use Rattle.theory_meaning.specs.Numbered.{Ranked};
+ghost use Rattle.schema_solver.specs.Calls.{IfFound};
+ghost use Rattle.schema_node_table.specs.NodeTable.{numbered};
+
+mod cloning;
+
+use schema_drafts::keywords::Draft;
+use schema_node::node::RunNodes;
+use schema_node::node::runs::FirstQuestion;
+use schema_node_table::node::Nodes;
+use schema_output::error_units::unit_of_errors;
+use schema_places::on_demand::PlacesOnDemand;
+use schema_reports::evaluation::EvaluationNode;
+use schema_reports::instance::{Instance, Place};
+use schema_reports::location::{Location, OutOfMemory};
+use schema_reports::reports::ValidationError;
+use schema_run_context::validation::ValidationContext;
+use schema_run_context::work::Work;
+use schema_traits::keyword::{Mode, Reply, Validate};
+use schema_traits::matcher::Matcher;
+use schema_traits::numbers::SchemaNode;
+use schema_verdicts::eligible::{SolvedVerdict, Solver};
+use serde_json::Value;
+use std::alloc::Global;
+use std::marker::Model;
+use unfinished_matches::assumptions::MatchAssumptions;
+use unfinished_search::{errors_under_each, validity_under_each};
+
+/// How much a call may do: how many runs it makes at most for unfinished matches, and how many steps it takes at most, where there is a
+/// limit (`with_work_limit`).
+#[derive(Clone, Copy)]
+pub struct CallLimits {
+    pub runs: u32,
+    pub work: Option<u64>,
+}
+
+/// A compiled schema: its nodes, with the number of the root's among them, the root's draft, the matcher, the limits of a call, and a
+/// solver, where it has one. It is asked of any number of instances, and no call changes it.
+#[derive(Drop)]
+pub struct CompiledSchema<K: Validate, M> {
+    nodes: Nodes<K>,
+    root: SchemaNode,
+    draft: Draft,
+    matcher: M,
+    run_limit: u32,
+    work_limit: Option<u64>,
+    // where a solver finds verdicts
+    finder: Solver,
+}
+
+impl<K: Validate, M> Model for CompiledSchema<K, M> {
+    ghost use Rattle.schema_drafts.specs.KeywordViews.{draft_of};
+    ghost use Rattle.schema_compiled.specs.Program.{Program};
+    ghost use Rattle.std.specs.Prelude.{◌<◌, ◌≤◌, length};
+    ghost use Rattle.serde_json.specs.contracts.value.Value as value;
+    ghost use Rattle.std.specs.Coded.{codes};
+
+    ghost Value = { Program K M };
+
+    ghost coded = { Prim.hlevel (codes, value.the_row.coded) };
+
+    ghost view = { λ v. record {
+      nodes = v.nodes;
+      root = v.root.0;
+      draft = draft_of v.draft;
+      matcher = v.matcher;
+      runs = v.run_limit;
+      work = v.work_limit;
+      followed = v.finder;
+    } };
+
+    ghost invariant = { λ v. (v.root.0 < length v.nodes) × (1 ≤ v.run_limit) };
+}
+
+// The first of these errors.
+fn first_of<'i>(errors: Vec<ValidationError<'i>>) -> Option<ValidationError<'i>>
+    ensures first { result ≡ slice_get errors.entry.items 0 }
+{
+    let mut errors = errors;
+    if errors.is_empty() {
+        None
+    } else {
+        Some(errors.remove(0))
+    }
+}
+
+impl<K: Validate, M: Matcher> CompiledSchema<K, M> {
+    /// Makes one of compiled nodes, the number of the root's node, the root's draft, the matcher, the limits of a call and the solver.
+    /// Allocates nothing.
+    pub fn of_nodes(
+        nodes: Nodes<K>,
+        root: SchemaNode,
+        draft: Draft,
+        matcher: M,
+        limits: CallLimits,
+        finder: Solver,
+    ) -> CompiledSchema<K, M>
+        requires inside { root.0 < length nodes }
+        requires limit { 1 ≤ limits.runs }
+        ensures made { result ≡ program_with nodes root.0 (draft_of draft) matcher limits.runs limits.work finder }
+    {
+        CompiledSchema {
+            nodes,
+            root,
+            draft,
+            matcher,
+            run_limit: limits.runs,
+            work_limit: limits.work,
+            finder,
+        }
+    }
+
+    /// Returns how many runs a call makes at most for unfinished matches, the first one among them.
+    pub fn run_limit(&self) -> u32
+        ensures runs { result ≡ self.now.runs }
+    {
+        self.run_limit
+    }
+
+    /// Returns how many steps a call takes at most, where there is a limit.
+    pub fn work_limit(&self) -> Option<u64>
+        ensures work { result ≡ self.now.work }
+    {
+        self.work_limit
+    }
+
+    /// Returns the draft of the schema's root.
+    pub fn draft(&self) -> Draft
+        ensures draft { draft_of result ≡ self.now.draft }
+    {
+        self.draft
+    }
+
+    /// Returns the number of the root's node.
+    pub fn root(&self) -> SchemaNode
+        ensures root { result.0 ≡ self.now.root }
+    {
+        self.root
+    }
+
+    /// Returns the nodes.
+    pub fn nodes(&self) -> &Nodes<K>
+        ensures nodes { result.now ≡ self.now.nodes }
+    {
+        &self.nodes
+    }
+
+    /// Returns how many nodes there are, the root's among them. Edges that nothing guards fall in rank.
+    pub fn node_count(&self) -> usize
+        ensures count { result ≡ length self.now.nodes }
+        ensures inside { self.now.root < length self.now.nodes }
+        ensures ranked { Ranked (numbered K.shape self.now.nodes) (length self.now.nodes) }
+    {
+        self.nodes.len()
+    }
+
+    // What the root's node says of an instance, under what is assumed of unfinished matches.
+    fn asked<'i>(
+        &self,
+        alloc: Global,
+        instance: &'i Value,
+        mode: Mode,
+        matches: MatchAssumptions<'i>,
+        work: &mut Work,
+    ) -> Result<(MatchAssumptions<'i>, Reply<'i>), OutOfMemory>
+        requires wanted { ¬ (mode_of mode ≡ for_units) }
+        ensures says { IfOk result (λ r. RunReplies
+            K.Validate M.Matcher.own self.now (view instance.now) mode matches.entry.assumptions r.1) }
+        ensures meets { IfOk result (λ r. RunMeets K.Validate M.Matcher.own self.now (view instance.now) (mode_of mode) matches.entry r.0) }
+        ensures assumes { IfOk result (λ r. r.0.assumptions ≡ matches.entry.assumptions) }
+        ensures makes_one { OnOk result (1 ≤ self.now.runs) }
+        ensures works { OnOk result (Asks work.old work.new) }
+        ensures speaks { IfOk result (λ r. (o : Outcome) × (reply_of false r.1 ≡ reply_by (mode_of mode) o)) }
+        ensures borrows { IfOk result (λ r. All (BorrowsItsPlace (view instance.now)) (errors_in r.1)) }
+    {
+        let place = Place::root(alloc);
+        let path = Location::new(alloc);
+        let mut context = ValidationContext::assuming(alloc, PlacesOnDemand::of(instance), matches);
+        context.allow(*work);
+        let question = FirstQuestion {
+            instance: Instance::Value(instance),
+            place: &place,
+            path: &path,
+            mode,
+        };
+        let reply = self
+            .nodes
+            .run(alloc, &self.matcher, self.root, &question, &mut context);
+        let left = context.work();
+        *work = left;
+        let met = context.into_matches();
+        match reply {
+            Ok(reply) => Ok((met, reply)),
+            Err(refused) => {
+                drop(met);
+                Err(refused)
+            }
+        }
+    }
+
+    // The verdict of the root's node, under what is assumed of unfinished matches.
+    fn verdict<'i>(
+        &self,
+        alloc: Global,
+        instance: &'i Value,
+        matches: MatchAssumptions<'i>,
+        work: &mut Work,
+    ) -> Result<(MatchAssumptions<'i>, bool), OutOfMemory>
+        ensures says { IfOk result (λ r. RunDecides K.Validate M.Matcher.own self.now (view instance.now) matches.entry.assumptions r.1) }
+        ensures meets { IfOk result (λ r. RunMeets K.Validate M.Matcher.own self.now (view instance.now) for_verdict matches.entry r.0) }
+        ensures assumes { IfOk result (λ r. r.0.assumptions ≡ matches.entry.assumptions) }
+        ensures works { OnOk result (Asks work.old work.new) }
+        ensures makes_one { OnOk result (1 ≤ self.now.runs) }
+    {
+        let (met, reply) = self.asked(alloc, instance, Mode::Verdict, matches, work)?;
+        match reply {
+            Reply::Truth(valid) => Ok((met, valid)),
+            _ => unreachable!(),
+        }
+    }
+
+    /// Returns the verdict of the root's node as a solver finds it, where nothing is assumed, with the context in which it found that;
+    /// `None` where there is no solver, where the matcher may leave a match unfinished, and where the solver gave up.
+    ///
+    /// # Errors
+    ///
+    /// Fails out of memory, and where one more step is to be taken: then `work` says that it is stopped.
+    pub fn solved<'i>(
+        &self,
+        alloc: Global,
+        finishes: bool,
+        instance: &'i Value,
+        work: &mut Work,
+    ) -> Result<Option<SolvedVerdict<'i>>, OutOfMemory>
+        requires finishes { finishes ≡ true → FinishesEach (M.matching self.now.matcher) }
+        ensures exactly { AllSayMonotone K.Validate self.now → Shows is_some result (is_some self.now.followed && finishes) }
+        ensures only { IfOk result (λ found. is_some found ≡ true → (is_some self.now.followed && finishes) ≡ true) }
+        ensures finishes { IfFound result (λ _. FinishesEach (M.matching self.now.matcher)) }
+        ensures says { IfFound result (λ v. RunDecides K.Validate M.Matcher.own self.now (view instance.now) [] v.valid) }
+        ensures depth { IfFound result (λ v. DecidesFromSomeDepth K.Validate M.Matcher.own self.now (view instance.now) v.valid) }
+        ensures rests { IfFound result (RestsOnContext K.Validate M.Matcher.own self.now instance.now) }
+        ensures few { IfFound result (BeganFew K.Validate M.Matcher.own self.now instance.now) }
+        ensures works { OnOk result (Spends work.old work.new) }
+        ensures counted { IfFound result (λ v. IsCountedIn v work.old work.new) }
+        ensures late { OnErr result (StopsOnlyLate K.Validate M.Matcher.own self.now instance.now work.old work.new) }
+    {
+        self.finder.verdict(
+            alloc,
+            &self.nodes,
+            &self.matcher,
+            finishes,
+            self.root,
+            instance,
+            work,
+        )
+    }
+
+    /// Returns whether every outcome of the unfinished matches accepts. Where a solver may find the verdict, it does.
+    ///
+    /// # Errors
+    ///
+    /// Fails out of memory, and where one more step is to be taken: then `work` says that it is stopped.
+    pub fn valid_under_each(
+        &self,
+        alloc: Global,
+        instance: &Value,
+        work: &mut Work,
+    ) -> Result<bool, OutOfMemory>
+        ensures works { OnOk result (TakesByRuns K.Validate M.Matcher.own self.now (view instance.now) is_valid work.old work.new) }
+        ensures depth { IfOk result (DecidesFromSomeDepth K.Validate M.Matcher.own self.now (view instance.now)) }
+        ensures decides { IsDecidedWithin K.Validate M.Matcher.own self.now instance.now work.old.left
+            → OnErr result (work.old.stopped ≡ false → work.new.stopped ≡ false) }
+    {
+        if let Some(solved) = self.solved(alloc, self.matcher.finishes(), instance, work)? {
+            return Ok(solved.valid);
+        }
+        let first = self.verdict(alloc, instance, MatchAssumptions::new(alloc), work)?;
+        if !first.0.met_unassumed() {
+            drop(first.0);
+            return Ok(first.1);
+        }
+        validity_under_each(
+            alloc,
+            &mut |matches| self.verdict(alloc, instance, matches, work),
+            first,
+            self.run_limit,
+        )
+    }
+
+    // Whether the matcher finishes every match, and the root's node accepts the instance: then it has no error. `false` says nothing.
+    fn accepts_at_once(
+        &self,
+        alloc: Global,
+        instance: &Value,
+        work: &mut Work,
+    ) -> Result<bool, OutOfMemory>
+        ensures works { OnOk result (Spends work.old work.new) }
+        ensures finishes { IfYes result (FinishesEach (M.matching self.now.matcher) × (1 ≤ self.now.runs)) }
+        ensures first { IfYes result (FirstFromSomeDepth K.Validate M.Matcher.own self.now (view instance.now) None) }
+        ensures errors { IfYes result (ErrorsFromSomeDepth K.Validate M.Matcher.own self.now (view instance.now) []) }
+    {
+        if self.matcher.finishes() {
+            if let Some(solved) = self.solved(alloc, true, instance, work)? {
+                return Ok(solved.valid);
+            }
+            let (met, accepts) = self.verdict(alloc, instance, MatchAssumptions::new(alloc), work)?;
+            drop(met);
+            return Ok(accepts);
+        }
+        Ok(false)
+    }
+
+    // The first error of the root's node, where nothing is assumed.
+    fn first<'i>(
+        &self,
+        alloc: Global,
+        instance: &'i Value,
+        work: &mut Work,
+    ) -> Result<(MatchAssumptions<'i>, Option<ValidationError<'i>>), OutOfMemory>
+        ensures says { IfOk result (λ r. RunFindsFirst K.Validate M.Matcher.own self.now (view instance.now) [] r.1) }
+        ensures meets { IfOk result (λ r. RunMeets K.Validate M.Matcher.own self.now (view instance.now) for_first (starting []) r.0) }
+        ensures assumes { IfOk result (λ r. r.0.assumptions ≡ []) }
+        ensures works { OnOk result (Asks work.old work.new) }
+        ensures makes_one { OnOk result (1 ≤ self.now.runs) }
+        ensures borrows { IfOk result (λ r. IfSome r.1 (BorrowsItsPlace (view instance.now))) }
+    {
+        let nothing = MatchAssumptions::new(alloc);
+        let (met, reply) = self.asked(alloc, instance, Mode::First, nothing, work)?;
+        match reply {
+            Reply::First(Some(error)) => Ok((met, Some(Box::into_inner(error)))),
+            Reply::First(None) => Ok((met, None)),
+            _ => unreachable!(),
+        }
+    }
+
+    // All errors of the root's node, under what is assumed of unfinished matches.
+    fn errors<'i>(
+        &self,
+        alloc: Global,
+        instance: &'i Value,
+        matches: MatchAssumptions<'i>,
+        work: &mut Work,
+    ) -> Result<(MatchAssumptions<'i>, Vec<ValidationError<'i>>), OutOfMemory>
+        ensures says { IfOk result (λ r. RunListsErrors
+            K.Validate M.Matcher.own self.now (view instance.now) matches.entry.assumptions r.1.items) }
+        ensures meets { IfOk result (λ r. RunMeets K.Validate M.Matcher.own self.now (view instance.now) for_all matches.entry r.0) }
+        ensures assumes { IfOk result (λ r. r.0.assumptions ≡ matches.entry.assumptions) }
+        ensures works { OnOk result (Asks work.old work.new) }
+        ensures makes_one { OnOk result (1 ≤ self.now.runs) }
+        ensures borrows { IfOk result (λ r. All (BorrowsItsPlace (view instance.now)) r.1.items) }
+    {
+        let (met, reply) = self.asked(alloc, instance, Mode::All, matches, work)?;
+        match reply {
+            Reply::All(errors) => Ok((met, errors)),
+            _ => unreachable!(),
+        }
+    }
+
+    // The errors that every outcome of the unfinished matches gives, after a first run that met such a match. The further runs
+    // want all errors, whatever the first one wanted.
+    fn shared_errors<'i>(
+        &self,
+        alloc: Global,
+        instance: &'i Value,
+        first: (MatchAssumptions<'i>, Vec<ValidationError<'i>>),
+        work: &mut Work,
+    ) -> Result<Vec<ValidationError<'i>>, OutOfMemory>
+        requires none { first.0.assumptions ≡ [] }
+        requires met { IsSome first.0.unassumed }
+        ensures shares { IfOk result (λ es. AreShared K.Validate M.Matcher.own self.now (view instance.now) first.entry.0 es.items) }
+        ensures works { OnOk result (TakesAsBegun K.Validate M.Matcher.own self.now (view instance.now) first.entry.0 work.old work.new) }
+    {
+        let shared = errors_under_each(
+            alloc,
+            &mut |matches| self.errors(alloc, instance, matches, work),
+            first,
+            self.run_limit,
+            instance,
+        )?;
+        Ok(shared)
+    }
+
+    /// Returns the first of the errors that every outcome of the unfinished matches gives, if there is one. Where the matcher finishes
+    /// every match, the verdict is asked first. Where the first run meets an unfinished one, the further runs want all errors.
+    ///
+    /// # Errors
+    ///
+    /// Fails out of memory, and where one more step is to be taken: then `work` says that it is stopped.
+    pub fn first_under_each<'i>(
+        &self,
+        alloc: Global,
+        instance: &'i Value,
+        work: &mut Work,
+    ) -> Result<Option<ValidationError<'i>>, OutOfMemory>
+        ensures depth { IfOk result (FirstFromSomeDepth K.Validate M.Matcher.own self.now (view instance.now)) }
+        ensures borrows { IfOk result (λ e. IfSome e (BorrowsItsPlace (view instance.now))) }
+        ensures works { OnOk result (TakesByRuns K.Validate M.Matcher.own self.now (view instance.now) validate work.old work.new) }
+    {
+        let accepts = self.accepts_at_once(alloc, instance, work)?;
+        if accepts {
+            return Ok(None);
+        }
+        let (met, error) = self.first(alloc, instance, work)?;
+        if !met.met_unassumed() {
+            drop(met);
+            return Ok(error);
+        }
+        drop(error);
+        let shared = self.shared_errors(alloc, instance, (met, Vec::new(alloc)), work)?;
+        Ok(first_of(shared))
+    }
+
+    /// Returns the errors that every outcome of the unfinished matches gives, in order. Where the matcher finishes every match, the verdict
+    /// is asked first.
+    ///
+    /// # Errors
+    ///
+    /// Fails out of memory, and where one more step is to be taken: then `work` says that it is stopped.
+    pub fn all_under_each<'i>(
+        &self,
+        alloc: Global,
+        instance: &'i Value,
+        work: &mut Work,
+    ) -> Result<Vec<ValidationError<'i>>, OutOfMemory>
+        ensures depth { IfOk result (λ es. ErrorsFromSomeDepth K.Validate M.Matcher.own self.now (view instance.now) es.items) }
+        ensures borrows { IfOk result (λ es. All (BorrowsItsPlace (view instance.now)) es.items) }
+        ensures works { OnOk result (TakesByRuns K.Validate M.Matcher.own self.now (view instance.now) iter_errors work.old work.new) }
+    {
+        let accepts = self.accepts_at_once(alloc, instance, work)?;
+        if accepts {
+            return Ok(Vec::new(alloc));
+        }
+        let (met, errors) = self.errors(alloc, instance, MatchAssumptions::new(alloc), work)?;
+        if !met.met_unassumed() {
+            drop(met);
+            return Ok(errors);
+        }
+        self.shared_errors(alloc, instance, (met, errors), work)
+    }
+
+    // The unit of the root's node, where nothing is assumed.
+    fn unit<'i>(
+        &self,
+        alloc: Global,
+        instance: &'i Value,
+        work: &mut Work,
+    ) -> Result<(MatchAssumptions<'i>, EvaluationNode), OutOfMemory>
+        ensures says { IfOk result (λ r. RunGivesUnit K.Validate M.Matcher.own self.now (view instance.now) [] r.1) }
+        ensures meets { IfOk result (λ r. RunMeets K.Validate M.Matcher.own self.now (view instance.now) for_units (starting []) r.0) }
+        ensures assumes { IfOk result (λ r. r.0.assumptions ≡ []) }
+        ensures works { OnOk result (Asks work.old work.new) }
+        ensures makes_one { OnOk result (1 ≤ self.now.runs) }
+    {
+        let place = Place::root(alloc);
+        let path = Location::new(alloc);
+        let mut context = ValidationContext::new(alloc, PlacesOnDemand::of(instance));
+        context.allow(*work);
+        let unit = self.nodes.evaluate_instance(
+            alloc,
+            &self.matcher,
+            self.root,
+            Instance::Value(instance),
+            &place,
+            &path,
+            &mut context,
+        );
+        *work = context.work();
+        let met = context.into_matches();
+        match unit {
+            Ok(unit) => Ok((met, unit)),
+            Err(refused) => {
+                drop(met);
+                Err(refused)
+            }
+        }
+    }
+
+    /// Returns the units of the root's node; where its run meets an unfinished match, those of the errors that every outcome of the
+    /// unfinished matches gives.
+    ///
+    /// # Errors
+    ///
+    /// Fails out of memory, and where one more step is to be taken: then `work` says that it is stopped.
+    pub fn evaluated_under_each(
+        &self,
+        alloc: Global,
+        instance: &Value,
+        work: &mut Work,
+    ) -> Result<EvaluationNode, OutOfMemory>
+        ensures depth { IfOk result (EvaluatesFromSomeDepth K.Validate M.Matcher.own self.now (view instance.now)) }
+        ensures units { IfOk result (UnitsFromSomeDepth K.Validate M.Matcher.own self.now (view instance.now)) }
+        ensures works { OnOk result (TakesByRuns K.Validate M.Matcher.own self.now (view instance.now) evaluate work.old work.new) }
+    {
+        let (met, unit) = self.unit(alloc, instance, work)?;
+        if !met.met_unassumed() {
+            drop(met);
+            return Ok(unit);
+        }
+        drop(unit);
+        let shared = self.shared_errors(alloc, instance, (met, Vec::new(alloc)), work)?;
+        unit_of_errors(alloc, shared)
+    }
+}

@@ -1,0 +1,40 @@
+//! Clones of compiled schemas.
+ghost use Rattle.std.specs.Prelude.{◌≡◌, IfOk};
+ghost use Rattle.schema_node_table.specs.Cloned.{shaped_nodes};
+ghost use Rattle.schema_compiled.specs.Cloned.{AnswerSame, SaySame};
+
+use crate::compiled_schema::CompiledSchema;
+use schema_reports::location::OutOfMemory;
+use schema_traits::cloning::CloneKeyword;
+use schema_traits::matcher::Matcher;
+use std::alloc::Global;
+
+impl<K: CloneKeyword, M: Matcher> CompiledSchema<K, M> {
+    /// Returns a clone: it has the same root, draft, limits and numbers that a solver follows, its nodes are the same but for their
+    /// keywords, which have the shapes of its source's, and its matcher matches alike. So it answers equally.
+    ///
+    /// # Errors
+    ///
+    /// Fails out of memory.
+    pub fn clone(&self, alloc: Global) -> Result<CompiledSchema<K, M>, OutOfMemory>
+        ensures root { IfOk result (λ copy. copy.root ≡ self.now.root) }
+        ensures draft { IfOk result (λ copy. copy.draft ≡ self.now.draft) }
+        ensures nodes { IfOk result (λ copy. shaped_nodes K.shape copy.nodes ≡ shaped_nodes K.shape self.now.nodes) }
+        ensures matcher { IfOk result (λ copy. M.matching copy.matcher ≡ M.matching self.now.matcher) }
+        ensures solver { IfOk result (λ copy. copy.followed ≡ self.now.followed) }
+        ensures runs { IfOk result (λ copy. copy.runs ≡ self.now.runs) }
+        ensures work { IfOk result (λ copy. copy.work ≡ self.now.work) }
+        ensures says { IfOk result (λ copy. SaySame K.Validate M.Matcher.own copy self.now) }
+        ensures answers { IfOk result (λ copy. AnswerSame K.Validate M.Matcher.own copy self.now) }
+    {
+        Ok(CompiledSchema {
+            nodes: self.nodes.clone(alloc)?,
+            root: self.root,
+            draft: self.draft,
+            matcher: self.matcher.clone()?,
+            run_limit: self.run_limit,
+            work_limit: self.work_limit,
+            finder: self.finder.clone()?,
+        })
+    }
+}

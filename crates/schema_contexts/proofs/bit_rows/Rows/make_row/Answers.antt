@@ -1,6 +1,0 @@
-use Rattle.std.proofs.Common.{◌∙◌, sym}
-use Rattle.schema_contexts.proofs.RowsChanged.{row_there}
-use Rattle.schema_contexts.proofs.bit_rows.Rows.make_row.Goals as goal
-
-pub returns-then-has_row-clause-made : goal.returns-then-has_row-clause-made
-returns-then-has_row-clause-made c = row_there c.args.node c.args.words c.args.self.now (sym c.has_row.ensures.row ∙ c.if-has_row.true)

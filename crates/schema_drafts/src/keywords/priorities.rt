@@ -1,0 +1,146 @@
+ghost use Rattle.std.specs.Prelude.{◌≡◌, IfSome, Some, map};
+ghost use Rattle.schema_drafts.specs.KeywordTable.{HasFortyTwoRows, LeavesAreCheap, RowsAreInOrder};
+ghost use Rattle.schema_drafts.specs.KeywordTable.{builtin_name, keyword_table, leaf_of, priority_of};
+ghost use Rattle.schema_drafts.specs.KeywordViews.{builtin_text, keyword_seen};
+
+use crate::keywords::builtin::{BUILTIN_KEYWORDS, BuiltinKeyword};
+use crate::keywords::keyword::Keyword;
+
+/// The priority of `$ref`, the first of the references.
+pub const REF_PRIORITY: u8 = 70;
+
+/// The priority of a keyword that is not the standard's: after each built-in one.
+pub const CUSTOM_PRIORITY: u8 = 80;
+
+/// Returns the keyword's priority; a smaller one is evaluated earlier. Cheap assertions come first, then keywords that apply
+/// subschemas, then references, and the user's keywords last.
+pub fn keyword_priority(keyword: &Keyword) -> u8
+    ensures priority { priority_of (keyword_seen keyword.now) ≡ Some result }
+{
+    match keyword {
+        Keyword::Builtin(keyword) => builtin_priority(*keyword),
+        Keyword::Custom(_) => CUSTOM_PRIORITY,
+    }
+}
+
+/// Returns `true` if the keyword looks at the instance itself and applies no subschema.
+pub fn keyword_is_leaf(keyword: &Keyword) -> bool
+    ensures leaf { leaf_of (keyword_seen keyword.now) ≡ Some result }
+{
+    match keyword {
+        Keyword::Builtin(BuiltinKeyword::ContentSchema) | Keyword::Custom(_) => false,
+        Keyword::Builtin(keyword) => builtin_priority(*keyword) < 40,
+    }
+}
+
+impl BuiltinKeyword {
+    /// Returns the standard's keyword of this priority, or `None` if no keyword of the standard has it.
+    pub fn with_priority(priority: u8) -> Option<BuiltinKeyword>
+        ensures priority { IfSome result (λ keyword. priority_of (builtin_name (builtin_text keyword)) ≡ Some priority) }
+    {
+        match priority {
+            1 => Some(BuiltinKeyword::TypeKeyword),
+            5 => Some(BuiltinKeyword::Const),
+            6 => Some(BuiltinKeyword::Enum),
+            10 => Some(BuiltinKeyword::Minimum),
+            11 => Some(BuiltinKeyword::Maximum),
+            12 => Some(BuiltinKeyword::ExclusiveMinimum),
+            13 => Some(BuiltinKeyword::ExclusiveMaximum),
+            14 => Some(BuiltinKeyword::MultipleOf),
+            20 => Some(BuiltinKeyword::MinLength),
+            21 => Some(BuiltinKeyword::MaxLength),
+            22 => Some(BuiltinKeyword::MinItems),
+            23 => Some(BuiltinKeyword::MaxItems),
+            24 => Some(BuiltinKeyword::MinProperties),
+            25 => Some(BuiltinKeyword::MaxProperties),
+            26 => Some(BuiltinKeyword::Required),
+            27 => Some(BuiltinKeyword::DependentRequired),
+            30 => Some(BuiltinKeyword::Pattern),
+            31 => Some(BuiltinKeyword::Format),
+            32 => Some(BuiltinKeyword::ContentEncoding),
+            33 => Some(BuiltinKeyword::ContentMediaType),
+            34 => Some(BuiltinKeyword::ContentSchema),
+            35 => Some(BuiltinKeyword::UniqueItems),
+            40 => Some(BuiltinKeyword::Properties),
+            41 => Some(BuiltinKeyword::PatternProperties),
+            42 => Some(BuiltinKeyword::AdditionalProperties),
+            43 => Some(BuiltinKeyword::PropertyNames),
+            44 => Some(BuiltinKeyword::Items),
+            45 => Some(BuiltinKeyword::PrefixItems),
+            46 => Some(BuiltinKeyword::AdditionalItems),
+            47 => Some(BuiltinKeyword::Contains),
+            48 => Some(BuiltinKeyword::Dependencies),
+            49 => Some(BuiltinKeyword::DependentSchemas),
+            50 => Some(BuiltinKeyword::AllOf),
+            51 => Some(BuiltinKeyword::AnyOf),
+            52 => Some(BuiltinKeyword::OneOf),
+            53 => Some(BuiltinKeyword::Not),
+            54 => Some(BuiltinKeyword::If),
+            60 => Some(BuiltinKeyword::UnevaluatedProperties),
+            61 => Some(BuiltinKeyword::UnevaluatedItems),
+            REF_PRIORITY => Some(BuiltinKeyword::Ref),
+            71 => Some(BuiltinKeyword::RecursiveRef),
+            72 => Some(BuiltinKeyword::DynamicRef),
+            _ => None,
+        }
+    }
+}
+
+fn builtin_priority(keyword: BuiltinKeyword) -> u8
+    ensures priority { priority_of (builtin_name (builtin_text keyword)) ≡ Some result }
+{
+    match keyword {
+        BuiltinKeyword::TypeKeyword => 1,
+        BuiltinKeyword::Const => 5,
+        BuiltinKeyword::Enum => 6,
+        BuiltinKeyword::Minimum => 10,
+        BuiltinKeyword::Maximum => 11,
+        BuiltinKeyword::ExclusiveMinimum => 12,
+        BuiltinKeyword::ExclusiveMaximum => 13,
+        BuiltinKeyword::MultipleOf => 14,
+        BuiltinKeyword::MinLength => 20,
+        BuiltinKeyword::MaxLength => 21,
+        BuiltinKeyword::MinItems => 22,
+        BuiltinKeyword::MaxItems => 23,
+        BuiltinKeyword::MinProperties => 24,
+        BuiltinKeyword::MaxProperties => 25,
+        BuiltinKeyword::Required => 26,
+        BuiltinKeyword::DependentRequired => 27,
+        BuiltinKeyword::Pattern => 30,
+        BuiltinKeyword::Format => 31,
+        BuiltinKeyword::ContentEncoding => 32,
+        BuiltinKeyword::ContentMediaType => 33,
+        BuiltinKeyword::ContentSchema => 34,
+        BuiltinKeyword::UniqueItems => 35,
+        BuiltinKeyword::Properties => 40,
+        BuiltinKeyword::PatternProperties => 41,
+        BuiltinKeyword::AdditionalProperties => 42,
+        BuiltinKeyword::PropertyNames => 43,
+        BuiltinKeyword::Items => 44,
+        BuiltinKeyword::PrefixItems => 45,
+        BuiltinKeyword::AdditionalItems => 46,
+        BuiltinKeyword::Contains => 47,
+        BuiltinKeyword::Dependencies => 48,
+        BuiltinKeyword::DependentSchemas => 49,
+        BuiltinKeyword::AllOf => 50,
+        BuiltinKeyword::AnyOf => 51,
+        BuiltinKeyword::OneOf => 52,
+        BuiltinKeyword::Not => 53,
+        BuiltinKeyword::If => 54,
+        BuiltinKeyword::UnevaluatedProperties => 60,
+        BuiltinKeyword::UnevaluatedItems => 61,
+        BuiltinKeyword::Ref => REF_PRIORITY,
+        BuiltinKeyword::RecursiveRef => 71,
+        BuiltinKeyword::DynamicRef => 72,
+    }
+}
+
+/// What holds of the table: it has 42 rows of names and priorities of their own, in the order of the priorities, as
+/// `BUILTIN_KEYWORDS` lists them, and its leaves are the keywords of priority below 40 other than `contentSchema`. The
+/// function does nothing when it runs.
+pub fn keyword_table_facts()
+    ensures rows { HasFortyTwoRows }
+    ensures order { RowsAreInOrder }
+    ensures listed { map (λ keyword. builtin_text keyword) BUILTIN_KEYWORDS ≡ map (λ row. row.name) keyword_table }
+    ensures leaves { LeavesAreCheap }
+{}

@@ -1,0 +1,230 @@
+ghost use Rattle.std.specs.Prelude.{◌≡◌, ◌≤◌, ◌++◌, ◌∷◌, MatchOption, OnErr, OnOk, bytes_eq, drop, length, map, string_bytes, take};
+ghost use Rattle.std.specs.List.{list_any};
+ghost use Rattle.theory_definitions.specs.VocabularySets.{placed_text};
+
+use std::alloc::{AllocError, Global};
+use std::cmp::Ordering;
+use std::marker::Model;
+
+/// A vocabulary, which a meta-schema asks for: one of the standard's, or another one by its URI.
+#[derive(Clone, Debug, PartialEq, Eq, PartialOrd, Ord, Hash, Drop)]
+pub enum Vocabulary {
+    Core,
+    Applicator,
+    Unevaluated,
+    Validation,
+    Metadata,
+    Format,
+    FormatAnnotation,
+    FormatAssertion,
+    Content,
+    Custom(String),
+}
+
+/// A set of vocabularies: which of the standard's are in it, and the others by their URIs, each once, in the order of their
+/// bytes, whatever the order in which they came. So two sets that hold the same vocabularies are one and the same.
+///
+/// Contracts see it as the list of them, the standard's first.
+#[derive(Debug, Drop)]
+pub struct VocabularySet {
+    core: bool,
+    applicator: bool,
+    unevaluated: bool,
+    validation: bool,
+    metadata: bool,
+    format: bool,
+    format_annotation: bool,
+    format_assertion: bool,
+    content: bool,
+    custom: Vec<String>,
+}
+
+impl Model for VocabularySet {
+    ghost use Rattle.std.specs.Prelude.{List, [], ◌∷◌, ◌≡◌, map, string_bytes, true};
+    ghost use Rattle.theory_definitions.specs.Drafts.{Vocabulary};
+    ghost use Rattle.theory_definitions.specs.VocabularySets.{is_rising, listed};
+
+    ghost Value = { List Vocabulary };
+
+    ghost view = { λ s. listed
+        (s.core ∷ s.applicator ∷ s.unevaluated ∷ s.validation ∷ s.metadata
+        ∷ s.format ∷ s.format_annotation ∷ s.format_assertion ∷ s.content ∷ [])
+        (map string_bytes s.custom.items) };
+
+    ghost invariant = { λ s. is_rising (map string_bytes s.custom.items) ≡ true };
+}
+
+impl VocabularySet {
+    ghost use Rattle.std.specs.Prelude.{◌≡◌, ◌↔◌, [], map, IfOk, OnErr, OnOk, string_bytes, true};
+    ghost use Rattle.theory_definitions.specs.Drafts.{has_vocabulary, same_vocabularies};
+    ghost use Rattle.schema_drafts.specs.KeywordViews.{vocabulary_of};
+    ghost use Rattle.theory_definitions.specs.VocabularySets.{AddsOnly, HoldSame, custom_of, is_rising, with_uri};
+
+    /// Returns the empty set. It allocates nothing.
+    pub fn new(alloc: Global) -> VocabularySet
+        ensures empty { result ≡ [] }
+    {
+        VocabularySet {
+            core: false,
+            applicator: false,
+            unevaluated: false,
+            validation: false,
+            metadata: false,
+            format: false,
+            format_annotation: false,
+            format_assertion: false,
+            content: false,
+            custom: Vec::new(alloc),
+        }
+    }
+
+    /// Returns `true` if the vocabulary is in the set. It allocates nothing.
+    pub fn contains(&self, vocabulary: &Vocabulary) -> bool
+        ensures member { result ≡ has_vocabulary self.now (vocabulary_of vocabulary.now) }
+    {
+        match vocabulary {
+            Vocabulary::Core => self.core,
+            Vocabulary::Applicator => self.applicator,
+            Vocabulary::Unevaluated => self.unevaluated,
+            Vocabulary::Validation => self.validation,
+            Vocabulary::Metadata => self.metadata,
+            Vocabulary::Format => self.format,
+            Vocabulary::FormatAnnotation => self.format_annotation,
+            Vocabulary::FormatAssertion => self.format_assertion,
+            Vocabulary::Content => self.content,
+            Vocabulary::Custom(uri) => contains_text(&self.custom, uri),
+        }
+    }
+
+    /// Adds a vocabulary to the set; nothing changes if it is there already.
+    ///
+    /// # Errors
+    ///
+    /// If memory cannot be allocated. The set is then as it was.
+    pub fn add(&mut self, vocabulary: Vocabulary) -> Result<(), AllocError>
+        ensures member { OnOk result (AddsOnly self.old self.new (vocabulary_of vocabulary)) }
+        ensures custom { OnOk result (custom_of self.new ≡ with_uri (vocabulary_of vocabulary) (custom_of self.old)) }
+        ensures kept { OnErr result (self.new ≡ self.old) }
+    {
+        match vocabulary {
+            Vocabulary::Core => self.core = true,
+            Vocabulary::Applicator => self.applicator = true,
+            Vocabulary::Unevaluated => self.unevaluated = true,
+            Vocabulary::Validation => self.validation = true,
+            Vocabulary::Metadata => self.metadata = true,
+            Vocabulary::Format => self.format = true,
+            Vocabulary::FormatAnnotation => self.format_annotation = true,
+            Vocabulary::FormatAssertion => self.format_assertion = true,
+            Vocabulary::Content => self.content = true,
+            Vocabulary::Custom(uri) => place_text(&mut self.custom, uri)?,
+        }
+        Ok(())
+    }
+
+    /// Returns the set with one more vocabulary.
+    ///
+    /// # Errors
+    ///
+    /// If memory cannot be allocated.
+    pub fn with(self, vocabulary: Vocabulary) -> Result<VocabularySet, AllocError>
+        ensures member { IfOk result (λ set. AddsOnly self set (vocabulary_of vocabulary)) }
+        ensures custom { IfOk result (λ set. custom_of set ≡ with_uri (vocabulary_of vocabulary) (custom_of self)) }
+    {
+        let mut set = self;
+        set.add(vocabulary)?;
+        Ok(set)
+    }
+
+    /// Returns `true` if both sets hold the same vocabularies. It allocates nothing.
+    pub fn same(&self, other: &VocabularySet) -> bool
+        ensures same { result ≡ same_vocabularies self.now other.now }
+        ensures members { (result ≡ true) ↔ HoldSame self.now other.now }
+    {
+        let own = [
+            self.core,
+            self.applicator,
+            self.unevaluated,
+            self.validation,
+            self.metadata,
+            self.format,
+            self.format_annotation,
+            self.format_assertion,
+            self.content,
+        ];
+        let others = [
+            other.core,
+            other.applicator,
+            other.unevaluated,
+            other.validation,
+            other.metadata,
+            other.format,
+            other.format_annotation,
+            other.format_assertion,
+            other.content,
+        ];
+        own == others && self.custom == other.custom
+    }
+
+    /// Returns the URIs of the vocabularies that are not the standard's, each once, in the order of their bytes.
+    pub fn custom(&self) -> &[String]
+        ensures custom { map string_bytes result.now ≡ custom_of self.now }
+        ensures rising { is_rising (custom_of self.now) ≡ true }
+    {
+        &self.custom
+    }
+}
+
+impl Clone for VocabularySet {
+    ghost is_clone = { λ set copy. copy ≡ set };
+
+    /// Returns a clone of the set. Fails only if memory cannot be allocated.
+    fn clone(&self) -> Result<VocabularySet, AllocError> {
+        Ok(VocabularySet {
+            custom: self.custom.clone()?,
+            ..*self
+        })
+    }
+}
+
+fn contains_text(texts: &[String], text: &String) -> bool
+    ensures found { result ≡ list_any (bytes_eq (string_bytes text.now)) (map string_bytes texts.now) }
+{
+    for other in texts {
+        if text.as_str() == other.as_str() {
+            return true;
+        }
+    }
+    false
+}
+
+// The position at which the text stands among these, if it comes after those before it; none if it is one of them.
+fn place_among(texts: &[String], text: &str) -> Option<usize>
+    ensures place { MatchOption result
+        (placed_text text.now (map string_bytes texts.now) ≡ map string_bytes texts.now)
+        (λ i. (i ≤ length texts.now) × (placed_text text.now (map string_bytes texts.now)
+        ≡ map string_bytes (take i texts.now) ++ text.now ∷ map string_bytes (drop i texts.now))) }
+{
+    for (i, other) in texts.iter().enumerate() {
+        match text.cmp(other.as_str()) {
+            Ordering::Less => return Some(i),
+            Ordering::Equal => return None,
+            Ordering::Greater => {}
+        }
+    }
+    Some(texts.len())
+}
+
+// Puts the text at its place among texts that rise; they stay as they are where it is one of them, and on `Err`.
+fn place_text(texts: &mut Vec<String>, text: String) -> Result<(), AllocError>
+    ensures placed { OnOk result
+        (map string_bytes texts.new.items ≡ placed_text (string_bytes text) (map string_bytes texts.old.items)) }
+    ensures kept { OnErr result (texts.new.items ≡ texts.old.items) }
+{
+    match place_among(texts, text.as_str()) {
+        Some(at) => {
+            texts.insert(at, text)?;
+            Ok(())
+        }
+        None => Ok(()),
+    }
+}

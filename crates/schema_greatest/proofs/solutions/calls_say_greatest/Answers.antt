@@ -1,8 +1,0 @@
-use Rattle.schema_greatest.proofs.solutions.calls_say_greatest.Goals as goal
-use Rattle.schema_greatest.proofs.NumbersSay as lemmas
-
-pub returns : goal.returns
-returns g c = record {
-  answers = λ w keys nodes. lemmas.greatest_answers w keys nodes;
-  finishing = λ w keys nodes. lemmas.finishing_answers w keys nodes;
-}

@@ -1,5 +1,0 @@
-use Rattle.schema_greatest.proofs.solutions.numbers_are_monotone.Goals as goal
-use Rattle.schema_greatest.proofs.Edges.{numbers_are_monotone}
-
-pub returns : goal.returns
-returns g c = record { monotone = λ w keys nodes. numbers_are_monotone w keys nodes }

@@ -1,8 +1,0 @@
-use Rattle.std.specs.Prelude.{drop, ◌≡◌}
-use Rattle.schema_keywords.specs.declared.keywords.builtin.TheConstants.{BUILTIN_KEYWORDS}
-use Rattle.schema_keywords.proofs.KeywordNames.{is_among}
-use Rattle.schema_keywords.proofs.keywords.builtin.BuiltinKeyword.named.Given as goal
-
--- the name is among the keywords that are left, if it is among all
-abbrev pub invariant-loop-keyword : goal.invariant-loop-keyword
-invariant-loop-keyword l = is_among l.name (drop l.keyword-index BUILTIN_KEYWORDS) ≡ is_among l.name BUILTIN_KEYWORDS

@@ -1,6 +1,0 @@
-use Rattle.std.proofs.Common.{◌≡◌, drop}
-use Rattle.schema_definitions.specs.Matching.{assumed}
-use Rattle.schema_matches.proofs.assumptions.assumed_outcome.Given as goal
-
-abbrev pub invariant-loop-i : goal.invariant-loop-i
-invariant-loop-i l = assumed l.list (record { pattern = l.pattern; subject = l.subject }) ≡ assumed (drop l.i l.list) (record { pattern = l.pattern; subject = l.subject })

@@ -1,5 +1,0 @@
-use Rattle.schema_meaning.proofs.numbers.guarded_is_plain.Goals as goal
-use Rattle.schema_meaning.proofs.Headlines as lemmas
-
-pub returns : goal.returns
-returns g c = record { answers = λ w keys nodes. lemmas.guarded_is_plain w keys nodes }

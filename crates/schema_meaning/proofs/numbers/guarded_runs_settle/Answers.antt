@@ -1,5 +1,0 @@
-use Rattle.schema_meaning.proofs.numbers.guarded_runs_settle.Goals as goal
-use Rattle.schema_meaning.proofs.NodeRuns as lemmas
-
-pub returns : goal.returns
-returns g c = record { settles = λ keywords. lemmas.guarded_runs_settle keywords }

@@ -1,5 +1,0 @@
-use Rattle.schema_meaning.proofs.numbers.guarded_settles.Goals as goal
-use Rattle.schema_meaning.proofs.Settles as lemmas
-
-pub returns : goal.returns
-returns g c = record { settles = λ w instance nodes count. lemmas.guarded_settles w instance nodes count }

@@ -1,5 +1,0 @@
-use Rattle.schema_meaning.proofs.numbers.numbers_say_unfolding.Goals as goal
-use Rattle.schema_meaning.proofs.SameOutcome as lemmas
-
-pub returns : goal.returns
-returns g c = record { says = λ w keys nodes. lemmas.numbers_say_unfolding w keys nodes }

@@ -1,5 +1,0 @@
-use Rattle.schema_meaning.proofs.numbers.runs_say_outcomes.Goals as goal
-use Rattle.schema_meaning.proofs.NodeRuns as lemmas
-
-pub returns : goal.returns
-returns g c = record { says = λ keywords. lemmas.runs_say_outcomes keywords }

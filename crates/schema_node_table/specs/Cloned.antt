@@ -1,0 +1,33 @@
+-- What a clone of a node has of it: all but how its keywords and its annotations are represented.
+use Rattle.std.specs.Prelude.{Bool, List, Option, map, option_map, ℕ}
+use Rattle.serde_json.specs.Data.{Data}
+use Rattle.serde_json.specs.View.{view}
+use Rattle.theory_definitions.specs.Instance.{Text}
+use Rattle.theory_definitions.specs.Guarded.{NodePlan}
+use Rattle.schema_node_table.specs.NodeTable.{NodeEntry, shaped}
+
+-- a node with the shapes of its keywords, and its annotations as data
+pub record ShapedNode (S : Type 0) : Type 0 where
+  pub location : Text
+  pub base : Option Text
+  pub start : ℕ
+  pub round : Option ℕ
+  pub order : ℕ
+  pub settled : Bool
+  pub annotations : Option Data
+  pub plan : Option (NodePlan S)
+
+abbrev pub shaped_node : {K S : Type 0} → (K → S) → NodeEntry K → ShapedNode S
+shaped_node shape n = record {
+  location = n.location;
+  base = n.base;
+  start = n.start;
+  round = n.round;
+  order = n.order;
+  settled = n.settled;
+  annotations = option_map view n.annotations;
+  plan = option_map (shaped shape) n.plan;
+}
+
+abbrev pub shaped_nodes : {K S : Type 0} → (K → S) → List (NodeEntry K) → List (ShapedNode S)
+shaped_nodes shape ns = map (shaped_node shape) ns

@@ -1,0 +1,13 @@
+pub use Rattle.schema_traits.specs.SchemaViews
+pub use Rattle.schema_traits.specs.ResolverViews
+pub use Rattle.schema_traits.specs.KeywordViews
+pub use Rattle.schema_traits.specs.MakerViews
+pub use Rattle.schema_traits.specs.UnitQuestions
+pub use Rattle.schema_traits.specs.FaultViews
+pub use Rattle.schema_traits.specs.EdgeViews
+pub mod NodeTable
+pub mod Names
+pub mod NodeViews
+pub mod Cloned
+pub mod ValidatorViews
+pub mod ClosedNumbers

@@ -1,0 +1,350 @@
+//! Numbered nodes: what a schema is once it is compiled.
+ghost use Rattle.std.specs.Prelude.{◌≡◌, ◌<◌, [], ℕ, Some, true, false};
+ghost use Rattle.std.specs.Prelude.{length, map, option_map, slice_get, string_bytes};
+ghost use Rattle.schema_node_table.specs.NodeViews.{boolean_plan, entry_of, plan_of, reserved_node, unfilled_node, waiting_node, node_of};
+ghost use Rattle.theory_definitions.specs.Guarded.{node_these};
+ghost use Rattle.schema_node_table.specs.NodeTable.{NodeEntry, IsReserved, Waits, IsBegun, IsFilled, AreFilled, MayBeFilled};
+ghost use Rattle.schema_node_table.specs.NodeTable.{AddsFilled, AddsNode, Fills, Begins, ComesLast, IsOrdered, IsNewRound, guards_at};
+ghost use Rattle.schema_node_table.specs.NodeTable.{is_settled_entry};
+
+pub mod absolute;
+mod cloning;
+pub mod name;
+mod sharing;
+pub mod validators;
+
+use crate::node::name::KeywordName;
+use schema_reports::location::{Location, OutOfMemory};
+use schema_traits::numbers::{Edge, SchemaNode};
+use serde_json::Value;
+use std::alloc::Global;
+use std::marker::Model;
+
+/// A keyword with what each request of its maker got (none where it was skipped), or a reference.
+#[derive(Drop)]
+pub enum EntryForm<K> {
+    Keyword(K, Vec<Option<Edge>>),
+    Reference(Edge),
+}
+
+/// One keyword of a schema.
+#[derive(Drop)]
+pub struct Entry<K> {
+    pub name: KeywordName,
+    pub priority: u8,
+    pub is_leaf: bool,
+    pub form: EntryForm<K>,
+}
+
+/// What a node asks of an instance.
+#[derive(Drop)]
+pub enum NodeForm<K> {
+    Always,
+    Never,
+    Keywords(Vec<Entry<K>>),
+}
+
+/// A node. Its form is none while its number is reserved.
+#[derive(Drop)]
+pub struct Node<K> {
+    pub location: Location,
+    /// The URI of its resource, where absolute locations are shown, and how many bytes of the location lie outside it.
+    pub base: Option<String>,
+    pub start: usize,
+    /// The number that the round began with in which it is compiled; none while it waits.
+    pub round: Option<usize>,
+    /// How many nodes had their form before it, once it has its own.
+    pub order: usize,
+    /// Whether all that it led to was settled when it got its form.
+    pub settled: bool,
+    /// The members that no keyword knows, as an object, where there are any.
+    pub annotations: Option<Value>,
+    pub form: Option<NodeForm<K>>,
+}
+
+/// The nodes by number. The table is filled in rounds, and chains of edges that nothing guards do not return. A number has a weight where
+/// no guarded edge is reached from it; contracts do not see the weights.
+#[derive(Drop)]
+pub struct Nodes<K> {
+    nodes: Vec<Node<K>>,
+    finished: usize,
+    weights: Vec<u8>,
+}
+
+impl<K> Model for Nodes<K> {
+    ghost use Rattle.std.specs.Prelude.{map, List};
+    ghost use Rattle.schema_node_table.specs.NodeTable.{NodeEntry};
+    ghost use Rattle.schema_node_table.specs.ClosedNumbers.{HoldsTable};
+    ghost use Rattle.schema_node_table.specs.NodeViews.{node_of};
+
+    ghost Value = { List (NodeEntry K) };
+
+    ghost use Rattle.serde_json.specs.contracts.value.Value as value;
+    ghost use Rattle.std.specs.Coded.{codes};
+
+    ghost coded = { Prim.hlevel (codes, value.the_row.coded) };
+
+    ghost view = { λ n. map node_of n.nodes.items };
+
+    ghost invariant = { λ n. HoldsTable (map node_of n.nodes.items) n.finished n.weights.items };
+}
+
+ghost use Rattle.std.specs.Prelude.{None};
+
+impl<K: Drop> Nodes<K> {
+    /// Returns an empty list of nodes.
+    pub fn new(alloc: Global) -> Nodes<K>
+        ensures empty { result ≡ [] }
+    {
+        Nodes {
+            nodes: Vec::new(alloc),
+            finished: 0,
+            weights: Vec::new(alloc),
+        }
+    }
+
+    /// Returns how many nodes there are, reserved ones included.
+    pub fn len(&self) -> usize
+        ensures count { result ≡ length self.now }
+        ensures ordered { (finished : ℕ) × IsOrdered self.now finished }
+    {
+        self.nodes.len()
+    }
+
+    /// Returns the node with a number.
+    pub fn node(&self, node: SchemaNode) -> &Node<K>
+        requires known { node.0 < length self.now }
+        ensures found { slice_get self.now node.0 ≡ Some (node_of result.now) }
+    {
+        &self.nodes[node.0]
+    }
+
+    // The next number, for a node without a form, of a round or none.
+    fn next(
+        &mut self,
+        location: Location,
+        base: Option<String>,
+        start: usize,
+        round: Option<usize>,
+    ) -> Result<SchemaNode, OutOfMemory>
+        ensures { AddsNode self.old self.new result (unfilled_node location (option_map string_bytes base) start round) }
+    {
+        self.weights.clear();
+        let number = self.nodes.len();
+        self.nodes.push(Node {
+            location,
+            base,
+            start,
+            round,
+            order: 0,
+            settled: false,
+            annotations: None,
+            form: None,
+        })?;
+        Ok(SchemaNode(number))
+    }
+
+    /// Reserves the next number, for a node at this location that is in progress in this round.
+    ///
+    /// # Errors
+    ///
+    /// Fails only if memory cannot be allocated.
+    pub fn reserve(
+        &mut self,
+        location: Location,
+        base: Option<String>,
+        start: usize,
+        round: usize,
+    ) -> Result<SchemaNode, OutOfMemory>
+        ensures { AddsNode self.old self.new result (reserved_node location (option_map string_bytes base) start round) }
+    {
+        self.next(location, base, start, Some(round))
+    }
+
+    /// Reserves the next number, for a node at this location that waits to be begun.
+    ///
+    /// # Errors
+    ///
+    /// Fails only if memory cannot be allocated.
+    pub fn defer(
+        &mut self,
+        location: Location,
+        base: Option<String>,
+        start: usize,
+    ) -> Result<SchemaNode, OutOfMemory>
+        ensures { AddsNode self.old self.new result (waiting_node location (option_map string_bytes base) start) }
+    {
+        self.next(location, base, start, None)
+    }
+
+    /// Begins a number that waits, in a round that is later than all before it.
+    pub fn begin(&mut self, node: SchemaNode, round: usize)
+        requires waits { Waits self.old node.0 }
+        requires later { IsNewRound self.old round }
+        ensures begun { Begins self.old node.0 round self.new }
+    {
+        self.weights.clear();
+        let place = &mut self.nodes[node.0];
+        place.round = Some(round);
+    }
+
+    /// Gives a number that is in progress its form and its annotations, and says whether it is settled. It comes after every
+    /// number that had its form.
+    pub fn fill(
+        &mut self,
+        node: SchemaNode,
+        form: NodeForm<K>,
+        annotations: Option<Value>,
+        settled: bool,
+    )
+        requires ready { MayBeFilled self.old node.0 settled (plan_of form) }
+        ensures filled { Fills self.old node.0 settled annotations (plan_of form) self.new }
+        ensures last { ComesLast self.old node.0 self.new }
+    {
+        // (the call says that a count of nodes fits the type)
+        let count = self.nodes.len();
+        let _within = count;
+        let order = self.finished;
+        self.finished += 1;
+        self.weights.clear();
+        let place = &mut self.nodes[node.0];
+        place.order = order;
+        place.settled = settled;
+        place.annotations = annotations;
+        place.form = Some(form);
+    }
+
+    // A node with its form, at the next number, of the first round and not settled.
+    fn add(
+        &mut self,
+        location: Location,
+        base: Option<String>,
+        start: usize,
+        form: NodeForm<K>,
+        annotations: Option<Value>,
+    ) -> Result<SchemaNode, OutOfMemory>
+        requires ready { AreFilled self.old (plan_of form) }
+        ensures { AddsFilled self.old self.new result (reserved_node location (option_map string_bytes base) start 0)
+            annotations (plan_of form) }
+    {
+        let node = self.reserve(location, base, start, 0)?;
+        // (the call says that the table is ordered)
+        let count = self.len();
+        let _ordered = count;
+        self.fill(node, form, annotations, false);
+        Ok(node)
+    }
+
+    /// Adds a node that accepts everything, or nothing.
+    ///
+    /// # Errors
+    ///
+    /// Fails only if memory cannot be allocated.
+    pub fn from_boolean(
+        &mut self,
+        location: Location,
+        base: Option<String>,
+        start: usize,
+        accepts: bool,
+    ) -> Result<SchemaNode, OutOfMemory>
+        ensures { AddsFilled self.old self.new result (reserved_node location (option_map string_bytes base) start 0)
+            None (boolean_plan accepts) }
+    {
+        let form = if accepts {
+            NodeForm::Always
+        } else {
+            NodeForm::Never
+        };
+        self.add(location, base, start, form, None)
+    }
+
+    /// Adds a node of these keywords, in their order, with its annotations.
+    ///
+    /// # Errors
+    ///
+    /// Fails only if memory cannot be allocated.
+    pub fn from_keywords(
+        &mut self,
+        location: Location,
+        base: Option<String>,
+        start: usize,
+        entries: Vec<Entry<K>>,
+        annotations: Option<Value>,
+    ) -> Result<SchemaNode, OutOfMemory>
+        requires ready { AreFilled self.old (node_these (map entry_of entries.items)) }
+        ensures { AddsFilled self.old self.new result (reserved_node location (option_map string_bytes base) start 0)
+            annotations (node_these (map entry_of entries.items)) }
+    {
+        self.add(
+            location,
+            base,
+            start,
+            NodeForm::Keywords(entries),
+            annotations,
+        )
+    }
+
+    /// Adds a node of these entries, in their order, without annotations; of none, one that accepts everything.
+    ///
+    /// # Errors
+    ///
+    /// Fails only if memory cannot be allocated.
+    pub fn from_array(
+        &mut self,
+        location: Location,
+        base: Option<String>,
+        start: usize,
+        entries: Vec<Entry<K>>,
+    ) -> Result<SchemaNode, OutOfMemory>
+        requires ready { AreFilled self.old (node_these (map entry_of entries.items)) }
+        ensures { AddsFilled self.old self.new result (reserved_node location (option_map string_bytes base) start 0)
+            None (node_these (map entry_of entries.items)) }
+    {
+        self.from_keywords(location, base, start, entries, None)
+    }
+
+    /// Returns `true` if the number has its form; one that has none is reserved.
+    pub fn is_filled(&self, node: SchemaNode) -> bool
+        requires within { node.0 < length self.now }
+        ensures filled { result ≡ true → IsFilled self.now node.0 }
+        ensures reserved { result ≡ false → IsReserved self.now node.0 }
+    {
+        self.nodes[node.0].form.is_some()
+    }
+
+    /// Returns `true` if the number waits; one that does not was begun.
+    pub fn waits(&self, node: SchemaNode) -> bool
+        requires within { node.0 < length self.now }
+        ensures waits { result ≡ true → Waits self.now node.0 }
+        ensures begun { result ≡ false → IsBegun self.now node.0 }
+    {
+        self.nodes[node.0].round.is_none()
+    }
+
+    /// Returns `true` if the number has its form and is settled.
+    pub fn is_settled(&self, node: SchemaNode) -> bool
+        requires within { node.0 < length self.now }
+        ensures settled { (n : NodeEntry K) × (slice_get self.now node.0 ≡ Some n) × (result ≡ is_settled_entry n) }
+    {
+        let entry = self.node(node);
+        entry.form.is_some() && entry.settled
+    }
+
+    /// Returns `true` if an edge to the number, made in this round, is guarded.
+    pub fn guards_from(&self, node: SchemaNode, round: usize) -> bool
+        requires within { node.0 < length self.now }
+        ensures guards { (n : NodeEntry K) × (slice_get self.now node.0 ≡ Some n) × (result ≡ guards_at round n) }
+    {
+        let entry = self.node(node);
+        if entry.form.is_none() {
+            return entry.round.is_some();
+        }
+        if entry.settled {
+            return false;
+        }
+        match entry.round {
+            None => true,
+            Some(made) => made != round,
+        }
+    }
+}

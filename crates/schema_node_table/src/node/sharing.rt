@@ -1,0 +1,329 @@
+//! Numbers that are shared: two edges or more lead to each, it takes many nodes to ask it, and no guarded edge is reached from it. What
+//! such a number says at a place is the same whatever is in progress there, so a run may ask it once a place.
+ghost use Rattle.std.specs.List.{list_all};
+ghost use Rattle.std.specs.Prelude.{◌≡◌, ◌≤◌, ℕ, IfOk, Option, Some, nat_le, option_map, slice_index_or, true};
+ghost use Rattle.schema_traits.specs.EdgeViews.{edge_of};
+ghost use Rattle.schema_node_table.specs.ClosedNumbers.{AreClosed, AreWeighed, ReachesNoGuard, child_closes, edge_closes, edges_in};
+ghost use Rattle.schema_node_table.specs.ClosedNumbers.{form_closes, has_weight, plan_closes};
+ghost use Rattle.schema_node_table.specs.NodeTable.{plan_in};
+ghost use Rattle.schema_node_table.specs.NodeViews.{form_of, node_of};
+ghost use Rattle.schema_node_table.specs.declared.node.Entry.{Entry};
+ghost use Rattle.schema_traits.specs.declared.numbers.Edge.{Edge};
+
+use crate::node::{Entry, EntryForm, Node, NodeForm, Nodes};
+use schema_reports::location::OutOfMemory;
+use schema_traits::numbers::{Edge, SchemaNode};
+use std::alloc::Global;
+
+/// How many nodes it takes at the least to ask a shared number where each edge is asked along once; no weight is greater.
+const SHARED_WEIGHT: u8 = 255;
+
+// The weight of a number by the weights of some: 0 where it has none.
+fn weight_of(weights: &[u8], number: usize) -> u8
+    ensures weight { result ≡ slice_index_or weights.now number 0 }
+{
+    match weights.get(number) {
+        Some(weight) => *weight,
+        None => 0,
+    }
+}
+
+// Whether an edge is unguarded and leads to a number with a weight.
+fn edge_closes(edge: &Edge, weights: &[u8]) -> bool
+    ensures closes { result ≡ edge_closes (has_weight weights.now) (edge_of edge.now) }
+{
+    !edge.guarded && 1 <= weight_of(weights, edge.node.0)
+}
+
+// Whether that of a child is, where it has one.
+fn child_closes(child: &Option<Edge>, weights: &[u8]) -> bool
+    ensures closes { result ≡ child_closes (has_weight weights.now) (option_map edge_of child.now) }
+{
+    match child {
+        Some(edge) => edge_closes(edge, weights),
+        None => true,
+    }
+}
+
+// Whether those of some children are.
+fn children_close(children: &[Option<Edge>], weights: &[u8]) -> bool
+    ensures closes { result ≡ list_all (λ (o : Option Edge). child_closes (has_weight weights.now) (option_map edge_of o)) children.now }
+{
+    children.iter().all(|child| child_closes(child, weights))
+}
+
+// Whether those of an entry are.
+fn entry_closes<K: Drop>(entry: &Entry<K>, weights: &[u8]) -> bool
+    ensures closes { result ≡ form_closes (has_weight weights.now) (form_of entry.now.form) }
+{
+    match &entry.form {
+        EntryForm::Reference(edge) => edge_closes(edge, weights),
+        EntryForm::Keyword(_, children) => children_close(children.as_slice(), weights),
+    }
+}
+
+// Whether those of some entries are.
+fn entries_close<K: Drop>(entries: &[Entry<K>], weights: &[u8]) -> bool
+    ensures closes { result ≡ list_all (λ (e : Entry K). form_closes (has_weight weights.now) (form_of e.form)) entries.now }
+{
+    entries.iter().all(|entry| entry_closes(entry, weights))
+}
+
+// Whether those of a node are.
+fn node_closes<K: Drop>(node: &Node<K>, weights: &[u8]) -> bool
+    ensures closes { result ≡ plan_closes (has_weight weights.now) (plan_in (Some (node_of node.now))) }
+{
+    match &node.form {
+        None => true,
+        Some(form) => match form {
+            NodeForm::Always => true,
+            NodeForm::Never => true,
+            NodeForm::Keywords(entries) => entries_close(entries.as_slice(), weights),
+        },
+    }
+}
+
+// The weights of some children's edges, taken together.
+fn children_weight(children: &[Option<Edge>], weights: &[u8]) -> u8 {
+    let mut weight = 0u8;
+    for child in children {
+        if let Some(edge) = child {
+            weight = weight.saturating_add(weight_of(weights, edge.node.0));
+        }
+    }
+    weight
+}
+
+// Those of an entry's edges.
+fn entry_weight<K: Drop>(entry: &Entry<K>, weights: &[u8]) -> u8 {
+    match &entry.form {
+        EntryForm::Reference(edge) => weight_of(weights, edge.node.0),
+        EntryForm::Keyword(_, children) => children_weight(children.as_slice(), weights),
+    }
+}
+
+// Those of some entries' edges.
+fn entries_weight<K: Drop>(entries: &[Entry<K>], weights: &[u8]) -> u8 {
+    let mut weight = 0u8;
+    for entry in entries {
+        weight = weight.saturating_add(entry_weight(entry, weights));
+    }
+    weight
+}
+
+// Those of a node's edges.
+fn weight_below<K: Drop>(node: &Node<K>, weights: &[u8]) -> u8 {
+    match &node.form {
+        None => 0,
+        Some(form) => match form {
+            NodeForm::Always => 0,
+            NodeForm::Never => 0,
+            NodeForm::Keywords(entries) => entries_weight(entries.as_slice(), weights),
+        },
+    }
+}
+
+// The weight of a node: one more than its edges have, where each of these is unguarded and leads to a number with a weight, and 0 else.
+fn node_weight<K: Drop>(node: &Node<K>, weights: &[u8]) -> u8
+    ensures closes { 1 ≤ result → plan_closes (has_weight weights.now) (plan_in (Some (node_of node.now))) ≡ true }
+{
+    if !node_closes(node, weights) {
+        return 0;
+    }
+    weight_below(node, weights).saturating_add(1)
+}
+
+// The weight that a node has, where it has one, and else the one that it gets.
+fn next_weight<K: Drop>(node: &Node<K>, weights: &[u8], weight: u8) -> u8
+    ensures kept { 1 ≤ weight → result ≡ weight }
+    ensures closes { weight ≡ 0 → 1 ≤ result → plan_closes (has_weight weights.now) (plan_in (Some (node_of node.now))) ≡ true }
+{
+    if 1 <= weight {
+        return weight;
+    }
+    node_weight(node, weights)
+}
+
+// Weighs a number, where it has no weight and can have one.
+fn weigh_number<K: Drop>(nodes: &Nodes<K>, number: usize, weights: &mut Vec<u8>)
+    requires { AreWeighed nodes.now weights.old.items }
+    ensures { AreWeighed nodes.now weights.new.items }
+{
+    if nodes.len() <= number {
+        return;
+    }
+    let weight = weights[number];
+    let next = next_weight(nodes.node(SchemaNode(number)), weights.as_slice(), weight);
+    weights[number] = next;
+}
+
+// Weighs some numbers in turn.
+fn weigh_in_turn<K: Drop>(nodes: &Nodes<K>, numbers: &[usize], weights: &mut Vec<u8>)
+    requires { AreWeighed nodes.now weights.old.items }
+    ensures { AreWeighed nodes.now weights.new.items }
+{
+    for number in numbers {
+        weigh_number(nodes, *number, weights);
+    }
+}
+
+// The round of one of some numbers.
+fn round_at<K: Drop>(nodes: &Nodes<K>, numbers: &[usize], at: usize) -> usize {
+    let number = match numbers.get(at) {
+        Some(number) => *number,
+        None => return 0,
+    };
+    if nodes.len() <= number {
+        return 0;
+    }
+    match nodes.node(SchemaNode(number)).round {
+        Some(round) => round,
+        None => 0,
+    }
+}
+
+// Weighs the numbers of each round in turn, the last round first.
+fn weigh_rounds<K: Drop>(nodes: &Nodes<K>, numbers: &[usize], weights: &mut Vec<u8>)
+    requires { AreWeighed nodes.now weights.old.items }
+    ensures { AreWeighed nodes.now weights.new.items }
+{
+    let mut end = numbers.len();
+    for start in (0..numbers.len()).rev() {
+        if start == 0 || round_at(nodes, numbers, start - 1) != round_at(nodes, numbers, start) {
+            let those = match numbers.get(start..end) {
+                Some(those) => those,
+                None => return,
+            };
+            weigh_in_turn(nodes, those, weights);
+            end = start;
+        }
+    }
+}
+
+// The numbers in the order in which they got their forms.
+fn in_order<K: Drop>(alloc: Global, nodes: &Nodes<K>) -> Result<Vec<usize>, OutOfMemory> {
+    let count = nodes.len();
+    let mut numbers = Vec::from_elem(alloc, 0usize, count)?;
+    for number in 0..count {
+        let node = nodes.node(SchemaNode(number));
+        if node.form.is_some() {
+            if let Some(place) = numbers.get_mut(node.order) {
+                *place = number;
+            }
+        }
+    }
+    Ok(numbers)
+}
+
+// No number has a weight.
+fn unweighed<K: Drop>(alloc: Global, nodes: &Nodes<K>) -> Result<Vec<u8>, OutOfMemory>
+    ensures { IfOk result (λ ws. AreWeighed nodes.now ws.items) }
+{
+    let count = nodes.len();
+    let weights = Vec::from_elem(alloc, 0u8, count)?;
+    Ok(weights)
+}
+
+// Returns the weights of the closed numbers: how many nodes it takes to ask each where each edge is asked along once, or `SHARED_WEIGHT` if
+// it takes more. An edge that nothing guards leads to a number of a lesser rank, and numbers are weighed by their ranks: the settled ones
+// by their order, then the others, those of the last round first. Fails only if memory cannot be allocated.
+fn weights_of<K: Drop>(alloc: Global, nodes: &Nodes<K>) -> Result<Vec<u8>, OutOfMemory>
+    ensures closed { IfOk result (λ ws. AreClosed (edges_in nodes.now) (has_weight ws.items)) }
+{
+    let mut weights = unweighed(alloc, nodes)?;
+    let numbers = in_order(alloc, nodes)?;
+    weigh_in_turn(nodes, numbers.as_slice(), &mut weights);
+    weigh_rounds(nodes, numbers.as_slice(), &mut weights);
+    Ok(weights)
+}
+
+// Counts an edge as a way to the number that it leads to.
+fn count_edge(edge: &Edge, ways: &mut Vec<u8>) {
+    if let Some(count) = ways.get_mut(edge.node.0) {
+        *count = count.saturating_add(1);
+    }
+}
+
+// Counts the edges of some children.
+fn count_children(children: &[Option<Edge>], ways: &mut Vec<u8>) {
+    for child in children {
+        if let Some(edge) = child {
+            count_edge(edge, ways);
+        }
+    }
+}
+
+// Counts the edges of an entry.
+fn count_entry<K: Drop>(entry: &Entry<K>, ways: &mut Vec<u8>) {
+    match &entry.form {
+        EntryForm::Reference(edge) => count_edge(edge, ways),
+        EntryForm::Keyword(_, children) => count_children(children.as_slice(), ways),
+    }
+}
+
+// Counts the edges of a node.
+fn count_node<K: Drop>(node: &Node<K>, ways: &mut Vec<u8>) {
+    if let Some(form) = &node.form {
+        if let NodeForm::Keywords(entries) = form {
+            for entry in entries {
+                count_entry(entry, ways);
+            }
+        }
+    }
+}
+
+// Returns how many edges lead to each number.
+fn ways_of<K: Drop>(alloc: Global, nodes: &Nodes<K>) -> Result<Vec<u8>, OutOfMemory> {
+    let count = nodes.len();
+    let mut ways = Vec::from_elem(alloc, 0u8, count)?;
+    for number in 0..count {
+        count_node(nodes.node(SchemaNode(number)), &mut ways);
+    }
+    Ok(ways)
+}
+
+// The weight of a number to which so many edges lead: less than that of a shared one where these are fewer than two.
+fn kept_weight(weight: u8, ways: u8) -> u8
+    ensures kept { nat_le 1 result ≡ nat_le 1 weight }
+{
+    if weight == SHARED_WEIGHT && ways < 2 {
+        return SHARED_WEIGHT - 1;
+    }
+    weight
+}
+
+// Makes the weight of each number less than that of a shared one to which fewer than two edges lead.
+fn keep_shared(ways: &[u8], weights: &mut Vec<u8>)
+    ensures same { (i : ℕ) → has_weight weights.new.items i ≡ has_weight weights.old.items i }
+{
+    for number in 0..weights.len() {
+        let weight = kept_weight(weights[number], weight_of(ways, number));
+        weights[number] = weight;
+    }
+}
+
+impl<K: Drop> Nodes<K> {
+    /// Finds out which numbers are shared: those to which two edges or more lead, from which no guarded edge is reached, and which it takes
+    /// at least 255 nodes to ask where each edge is asked along once. No number is shared any more once another node is added, begun or
+    /// filled.
+    ///
+    /// # Errors
+    ///
+    /// Fails only if memory cannot be allocated. Then the same numbers are shared as before.
+    pub fn share(&mut self, alloc: Global) -> Result<(), OutOfMemory>
+        ensures same { self.new ≡ self.old }
+    {
+        let mut weights = weights_of(alloc, self)?;
+        let ways = ways_of(alloc, self)?;
+        keep_shared(ways.as_slice(), &mut weights);
+        self.weights = weights;
+        Ok(())
+    }
+
+    /// Returns `true` if the number is shared. It allocates nothing.
+    pub fn is_shared(&self, node: SchemaNode) -> bool
+        ensures closed { result ≡ true → ReachesNoGuard (edges_in self.now) node.0 }
+    {
+        weight_of(self.weights.as_slice(), node.0) == SHARED_WEIGHT
+    }
+}

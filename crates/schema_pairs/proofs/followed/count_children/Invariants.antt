@@ -1,6 +1,0 @@
-use Rattle.std.proofs.Common.{take}
-use Rattle.schema_pairs.specs.Following.{Counts, child_edges}
-use Rattle.schema_pairs.proofs.followed.count_children.Given as goal
-
-abbrev pub invariant-loop-child : goal.invariant-loop-child
-invariant-loop-child l = Counts (child_edges (take l.child-index l.children)) l.initial.ways.items l.ways.items

@@ -1,6 +1,0 @@
-use Rattle.std.proofs.Common.{take}
-use Rattle.schema_pairs.specs.Following.{Counts, table_edges}
-use Rattle.schema_pairs.proofs.followed.count_ways.Given as goal
-
-abbrev pub invariant-loop-number : goal.invariant-loop-number
-invariant-loop-number g l = Counts (table_edges (take l.number l.nodes)) l.initial.ways.items l.ways.items

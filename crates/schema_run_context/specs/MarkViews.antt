@@ -1,0 +1,27 @@
+-- The code's marks as data.
+use Rattle.std.specs.List.{list_any}
+use Rattle.std.specs.Prelude.{Bool, List, Option, [], ◌∷◌, ◌++◌, map, option_map}
+use Rattle.theory_definitions.specs.Guarded.{Children, same_edge}
+use Rattle.theory_definitions.specs.Keywords as spec
+use Rattle.theory_definitions.specs.Runs.{with_mark}
+use Rattle.schema_traits.specs.EdgeViews.{edge_of}
+use Rattle.schema_traits.specs.KeywordViews.{marked_of}
+use Rattle.schema_traits.specs.declared.keyword.Marked.{Marked}
+use Rattle.schema_traits.specs.declared.numbers.Edge.{Edge}
+
+-- the marks of a run, the last one first
+abbrev pub last_first : List Marked → List spec.Marked
+last_first [] = []
+last_first (m ∷ ms) = last_first ms ++ marked_of m ∷ []
+
+-- the edges that the children of a keyword got
+abbrev pub edges_of : List (Option Edge) → Children
+edges_of children = map (option_map edge_of) children
+
+-- by these edges, one of the marks is the same as this one
+abbrev pub is_marked : List (Option Edge) → Marked → List spec.Marked → Bool
+is_marked children m marks = list_any (same_edge (edges_of children) (marked_of m)) marks
+
+-- the marks with this one, where none is the same
+abbrev pub marks_with : List (Option Edge) → Marked → List spec.Marked → List spec.Marked
+marks_with children m marks = with_mark (same_edge (edges_of children)) (marked_of m) marks

@@ -1,0 +1,28 @@
+-- How the matches of a run come out by what it assumes, and what it remembers of them.
+use Rattle.std.specs.Prelude.{Bool}
+use Rattle.theory_definitions.specs.Instance.{Text}
+use Rattle.theory_definitions.specs.Matching.{Matcher, Pair, Reason, assumed}
+use Rattle.theory_definitions.specs.Runs.{Site}
+use Rattle.theory_definitions.specs.Unfinished.{Remembered, meet, or_no}
+use Rattle.schema_run_context.specs.Matches.{after_match, comes_out}
+use Rattle.schema_run_context.specs.Progress.{Context}
+
+-- a pattern and a subject
+abbrev pub a_pair : Text → Text → Pair
+a_pair pattern subject = record { pattern = pattern; subject = subject }
+
+-- how an unfinished match comes out: as it is assumed to, or else as no
+abbrev pub assumed_in : Context → Pair → Bool
+assumed_in c a = or_no (assumed c.remembered.assumptions a)
+
+-- what is remembered once it is met at a site, unfinished for this reason
+abbrev pub met_in : Context → Pair → Site → Reason → Remembered
+met_in c a site reason = meet c.remembered (record { met = record { pair = a; site = site }; reason = reason })
+
+-- how a match comes out by a matcher
+abbrev pub matches_in : Context → Matcher → Pair → Bool
+matches_in c m a = comes_out c.remembered.assumptions a (m.is_match a.pattern a.subject)
+
+-- what is remembered once it was asked for at a site
+abbrev pub asked_in : Context → Matcher → Pair → Site → Remembered
+asked_in c m a site = after_match c.remembered (record { pair = a; site = site }) (m.is_match a.pattern a.subject)

@@ -1,0 +1,106 @@
+//! How many nodes a call may still ask.
+ghost use Rattle.std.specs.Prelude.{◌≡◌, ◌-◌, OnErr, OnOk, false, true};
+ghost use Rattle.schema_run_context.specs.Works.{Asks, IsSpent, allowed, left_of, unlimited};
+
+use schema_reports::location::OutOfMemory;
+use std::alloc::AllocError;
+use std::marker::Model;
+
+/// How many nodes a call may still ask, where there is a limit, and whether it was to ask one more than these: only where none are left.
+#[derive(Clone, Copy)]
+pub struct Work {
+    left: u64,
+    limited: bool,
+    stopped: bool,
+}
+
+impl Model for Work {
+    ghost use Rattle.schema_run_context.specs.Works.{Budget};
+    ghost use Rattle.std.specs.Prelude.{◌≡◌, true};
+
+    ghost Value = { Budget };
+
+    ghost view = { λ w. record { left = w.left; limited = w.limited; stopped = w.stopped } };
+
+    ghost inverse = { λ b. record { left = b.left; limited = b.limited; stopped = b.stopped } };
+
+    ghost invariant = { λ w. w.stopped ≡ true → (w.limited ≡ true) × (w.left ≡ 0) };
+}
+
+impl Work {
+    /// Lets a call ask any number of nodes.
+    pub fn unlimited() -> Work
+        ensures any { result ≡ unlimited }
+    {
+        Work {
+            left: u64::MAX,
+            limited: false,
+            stopped: false,
+        }
+    }
+
+    /// Lets a call ask so many nodes; any number where there is no limit.
+    pub fn within(limit: Option<u64>) -> Work
+        ensures within { result ≡ allowed limit }
+    {
+        match limit {
+            None => Work::unlimited(),
+            Some(left) => Work {
+                left,
+                limited: true,
+                stopped: false,
+            },
+        }
+    }
+
+    /// Returns `true` if one more node was to be asked than the limit allows; then there is one, and no more may be asked.
+    pub fn is_stopped(&self) -> bool
+        ensures stopped { result ≡ self.now.stopped }
+        ensures spent { result ≡ true → IsSpent self.now }
+    {
+        self.stopped
+    }
+
+    /// Returns how many nodes may still be asked, where there is a limit.
+    pub fn left(&self) -> Option<u64>
+        ensures left { result ≡ left_of self.now }
+    {
+        if self.limited { Some(self.left) } else { None }
+    }
+
+    /// Counts a node that is asked. Fails where no more may be asked, and only there.
+    #[inline(always)]
+    pub fn step(&mut self) -> Result<(), OutOfMemory>
+        ensures asks { OnOk result (Asks self.old self.new) }
+        ensures stops { OnErr result (IsSpent self.old) }
+        ensures stopped { OnErr result (self.new ≡ record self.old { stopped = true }) }
+    {
+        if self.left > 0 {
+            self.left -= 1;
+            return Ok(());
+        }
+        if self.limited {
+            self.stopped = true;
+            return Err(AllocError);
+        }
+        Ok(())
+    }
+
+    /// Counts so many nodes that were asked; all that may be asked, where these are fewer.
+    pub fn spend(&mut self, asked: u64)
+        ensures fewer { self.new ≡ record self.old { left = self.old.left - asked } }
+    {
+        self.left = self.left.saturating_sub(asked);
+    }
+
+    /// Says that one more node was to be asked than the limit allows. Where there is no limit, nothing changes.
+    pub fn stop(&mut self)
+        ensures stopped { self.old.limited ≡ true → self.new ≡ record self.old { left = 0; stopped = true } }
+        ensures unlimited { self.old.limited ≡ false → self.new ≡ self.old }
+    {
+        if self.limited {
+            self.left = 0;
+            self.stopped = true;
+        }
+    }
+}

@@ -1,0 +1,26 @@
+use Rattle.std.proofs.Common.{◌≡◌, subst}
+use Rattle.std.specs.Prelude.{OnOk}
+use Rattle.theory_definitions.specs.Instance.{Place}
+use Rattle.schema_reports.specs.InstanceViews.{subject_of}
+use Rattle.schema_places.proofs.Closing.{stands}
+use Rattle.schema_run_context.specs.Progress.{places_in}
+use Rattle.schema_run_context.specs.Verdicts.{MayKeep, Remembers}
+use Rattle.schema_run_steps.specs.GuardedPairs.{place_of}
+use Rattle.schema_run_steps.proofs.guarded.GuardedPair.keep_verdict.Goals as goal
+
+pub cache_result-requires : goal.cache_result-requires
+cache_result-requires c = record { known = (stands (place_of c.args.self.now) (places_in c.args.context.now) c.args.self.now.number c.requires.numbered).0 }
+
+pub returns-clause-kept : goal.returns-clause-kept
+returns-clause-kept c =
+    let n = c.args.self.now.node.0 in
+    let old = c.args.context.now in
+    let at = (stands (place_of c.args.self.now) (places_in old) c.args.self.now.number c.requires.numbered).1 in
+    subst (λ (p : Place). OnOk c.cache_result.result (MayKeep n p (subject_of c.args.instance) c.args.mark old → Remembers n p c.args.verdict old.verdicts c.cache_result.new.self.verdicts)) at c.cache_result.ensures.kept
+
+pub returns-clause-others : goal.returns-clause-others
+returns-clause-others c =
+    let n = c.args.self.now.node.0 in
+    let old = c.args.context.now in
+    let at = (stands (place_of c.args.self.now) (places_in old) c.args.self.now.number c.requires.numbered).1 in
+    subst (λ (p : Place). OnOk c.cache_result.result (¬ (MayKeep n p (subject_of c.args.instance) c.args.mark old) → c.cache_result.new.self ≡ old)) at c.cache_result.ensures.others

@@ -1,0 +1,24 @@
+-- The code's units of an entry, and those that are placed, as the definitions have them.
+use Rattle.std.specs.Prelude.{Bool, drop, map, string_bytes, take}
+use Rattle.theory_definitions.specs.Instance.{Text}
+use Rattle.theory_definitions.specs.Reports.{Unit_}
+use Rattle.theory_definitions.specs.Units.{PartUnits}
+use Rattle.theory_definitions.specs.UnitOrder.{Placed}
+use Rattle.schema_reports.specs.UnitViews.{unit_of}
+use Rattle.schema_run_steps.specs.declared.evaluation_order.AbsorbedUnit.{AbsorbedUnit}
+use Rattle.schema_run_steps.specs.declared.evaluation_order.EntryUnits.{EntryUnits}
+use Rattle.schema_run_steps.specs.declared.evaluation_order.UnitsInOrder.{UnitsInOrder}
+
+abbrev pub absorbed_of : Bool → AbsorbedUnit → Text × Unit_
+absorbed_of texts a = (string_bytes a.keyword, unit_of texts a.unit)
+
+abbrev pub entry_units_of : Bool → EntryUnits → PartUnits
+entry_units_of texts e = (unit_of texts e.own, map (absorbed_of texts) e.absorbed.items)
+
+abbrev pub placed_of : Bool → UnitsInOrder → Placed
+placed_of texts u = record {
+  types = map (unit_of texts) u.types.items;
+  before = map (unit_of texts) (take u.before u.entries.items);
+  counts = map (unit_of texts) u.counts.items;
+  after = map (unit_of texts) (drop u.before u.entries.items);
+}

@@ -1,0 +1,36 @@
+-- Where a question stands, and what lies below it, by the code's steps.
+use Rattle.std.specs.Prelude.{List, Option, String, map, option_map, string_bytes, unwrap_or, ◌++◌}
+use Rattle.std.specs.declared.alloc.Global.{Global}
+use Rattle.theory_definitions.specs.Instance.{Place, Subject, Text, after_step}
+use Rattle.theory_definitions.specs.Laws.{IsPresent}
+use Rattle.theory_definitions.specs.Pointer.{pointer_to}
+use Rattle.schema_reports.specs.InstanceViews.{step_of, subject_of}
+use Rattle.schema_reports.specs.declared.instance.Instance.{Instance}
+use Rattle.schema_reports.specs.declared.instance.InstanceStep.{InstanceStep}
+use Rattle.schema_run_context.specs.EvaluationPaths.{path_of}
+use Rattle.schema_run_steps.specs.EvaluationPlaces.{steps_to}
+use Rattle.schema_run_steps.specs.declared.evaluation_place.EvaluationPlace.{EvaluationPlace}
+use Rattle.schema_run_steps.specs.declared.question.Question.{Question}
+
+-- what a step leads to inside an instance
+abbrev pub subject_after : InstanceStep → Instance → Option Subject
+subject_after step i = after_step (step_of step) (subject_of i)
+
+-- steps lead to something there
+abbrev pub HasSteps : Instance → List InstanceStep → Type 0
+HasSteps i steps = IsPresent (subject_of i) (map step_of steps)
+
+-- the place some steps below another one
+abbrev pub place_under : EvaluationPlace → List InstanceStep → Place
+place_under p steps = steps_to p ++ map step_of steps
+
+-- the path that led to a question, and the pointer to the place that it asks about
+abbrev pub path_here : Question → Text
+path_here q = path_of q.path.now
+
+abbrev pub pointer_here : Question → Text
+pointer_here q = pointer_to (steps_to q.place.now)
+
+-- the name that a path from a keyword on begins with: that of the one that it absorbs, or else its own
+abbrev pub name_from : Option (String Global) → Text → Text
+name_from absorbed name = unwrap_or (option_map string_bytes absorbed) name

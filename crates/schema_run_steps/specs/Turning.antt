@@ -1,0 +1,32 @@
+-- How a keyword's run stands between two turns.
+use Rattle.std.specs.Prelude.{Bool, List, [], None}
+use Rattle.theory_definitions.specs.Instance.{Subject}
+use Rattle.theory_definitions.specs.Reports.{Outcome, Unit_, no_units, unit}
+use Rattle.theory_definitions.specs.Matching.{matching}
+use Rattle.theory_definitions.specs.Keywords.{Answer, Answers, Keywords, Marked, Mode, Question, Reply}
+use Rattle.theory_definitions.specs.Laws.{IsRight}
+use Rattle.theory_definitions.specs.Turns.{Standing}
+use Rattle.schema_run_steps.specs.NodeRuns.{Reading}
+
+-- a unit that has the verdict of an outcome
+abbrev pub unit_with : Outcome → Unit_
+unit_with o = unit (record { valid = o.verdict; instance_location = []; evaluation_path = []; schema_path = []; absolute = None; annotations = None; errors = [] }) no_units
+
+-- a run in a reading, with the units that its questions have, what says which marks are one, and the marks that it holds
+abbrev pub stands_at : {R : Type 0} → Subject → Reading → Answers → (Question → Unit_) → (Marked → Marked → Bool) → List Marked → R → Reply → Standing R
+stands_at s x answers units same marks r reply = record {
+  subject = s;
+  matches = matching x.matcher x.completion;
+  answers = answers;
+  unit_at = units;
+  same = same;
+  marks = marks;
+  state = r;
+  reply = reply;
+}
+
+-- it stands well, in a state that a run can be in, and ends in what is right
+pub record EvaluatesOn {K R : Type 0} (keywords : Keywords K R) (m : K) (can_be : Subject → R → Type 0) (end_of : Standing R → Answer) (Fits : Standing R → Type 0) (s : Subject) (x : Reading) (mode : Mode) (answers : Answers) (units : Question → Unit_) (same : Marked → Marked → Bool) (marks : List Marked) (r : R) (reply : Reply) : Type 0 where
+  pub can : can_be s r
+  pub fits : Fits (stands_at s x answers units same marks r reply)
+  pub right : IsRight keywords m s (matching x.matcher x.completion) answers units same mode (end_of (stands_at s x answers units same marks r reply))

@@ -1,0 +1,102 @@
+//! The units of a schema's entries, in their order: that of an absorbed `type` first, those of absorbed counts before the first
+//! entry that looks inside the instance.
+ghost use Rattle.std.specs.Prelude.{◌≡◌, Bool, IfOk, map, OnOk};
+ghost use Rattle.schema_reports.specs.UnitViews.{unit_of};
+ghost use Rattle.theory_definitions.specs.UnitOrder.{all_placed, nothing_placed, placed, with_absorbed};
+ghost use Rattle.schema_run_steps.specs.EntryUnits.{absorbed_of, entry_units_of, placed_of};
+
+use schema_reports::evaluation::{ChildList, EvaluationNode};
+use schema_reports::location::OutOfMemory;
+use std::alloc::Global;
+
+/// The unit of a keyword that another one absorbs, by the absorbed one's name.
+#[derive(Drop)]
+pub struct AbsorbedUnit {
+    pub keyword: String,
+    pub unit: EvaluationNode,
+}
+
+/// The unit of an entry, and those of the keywords that it absorbs, in their order.
+#[derive(Drop)]
+pub struct EntryUnits {
+    pub own: EvaluationNode,
+    pub absorbed: Vec<AbsorbedUnit>,
+}
+
+/// The least priority of the keywords that look inside an array or an object: absorbed counts stand before the first of them.
+const LEAST_INSIDE: u8 = 22;
+
+/// The units of a schema's entries so far: those of absorbed types; those of the entries, of which so many come before the absorbed
+/// counts; and these counts.
+#[derive(Drop)]
+pub struct UnitsInOrder {
+    types: Vec<EvaluationNode>,
+    entries: Vec<EvaluationNode>,
+    before: usize,
+    counts: Vec<EvaluationNode>,
+}
+
+impl UnitsInOrder {
+    /// Returns the units of no entry, with room for those of so many. Fails only if memory cannot be allocated.
+    pub fn new(alloc: Global, entries: usize) -> Result<UnitsInOrder, OutOfMemory>
+        ensures empty { IfOk result (λ u. (texts : Bool) → placed_of texts u ≡ nothing_placed) }
+    {
+        Ok(UnitsInOrder {
+            types: Vec::new(alloc),
+            entries: Vec::with_capacity(alloc, entries)?,
+            before: 0,
+            counts: Vec::new(alloc),
+        })
+    }
+
+    // Adds the units of absorbed keywords.
+    fn place_absorbed(&mut self, absorbed: Vec<AbsorbedUnit>) -> Result<(), OutOfMemory>
+        ensures placed { OnOk result ((texts : Bool) → placed_of texts self.new
+            ≡ with_absorbed (placed_of texts self.old) (map (absorbed_of texts) absorbed.items)) }
+    {
+        for one in absorbed {
+            if one.keyword.as_str() == "type" {
+                self.types.push(one.unit)?;
+            } else {
+                self.counts.push(one.unit)?;
+            }
+        }
+        Ok(())
+    }
+
+    /// Adds the units of the next entry, by its priority. Fails only if memory cannot be allocated.
+    pub fn place(&mut self, priority: u8, units: EntryUnits) -> Result<(), OutOfMemory>
+        ensures placed { OnOk result ((texts : Bool) → placed_of texts self.new
+            ≡ placed (placed_of texts self.old) (record { priority = priority; units = entry_units_of texts units })) }
+    {
+        self.place_absorbed(units.absorbed)?;
+        let placed = self.entries.len();
+        self.entries.push(units.own)?;
+        if placed <= self.before {
+            self.before = if LEAST_INSIDE <= priority {
+                placed
+            } else {
+                self.entries.len()
+            };
+        }
+        Ok(())
+    }
+
+    /// Returns the units in their order. Fails only if memory cannot be allocated.
+    pub fn into_children(self) -> Result<ChildList, OutOfMemory>
+        ensures children { IfOk result (λ l. (texts : Bool) → map (unit_of texts) l ≡ all_placed (placed_of texts self)) }
+    {
+        let mut nodes = self.types;
+        let mut entries = self.entries;
+        let mut counts = self.counts;
+        if nodes.is_empty() && counts.is_empty() {
+            return Ok(ChildList::from_nodes(entries));
+        }
+        let before = self.before.min(entries.len());
+        let mut after = entries.split_off(before)?;
+        nodes.append(&mut entries)?;
+        nodes.append(&mut counts)?;
+        nodes.append(&mut after)?;
+        Ok(ChildList::from_nodes(nodes))
+    }
+}

@@ -1,0 +1,103 @@
+//! Where an error of a keyword, or a match that it asks for, stands: steps below the keyword's place, and a path from it on.
+ghost use Rattle.std.specs.Prelude.{◌≡◌, IfOk, IfSome, MatchOption, Some, is_some, map, option_map, true};
+ghost use Rattle.schema_reports.specs.InstanceViews.{step_of, subject_of};
+ghost use Rattle.theory_definitions.specs.Keywords.{down, here};
+ghost use Rattle.theory_definitions.specs.Laws.{IsPresent, steps_below};
+ghost use Rattle.schema_traits.specs.KeywordViews.{below_of};
+ghost use Rattle.schema_run_steps.specs.PlaceWords.{HasSteps, place_under, subject_after};
+
+use crate::evaluation_place::EvaluationPlace;
+use schema_reports::instance::{Instance, InstanceStep, Place};
+use schema_reports::location::OutOfMemory;
+use schema_traits::keyword::Below;
+use std::alloc::Global;
+
+/// The one step below, by the same name; none where it is here.
+pub fn step_below<'s>(below: Below<'s>) -> Option<InstanceStep<'s>>
+    ensures step { MatchOption result (below_of below.entry ≡ here) (λ s. below_of below.entry ≡ down (step_of s)) }
+{
+    match below {
+        Below::Here => None,
+        Below::Member(name) => Some(InstanceStep::Member(name)),
+        Below::Item(index) => Some(InstanceStep::Item(index)),
+        Below::NameOf(name) => Some(InstanceStep::NameOf(name)),
+    }
+}
+
+/// What a step leads to, and the step by the instance's own name; none where it leads nowhere.
+pub fn after<'i>(
+    instance: Instance<'i>,
+    step: InstanceStep<'_>,
+) -> Option<(Instance<'i>, InstanceStep<'i>)>
+    ensures after { option_map (λ r. subject_of r.0) result ≡ subject_after step.entry instance.entry }
+    ensures step { IfSome result (λ r. step_of r.1 ≡ step_of step.entry) }
+{
+    match step {
+        InstanceStep::Member(name) => instance.member(name),
+        InstanceStep::Item(index) => instance.item(index),
+        InstanceStep::NameOf(name) => instance.name_of(name),
+    }
+}
+
+/// What stands one step below, and the step; none where the question is asked here.
+#[inline(always)]
+pub fn one_below<'i>(
+    instance: Instance<'i>,
+    below: Below<'_>,
+) -> Option<(Instance<'i>, InstanceStep<'i>)>
+    requires present { IsPresent (subject_of instance) (steps_below (below_of below)) }
+    ensures below { MatchOption result (below_of below.entry ≡ here)
+        (λ r. (below_of below.entry ≡ down (step_of r.1))
+        × (subject_after r.1 instance.entry ≡ Some (subject_of r.0))) }
+{
+    let step = step_below(below)?;
+    match after(instance, step) {
+        Some(lower) => Some(lower),
+        None => unreachable!(),
+    }
+}
+
+// What a step inside the instance leads to, and the step by the instance's own name.
+fn own_step<'i>(instance: Instance<'i>, step: InstanceStep<'_>) -> (Instance<'i>, InstanceStep<'i>)
+    requires present { is_some (subject_after step instance) ≡ true }
+    ensures after { subject_after step.entry instance.entry ≡ Some (subject_of result.0) }
+    ensures step { step_of result.1 ≡ step_of step.entry }
+{
+    match after(instance, step) {
+        Some(lower) => lower,
+        None => unreachable!(),
+    }
+}
+
+/// The same steps inside the instance, by the instance's own names.
+pub fn own_steps<'i>(
+    alloc: Global,
+    instance: Instance<'i>,
+    steps: &[InstanceStep<'_>],
+) -> Result<Vec<InstanceStep<'i>>, OutOfMemory>
+    requires present { HasSteps instance steps.now }
+    ensures same { IfOk result (λ own. map step_of own.items ≡ map step_of steps.now) }
+{
+    let mut own = Vec::new(alloc);
+    let mut current = instance;
+    for step in steps {
+        let (inner, same) = own_step(current, *step);
+        own.push(same)?;
+        current = inner;
+    }
+    Ok(own)
+}
+
+/// The place some steps below.
+pub fn place_below<'i>(
+    place: &EvaluationPlace<'_, 'i>,
+    steps: &[InstanceStep<'i>],
+) -> Result<Place<'i>, OutOfMemory>
+    ensures below { IfOk result (λ p. p ≡ place_under place.now steps.now) }
+{
+    let mut lower = place.with_room(steps.len())?;
+    for step in steps {
+        lower.push(*step)?;
+    }
+    Ok(lower)
+}

@@ -1,0 +1,299 @@
+//! The units of a node at a place: its own, that of each entry, and those of the keywords that an entry absorbs.
+ghost use Rattle.std.specs.Prelude.{◌≡◌, Bool, IfOk, map};
+ghost use Rattle.theory_definitions.specs.Meaning.{Where};
+ghost use Rattle.theory_definitions.specs.Pointer.{joined, pointer_to};
+ghost use Rattle.theory_definitions.specs.Reports.{unit, units_of};
+ghost use Rattle.schema_run_steps.specs.EntryUnits.{absorbed_of, entry_units_of};
+ghost use Rattle.schema_reports.specs.EvaluationResults.{gives_of, named_of};
+ghost use Rattle.theory_definitions.specs.Units.{false_unit, given_units, keyword_unit, no_unit, reference_units, true_unit};
+ghost use Rattle.schema_reports.specs.UnitViews.{unit_of};
+ghost use Rattle.schema_traits.specs.KeywordViews.{answer_of};
+ghost use Rattle.schema_run_steps.specs.NodeUnits.{named_gives};
+ghost use Rattle.schema_run_steps.specs.Askings.{Asking, at_work};
+ghost use Rattle.schema_run_steps.specs.PlaceWords.{path_here, pointer_here};
+ghost use Rattle.schema_run_steps.specs.ReplyWords.{SaysFalse};
+ghost use Rattle.schema_run_steps.specs.UnitWords.{IsUnit, UnitStandsAt, report_at, unit_around};
+
+use crate::evaluation_order::{AbsorbedUnit, EntryUnits};
+use crate::question::Question;
+use crate::replies::false_error;
+use schema_node_table::node::Node;
+use schema_node_table::node::absolute::absolute_location;
+use schema_node_table::node::name::KeywordName;
+use schema_reports::evaluation::{
+    Annotations, ChildList, ErrorDescription, EvaluationNode, UnitReport,
+};
+use schema_reports::evaluation_result::{AbsorbedResult, EvaluationResult};
+use schema_reports::location::OutOfMemory;
+use schema_reports::shared_location::SharedLocation;
+use schema_run_context::unit_paths::UnitTexts;
+use schema_run_context::validation::ValidationContext;
+use schema_traits::keyword::{Answer, Found};
+use std::alloc::Global;
+
+// Where a unit stands: the way that led to it, its URI, its place in the schema, and the instance's place.
+#[derive(Drop)]
+struct UnitPlaces {
+    evaluation_path: SharedLocation,
+    absolute_keyword_location: Option<String>,
+    schema_location: SharedLocation,
+    instance_location: SharedLocation,
+}
+
+impl UnitPlaces {
+    // The unit that stands there and says this.
+    #[inline(always)]
+    fn unit(
+        self,
+        valid: bool,
+        annotations: Option<Annotations>,
+        errors: Vec<ErrorDescription>,
+        children: ChildList,
+    ) -> EvaluationNode
+        ensures unit { IsUnit (λ texts. unit (report_at texts self valid annotations errors.items)
+            (units_of (map (unit_of texts) children))) result }
+    {
+        EvaluationNode {
+            report: UnitReport {
+                valid,
+                evaluation_path: self.evaluation_path,
+                absolute_keyword_location: self.absolute_keyword_location,
+                schema_location: self.schema_location,
+                instance_location: self.instance_location,
+                annotations,
+                errors,
+            },
+            children: children.into_nodes(),
+        }
+    }
+}
+
+// Where a unit of the node stands that has these texts.
+#[inline(always)]
+fn places_by<K>(
+    alloc: Global,
+    node: &Node<K>,
+    kept: UnitTexts,
+    pointer: SharedLocation,
+) -> Result<UnitPlaces, OutOfMemory>
+    ensures { IfOk result (λ p. UnitStandsAt node.now pointer kept.path kept.schema p) }
+{
+    let absolute_keyword_location = absolute_location(alloc, node, kept.schema.as_str())?;
+    Ok(UnitPlaces {
+        evaluation_path: kept.path,
+        absolute_keyword_location,
+        schema_location: kept.schema,
+        instance_location: pointer,
+    })
+}
+
+// Where the unit of the node itself stands.
+fn node_places<K>(
+    alloc: Global,
+    node: &Node<K>,
+    question: &Question<'_, '_>,
+    context: &mut ValidationContext<'_>,
+) -> Result<UnitPlaces, OutOfMemory>
+    ensures places { IfOk result (λ p. UnitStandsAt node.now (pointer_here question.now) (path_here question.now) node.now.location p) }
+    ensures stays { context.new ≡ context.old }
+{
+    let kept = context.node_texts(alloc, question.path, &node.location)?;
+    let pointer = SharedLocation::new(alloc, question.place.pointer(alloc)?)?;
+    places_by(alloc, node, kept, pointer)
+}
+
+/// The unit of a node that accepts every instance: valid, with nothing in it.
+pub fn accepting_unit<K>(
+    alloc: Global,
+    node: &Node<K>,
+    question: &Question<'_, '_>,
+    context: &mut ValidationContext<'_>,
+) -> Result<EvaluationNode, OutOfMemory>
+    ensures unit { IfOk result (λ u. IsUnit (λ _. true_unit (at_work node.now question.now)) u) }
+    ensures stays { context.new ≡ context.old }
+{
+    let places = node_places(alloc, node, question, context)?;
+    Ok(places.unit(true, None, Vec::new(alloc), ChildList::new(alloc)))
+}
+
+/// The unit that stands for a child that a keyword got none of: valid, at empty locations. Fails only if memory cannot be allocated.
+pub fn unasked_unit(alloc: Global) -> Result<EvaluationNode, OutOfMemory>
+    ensures unit { IfOk result (λ u. IsUnit (λ _. no_unit) u) }
+{
+    let root = SharedLocation::root(alloc)?;
+    Ok(EvaluationNode {
+        report: UnitReport {
+            valid: true,
+            evaluation_path: root.clone()?,
+            absolute_keyword_location: None,
+            schema_location: root.clone()?,
+            instance_location: root,
+            annotations: None,
+            errors: Vec::new(alloc),
+        },
+        children: Vec::new(alloc),
+    })
+}
+
+/// The unit of a node that refuses every instance: invalid, with the error of the schema `false`.
+pub fn refusing_unit<K>(
+    alloc: Global,
+    node: &Node<K>,
+    question: &Question<'_, '_>,
+    context: &mut ValidationContext<'_>,
+) -> Result<EvaluationNode, OutOfMemory>
+    ensures unit { IfOk result (λ u. SaysFalse node.now question.now unit_of false_unit u) }
+    ensures stays { context.new ≡ context.old }
+{
+    let error = false_error(alloc, node, question)?;
+    let mut errors = Vec::new(alloc);
+    errors.push(ErrorDescription {
+        keyword: error.keyword,
+        text: error.text,
+    })?;
+    let places = node_places(alloc, node, question, context)?;
+    Ok(places.unit(false, None, errors, ChildList::new(alloc)))
+}
+
+/// The unit of a node with the units of its entries: valid exactly if each of them is, with the node's annotations. It stands where
+/// these texts and this pointer say.
+#[inline(always)]
+pub fn entries_unit<K>(
+    alloc: Global,
+    node: &Node<K>,
+    kept: UnitTexts,
+    pointer: SharedLocation,
+    children: ChildList,
+) -> Result<EvaluationNode, OutOfMemory>
+    ensures unit { IfOk result (λ u. (texts : Bool) (q : Asking) → kept.path ≡ q.path → kept.schema ≡ node.now.location
+        → pointer ≡ pointer_to q.place → unit_of texts u ≡ unit_around node.now q (map (unit_of texts) children)) }
+{
+    let places = places_by(alloc, node, kept, pointer)?;
+    let valid = children.all_valid();
+    let annotations = node.annotations.clone()?;
+    Ok(places.unit(valid, annotations, Vec::new(alloc), children))
+}
+
+// Where the unit of a keyword of this name stands.
+#[inline(always)]
+fn keyword_places<K>(
+    alloc: Global,
+    node: &Node<K>,
+    name: &str,
+    question: &Question<'_, '_>,
+    pointer: &SharedLocation,
+    context: &mut ValidationContext<'_>,
+) -> Result<UnitPlaces, OutOfMemory>
+    requires pointed { pointer.now ≡ pointer_here question.now }
+    ensures places { IfOk result (λ p. UnitStandsAt node.now (pointer_here question.now) (joined (path_here question.now) name.now)
+        (joined node.now.location name.now) p) }
+    ensures stays { context.new ≡ context.old }
+{
+    let kept = context.keyword_texts(alloc, question.path, name, &node.location)?;
+    places_by(alloc, node, kept, pointer.clone()?)
+}
+
+// The unit of a keyword of this name, which gives this.
+fn unit_of_keyword<K>(
+    alloc: Global,
+    node: &Node<K>,
+    name: &str,
+    question: &Question<'_, '_>,
+    pointer: &SharedLocation,
+    given: EvaluationResult,
+    context: &mut ValidationContext<'_>,
+) -> Result<EvaluationNode, OutOfMemory>
+    requires pointed { pointer.now ≡ pointer_here question.now }
+    ensures unit { IfOk result (λ u. IsUnit (λ texts. keyword_unit (at_work node.now question.now)
+        (named_gives name.now (gives_of texts given))) u) }
+    ensures stays { context.new ≡ context.old }
+{
+    let places = keyword_places(alloc, node, name, question, pointer, context)?;
+    match given {
+        EvaluationResult::Valid(annotations, children) => {
+            Ok(places.unit(true, annotations, Vec::new(alloc), children))
+        }
+        EvaluationResult::Invalid(errors, annotations, children) => {
+            Ok(places.unit(false, annotations, errors, children))
+        }
+    }
+}
+
+// The units of absorbed keywords, in their order.
+fn absorbed_units<K>(
+    alloc: Global,
+    node: &Node<K>,
+    question: &Question<'_, '_>,
+    pointer: &SharedLocation,
+    absorbed: Vec<AbsorbedResult>,
+    context: &mut ValidationContext<'_>,
+) -> Result<Vec<AbsorbedUnit>, OutOfMemory>
+    requires pointed { pointer.now ≡ pointer_here question.now }
+    ensures units { IfOk result (λ us. (texts : Bool) → map (absorbed_of texts) us.items
+        ≡ map (λ a. (a.name, keyword_unit (at_work node.now question.now) a)) (map (named_of texts) absorbed.items)) }
+    ensures stays { context.new ≡ context.old }
+{
+    let mut units = Vec::with_capacity(alloc, absorbed.len())?;
+    for one in absorbed {
+        let keyword = one.keyword;
+        let unit = unit_of_keyword(
+            alloc,
+            node,
+            keyword.as_str(),
+            question,
+            pointer,
+            one.result,
+            context,
+        )?;
+        units.push(AbsorbedUnit { keyword, unit })?;
+    }
+    Ok(units)
+}
+
+/// The units of a keyword by what it has found: its own, and those of the keywords that it absorbs.
+pub fn units_of_keyword<K>(
+    alloc: Global,
+    node: &Node<K>,
+    name: &KeywordName,
+    question: &Question<'_, '_>,
+    pointer: &SharedLocation,
+    answer: Answer<'_>,
+    context: &mut ValidationContext<'_>,
+) -> Result<EntryUnits, OutOfMemory>
+    requires pointed { pointer.now ≡ pointer_here question.now }
+    ensures units { IfOk result (λ units. (texts : Bool) → entry_units_of texts units
+        ≡ given_units (at_work node.now question.now) name.now (answer_of texts answer.entry).gives) }
+    ensures stays { context.new ≡ context.old }
+{
+    let Found { own, absorbed } = Box::into_inner(answer.into_evaluation(alloc)?);
+    let own = unit_of_keyword(alloc, node, name.as_str(), question, pointer, own, context)?;
+    let absorbed = absorbed_units(alloc, node, question, pointer, absorbed, context)?;
+    Ok(EntryUnits { own, absorbed })
+}
+
+/// The unit of a reference of this name: its target's, at the reference's own evaluation path. It absorbs none.
+pub fn units_of_reference(
+    alloc: Global,
+    name: &KeywordName,
+    question: &Question<'_, '_>,
+    unit: EvaluationNode,
+    context: &mut ValidationContext<'_>,
+) -> Result<EntryUnits, OutOfMemory>
+    ensures units { IfOk result (λ units. (texts : Bool) (x : Where) → x.path ≡ path_here question.now
+        → entry_units_of texts units ≡ reference_units x name.now (unit_of texts unit)) }
+    ensures stays { context.new ≡ context.old }
+{
+    let evaluation_path = context.keyword_path(alloc, question.path, name.as_str())?;
+    let EvaluationNode { report, children } = unit;
+    let own = EvaluationNode {
+        report: UnitReport {
+            evaluation_path,
+            ..report
+        },
+        children,
+    };
+    Ok(EntryUnits {
+        own,
+        absorbed: Vec::new(alloc),
+    })
+}

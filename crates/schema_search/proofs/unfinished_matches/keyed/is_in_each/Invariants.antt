@@ -1,6 +1,0 @@
-use Rattle.std.proofs.Common.{◌≡◌, drop}
-use Rattle.schema_search.specs.SharedResults.{in_each_of}
-use Rattle.schema_search.proofs.unfinished_matches.keyed.is_in_each.Given as goal
-
-abbrev pub invariant-loop-i : goal.invariant-loop-i
-invariant-loop-i l = in_each_of l.results l.error ≡ in_each_of (drop l.i l.results) l.error

@@ -1,5 +1,0 @@
-use Rattle.std.proofs.Common.{◌≡◌, map}
-use Rattle.schema_search.proofs.unfinished_matches.keyed.keyed.Given as goal
-
-abbrev pub invariant-loop-errors : goal.invariant-loop-errors
-invariant-loop-errors l = l.keyed.items ≡ map (λ r. r.items) l.yielded

@@ -1,7 +1,0 @@
-use Rattle.std.proofs.Common.{◌≡◌, drop, map}
-use Rattle.std.specs.List.{list_all}
-use Rattle.schema_search.specs.SharedResults.{is_empty}
-use Rattle.schema_search.proofs.unfinished_matches.shared.are_empty.Given as goal
-
-abbrev pub invariant-loop-i : goal.invariant-loop-i
-invariant-loop-i l = list_all is_empty (map (λ r. r.items) l.results) ≡ list_all is_empty (map (λ r. r.items) (drop l.i l.results))

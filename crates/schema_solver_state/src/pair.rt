@@ -1,0 +1,112 @@
+//! The pair of a question that is answered by what is found: the node that it asks, and the place, with the place's number.
+ghost use Rattle.std.specs.Prelude.{◌≡◌, IfOk, IfSome, None, OnErr, OnOk, length};
+ghost use Rattle.schema_traits.specs.Showing.{Shows, Yields};
+ghost use Rattle.schema_run_steps.specs.EvaluationPlaces.{steps_to};
+ghost use Rattle.schema_solver_state.specs.Contexts.{Solver};
+ghost use Rattle.schema_solver_state.specs.Answering.{IsApart, OnlyPairs};
+ghost use Rattle.schema_solver_state.specs.AtNumbers.{HasOwnNumbers};
+ghost use Rattle.schema_solver_state.specs.SolverPairs.{CarriesNumber, HasItsNumber, IsFree, IsIdle, IsInside, IsLast, IsUnknown, place_of};
+ghost use Rattle.schema_solver_state.specs.SolverPairs.{KeepsAnswer, PairBegins, PairIsFound, PairLeaves};
+
+use crate::context::SolverContext;
+use crate::said::Said;
+use schema_reports::location::OutOfMemory;
+use schema_run_steps::evaluation_place::EvaluationPlace;
+use schema_traits::numbers::SchemaNode;
+
+/// A node that is asked at a place, and the place's number.
+#[derive(Clone, Copy)]
+pub struct SolverPair<'q, 'i> {
+    node: SchemaNode,
+    place: &'q EvaluationPlace<'q, 'i>,
+    number: usize,
+}
+
+impl<'q, 'i> SolverPair<'q, 'i> {
+    /// Returns the pair. Fails only if memory cannot be allocated, to number the places of the context's instance, and then nothing
+    /// has changed.
+    pub fn new(
+        context: &mut SolverContext<'i>,
+        node: SchemaNode,
+        place: &'q EvaluationPlace<'q, 'i>,
+    ) -> Result<SolverPair<'q, 'i>, OutOfMemory>
+        requires carries { CarriesNumber context.old place.now }
+        requires stands { IsInside context.old place.now }
+        ensures node { IfOk result (λ p. p.node ≡ node) }
+        ensures place { Shows place_of result (steps_to place.now) }
+        ensures numbered { IfOk result (λ p. HasItsNumber p context.old) }
+        ensures own { OnOk result (HasOwnNumbers context.old) }
+        ensures unchanged { context.new ≡ context.old }
+    {
+        let places = context.places()?;
+        match place.number(places) {
+            Some(number) => Ok(SolverPair {
+                node,
+                place,
+                number,
+            }),
+            None => unreachable!(),
+        }
+    }
+
+    /// The place, which carries its number.
+    pub fn numbered_place(&self) -> EvaluationPlace<'q, 'i>
+        ensures same { steps_to result ≡ place_of self.now }
+        ensures carries { (context : Solver) → HasItsNumber self.now context → CarriesNumber context result }
+    {
+        self.place.numbered(self.number)
+    }
+
+    /// Returns what the pair is answered by what is found: its verdict where that is known, a yes that leans where it is in progress or
+    /// assumed, and nothing else. It allocates nothing.
+    pub fn state(&self, context: &SolverContext<'i>) -> Option<Said>
+        requires numbered { HasItsNumber self.now context.now }
+        ensures known { IfSome result (PairIsFound self.now context.now) }
+        ensures unknown { result ≡ None → IsUnknown self.now context.now }
+        ensures idle { result ≡ None → IsIdle self.now context.now }
+        ensures free { result ≡ None → IsFree self.now context.now }
+    {
+        context.state(self.node, self.number)
+    }
+
+    /// Records a pair that is not in progress, counts that it was begun, and returns the mark that goes to `keep_answer`: how many
+    /// pairs are assumed. On `Err` nothing has changed.
+    pub fn enter(&self, context: &mut SolverContext<'i>) -> Result<usize, OutOfMemory>
+        requires numbered { HasItsNumber self.now context.old }
+        requires is_new { IsIdle self.now context.old }
+        ensures mark { Yields result (length context.old.assumed) }
+        ensures begins { OnOk result (PairBegins self.now context.old context.new) }
+        ensures unchanged { OnErr result (context.new ≡ context.old) }
+    {
+        context.enter(self.node, self.number)
+    }
+
+    /// Removes the pair, which must be the last one entered. It allocates nothing.
+    pub fn exit(&self, context: &mut SolverContext<'i>)
+        requires numbered { HasItsNumber self.now context.old }
+        requires last { IsLast self.now context.old }
+        ensures left { PairLeaves self.now context.old context.new }
+        ensures frame { OnlyPairs context.old context.new }
+    {
+        context.exit(self.node, self.number);
+    }
+
+    /// Keeps what the node of the pair said, once the pair has been left, and returns what the pair is answered from then on; the mark is
+    /// what `enter` returned, and nothing that was assumed since may have been assumed before it too. A no is known for good, and what was
+    /// assumed since the mark is dropped. A yes is known for good, with all that was assumed since, where no other pair is in progress at
+    /// the place; else it alone is, where it leans on nothing, and is assumed where it leans. Fails only if memory cannot be allocated.
+    /// Then, of a no, nothing has changed; of a yes, what was assumed stays so, and some of what was to be known may be.
+    pub fn keep_answer(
+        &self,
+        context: &mut SolverContext<'i>,
+        mark: usize,
+        said: Said,
+    ) -> Result<Said, OutOfMemory>
+        requires numbered { HasItsNumber self.now context.old }
+        requires own { HasOwnNumbers context.old }
+        requires apart { IsApart mark context.old }
+        ensures { KeepsAnswer self.now mark said context.old context.new result }
+    {
+        context.keep_answer(self.node, self.number, mark, said)
+    }
+}

@@ -1,0 +1,248 @@
+//! The resolver, which answers what references and identifiers lead to.
+ghost use Rattle.std.specs.Prelude.{◌≡◌, ◌↔◌, ℕ, false, true, Some, Ok, IfOk, MatchResult};
+ghost use Rattle.std.specs.Prelude.{is_some, map, option_map, string_bytes};
+ghost use Rattle.serde_json.specs.Data.{object};
+ghost use Rattle.serde_json.specs.View.{members_view, view};
+ghost use Rattle.theory_definitions.specs.Drafts as schemas;
+ghost use Rattle.theory_definitions.specs.Resolving as spec;
+ghost use Rattle.schema_drafts.specs.KeywordViews.{draft_of};
+ghost use Rattle.schema_traits.specs.ResolverViews.{IsReadAt, place_of, entrance_of, found_of, RefusesValue, IsInside, SubschemasStandBelow};
+ghost use Rattle.schema_traits.specs.ResolverViews.{KeepsDraft, placed_in, placed_of};
+ghost use Rattle.schema_traits.specs.Showing.{Agrees, Shows, Yields};
+
+use crate::schema_place::{SchemaPath, SchemaPlace};
+use schema_drafts::keywords::{Draft, VocabularySet};
+use schema_reports::location::OutOfMemory;
+use serde_json::{Map, Value};
+use std::alloc::{AllocError, AllocFailed, Global};
+use std::hash::Hash;
+
+/// Where a reference leads: a place in a schema, the state to go on in, and the draft there.
+#[derive(Drop)]
+pub struct Target<S> {
+    pub place: SchemaPlace,
+    pub state: S,
+    pub draft: Draft,
+}
+
+/// A subschema's place, and the value that stands there.
+#[derive(Drop)]
+pub struct PlacedSchema<'v> {
+    pub place: SchemaPlace,
+    pub value: Option<&'v Value>,
+}
+
+/// A refusal with a text of the resolver's own, or memory that could not be allocated.
+#[derive(Drop)]
+pub enum LookupError {
+    Refused(String),
+    OutOfMemory,
+}
+
+impl From<AllocError> for LookupError {
+    ghost use Rattle.schema_traits.specs.declared.resolver.LookupError.TheVariants as lookup;
+
+    ghost from_gives = { λ _ e. e ≡ lookup.OutOfMemory };
+
+    fn from(_refused: AllocError) -> LookupError {
+        LookupError::OutOfMemory
+    }
+}
+
+impl<T: Drop> From<AllocFailed<T>> for LookupError {
+    ghost use Rattle.schema_traits.specs.declared.resolver.LookupError.TheVariants as lookup;
+
+    ghost from_gives = { λ _ e. e ≡ lookup.OutOfMemory };
+
+    fn from(_refused: AllocFailed<T>) -> LookupError {
+        LookupError::OutOfMemory
+    }
+}
+
+/// Everything that the engine asks about documents. Each answer is a function of the arguments; what a state is apart
+/// from its representation is its point, and equal states have one point.
+pub trait Resolver {
+    type State: Clone + Eq + Hash + Drop;
+
+    type Point;
+
+    ghost point: { Self.State → Self.Point };
+
+    ghost resolving: { Self → spec.Resolver Self.Point };
+
+    /// Whether there is a document under the URI, a fragment left aside.
+    fn contains_resource(&self, uri: &str) -> bool
+        ensures found { result ≡ is_some ((resolving self.now).root uri.now) };
+
+    /// The state and the place where that document begins.
+    fn root(
+        &self,
+        alloc: Global,
+        uri: &str,
+    ) -> Result<Option<(Self::State, SchemaPlace)>, OutOfMemory>
+        ensures root { Shows (option_map (entrance_of point)) result ((resolving self.now).root uri.now) };
+
+    /// The value at a place.
+    fn value(&self, place: &SchemaPlace) -> Option<&Value>
+        ensures value { IsReadAt (resolving self.now) place.now result };
+
+    /// The value at a place that lies at a path below a schema's own, where the schema is an object with these members. It is
+    /// asked for each subschema: a resolver that finds the value from the members gives its own body.
+    fn value_below<'v>(
+        &'v self,
+        _members: &'v Map<String, Value>,
+        _path: &SchemaPath,
+        place: &SchemaPlace,
+    ) -> Option<&'v Value>
+        ensures value { (outer : schemas.SchemaPlace) → place_of place.now ≡ schemas.at_path outer _path.now →
+            (resolving self.now).value outer ≡ Some (object (members_view _members.now.entries)) →
+            IsReadAt (resolving self.now) place.now result }
+    {
+        self.value(place)
+    }
+
+    /// Where a reference leads; `dynamic` says that it is a `$dynamicRef`.
+    fn lookup(
+        &self,
+        alloc: Global,
+        state: &Self::State,
+        reference: &str,
+        dynamic: bool,
+    ) -> Result<Target<Self::State>, LookupError>
+        ensures leads { Agrees (found_of point) result ((resolving self.now).lookup (point state.now) reference.now dynamic) };
+
+    /// Where a `$recursiveRef` leads.
+    fn lookup_recursive_ref(
+        &self,
+        alloc: Global,
+        state: &Self::State,
+    ) -> Result<Target<Self::State>, LookupError>
+        ensures leads { Agrees (found_of point) result ((resolving self.now).lookup_recursive (point state.now)) };
+
+    /// The state inside a subschema.
+    fn in_subresource(
+        &self,
+        alloc: Global,
+        state: &Self::State,
+        draft: Draft,
+        place: &SchemaPlace,
+    ) -> Result<Self::State, LookupError>
+        ensures inside { Agrees point result
+            ((resolving self.now).in_subresource (point state.now) (draft_of draft) (place_of place.now)) };
+
+    /// The state inside a subschema, whose value was read at its place. It is asked for each subschema: a resolver that finds
+    /// the state from the value gives its own body.
+    fn in_subresource_read(
+        &self,
+        alloc: Global,
+        state: &Self::State,
+        draft: Draft,
+        place: &SchemaPlace,
+        _value: Option<&Value>,
+    ) -> Result<Self::State, LookupError>
+        ensures inside { IsReadAt (resolving self.now) place.now _value.entry →
+            Agrees point result ((resolving self.now).in_subresource (point state.now) (draft_of draft) (place_of place.now)) }
+    {
+        self.in_subresource(alloc, state, draft, place)
+    }
+
+    /// The URI that a reference stands for. Its fragment tells where in its resource the target is looked for.
+    fn resolve_uri(
+        &self,
+        alloc: Global,
+        state: &Self::State,
+        reference: &str,
+    ) -> Result<String, LookupError>
+        ensures uri { Agrees string_bytes result ((resolving self.now).resolve_uri (point state.now) reference.now) };
+
+    /// The base URI.
+    fn base_uri<'s>(&self, state: &'s Self::State) -> &'s str
+        ensures uri { result.now ≡ (resolving self.now).base_uri (point state.now) };
+
+    /// Where the state's resource begins: the schema with the identifier that the state is read under, or the document's root.
+    /// Locations inside a reference's target count from there, where the target lies in it.
+    fn resource_root(&self, alloc: Global, state: &Self::State) -> Result<SchemaPlace, OutOfMemory>
+        ensures root { Shows place_of result ((resolving self.now).resource_root (point state.now)) };
+
+    /// The vocabularies that are in force at a place.
+    fn find_vocabularies(
+        &self,
+        alloc: Global,
+        state: &Self::State,
+        draft: Draft,
+        place: &SchemaPlace,
+    ) -> Result<VocabularySet, OutOfMemory>
+        ensures vocabularies { Yields result
+            ((resolving self.now).find_vocabularies (point state.now) (draft_of draft) (place_of place.now)) };
+
+    /// The draft of a value inside a schema of this draft.
+    fn detect(&self, draft: Draft, value: &Value) -> Draft
+        ensures draft { draft_of result ≡ (resolving self.now).detect (draft_of draft) (view value.now) };
+
+    /// Whether a subschema below the schema at a place, whose value was read there, may be read in another draft than this one. It is
+    /// asked before a schema is checked: a resolver that can tell that none is gives its own body, and spares a walk through them.
+    fn may_change_draft(&self, _draft: Draft, _place: &SchemaPlace, _value: Option<&Value>) -> bool
+        ensures keeps { IsReadAt (resolving self.now) _place.now _value.entry →
+            result ≡ false → (n : ℕ) → KeepsDraft (resolving self.now) n (draft_of _draft) (place_of _place.now) }
+    {
+        true
+    }
+
+    /// The draft that a root asks for. Where the root holds a fraction, a refusal may have any text.
+    fn draft_for(&self, alloc: Global, value: &Value) -> Result<Draft, LookupError>
+        ensures draft { MatchResult result (λ d. (resolving self.now).draft_for (view value.now) ≡ Ok (draft_of d))
+            (RefusesValue (view value.now) ((resolving self.now).draft_for (view value.now))) };
+
+    /// The identifier of a schema.
+    fn id<'v>(&self, draft: Draft, value: &'v Value) -> Option<&'v str>
+        ensures id { option_map (λ t. t.now) result ≡ (resolving self.now).id (draft_of draft) (view value.now) };
+
+    /// The subschemas of the schema at a place, in order.
+    fn subresources_of(
+        &self,
+        alloc: Global,
+        draft: Draft,
+        place: &SchemaPlace,
+    ) -> Result<Vec<SchemaPlace>, OutOfMemory>
+        ensures places { IfOk result (λ ps. map place_of ps.items
+            ≡ (resolving self.now).subresources_of (draft_of draft) (place_of place.now)) };
+
+    /// The subschemas of the schema at a place, whose value was read there, in order, each with the value at its place. It is
+    /// asked for each schema that is checked: a resolver that finds the subschemas in the value gives its own body.
+    fn subschemas_read<'v>(
+        &'v self,
+        alloc: Global,
+        draft: Draft,
+        place: &SchemaPlace,
+        _value: Option<&'v Value>,
+    ) -> Result<Vec<PlacedSchema<'v>>, OutOfMemory>
+        ensures subschemas { IsReadAt (resolving self.now) place.now _value.entry →
+            IfOk result (λ ps. map placed_of ps.items ≡ map (placed_in (resolving self.now))
+            ((resolving self.now).subresources_of (draft_of draft) (place_of place.now))) }
+    {
+        let places = self.subresources_of(alloc, draft, place)?;
+        let mut placed = Vec::new(alloc);
+        for below in places {
+            let value = self.value(&below);
+            placed.push(PlacedSchema {
+                place: below,
+                value,
+            })?;
+        }
+        Ok(placed)
+    }
+
+    /// Whether the draft knows a keyword of this name.
+    fn is_known_keyword(&self, draft: Draft, name: &str) -> bool
+        ensures known { result ≡ (resolving self.now).is_known_keyword (draft_of draft) name.now };
+
+    ghost same: { (r : Self) (a b : Self.Point) → ((resolving r).same_state a b ≡ true) ↔ (a ≡ b) };
+
+    ghost equal: { (s t : Self.State) → (Self.State.eq s t ≡ true) ↔ (point s ≡ point t) };
+
+    ghost cloned: { (s t : Self.State) → Self.State.is_clone s t → point t ≡ point s };
+
+    ghost inside: { (r : Self) → IsInside (resolving r) };
+
+    ghost below: { (r : Self) → SubschemasStandBelow (resolving r) };
+}

@@ -1,0 +1,11 @@
+pub mod TypeNames
+pub mod Counts
+pub mod BasicShape
+pub mod Words
+pub mod Laws
+pub mod Shapes
+pub mod UnitsAsked
+pub mod VerdictsAsked
+pub mod Grows
+pub mod Telling
+pub mod RunWays

@@ -1,0 +1,32 @@
+-- What a keyword tells of its own, by its shape. Where texts are spoken of, the instance holds no fraction.
+use Rattle.std.specs.Prelude.{Bool, List, codes, map, true}
+use Rattle.theory_definitions.specs.Instance.{Text}
+use Rattle.schema_reports.specs.InstanceViews.{subject_of}
+use Rattle.schema_reports.specs.ReportViews.{spoken}
+use Rattle.schema_reports.specs.declared.instance.Instance.{Instance}
+use Rattle.schema_traits.specs.declared.keyword.Answer.{Answer}
+use Rattle.schema_traits.specs.declared.keyword.Mode.{Mode}
+use Rattle.keyword_authoring.specs.AnswerWords.{Becomes, BecomesTold}
+use Rattle.keyword_authoring.specs.Ways.{at_first, noted, told_at_once, unless}
+use Rattle.keyword_authoring.specs.declared.run.Progress.{Progress}
+use Rattle.standard_basics.specs.BasicShape.{BasicShape}
+use Rattle.standard_basics.specs.Words.{missing, pattern_text, required_text, way}
+
+-- what the keyword tells at once is noted
+abbrev pub TellsOwn : BasicShape → Instance → Mode → Answer → Answer → Type 0
+TellsOwn m instance mode old new = BecomesTold true instance (λ texts s a. told_at_once (way texts m s) mode a) old new
+
+-- it is noted in the first turn of a run
+abbrev pub TellsFirst : BasicShape → Instance → Progress → Answer → Answer → Type 0
+TellsFirst m instance run old new =
+    BecomesTold true instance (λ texts s a. at_first run.stage (told_at_once (way texts m s) run.mode a) a) old new
+
+-- an error is noted for each of these names that the instance lacks, in order, whatever the instance holds
+abbrev pub TellsMissing : List Text → Instance → Mode → Answer → Answer → Type 0
+TellsMissing names instance mode old new =
+    Becomes old (λ texts a. noted mode (codes "required") a (map (λ k. spoken texts (required_text k)) (missing names (subject_of instance)))) new
+
+-- an error is noted where the pattern does not match
+abbrev pub TellsMatch : Bool → Text → Instance → Mode → Answer → Answer → Type 0
+TellsMatch matches pattern instance mode old new =
+    BecomesTold true instance (λ texts s a. noted mode (codes "pattern") a (unless matches (spoken texts (pattern_text pattern s)))) old new

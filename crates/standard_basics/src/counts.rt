@@ -1,0 +1,192 @@
+//! Keywords that count.
+ghost use Rattle.std.specs.Prelude.{◌≡◌, ◌==◌, decimal, length, option_map, if◌then◌else◌, IfOk};
+ghost use Rattle.std.specs.Str.{chars};
+ghost use Rattle.schema_reports.specs.InstanceViews.{subject_of};
+ghost use Rattle.standard_basics.specs.Counts.{allows, count_fits, count_name, count_of, count_text, count_words, many_counted};
+ghost use Rattle.standard_basics.specs.Counts.{member_count, one_counted, subject_members, subject_string};
+ghost use Rattle.standard_basics.specs.BasicShape.{has_count};
+ghost use Rattle.keyword_authoring.specs.TextWords.{Adds, ShowsText};
+ghost use Rattle.standard_basics.specs.Telling.{TellsOwn};
+ghost use Rattle.keyword_authoring.specs.Borrowing.{Retains};
+ghost use Rattle.schema_traits.specs.Readings.{fields};
+
+use keyword_authoring::answers::{note, refuse};
+use schema_reports::instance::Instance;
+use schema_reports::location::OutOfMemory;
+use schema_traits::keyword::{Answer, Mode};
+use serde_json::{Map, Value};
+use std::alloc::Global;
+
+/// A keyword that counts: characters of a text, or members of an object.
+#[derive(Clone, Copy)]
+pub enum CountKind {
+    MinLength,
+    MaxLength,
+    MinProperties,
+}
+
+impl CountKind {
+    /// The keyword's name.
+    pub fn name(self) -> &'static str
+        ensures name { result.now ≡ count_name self }
+    {
+        match self {
+            CountKind::MinLength => "minLength",
+            CountKind::MaxLength => "maxLength",
+            CountKind::MinProperties => "minProperties",
+        }
+    }
+
+    /// What stands before the limit in the error's text.
+    fn words(self) -> &'static str
+        ensures words { result.now ≡ count_words self }
+    {
+        match self {
+            CountKind::MinLength => " is shorter than ",
+            CountKind::MaxLength => " is longer than ",
+            CountKind::MinProperties => " has less than ",
+        }
+    }
+
+    /// What stands after the limit.
+    fn counted(self, limit: u64) -> &'static str
+        ensures counted { result.now ≡ (if limit == 1 then one_counted self else many_counted self) }
+    {
+        if limit == 1 {
+            match self {
+                CountKind::MinLength => " character",
+                CountKind::MaxLength => " character",
+                CountKind::MinProperties => " property",
+            }
+        } else {
+            match self {
+                CountKind::MinLength => " characters",
+                CountKind::MaxLength => " characters",
+                CountKind::MinProperties => " properties",
+            }
+        }
+    }
+
+    /// Whether so many are allowed.
+    fn allows(self, limit: u64, count: usize) -> bool
+        ensures allows { result ≡ allows self limit count }
+    {
+        match self {
+            CountKind::MinLength => limit <= count as u64,
+            CountKind::MaxLength => count as u64 <= limit,
+            CountKind::MinProperties => limit <= count as u64,
+        }
+    }
+
+    /// What is counted of an instance, where there is anything to count.
+    fn count_of(self, instance: Instance<'_>) -> Option<usize>
+        ensures count { result ≡ count_of self (subject_of instance.entry) }
+    {
+        match self {
+            CountKind::MinLength => text_length(instance),
+            CountKind::MaxLength => text_length(instance),
+            CountKind::MinProperties => members_count(instance),
+        }
+    }
+}
+
+/// How many characters a text has.
+fn length_of(text: &str) -> usize
+    ensures length { result ≡ length (chars text.now) }
+{
+    text.chars().count()
+}
+
+/// How many characters the instance has, where it is a text or a name.
+fn text_length(instance: Instance<'_>) -> Option<usize>
+    ensures length { result ≡ option_map (λ t. length (chars t)) (subject_string (subject_of instance.entry)) }
+{
+    match instance {
+        Instance::Name(name) => Some(length_of(name)),
+        Instance::Value(value) => match value.as_str() {
+            Some(text) => Some(length_of(text)),
+            None => None,
+        },
+    }
+}
+
+/// How many members the instance has, where it is an object.
+pub fn members_count(instance: Instance<'_>) -> Option<usize>
+    ensures count { result ≡ option_map member_count (subject_members (subject_of instance.entry)) }
+{
+    match instance {
+        Instance::Name(_) => None,
+        Instance::Value(value) => match value.as_object() {
+            Some(members) => Some(count_members(members)),
+            None => None,
+        },
+    }
+}
+
+/// How many members an object has.
+#[tactic(auto, using(crate::proofs::PropertyCounts::member_count_length))]
+fn count_members(members: &Map<String, Value>) -> usize
+    ensures count { result ≡ member_count (fields members.now) }
+{
+    members.len()
+}
+
+/// Whether the instance's count is allowed.
+pub fn count_fits(kind: CountKind, limit: u64, instance: Instance<'_>) -> bool
+    ensures fits { result ≡ count_fits kind limit (subject_of instance.entry) }
+{
+    match kind.count_of(instance) {
+        Some(count) => kind.allows(limit, count),
+        None => true,
+    }
+}
+
+/// The error's text.
+///
+/// # Errors
+///
+/// Memory cannot be allocated.
+pub fn count_text(
+    alloc: Global,
+    kind: CountKind,
+    limit: u64,
+    instance: Instance<'_>,
+) -> Result<String, OutOfMemory>
+    ensures text { IfOk result (ShowsText instance.entry (count_text kind limit)) }
+{
+    let mut text = instance.text(alloc)?;
+    text.push_str(kind.words())?;
+    push_decimal(&mut text, limit)?;
+    text.push_str(kind.counted(limit))?;
+    Ok(text)
+}
+
+/// Adds a number in decimal.
+pub fn push_decimal(text: &mut String, number: u64) -> Result<(), OutOfMemory>
+    ensures decimal { IfOk result (λ _. Adds (decimal number) text.old text.new) }
+{
+    write!(text, "{number}")
+}
+
+/// Notes an error where the count isn't allowed.
+pub fn tell_count<'i>(
+    alloc: Global,
+    kind: CountKind,
+    limit: u64,
+    mode: Mode,
+    instance: Instance<'i>,
+    answer: &mut Answer<'i>,
+) -> Result<(), OutOfMemory>
+    ensures told { IfOk result (λ _. TellsOwn (has_count kind limit) instance.entry mode answer.old answer.new) }
+    ensures borrows { Retains answer.old answer.new result }
+{
+    if count_fits(kind, limit, instance) {
+        return Ok(());
+    }
+    if mode == Mode::Verdict {
+        refuse(alloc, answer);
+        return Ok(());
+    }
+    let text = count_text(alloc, kind, limit, instance)?;
+    note(alloc, mode, kind.name(), text, answer)
+}

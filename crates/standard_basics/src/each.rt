@@ -1,0 +1,92 @@
+//! Keywords that ask about one number after the other: `prefixItems`, `items`.
+ghost use Rattle.std.specs.Prelude.{◌≡◌, ◌+◌, ◌-◌, ◌^◌, ◌<◌, min, option_map};
+ghost use Rattle.schema_reports.specs.InstanceViews.{subject_of};
+ghost use Rattle.schema_traits.specs.KeywordViews.{turn_of};
+ghost use Rattle.keyword_authoring.specs.Items.{child_at_item, first_at_item, item_count};
+ghost use Rattle.keyword_authoring.specs.Ways.{asked};
+ghost use Rattle.standard_basics.specs.BasicShape.{has_items, has_prefix_items};
+ghost use Rattle.keyword_authoring.specs.TurnWords.{StepsBy, TurnsBy};
+ghost use Rattle.standard_basics.specs.RunWays.{as_shape};
+ghost use Rattle.keyword_authoring.specs.Borrowing.{Borrows};
+
+use keyword_authoring::items::item_count;
+use keyword_authoring::passing::next_number;
+use keyword_authoring::run::Progress;
+use schema_reports::instance::Instance;
+use schema_reports::location::OutOfMemory;
+use schema_traits::keyword::{Answer, Below, Mode, Reply, Step};
+use std::alloc::Global;
+
+/// The question of a child at the item of its number.
+fn ask_child_at_item<'s>(number: Option<usize>, mode: Mode) -> Step<'s>
+    ensures step { turn_of result ≡ asked mode (option_map child_at_item number) }
+{
+    match number {
+        Some(child) => Step::Ask(child, Below::Item(child), mode),
+        None => Step::Done,
+    }
+}
+
+/// The question of the only child at an item.
+fn ask_first_at_item<'s>(number: Option<usize>, mode: Mode) -> Step<'s>
+    ensures step { turn_of result ≡ asked mode (option_map first_at_item number) }
+{
+    match number {
+        Some(item) => Step::Ask(0, Below::Item(item), mode),
+        None => Step::Done,
+    }
+}
+
+/// `prefixItems`: asks each child at the item of its number.
+pub fn turn_prefix_items<'s, 'i>(
+    alloc: Global,
+    children: usize,
+    run: &mut Progress,
+    instance: Instance<'i>,
+    reply: Reply<'i>,
+    answer: &mut Answer<'i>,
+) -> Result<Step<'s>, OutOfMemory>
+    ensures turns { TurnsBy (as_shape (has_prefix_items children)) instance.entry run.old answer.old reply.entry run.new answer.new result }
+    ensures steps { StepsBy (as_shape (has_prefix_items children)) instance.entry run.old answer.old reply.entry result }
+    ensures borrows { Borrows reply.entry answer.old answer.new result }
+{
+    let count = prefix_count(children, instance);
+    let mode = run.mode;
+    let number = next_number(alloc, 0, count, run, reply, answer)?;
+    Ok(ask_child_at_item(number, mode))
+}
+
+/// `items`: asks its child at each item after the first `before`.
+pub fn turn_items<'s, 'i>(
+    alloc: Global,
+    before: usize,
+    run: &mut Progress,
+    instance: Instance<'i>,
+    reply: Reply<'i>,
+    answer: &mut Answer<'i>,
+) -> Result<Step<'s>, OutOfMemory>
+    ensures turns { TurnsBy (as_shape (has_items before)) instance.entry run.old answer.old reply.entry run.new answer.new result }
+    ensures steps { StepsBy (as_shape (has_items before)) instance.entry run.old answer.old reply.entry result }
+    ensures borrows { Borrows reply.entry answer.old answer.new result }
+{
+    let count = items_after(before, instance);
+    let mode = run.mode;
+    let number = next_number(alloc, before, count, run, reply, answer)?;
+    Ok(ask_first_at_item(number, mode))
+}
+
+/// How many items come after the first `before`, if any.
+fn items_after(before: usize, instance: Instance<'_>) -> usize
+    ensures count { result ≡ item_count (subject_of instance.entry) - before }
+    ensures fits { before + result < 2 ^ 64 }
+{
+    let all = item_count(instance);
+    if before < all { all - before } else { 0 }
+}
+
+/// How many items there are for so many children.
+fn prefix_count(children: usize, instance: Instance<'_>) -> usize
+    ensures count { result ≡ min children (item_count (subject_of instance.entry)) }
+{
+    children.min(item_count(instance))
+}

@@ -1,0 +1,103 @@
+//! `properties`.
+ghost use Rattle.std.specs.Prelude.{◌≡◌, None, map, option_map, true};
+ghost use Rattle.std.specs.Rc.{rc_str_bytes};
+ghost use Rattle.keyword_authoring.specs.Somes.{some_from};
+ghost use Rattle.standard_basics.specs.BasicShape.{has_properties};
+ghost use Rattle.keyword_authoring.specs.SomeWords.{AsksSome, StandsAtSome};
+ghost use Rattle.keyword_authoring.specs.TurnWords.{StepsBy, TurnsBy};
+ghost use Rattle.standard_basics.specs.RunWays.{as_shape, at_members, member_asked};
+ghost use Rattle.keyword_authoring.specs.Borrowing.{Borrows};
+
+use keyword_authoring::members::has_member;
+use keyword_authoring::passing::onward;
+use keyword_authoring::run::{Progress, Stage};
+use schema_reports::instance::Instance;
+use schema_reports::location::OutOfMemory;
+use schema_traits::keyword::{Answer, Below, Reply, Step};
+use std::alloc::Global;
+use std::rc::RcStr;
+
+/// Asks each child whose name is a member of the instance there.
+#[inline(always)]
+pub fn turn_properties<'s, 'i>(
+    alloc: Global,
+    names: &'s [RcStr],
+    run: &mut Progress,
+    instance: Instance<'i>,
+    reply: Reply<'i>,
+    answer: &mut Answer<'i>,
+) -> Result<Step<'s>, OutOfMemory>
+    ensures turns { TurnsBy (as_shape (has_properties (map rc_str_bytes names.now))) instance.entry run.old answer.old reply.entry run.new
+        answer.new result }
+    ensures steps { StepsBy (as_shape (has_properties (map rc_str_bytes names.now))) instance.entry run.old answer.old reply.entry result }
+    ensures borrows { Borrows reply.entry answer.old answer.new result }
+{
+    let start = onward(alloc, names.len(), run, reply, answer)?;
+    Ok(ask_member(names, start, run, instance))
+}
+
+/// Whether no child is asked, where that shows at a glance: the instance has no members.
+pub fn asks_none(names: &[RcStr], instance: Instance<'_>) -> bool
+    ensures none { result ≡ true → some_from 0 (at_members (map rc_str_bytes names.now) instance.entry) ≡ None }
+{
+    !may_have_members(instance) && first_present(names, 0, instance).is_none()
+}
+
+/// Whether the instance may have members. What has none is an object of no members, or no object.
+fn may_have_members(instance: Instance<'_>) -> bool {
+    match instance {
+        Instance::Value(value) => match value.as_object() {
+            Some(members) => !members.is_empty(),
+            None => false,
+        },
+        Instance::Name(_) => false,
+    }
+}
+
+/// Asks at the first name from this number on that is a member of the instance, if there is one, and ends the run else.
+#[inline(always)]
+fn ask_member<'s>(
+    names: &'s [RcStr],
+    start: Option<usize>,
+    run: &mut Progress,
+    instance: Instance<'_>,
+) -> Step<'s>
+    ensures stage { StandsAtSome (at_members (map rc_str_bytes names.now) instance.entry) start run.old run.new }
+    ensures step { AsksSome (at_members (map rc_str_bytes names.now) instance.entry) start run.old.mode result }
+{
+    match start {
+        None => {
+            run.stage = Stage::Ended;
+            Step::Done
+        }
+        Some(start) => match first_present(names, start, instance) {
+            None => {
+                run.stage = Stage::Ended;
+                Step::Done
+            }
+            Some((child, name)) => {
+                run.stage = Stage::Asked(child);
+                Step::Ask(child, Below::Member(name), run.mode)
+            }
+        },
+    }
+}
+
+/// The first child from this number on whose name is a member of the instance, with its name.
+#[tactic(auto, using(keyword_authoring::proofs::NextQuestions::members_from_drop))]
+fn first_present<'s>(
+    names: &'s [RcStr],
+    start: usize,
+    instance: Instance<'_>,
+) -> Option<(usize, &'s str)>
+    ensures present { option_map (λ p. (p.0, member_asked p.0 p.1.now)) result
+        ≡ some_from start (at_members (map rc_str_bytes names.now) instance.entry) }
+{
+    for child in start..names.len() {
+        let name = names[child].as_str();
+        if has_member(instance, name) {
+            return Some((child, name));
+        }
+    }
+    None
+}

@@ -1,0 +1,64 @@
+//! `required`.
+ghost use Rattle.std.specs.Prelude.{◌≡◌, map, string_bytes, IfOk};
+ghost use Rattle.std.specs.List.{list_any};
+ghost use Rattle.schema_reports.specs.InstanceViews.{subject_of};
+ghost use Rattle.standard_basics.specs.Words.{required_text, lacks};
+ghost use Rattle.standard_basics.specs.Telling.{TellsMissing};
+ghost use Rattle.schema_traits.specs.Showing.{Shows};
+ghost use Rattle.keyword_authoring.specs.Borrowing.{Retains};
+
+use keyword_authoring::answers::{note, refuse};
+use keyword_authoring::members::{has_member, is_object};
+use schema_reports::instance::Instance;
+use schema_reports::location::OutOfMemory;
+use schema_traits::keyword::{Answer, Mode};
+use std::alloc::Global;
+
+/// Notes an error for each name that an object lacks, in order.
+pub fn tell_required<'i>(
+    alloc: Global,
+    names: &[String],
+    mode: Mode,
+    instance: Instance<'i>,
+    answer: &mut Answer<'i>,
+) -> Result<(), OutOfMemory>
+    ensures told { IfOk result (λ _. TellsMissing (map string_bytes names.now) instance.entry mode answer.old answer.new) }
+    ensures borrows { Retains answer.old answer.new result }
+{
+    if mode == Mode::Verdict {
+        if lacks_one(names, instance) {
+            refuse(alloc, answer);
+        }
+        return Ok(());
+    }
+    for name in names {
+        if is_missing(name, instance) {
+            let text = required_text(alloc, name.as_str())?;
+            note(alloc, mode, "required", text, answer)?;
+        }
+    }
+    Ok(())
+}
+
+/// Whether the instance is an object that lacks one of these members.
+pub fn lacks_one(names: &[String], instance: Instance<'_>) -> bool
+    ensures lacks { result ≡ list_any (λ k. lacks (string_bytes k) (subject_of instance.entry)) names.now }
+{
+    names.iter().any(|name| is_missing(name, instance))
+}
+
+/// Whether the instance is an object without this member.
+fn is_missing(name: &String, instance: Instance<'_>) -> bool
+    ensures missing { result ≡ lacks (string_bytes name.now) (subject_of instance.entry) }
+{
+    is_object(instance) && !has_member(instance, name.as_str())
+}
+
+/// The error's text.
+pub fn required_text(alloc: Global, name: &str) -> Result<String, OutOfMemory>
+    ensures text { Shows string_bytes result (required_text name.now) }
+{
+    let mut text = Instance::Name(name).text(alloc)?;
+    text.push_str(" is a required property")?;
+    Ok(text)
+}

@@ -1,0 +1,127 @@
+//! `type`.
+ghost use Rattle.std.specs.Prelude.{◌≡◌, ◌++◌, codes, IfOk};
+ghost use Rattle.std.specs.List.{list_any};
+ghost use Rattle.schema_reports.specs.InstanceViews.{subject_of};
+ghost use Rattle.standard_basics.specs.TypeNames.{fits, type_name};
+ghost use Rattle.standard_basics.specs.Words.{more_names, names_text, type_text, types_text};
+ghost use Rattle.standard_basics.specs.BasicShape.{has_type, has_types};
+ghost use Rattle.keyword_authoring.specs.TextWords.{Adds, ShowsText};
+ghost use Rattle.standard_basics.specs.Telling.{TellsOwn};
+ghost use Rattle.keyword_authoring.specs.Borrowing.{Retains};
+
+use crate::type_names::TypeName;
+use keyword_authoring::answers::{note, refuse};
+use schema_reports::instance::Instance;
+use schema_reports::location::OutOfMemory;
+use schema_traits::keyword::{Answer, Mode};
+use std::alloc::Global;
+
+/// Notes an error where the instance isn't of the type.
+pub fn tell_type<'i>(
+    alloc: Global,
+    name: TypeName,
+    mode: Mode,
+    instance: Instance<'i>,
+    answer: &mut Answer<'i>,
+) -> Result<(), OutOfMemory>
+    ensures told { IfOk result (λ _. TellsOwn (has_type name) instance.entry mode answer.old answer.new) }
+    ensures borrows { Retains answer.old answer.new result }
+{
+    if name.fits(instance) {
+        return Ok(());
+    }
+    if mode == Mode::Verdict {
+        refuse(alloc, answer);
+        return Ok(());
+    }
+    let text = type_text(alloc, name, instance)?;
+    note(alloc, mode, "type", text, answer)
+}
+
+/// The error's text for one name.
+pub fn type_text(
+    alloc: Global,
+    name: TypeName,
+    instance: Instance<'_>,
+) -> Result<String, OutOfMemory>
+    ensures text { IfOk result (ShowsText instance.entry (type_text name)) }
+{
+    let mut text = instance.text(alloc)?;
+    text.push_str(" is not of type \"")?;
+    text.push_str(name.as_str())?;
+    text.push_str("\"")?;
+    Ok(text)
+}
+
+/// Notes an error where the instance is of none of the types.
+pub fn tell_types<'i>(
+    alloc: Global,
+    names: &[TypeName],
+    mode: Mode,
+    instance: Instance<'i>,
+    answer: &mut Answer<'i>,
+) -> Result<(), OutOfMemory>
+    ensures told { IfOk result (λ _. TellsOwn (has_types names.now) instance.entry mode answer.old answer.new) }
+    ensures borrows { Retains answer.old answer.new result }
+{
+    if fits_one(names, instance) {
+        return Ok(());
+    }
+    if mode == Mode::Verdict {
+        refuse(alloc, answer);
+        return Ok(());
+    }
+    let text = types_text(alloc, names, instance)?;
+    note(alloc, mode, "type", text, answer)
+}
+
+/// Whether the instance is of one of the types.
+pub fn fits_one(names: &[TypeName], instance: Instance<'_>) -> bool
+    ensures fits { result ≡ list_any (λ t. fits t (subject_of instance.entry)) names.now }
+{
+    names.iter().any(|name| name.fits(instance))
+}
+
+/// The error's text for a list of names.
+pub fn types_text(
+    alloc: Global,
+    names: &[TypeName],
+    instance: Instance<'_>,
+) -> Result<String, OutOfMemory>
+    ensures text { IfOk result (ShowsText instance.entry (types_text names.now)) }
+{
+    let mut text = instance.text(alloc)?;
+    text.push_str(" is not of types ")?;
+    push_names(names, &mut text)?;
+    Ok(text)
+}
+
+/// Adds the names, each in quotes, with a comma between.
+fn push_names(names: &[TypeName], text: &mut String) -> Result<(), OutOfMemory>
+    ensures pushed { IfOk result (λ _. Adds (names_text names.now) text.old text.new) }
+{
+    if names.is_empty() {
+        return Ok(());
+    }
+    push_name("\"", names[0], text)?;
+    push_more(&names[1..], text)
+}
+
+/// Adds the names after the first.
+fn push_more(names: &[TypeName], text: &mut String) -> Result<(), OutOfMemory>
+    ensures pushed { IfOk result (λ _. Adds (more_names names.now) text.old text.new) }
+{
+    for name in names {
+        push_name(", \"", *name, text)?;
+    }
+    Ok(())
+}
+
+/// Adds what stands before a name, the name, and a quote.
+fn push_name(before: &str, name: TypeName, text: &mut String) -> Result<(), OutOfMemory>
+    ensures pushed { IfOk result (λ _. Adds (before.now ++ type_name name ++ codes "\"") text.old text.new) }
+{
+    text.push_str(before)?;
+    text.push_str(name.as_str())?;
+    text.push_str("\"")
+}

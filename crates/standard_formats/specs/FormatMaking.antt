@@ -1,0 +1,123 @@
+-- What `format` makes, draft by draft, and `contentEncoding` and `contentMediaType` in drafts 6 and 7. Of `format`: where formats are
+-- checked, a keyword for a name that the draft has; nothing for another name; a refusal of a value that is no text. Where they are not
+-- checked it makes nothing, whatever its value. A media type looks at the encoding beside it, and speaks for both. (JSON Schema Validation:
+-- draft 2020-12, sections 7.2 and 7.3; draft 7, sections 7.3, 8.3 and 8.4; draft 6, section 8.3; draft 4, section 7.3)
+use Rattle.std.specs.Prelude.{Bool, List, None, Option, Some, [], bytes_eq, codes, false, if◌then◌else◌, is_none, nat_le, true, ◌&&◌, ◌≡◌, ℕ}
+use Rattle.serde_json.specs.Data.{Data, Members}
+use Rattle.serde_json.specs.Find.{as_str, get_member}
+use Rattle.theory_definitions.specs.Drafts.{Draft, Vocabularies, draft_2019_09, draft_2020_12, draft_4, draft_6, draft_7, draft_unknown}
+use Rattle.theory_definitions.specs.Instance.{Text}
+use Rattle.theory_definitions.specs.Making.{Script}
+use Rattle.schema_traits.specs.MakerViews.{MakesRightly}
+use Rattle.keyword_makers.specs.ByObject.{MadeHere, by_object, makes_by_object, right_without_values}
+use Rattle.keyword_makers.specs.declared.by_object.ObjectKeyword.TheVariants as here
+use Rattle.keyword_makers.specs.declared.by_value.Children.TheVariants as children
+use Rattle.text_formats.specs.Formats.{named}
+use Rattle.text_formats.specs.declared.formats.Format.{Format}
+use Rattle.text_formats.specs.declared.formats.Format.TheVariants as format
+use Rattle.standard_formats.specs.declared.keyword.FormatKeyword.{FormatKeyword}
+use Rattle.standard_formats.specs.declared.keyword.FormatKeyword.TheVariants.{Base64, IdnHostname, Json, JsonInBase64, Of, Regex}
+
+-- the drafts in their order; one that is not known is as the last
+abbrev pub order : Draft → ℕ
+order draft_4 = 4
+order draft_6 = 6
+order draft_7 = 7
+order draft_2019_09 = 2019
+order draft_2020_12 = 2020
+order draft_unknown = 2020
+
+-- the first draft in which a format is checked
+abbrev pub since : Format → ℕ
+since format.Date = 4
+since format.DateTime = 4
+since format.Duration = 2019
+since format.Email = 4
+since format.Hostname = 4
+since format.IdnEmail = 7
+since format.Ipv4 = 4
+since format.Ipv6 = 4
+since format.Iri = 7
+since format.IriReference = 7
+since format.JsonPointer = 6
+since format.RelativeJsonPointer = 7
+since format.Time = 4
+since format.Uri = 4
+since format.UriReference = 6
+since format.UriTemplate = 6
+since format.Uuid = 2019
+
+abbrev pub known : Draft → Option Format → Option FormatKeyword
+known draft None = None
+known draft (Some f) = if nat_le (since f) (order draft) then Some (Of f) else None
+
+-- a name of a host that is internationalized is checked from draft 7 on
+abbrev pub idn_hostname_in : Draft → Option FormatKeyword
+idn_hostname_in draft = if nat_le 7 (order draft) then Some IdnHostname else None
+
+abbrev pub keyword_named : Draft → Text → Option FormatKeyword
+keyword_named draft t =
+    if bytes_eq t (codes "regex") then Some Regex
+    else if bytes_eq t (codes "idn-hostname") then idn_hostname_in draft
+    else known draft (named t)
+
+abbrev pub keyword_if : Option FormatKeyword → MadeHere FormatKeyword
+keyword_if None = here.Nothing
+keyword_if (Some k) = here.Keyword k children.Childless
+
+abbrev pub format_made : Draft → Option Text → MadeHere FormatKeyword
+format_made draft None = here.Malformed
+format_made draft (Some t) = keyword_if (keyword_named draft t)
+
+-- ---- contents
+
+-- the drafts in which they assert
+abbrev pub asserts_contents : Draft → Bool
+asserts_contents draft_4 = false
+asserts_contents draft_6 = true
+asserts_contents draft_7 = true
+asserts_contents draft_2019_09 = false
+asserts_contents draft_2020_12 = false
+asserts_contents draft_unknown = false
+
+-- JSON in the encoding beside it
+abbrev pub json_in : Option Text → MadeHere FormatKeyword
+json_in None = here.MalformedBeside (codes "contentEncoding")
+json_in (Some encoding) = if bytes_eq encoding (codes "base64") then here.Keyword JsonInBase64 children.Childless else here.Nothing
+
+abbrev pub json_beside : Option Data → MadeHere FormatKeyword
+json_beside None = here.Keyword Json children.Childless
+json_beside (Some d) = json_in (as_str d)
+
+abbrev pub media_type_made : Option Data → Option Text → MadeHere FormatKeyword
+media_type_made beside None = here.Malformed
+media_type_made beside (Some t) = if bytes_eq t (codes "application/json") then json_beside beside else here.Nothing
+
+abbrev pub encoding_made : Option Text → MadeHere FormatKeyword
+encoding_made None = here.Malformed
+encoding_made (Some t) = if bytes_eq t (codes "base64") then here.Keyword Base64 children.Childless else here.Nothing
+
+abbrev pub contents_made : Members → Text → Data → MadeHere FormatKeyword
+contents_made object name d =
+    if bytes_eq name (codes "contentMediaType") then media_type_made (get_member (codes "contentEncoding") object) (as_str d)
+    else if bytes_eq name (codes "contentEncoding") && is_none (get_member (codes "contentMediaType") object) then encoding_made (as_str d)
+    else here.Nothing
+
+-- ---- all of them
+
+abbrev pub made : Bool → Draft → Members → Text → Data → MadeHere FormatKeyword
+made formats draft object name d =
+    if formats && bytes_eq name (codes "format") then format_made draft (as_str d)
+    else if asserts_contents draft then contents_made object name d
+    else here.Nothing
+
+abbrev pub format_script : Bool → Text → Members → Draft → Vocabularies → Bool → Script FormatKeyword
+format_script own name object draft vocabularies formats = by_object (made formats) own name object draft vocabularies formats
+
+-- a keyword that absorbs nothing and holds no value is made rightly
+pub makes_rightly : (absorbed : FormatKeyword → List Text) (is_whole : FormatKeyword → Bool) → ((m : FormatKeyword) → [] ≡ absorbed m) → ((m : FormatKeyword) → is_whole m ≡ true)
+    → (own : Bool) (name : Text) (object : Members) (draft : Draft) (vocabularies : Vocabularies) (formats : Bool)
+    → MakesRightly absorbed is_whole object (format_script own name object draft vocabularies formats)
+makes_rightly absorbed is_whole none whole own name object draft vocabularies formats =
+    makes_by_object absorbed is_whole (made formats) (λ draft object name d found. right_without_values absorbed is_whole none whole object (made formats draft object name d))
+    own name object draft vocabularies formats

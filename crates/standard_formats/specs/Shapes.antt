@@ -1,0 +1,6 @@
+-- What is known of the keyword of the engine: the keyword.
+use Rattle.keyword_authoring.specs.declared.leaves.Telling.{Telling}
+use Rattle.standard_formats.specs.declared.keyword.FormatKeyword.{FormatKeyword}
+
+abbrev pub shape_of : Telling FormatKeyword → FormatKeyword
+shape_of k = k.keyword

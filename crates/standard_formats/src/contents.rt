@@ -1,0 +1,74 @@
+//! What `contentEncoding` and `contentMediaType` assert of a text.
+ghost use Rattle.std.specs.Prelude.{◌≡◌};
+ghost use Rattle.schema_traits.specs.Showing.{Yields};
+ghost use Rattle.standard_formats.specs.Contents as spec;
+
+use base64::DecodeAllocError;
+use base64::engine::general_purpose::STANDARD;
+use schema_reports::location::OutOfMemory;
+use serde_json::Value;
+use std::alloc::{AllocError, Global};
+
+/// Whether a text is base64.
+///
+/// # Errors
+///
+/// Fails only if memory cannot be allocated.
+pub fn is_base64(alloc: Global, text: &str) -> Result<bool, OutOfMemory>
+    ensures base64 { Yields result (spec.is_base64 text.now) }
+{
+    match STANDARD.decode(alloc, text.as_bytes()) {
+        Ok(_) => Ok(true),
+        Err(error) => match error {
+            DecodeAllocError::DecodeError(_) => Ok(false),
+            DecodeAllocError::OutOfMemory => Err(AllocError {}),
+        },
+    }
+}
+
+/// Whether a text is JSON.
+///
+/// # Errors
+///
+/// Fails only if memory cannot be allocated.
+pub fn is_json(alloc: Global, text: &str) -> Result<bool, OutOfMemory>
+    ensures json { Yields result (spec.is_json text.now) }
+{
+    match Value::from_str(alloc, text) {
+        Ok(_) => Ok(true),
+        Err(error) => {
+            if error.is_memory() {
+                Err(AllocError {})
+            } else {
+                Ok(false)
+            }
+        }
+    }
+}
+
+#[tactic(auto, using(crate::proofs::TextTests::told_text, crate::proofs::TextTests::told_other))]
+fn is_json_bytes(alloc: Global, bytes: &[u8]) -> Result<bool, OutOfMemory>
+    ensures json { Yields result (spec.is_json_bytes bytes.now) }
+{
+    match std::str::from_utf8(bytes) {
+        Ok(text) => is_json(alloc, text),
+        Err(_) => Ok(false),
+    }
+}
+
+/// Whether a text is JSON in base64.
+///
+/// # Errors
+///
+/// Fails only if memory cannot be allocated.
+pub fn is_json_in_base64(alloc: Global, text: &str) -> Result<bool, OutOfMemory>
+    ensures json { Yields result (spec.is_json_in_base64 text.now) }
+{
+    match STANDARD.decode(alloc, text.as_bytes()) {
+        Ok(bytes) => is_json_bytes(alloc, bytes.as_slice()),
+        Err(error) => match error {
+            DecodeAllocError::DecodeError(_) => Ok(false),
+            DecodeAllocError::OutOfMemory => Err(AllocError {}),
+        },
+    }
+}

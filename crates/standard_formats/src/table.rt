@@ -1,0 +1,294 @@
+//! The table that makes `format`, `contentEncoding` and `contentMediaType`.
+ghost use Rattle.std.specs.Prelude.{◌≡◌, codes};
+ghost use Rattle.serde_json.specs.Find.{as_str, get_member};
+ghost use Rattle.serde_json.specs.View.{view};
+ghost use Rattle.schema_drafts.specs.KeywordViews.{draft_of};
+ghost use Rattle.keyword_makers.specs.ByObject.{formed};
+ghost use Rattle.standard_formats.specs.FormatMaking.{asserts_contents, contents_made, encoding_made, format_made};
+ghost use Rattle.standard_formats.specs.FormatMaking.{idn_hostname_in, json_beside, json_in, keyword_if, keyword_named, known};
+ghost use Rattle.standard_formats.specs.FormatMaking.{media_type_made, order, since};
+ghost use Rattle.standard_formats.specs.Shapes.{shape_of};
+ghost use Rattle.schema_traits.specs.Readings.{fields, text_read};
+
+use crate::keyword::FormatKeyword;
+use keyword_authoring::leaves::Telling;
+use keyword_makers::by_object::{MakesByObject, ObjectKeyword, TableByObject};
+use keyword_makers::by_value::Children;
+use keyword_makers::maker::PathsMaker;
+use keyword_makers::paths::value_in;
+use schema_drafts::keywords::{Draft, VocabularySet};
+use schema_reports::location::OutOfMemory;
+use schema_traits::table::{KeywordOrigin, KeywordTable, MakerReply, MakerStep};
+use serde_json::{Map, Value};
+use std::alloc::Global;
+use text_formats::formats::Format;
+
+/// What a member of an object makes.
+type Made = ObjectKeyword<Telling<FormatKeyword>>;
+
+type Maker = PathsMaker<Telling<FormatKeyword>>;
+
+/// The drafts in their order; one that is not known is as the last.
+fn order(draft: Draft) -> u32
+    ensures order { result ≡ order (draft_of draft) }
+{
+    match draft {
+        Draft::Draft4 => 4,
+        Draft::Draft6 => 6,
+        Draft::Draft7 => 7,
+        Draft::Draft201909 => 2019,
+        Draft::Draft202012 => 2020,
+        Draft::Unknown => 2020,
+    }
+}
+
+/// The first draft in which a format is checked.
+fn since(format: Format) -> u32
+    ensures since { result ≡ since format }
+{
+    match format {
+        Format::Date => 4,
+        Format::DateTime => 4,
+        Format::Duration => 2019,
+        Format::Email => 4,
+        Format::Hostname => 4,
+        Format::IdnEmail => 7,
+        Format::Ipv4 => 4,
+        Format::Ipv6 => 4,
+        Format::Iri => 7,
+        Format::IriReference => 7,
+        Format::JsonPointer => 6,
+        Format::RelativeJsonPointer => 7,
+        Format::Time => 4,
+        Format::Uri => 4,
+        Format::UriReference => 6,
+        Format::UriTemplate => 6,
+        Format::Uuid => 2019,
+    }
+}
+
+fn known(draft: Draft, format: Option<Format>) -> Option<FormatKeyword>
+    ensures known { result ≡ known (draft_of draft) format }
+{
+    match format {
+        Some(format) if since(format) <= order(draft) => Some(FormatKeyword::Of(format)),
+        _ => None,
+    }
+}
+
+/// The keyword of `idn-hostname`, if the draft has it.
+fn idn_hostname_in(draft: Draft) -> Option<FormatKeyword>
+    ensures made { result ≡ idn_hostname_in (draft_of draft) }
+{
+    if 7 <= order(draft) {
+        Some(FormatKeyword::IdnHostname)
+    } else {
+        None
+    }
+}
+
+/// The keyword of a name, if the draft has it and it is checked.
+fn keyword_named(draft: Draft, name: &str) -> Option<FormatKeyword>
+    ensures named { result ≡ keyword_named (draft_of draft) name.now }
+{
+    if name == "regex" {
+        Some(FormatKeyword::Regex)
+    } else if name == "idn-hostname" {
+        idn_hostname_in(draft)
+    } else {
+        known(draft, Format::named(name))
+    }
+}
+
+/// A keyword without children, or nothing.
+fn keyword_if(made: Option<FormatKeyword>) -> Made
+    ensures made { formed shape_of result ≡ keyword_if made }
+{
+    match made {
+        Some(keyword) => ObjectKeyword::Keyword(Telling { keyword }, Children::Childless),
+        None => ObjectKeyword::Nothing,
+    }
+}
+
+/// `format`, where formats are checked.
+fn format_made(draft: Draft, value: &Value) -> Made
+    ensures made { formed shape_of result ≡ format_made (draft_of draft) (as_str (view value.now)) }
+{
+    match value.as_str() {
+        Some(name) => keyword_if(keyword_named(draft, name)),
+        None => ObjectKeyword::Malformed,
+    }
+}
+
+/// Whether `contentEncoding` and `contentMediaType` assert in a draft.
+fn asserts_contents(draft: Draft) -> bool
+    ensures asserts { result ≡ asserts_contents (draft_of draft) }
+{
+    match draft {
+        Draft::Draft6 => true,
+        Draft::Draft7 => true,
+        _ => false,
+    }
+}
+
+/// JSON in an encoding.
+fn json_in(encoding: Option<&str>) -> Made
+    ensures made { formed shape_of result ≡ json_in (text_read encoding.entry) }
+{
+    match encoding {
+        None => ObjectKeyword::MalformedBeside("contentEncoding"),
+        Some(encoding) => {
+            if encoding == "base64" {
+                keyword_if(Some(FormatKeyword::JsonInBase64))
+            } else {
+                ObjectKeyword::Nothing
+            }
+        }
+    }
+}
+
+/// JSON in the encoding beside it, if there is one.
+fn json_beside(object: &Map<String, Value>) -> Made
+    ensures made { formed shape_of result ≡ json_beside (get_member (codes "contentEncoding") (fields object.now)) }
+{
+    match value_in(object, "contentEncoding") {
+        None => keyword_if(Some(FormatKeyword::Json)),
+        Some(value) => json_in(value.as_str()),
+    }
+}
+
+/// `contentMediaType`.
+fn media_type_made(object: &Map<String, Value>, value: &Value) -> Made
+    ensures made { formed shape_of result ≡ media_type_made (get_member (codes "contentEncoding") (fields object.now)) (as_str
+        (view value.now)) }
+{
+    match value.as_str() {
+        None => ObjectKeyword::Malformed,
+        Some(name) => {
+            if name == "application/json" {
+                json_beside(object)
+            } else {
+                ObjectKeyword::Nothing
+            }
+        }
+    }
+}
+
+/// `contentEncoding`, with no media type beside it.
+fn encoding_made(value: &Value) -> Made
+    ensures made { formed shape_of result ≡ encoding_made (as_str (view value.now)) }
+{
+    match value.as_str() {
+        None => ObjectKeyword::Malformed,
+        Some(name) => {
+            if name == "base64" {
+                keyword_if(Some(FormatKeyword::Base64))
+            } else {
+                ObjectKeyword::Nothing
+            }
+        }
+    }
+}
+
+/// `contentMediaType` or `contentEncoding`, where they assert.
+fn contents_made(object: &Map<String, Value>, name: &str, value: &Value) -> Made
+    ensures made { formed shape_of result ≡ contents_made (fields object.now) name.now (view value.now) }
+{
+    if name == "contentMediaType" {
+        media_type_made(object, value)
+    } else if name == "contentEncoding" && value_in(object, "contentMediaType").is_none() {
+        encoding_made(value)
+    } else {
+        ObjectKeyword::Nothing
+    }
+}
+
+/// `format`, where formats are checked, and nothing where they are not; and the contents of drafts 6 and 7. No name is the table's own.
+#[derive(Drop)]
+pub struct FormatsIf {
+    pub checked: bool,
+}
+
+impl MakesByObject<Telling<FormatKeyword>> for FormatsIf {
+    ghost use Rattle.std.specs.Prelude.{false, refl};
+    ghost use Rattle.keyword_makers.specs.ByObject.{right_without_values};
+    ghost use Rattle.standard_formats.specs.FormatMaking.{made};
+
+    ghost owned = { λ t name. false };
+
+    ghost made = { λ t. made t.checked };
+
+    fn owns(&self, _name: &str) -> bool {
+        false
+    }
+
+    fn make(
+        &self,
+        _alloc: Global,
+        name: &str,
+        value: &Value,
+        object: &Map<String, Value>,
+        draft: Draft,
+    ) -> Result<Made, OutOfMemory> {
+        if self.checked && name == "format" {
+            Ok(format_made(draft, value))
+        } else if asserts_contents(draft) {
+            Ok(contents_made(object, name, value))
+        } else {
+            Ok(ObjectKeyword::Nothing)
+        }
+    }
+
+    ghost right = { λ t draft object name value found. right_without_values _ _ (λ k. refl) (λ k. refl) object
+        (made t.checked draft object name value) };
+}
+
+/// The table of `format`, `contentEncoding` and `contentMediaType`. It makes `format` where the compiler says that formats are checked,
+/// which is so up to draft 7, and later where a vocabulary or an option says so. No name is its own.
+#[derive(Drop)]
+pub struct FormatTable {}
+
+impl KeywordTable<Telling<FormatKeyword>> for FormatTable {
+    ghost use Rattle.std.specs.Prelude.{false, refl};
+    ghost use Rattle.keyword_makers.specs.MakerViews.{waiting_of};
+    ghost use Rattle.standard_formats.specs.FormatMaking.{format_script, makes_rightly};
+
+    type Maker = Maker;
+
+    ghost owned = { λ _ name. false };
+
+    ghost script = { λ _. format_script };
+
+    ghost waiting = { waiting_of shape_of };
+
+    fn owns(&self, _name: &str) -> bool {
+        false
+    }
+
+    fn begin(
+        &self,
+        alloc: Global,
+        origin: KeywordOrigin<'_>,
+        object: &Map<String, Value>,
+        draft: Draft,
+        vocabularies: &VocabularySet,
+        formats: bool,
+    ) -> Result<Maker, OutOfMemory> {
+        let table = TableByObject {
+            keywords: FormatsIf { checked: formats },
+        };
+        let maker = table.begin(alloc, origin, object, draft, vocabularies, formats)?;
+        Ok(maker)
+    }
+
+    fn turn(
+        &self,
+        alloc: Global,
+        maker: &mut Maker,
+        reply: MakerReply,
+    ) -> Result<MakerStep<Telling<FormatKeyword>>, OutOfMemory> {
+        maker.turn(alloc, reply)
+    }
+
+    ghost right = { λ _. makes_rightly _ _ (λ k. refl) (λ k. refl) };
+}

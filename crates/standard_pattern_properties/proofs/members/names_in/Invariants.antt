@@ -1,0 +1,7 @@
+use Rattle.std.proofs.Common.{◌≡◌, ◌++◌}
+use Rattle.serde_json.specs.View.{members_view}
+use Rattle.keyword_authoring.specs.Members.{names_in}
+use Rattle.standard_pattern_properties.proofs.members.names_in.Given as goal
+
+abbrev pub invariant-loop-name : goal.invariant-loop-name
+invariant-loop-name l = l.names ++ names_in (members_view l.name-iterator) ≡ names_in (members_view l.members.entries)

@@ -1,0 +1,511 @@
+//! `patternProperties` and `additionalProperties`.
+ghost use Rattle.std.specs.Prelude.{◌≡◌, ◌∷◌, [], ◌+◌, ◌^◌, ◌<◌, IfOk, IfSome, None, Some, if◌then◌else◌};
+ghost use Rattle.std.specs.Prelude.{is_some, map, string_bytes};
+ghost use Rattle.serde_json.specs.Find.{get_member};
+ghost use Rattle.schema_reports.specs.InstanceViews.{subject_of};
+ghost use Rattle.schema_traits.specs.KeywordViews.{turn_of};
+ghost use Rattle.keyword_authoring.specs.Members.{has_member};
+ghost use Rattle.standard_pattern_properties.specs.Gates.{opens};
+ghost use Rattle.standard_pattern_properties.specs.GatedKeywords.{form_of, gates_from, gates_of, name_here, names_of, other_gate};
+ghost use Rattle.standard_pattern_properties.specs.GateMoves.{answer_by, run_after, told_in, turn_by};
+ghost use Rattle.keyword_authoring.specs.AnswerWords.{Becomes};
+ghost use Rattle.standard_pattern_properties.specs.MoveWords.{Enters, IsGate, Looks, Moves, SeekAlike, Seeks, SeeksHere, Settles};
+ghost use Rattle.standard_pattern_properties.specs.MoveWords.{TakesMatch, Tests, moved_in};
+ghost use Rattle.schema_traits.specs.Showing.{Yields, Shows};
+ghost use Rattle.keyword_authoring.specs.Borrowing.{Retains};
+ghost use Rattle.schema_traits.specs.Readings.{fields, text_read};
+
+use crate::gates::{Condition, Gate, GateRun, GateStage, Move, opens, take_asked};
+use crate::listed::Listed;
+use crate::members::{all_names, has_none, lists_each, unlisted_names};
+use crate::names::{NamesLeft, Texts};
+use crate::telling::unexpected_text;
+use keyword_authoring::answers::{goes_on, note, refuse, says_yes};
+use keyword_authoring::matching::ask_match;
+use schema_reports::instance::Instance;
+use schema_reports::location::OutOfMemory;
+use schema_traits::keyword::{Answer, Below, Mode, Reply, Step, Validate};
+use serde_json::{Map, Value};
+use std::alloc::Global;
+
+/// What stands beside `additionalProperties`: the names that `properties` lists, and the patterns of `patternProperties`.
+#[derive(Drop)]
+pub struct Neighbours {
+    pub listed: Listed,
+    pub patterns: Texts,
+}
+
+/// A keyword whose questions stand behind matches of members' names.
+#[derive(Drop)]
+pub enum GatedKeyword {
+    /// The child of each of these patterns, at each member whose name it matches.
+    PatternProperties(Texts),
+    /// The only child, at each member whose name is not listed and which no pattern matches.
+    AdditionalProperties(Neighbours),
+    /// There is to be no such member. Nothing is asked.
+    NoAdditionalProperties(Neighbours),
+}
+
+/// The gate of the pattern of a number.
+fn pattern_gate(patterns: &[String], number: usize) -> Option<Gate<'_>>
+    ensures gate { IsGate (gates_from 0 (map string_bytes patterns.now)) number result }
+    ensures inside { IfSome result (λ _. number + 1 < 2 ^ 64) }
+{
+    if number < patterns.len() {
+        Some(Gate {
+            condition: Condition::OneMatches,
+            patterns: &patterns[number..number + 1],
+            child: number,
+        })
+    } else {
+        None
+    }
+}
+
+/// The only gate.
+fn only_gate(patterns: &[String], number: usize) -> Option<Gate<'_>>
+    ensures gate { IsGate (other_gate (map string_bytes patterns.now) ∷ []) number result }
+    ensures inside { IfSome result (λ _. number + 1 < 2 ^ 64) }
+{
+    if number == 0 {
+        Some(Gate {
+            condition: Condition::NoneMatches,
+            patterns,
+            child: 0,
+        })
+    } else {
+        None
+    }
+}
+
+/// The name of an object's member that has this name, as the object holds it.
+fn name_among<'i>(members: &'i Map<String, Value>, name: &str) -> Option<&'i str>
+    ensures name { text_read result ≡ (if is_some (get_member name.now (fields members.now)) then Some name.now else None) }
+{
+    match members.get_key_value(name) {
+        Some((key, _)) => Some(key.as_str()),
+        None => None,
+    }
+}
+
+/// The name of the instance's member that has this name, as the instance holds it.
+fn name_in<'i>(instance: Instance<'i>, name: &str) -> Option<&'i str>
+    ensures name { text_read result ≡ (if has_member name.now (subject_of instance.entry) then Some name.now else None) }
+{
+    match instance {
+        Instance::Name(_) => None,
+        Instance::Value(value) => match value.as_object() {
+            Some(members) => name_among(members, name),
+            None => None,
+        },
+    }
+}
+
+/// The name of the first member that is left, as the instance holds it.
+fn name_here<'i>(run: &GateRun, instance: Instance<'i>) -> Option<&'i str>
+    ensures name { text_read result ≡ name_here (subject_of instance.entry) run.now.names }
+{
+    match run.names.first() {
+        Some(next) => name_in(instance, next),
+        None => None,
+    }
+}
+
+impl GatedKeyword {
+    /// The gate of a number.
+    fn gate(&self, number: usize) -> Option<Gate<'_>>
+        ensures gate { IsGate (gates_of self.now) number result }
+        ensures inside { IfSome result (λ _. number + 1 < 2 ^ 64) }
+    {
+        match self {
+            GatedKeyword::PatternProperties(patterns) => pattern_gate(patterns.as_slice(), number),
+            GatedKeyword::AdditionalProperties(beside) => {
+                only_gate(beside.patterns.as_slice(), number)
+            }
+            GatedKeyword::NoAdditionalProperties(beside) => {
+                only_gate(beside.patterns.as_slice(), number)
+            }
+        }
+    }
+
+    /// Goes through a gate that is open: asks its child, or notes the name. Nothing is asked for where the run goes on to the next gate.
+    fn enter<'s>(
+        &self,
+        alloc: Global,
+        run: &mut GateRun,
+        name: &'s str,
+        number: usize,
+        gate: Gate<'s>,
+    ) -> Result<Option<Move<'s>>, OutOfMemory>
+        ensures enters { IfOk result (λ made. Enters self.now run.old run.new name.now number gate.entry made) }
+        ensures names { IfOk result (λ _. run.new.names ≡ run.old.names) }
+        ensures mode { IfOk result (λ _. run.new.mode ≡ run.old.mode) }
+    {
+        match self {
+            GatedKeyword::NoAdditionalProperties(_) => {
+                run.left.push(alloc, name)?;
+                if run.mode == Mode::Verdict {
+                    Ok(Some(Move::Halts))
+                } else {
+                    Ok(None)
+                }
+            }
+            _ => Ok(Some(Move::Asks(number, gate.child, name))),
+        }
+    }
+
+    /// Goes through a gate where it is open, one of whose patterns matches or none does.
+    fn settle<'s>(
+        &self,
+        alloc: Global,
+        run: &mut GateRun,
+        name: &'s str,
+        number: usize,
+        gate: Gate<'s>,
+        matched: bool,
+    ) -> Result<Option<Move<'s>>, OutOfMemory>
+        ensures settles { IfOk result (λ made. Settles self.now run.old run.new name.now number (opens gate.entry.condition matched)
+            gate.entry made) }
+        ensures names { IfOk result (λ _. run.new.names ≡ run.old.names) }
+        ensures mode { IfOk result (λ _. run.new.mode ≡ run.old.mode) }
+    {
+        if opens(gate.condition, matched) {
+            self.enter(alloc, run, name, number, gate)
+        } else {
+            Ok(None)
+        }
+    }
+
+    /// Asks for the match of a pattern of a gate, or settles the gate where it has no such pattern.
+    fn look<'s>(
+        &self,
+        alloc: Global,
+        run: &mut GateRun,
+        name: &'s str,
+        number: usize,
+        gate: Gate<'s>,
+        place: usize,
+    ) -> Result<Option<Move<'s>>, OutOfMemory>
+        ensures looks { IfOk result (λ made. Looks self.now run.old run.new name.now number place gate.entry made) }
+        ensures names { IfOk result (λ _. run.new.names ≡ run.old.names) }
+        ensures mode { IfOk result (λ _. run.new.mode ≡ run.old.mode) }
+    {
+        if place < gate.patterns.len() {
+            let pattern = gate.patterns[place].as_str();
+            return Ok(Some(Move::Tests(number, place, pattern, name)));
+        }
+        self.settle(alloc, run, name, number, gate, false)
+    }
+
+    /// Looks at the gates from a number on, at a member that the instance has.
+    fn seek_here<'s>(
+        &'s self,
+        alloc: Global,
+        run: &mut GateRun,
+        name: &'s str,
+        from: usize,
+    ) -> Result<Option<Move<'s>>, OutOfMemory>
+        ensures seeks { IfOk result (λ made. SeeksHere self.now run.old run.new name.now from made) }
+        ensures names { IfOk result (λ _. run.new.names ≡ run.old.names) }
+        ensures mode { IfOk result (λ _. run.new.mode ≡ run.old.mode) }
+    {
+        let mut number = from;
+        while let Some(gate) = self.gate(number) {
+            if let Some(made) = self.look(alloc, run, name, number, gate, 0)? {
+                return Ok(Some(made));
+            }
+            number += 1;
+        }
+        Ok(None)
+    }
+
+    /// Looks at the members that are left: at the first one from the gate of a number on, and at the others from the first gate on.
+    fn seek<'s, 'i: 's>(
+        &'s self,
+        alloc: Global,
+        run: &mut GateRun,
+        instance: Instance<'i>,
+        from: usize,
+    ) -> Result<Move<'s>, OutOfMemory>
+        ensures seeks { IfOk result (λ made. Seeks self.now instance.entry run.old run.new from made) }
+        ensures mode { IfOk result (λ _. run.new.mode ≡ run.old.mode) }
+    {
+        let mut number = from;
+        while let Some(next) = run.names.first() {
+            if let Some(name) = name_in(instance, next) {
+                if let Some(made) = self.seek_here(alloc, run, name, number)? {
+                    return Ok(made);
+                }
+            }
+            run.names.advance();
+            number = 0;
+        }
+        Ok(Move::Halts)
+    }
+
+    /// Looks at the members that are left, from the gate of a number on at the first one. Where no gate is left there, that member is
+    /// not looked up once more.
+    fn go_on<'s, 'i: 's>(
+        &'s self,
+        alloc: Global,
+        run: &mut GateRun,
+        instance: Instance<'i>,
+        number: usize,
+    ) -> Result<Move<'s>, OutOfMemory>
+        ensures seeks { IfOk result (λ made. Seeks self.now instance.entry run.old run.new number made) }
+        ensures mode { IfOk result (λ _. run.new.mode ≡ run.old.mode) }
+    {
+        match self.gate(number) {
+            Some(_) => self.seek(alloc, run, instance, number),
+            None => {
+                run.names.advance();
+                self.seek(alloc, run, instance, 0)
+            }
+        }
+    }
+
+    /// Goes on after a match of a pattern of a gate: settles the gate where the pattern matches, and looks at its next pattern where it
+    /// does not.
+    fn take_match<'s>(
+        &self,
+        alloc: Global,
+        run: &mut GateRun,
+        name: &'s str,
+        number: usize,
+        gate: Gate<'s>,
+        place: usize,
+        won: bool,
+    ) -> Result<Option<Move<'s>>, OutOfMemory>
+        ensures takes { IfOk result (λ made. TakesMatch self.now run.old run.new name.now number place won gate.entry made) }
+        ensures names { IfOk result (λ _. run.new.names ≡ run.old.names) }
+        ensures mode { IfOk result (λ _. run.new.mode ≡ run.old.mode) }
+    {
+        if won {
+            return self.settle(alloc, run, name, number, gate, true);
+        }
+        if place < gate.patterns.len() {
+            return self.look(alloc, run, name, number, gate, place + 1);
+        }
+        self.settle(alloc, run, name, number, gate, false)
+    }
+
+    /// Goes on after a match.
+    fn after_match<'s, 'i: 's>(
+        &'s self,
+        alloc: Global,
+        run: &mut GateRun,
+        instance: Instance<'i>,
+        number: usize,
+        place: usize,
+        won: bool,
+    ) -> Result<Move<'s>, OutOfMemory>
+        ensures tested { IfOk result (λ made. Tests self.now instance.entry run.old run.new number place won made) }
+        ensures mode { IfOk result (λ _. run.new.mode ≡ run.old.mode) }
+    {
+        match (name_here(run, instance), self.gate(number)) {
+            (Some(name), Some(gate)) => {
+                match self.take_match(alloc, run, name, number, gate, place, won)? {
+                    Some(made) => Ok(made),
+                    None => self.go_on(alloc, run, instance, number + 1),
+                }
+            }
+            _ => self.seek(alloc, run, instance, number),
+        }
+    }
+
+    /// The number of the gate after this one, where there is this one.
+    fn next_gate(&self, number: usize) -> usize
+        ensures next { SeekAlike self.now result (number + 1) }
+    {
+        match self.gate(number) {
+            Some(_) => number + 1,
+            None => number,
+        }
+    }
+
+    /// What a turn does.
+    fn move_by<'s, 'i: 's>(
+        &'s self,
+        alloc: Global,
+        run: &mut GateRun,
+        instance: Instance<'i>,
+        won: bool,
+        onward: bool,
+    ) -> Result<Move<'s>, OutOfMemory>
+        ensures moves { IfOk result (λ made. Moves self.now instance.entry run.old run.new won onward made) }
+        ensures mode { IfOk result (λ _. run.new.mode ≡ run.old.mode) }
+    {
+        match run.stage {
+            GateStage::Begun => self.seek(alloc, run, instance, 0),
+            GateStage::Tested(number, place) => {
+                self.after_match(alloc, run, instance, number, place, won)
+            }
+            GateStage::Asked(number) => {
+                if onward {
+                    self.go_on(alloc, run, instance, self.next_gate(number))
+                } else {
+                    Ok(Move::Halts)
+                }
+            }
+            GateStage::Ended => Ok(Move::Halts),
+        }
+    }
+
+    /// Tells the keyword's error, if it tells one, where there are names to tell of. Where a verdict alone is wanted, no text is made.
+    fn tell<'i>(
+        &self,
+        alloc: Global,
+        mode: Mode,
+        names: &[String],
+        answer: &mut Answer<'i>,
+    ) -> Result<(), OutOfMemory>
+        ensures told { IfOk result (λ _. Becomes answer.old (λ texts a. told_in texts (form_of self.now) mode a
+            (map string_bytes names.now)) answer.new) }
+        ensures borrows { Retains answer.old answer.new result }
+    {
+        match self {
+            GatedKeyword::NoAdditionalProperties(_) => {
+                if names.is_empty() {
+                    return Ok(());
+                }
+                if mode == Mode::Verdict {
+                    refuse(alloc, answer);
+                    return Ok(());
+                }
+                let text = unexpected_text(alloc, names)?;
+                note(alloc, mode, "additionalProperties", text, answer)
+            }
+            _ => Ok(()),
+        }
+    }
+
+    /// Does what a turn does: moves the run on, and at its end tells the keyword's error.
+    fn make<'s, 'i>(
+        &self,
+        alloc: Global,
+        run: &mut GateRun,
+        made: Move<'s>,
+        answer: &mut Answer<'i>,
+    ) -> Result<Step<'s>, OutOfMemory>
+        ensures answered { IfOk result (λ _. Becomes answer.old (λ texts a. answer_by texts (form_of self.now) run.old.mode a
+            (moved_in run.old made.entry)) answer.new) }
+        ensures run { IfOk result (λ _. run.new ≡ run_after run.old.mode (moved_in run.old made.entry)) }
+        ensures step { Shows turn_of result (turn_by run.old.mode (moved_in run.old made.entry)) }
+        ensures borrows { Retains answer.old answer.new result }
+    {
+        match made {
+            Move::Halts => {
+                self.tell(alloc, run.mode, run.left.as_slice(), answer)?;
+                run.end(alloc);
+                Ok(Step::Done)
+            }
+            Move::Tests(number, place, pattern, name) => {
+                run.stage = GateStage::Tested(number, place);
+                Ok(ask_match(pattern, name, run.mode))
+            }
+            Move::Asks(number, child, name) => {
+                run.stage = GateStage::Asked(number);
+                Ok(Step::Ask(child, Below::Member(name), run.mode))
+            }
+        }
+    }
+
+    /// The names of the members that it looks at, in order.
+    fn names(&self, alloc: Global, instance: Instance<'_>) -> Result<NamesLeft, OutOfMemory>
+        ensures names { Yields result (names_of self.now (subject_of instance.entry)) }
+    {
+        match self {
+            GatedKeyword::PatternProperties(_) => all_names(alloc, instance),
+            GatedKeyword::AdditionalProperties(beside) => {
+                unlisted_names(alloc, &beside.listed, instance)
+            }
+            GatedKeyword::NoAdditionalProperties(beside) => {
+                unlisted_names(alloc, &beside.listed, instance)
+            }
+        }
+    }
+}
+
+impl Validate for GatedKeyword {
+    ghost use Rattle.std.specs.Prelude.{refl, true};
+    ghost use Rattle.standard_pattern_properties.specs.GateLaws.{gated_absorbed, gated_can_be, gated_ends, gated_fits, gated_functions, gated_grows};
+    ghost use Rattle.standard_pattern_properties.specs.GateLaws.{gated_hands_on, gated_left, gated_turns, gated_units, gated_verdicts, gated_words};
+
+    type Run = GateRun;
+
+    type Shape = GatedKeyword;
+
+    ghost words = { gated_words gates_of form_of names_of };
+
+    ghost shape = { λ k. k };
+
+    ghost absorbed = { gated_absorbed gates_of form_of names_of };
+
+    ghost is_whole = { λ k. true };
+
+    ghost says_monotone = { λ k. true };
+
+    ghost remaining = { gated_left gates_of form_of names_of };
+
+    ghost can_be = { gated_can_be gates_of form_of names_of };
+
+    ghost ends = { gated_ends gates_of form_of names_of };
+
+    ghost fits = { gated_fits gates_of form_of names_of };
+
+    fn begin(&self, alloc: Global, instance: Instance, mode: Mode) -> Result<GateRun, OutOfMemory> {
+        let names = self.names(alloc, instance)?;
+        Ok(GateRun::begin(alloc, mode, names))
+    }
+
+    fn turn<'s, 'i: 's>(
+        &'s self,
+        alloc: Global,
+        run: &mut GateRun,
+        instance: Instance<'i>,
+        reply: Reply<'i>,
+        answer: &mut Answer<'i>,
+    ) -> Result<Step<'s>, OutOfMemory> {
+        let won = says_yes(&reply);
+        let onward = goes_on(&reply);
+        take_asked(alloc, run.stage, reply, answer)?;
+        let made = self.move_by(alloc, run, instance, won, onward)?;
+        self.make(alloc, run, made, answer)
+    }
+
+    fn is_valid_at_once(&self, instance: Instance<'_>) -> Option<bool> {
+        if has_none(instance) {
+            return Some(true);
+        }
+        match self {
+            GatedKeyword::NoAdditionalProperties(beside) => {
+                if beside.patterns.is_empty() {
+                    Some(lists_each(&beside.listed, instance))
+                } else {
+                    None
+                }
+            }
+            _ => None,
+        }
+    }
+
+    fn monotone(&self) -> bool {
+        true
+    }
+
+    ghost speaks = { λ texts. refl };
+
+    ghost answers = { λ texts run a. refl };
+
+    ghost turn_laws = { gated_turns gates_of form_of names_of };
+
+    ghost function_laws = { gated_functions gates_of form_of names_of };
+
+    ghost grows = { λ texts m h. gated_grows gates_of form_of names_of texts m };
+
+    ghost hands_units_on = { gated_hands_on gates_of form_of names_of };
+
+    ghost asks_no_units = { gated_units gates_of form_of names_of };
+
+    ghost asks_verdicts = { gated_verdicts gates_of form_of names_of };
+}

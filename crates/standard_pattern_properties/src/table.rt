@@ -1,0 +1,182 @@
+//! The table of `patternProperties` and `additionalProperties`.
+ghost use Rattle.std.specs.Prelude.{◌≡◌, IfOk};
+ghost use Rattle.serde_json.specs.Find.{as_object, get_member};
+ghost use Rattle.serde_json.specs.View.{view};
+ghost use Rattle.keyword_makers.specs.MakerViews.{waiting_of, Begins};
+ghost use Rattle.standard_pattern_properties.specs.Making.{beside_of, is_false, member_script, names_of_value, others_script, patterns_script};
+ghost use Rattle.standard_pattern_properties.specs.Making.{value_script};
+ghost use Rattle.schema_traits.specs.Showing.{Yields};
+ghost use Rattle.schema_traits.specs.Readings.{fields, value_read};
+
+use crate::keyword::{GatedKeyword, Neighbours};
+use crate::listed::Listed;
+use crate::names::Texts;
+use keyword_makers::maker::{Ending, PathsMaker, asks_for, ends, only_child};
+use keyword_makers::members::values_below;
+use keyword_makers::paths::value_in;
+use keyword_makers::refusals::malformed;
+use schema_drafts::keywords::{Draft, VocabularySet};
+use schema_reports::location::OutOfMemory;
+use schema_traits::table::{KeywordOrigin, KeywordTable, MakerReply, MakerStep};
+use serde_json::{Map, Value};
+use std::alloc::Global;
+
+/// A maker of these keywords.
+type Maker = PathsMaker<GatedKeyword>;
+
+/// The names that `properties` lists: those of a value's members, which are none where it is no object, or is not there.
+fn listed_of(alloc: Global, value: Option<&Value>) -> Result<Listed, OutOfMemory>
+    ensures listed { Yields result (names_of_value (value_read value.entry)) }
+{
+    match value {
+        None => Ok(Listed::none(alloc)),
+        Some(value) => match value.as_object() {
+            None => Ok(Listed::none(alloc)),
+            Some(members) => Listed::of_members(alloc, members),
+        },
+    }
+}
+
+/// The patterns of `patternProperties`: the names of a value's members, likewise.
+fn patterns_of(alloc: Global, value: Option<&Value>) -> Result<Texts, OutOfMemory>
+    ensures patterns { Yields result (names_of_value (value_read value.entry)) }
+{
+    match value {
+        None => Ok(Texts::none(alloc)),
+        Some(value) => match value.as_object() {
+            None => Ok(Texts::none(alloc)),
+            Some(members) => Texts::of_members(alloc, members),
+        },
+    }
+}
+
+/// What stands beside `additionalProperties` in an object.
+fn beside_of(alloc: Global, object: &Map<String, Value>) -> Result<Neighbours, OutOfMemory>
+    ensures beside { Yields result (beside_of (fields object.now)) }
+{
+    Ok(Neighbours {
+        listed: listed_of(alloc, value_in(object, "properties"))?,
+        patterns: patterns_of(alloc, value_in(object, "patternProperties"))?,
+    })
+}
+
+/// Whether a value is `false`.
+fn is_false(value: &Value) -> bool
+    ensures is_false { result ≡ is_false (view value.now) }
+{
+    match value {
+        Value::Bool(truth) => !*truth,
+        _ => false,
+    }
+}
+
+/// The maker of `patternProperties`.
+fn patterns_maker(alloc: Global, name: &str, value: &Value) -> Result<Maker, OutOfMemory>
+    ensures maker { IfOk result (Begins (λ k. k) (patterns_script name.now (view value.now) (as_object (view value.now)))) }
+{
+    match value.as_object() {
+        Some(members) => {
+            let patterns = Texts::of_members(alloc, members)?;
+            let paths = values_below(alloc, name, patterns.as_slice())?;
+            Ok(asks_for(paths, GatedKeyword::PatternProperties(patterns)))
+        }
+        None => malformed(alloc, name, value),
+    }
+}
+
+/// The maker of `additionalProperties`.
+fn others_maker(
+    alloc: Global,
+    name: &str,
+    value: &Value,
+    object: &Map<String, Value>,
+) -> Result<Maker, OutOfMemory>
+    ensures maker { IfOk result (Begins (λ k. k) (others_script (fields object.now) name.now (view value.now))) }
+{
+    let beside = beside_of(alloc, object)?;
+    if is_false(value) {
+        let keyword = GatedKeyword::NoAdditionalProperties(beside);
+        return Ok(ends(alloc, Ending::Keyword(keyword)));
+    }
+    only_child(alloc, name, GatedKeyword::AdditionalProperties(beside))
+}
+
+/// The maker of a member with this value.
+fn value_maker(
+    alloc: Global,
+    name: &str,
+    value: &Value,
+    object: &Map<String, Value>,
+) -> Result<Maker, OutOfMemory>
+    ensures maker { IfOk result (Begins (λ k. k) (value_script (fields object.now) name.now (view value.now))) }
+{
+    if name == "patternProperties" {
+        return patterns_maker(alloc, name, value);
+    }
+    if name == "additionalProperties" {
+        return others_maker(alloc, name, value, object);
+    }
+    Ok(ends(alloc, Ending::Nothing))
+}
+
+/// The maker of a member of an object, if there is one.
+fn member_maker(
+    alloc: Global,
+    name: &str,
+    object: &Map<String, Value>,
+) -> Result<Maker, OutOfMemory>
+    ensures maker { IfOk result (Begins (λ k. k) (member_script (fields object.now) name.now (get_member name.now (fields object.now)))) }
+{
+    match value_in(object, name) {
+        Some(value) => value_maker(alloc, name, value, object),
+        None => Ok(ends(alloc, Ending::Nothing)),
+    }
+}
+
+/// The table of `patternProperties`, and of `additionalProperties`, which reads `properties` and `patternProperties` beside it, in each
+/// draft. A `patternProperties` that is no object is refused.
+#[derive(Drop)]
+pub struct GatedTable {}
+
+impl KeywordTable<GatedKeyword> for GatedTable {
+    ghost use Rattle.std.specs.Prelude.{false};
+    ghost use Rattle.standard_pattern_properties.specs.Making.{gated_script, makes_rightly};
+
+    type Maker = Maker;
+
+    ghost owned = { λ t name. false };
+
+    ghost script = { λ t. gated_script };
+
+    ghost waiting = { waiting_of (λ k. k) };
+
+    fn owns(&self, _name: &str) -> bool {
+        false
+    }
+
+    fn begin(
+        &self,
+        alloc: Global,
+        origin: KeywordOrigin<'_>,
+        object: &Map<String, Value>,
+        _draft: Draft,
+        _vocabularies: &VocabularySet,
+        _formats: bool,
+    ) -> Result<Maker, OutOfMemory> {
+        match origin {
+            KeywordOrigin::Own(name) => member_maker(alloc, name, object),
+            KeywordOrigin::Builtin(name) => member_maker(alloc, name, object),
+        }
+    }
+
+    fn turn(
+        &self,
+        alloc: Global,
+        maker: &mut Maker,
+        reply: MakerReply,
+    ) -> Result<MakerStep<GatedKeyword>, OutOfMemory> {
+        maker.turn(alloc, reply)
+    }
+
+    ghost right = { λ t. makes_rightly };
+}

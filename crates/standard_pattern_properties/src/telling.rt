@@ -1,0 +1,44 @@
+//! The error of `additionalProperties`.
+ghost use Rattle.std.specs.Prelude.{◌≡◌, [], IfOk, map, string_bytes};
+ghost use Rattle.standard_pattern_properties.specs.GatedKeywords.{in_quotes, unexpected_text, were_unexpected};
+ghost use Rattle.keyword_authoring.specs.TextWords.{Adds};
+ghost use Rattle.schema_traits.specs.Showing.{Shows};
+
+use schema_reports::location::OutOfMemory;
+use std::alloc::Global;
+
+/// Adds each name in quotes, with a comma between two.
+fn push_quoted(names: &[String], text: &mut String) -> Result<(), OutOfMemory>
+    ensures pushed { IfOk result (λ _. Adds (in_quotes [] (map string_bytes names.now)) text.old text.new) }
+{
+    let mut before = "";
+    for name in names {
+        text.push_str(before)?;
+        text.push_str("'")?;
+        text.push_str(name.as_str())?;
+        text.push_str("'")?;
+        before = ", ";
+    }
+    Ok(())
+}
+
+/// How the text ends, by how many names there are.
+fn were_unexpected(names: &[String]) -> &'static str
+    ensures ends { result.now ≡ were_unexpected (map string_bytes names.now) }
+{
+    if names.len() == 1 {
+        " was unexpected)"
+    } else {
+        " were unexpected)"
+    }
+}
+
+/// The text that says which names were unexpected.
+pub fn unexpected_text(alloc: Global, names: &[String]) -> Result<String, OutOfMemory>
+    ensures text { Shows string_bytes result (unexpected_text (map string_bytes names.now)) }
+{
+    let mut text = String::from_str(alloc, "Additional properties are not allowed (")?;
+    push_quoted(names, &mut text)?;
+    text.push_str(were_unexpected(names))?;
+    Ok(text)
+}

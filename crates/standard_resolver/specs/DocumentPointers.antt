@@ -1,0 +1,43 @@
+-- Pointers into a value: the path that one names. (sections 3, 4 and 6 of RFC 6901)
+use Rattle.std.specs.List.{slice_split}
+use Rattle.std.specs.Prelude.{Bool, List, None, Option, Some, [], false, if◌then◌else◌, nat_lt, not, option_and_then, option_map, ◌&&◌}
+use Rattle.std.specs.Prelude.{◌==◌, ◌^◌, ◌∷◌, ℕ}
+use Rattle.std.specs.Char.{is_ascii_digit}
+use Rattle.std.specs.Str.{all_ascii_digits}
+use Rattle.std.specs.Str.Parse.{digits_value}
+use Rattle.serde_json.specs.Data.{Data, array, boolean, null, number, object, string}
+use Rattle.serde_json.specs.Find.{unescape}
+use Rattle.theory_definitions.specs.Instance.{Place, Step, Text, a_value, after_step, to_item, to_member}
+use Rattle.standard_subschemas.specs.SubschemaRules.{data_of}
+
+-- digits, with no 0 before another
+abbrev pub is_index : Text → Bool
+is_index [] = false
+is_index (x ∷ []) = is_ascii_digit x
+is_index (x ∷ y ∷ xs) = not (x == 48) && all_ascii_digits (x ∷ y ∷ xs)
+
+-- the index that a segment is, where it fits 64 bits
+abbrev pub index_named : Text → Option ℕ
+index_named t = if is_index t && nat_lt (digits_value 10 t) (2 ^ 64) then Some (digits_value 10 t) else None
+
+-- the step that a segment names from a value: a member by its name, in which `~1` stands for `/` and `~0` for `~`, or an
+-- item by its index
+abbrev pub step_named : Text → Data → Option Step
+step_named t null = None
+step_named t (boolean b) = None
+step_named t (number n) = None
+step_named t (string s) = None
+step_named t (array ds) = option_map to_item (index_named t)
+step_named t (object ms) = Some (to_member (unescape t))
+
+-- the path that segments name from a value, where each step leads to something
+abbrev pub path_named : List Text → Data → Option Place
+path_named [] d = Some []
+path_named (t ∷ ts) d =
+    option_and_then (λ step. option_and_then (λ below. option_map (λ path. step ∷ path) (path_named ts below))
+    (data_of (after_step step (a_value d)))) (step_named t d)
+
+-- the path that a pointer names in a document
+abbrev pub path_of_pointer : Text → Data → Option Place
+path_of_pointer [] d = Some []
+path_of_pointer (x ∷ xs) d = if x == 47 then path_named (slice_split (λ b. b == 47) xs) d else None

@@ -1,0 +1,16 @@
+-- The resources that the resolver's code holds, as the definitions have them.
+use Rattle.std.specs.Prelude.{string_bytes}
+use Rattle.schema_drafts.specs.KeywordViews.{draft_of}
+use Rattle.standard_resolver.specs.declared.resolver.resources as code
+use Rattle.standard_resolver.specs.DocumentResources.{Resource}
+
+abbrev pub resource_of : code.Resource.Resource → Resource
+resource_of r = record {
+  uri = string_bytes r.uri;
+  base = string_bytes r.base;
+  document = r.document;
+  path = r.path;
+  draft = draft_of r.draft;
+  recursive = r.is_recursive;
+  names = r.names;
+}

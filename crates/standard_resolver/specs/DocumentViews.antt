@@ -1,0 +1,40 @@
+-- What the resolver's code holds, as the definitions have it: states, documents and schemas.
+use Rattle.std.specs.Prelude.{List, Option, flat_map, map, option_map, string_bytes, ◌++◌}
+use Rattle.std.specs.Rc.{rc_str_bytes}
+use Rattle.std.proofs.Common.{Bor}
+use Rattle.serde_json.specs.View.{view}
+use Rattle.serde_json.specs.declared.value.Value.{Value}
+use Rattle.theory_definitions.specs.Instance.{Place, Subject, Text, a_value}
+use Rattle.schema_drafts.specs.KeywordViews.{draft_of}
+use Rattle.standard_subschemas.specs.FoundViews.{path_of}
+use Rattle.standard_subschemas.specs.declared.subschemas.FoundSchema.{FoundSchema}
+use Rattle.standard_resolver.specs.declared.resolver.DocumentState.{DocumentState}
+use Rattle.standard_resolver.specs.declared.resolver.documents as code
+use Rattle.standard_resolver.specs.declared.resolver.walk as walk
+use Rattle.standard_resolver.specs.ResolverDocuments.{Document, GivenDocument, documents_from}
+use Rattle.standard_resolver.specs.DocumentResources.{Visited}
+use Rattle.standard_resolver.specs.DocumentStates.{Point}
+
+abbrev pub point_of : DocumentState → Point
+point_of s = record { base = rc_str_bytes s.base; entered = s.entered.value.items }
+
+abbrev pub given_of : code.Document.Document → GivenDocument
+given_of d = record { uri = string_bytes d.uri; value = d.value.now }
+
+abbrev pub held : code.Documents.Documents → List Document
+held d = documents_from (string_bytes d.uri) d.root.now (map given_of d.others.items)
+
+abbrev pub visited_of : walk.Visited.Visited → Visited
+visited_of v = record { path = v.path; base = string_bytes v.base; draft = draft_of v.draft; schema = view v.schema.now }
+
+-- what was read, as what a schema is asked about
+abbrev pub subject_read : Option (Bor Value) → Option Subject
+subject_read o = option_map (λ v. a_value (view v.now)) o
+
+-- a document that is given under a URI
+abbrev pub document_under : Text → Value → Document
+document_under uri value = record { uri = uri; value = view value }
+
+-- a path, and then from subschema to subschema
+abbrev pub path_over : Place → List FoundSchema → Place
+path_over path way = path ++ flat_map path_of way

@@ -1,0 +1,69 @@
+-- What the resolver of some documents answers. (Core 2020-12, sections 8.2 and 9.1)
+use Rattle.std.specs.Prelude.{IsSome, List, None, Option, Some, [], map, slice_get, ℕ, ◌≡◌, ◌∷◌, string_bytes}
+use Rattle.serde_json.specs.View.{view}
+use Rattle.serde_json.specs.declared.value.Value.{Value}
+use Rattle.theory_definitions.specs.Instance.{Text}
+use Rattle.theory_definitions.specs.Drafts.{Draft, Vocabularies, at_path}
+use Rattle.theory_definitions.specs.Resolving.{Entrance, Resolver}
+use Rattle.schema_traits.specs.declared.resolver.LookupError.{LookupError}
+use Rattle.schema_traits.specs.declared.resolver.LookupError.TheVariants.{OutOfMemory, Refused}
+use Rattle.standard_subschemas.specs.SubschemaRules.{detected, identifier, is_known, root_draft, root_place, subschemas_of, without_fragment}
+use Rattle.standard_resolver.specs.ResolverDocuments.{HeldDocuments, Document, documents_of, value_in, vocabularies_in}
+use Rattle.standard_resolver.specs.DocumentUris.{resolve_uri}
+use Rattle.standard_resolver.specs.DocumentResources.{Resource, Table, number_of, place_of_resource, table_for}
+use Rattle.standard_resolver.specs.DocumentStates.{Point, entered, root_of, same_point}
+use Rattle.standard_resolver.specs.DocumentLookups.{looked_up, looked_up_recursive}
+
+-- where a run begins: with one resource entered
+abbrev pub entrance_in : ℕ → Resource → Entrance Point
+entrance_in n r = record { place = place_of_resource r; state = record { base = r.base; entered = n ∷ [] } }
+
+abbrev pub entrance_at : List Resource → Option ℕ → Option (Entrance Point)
+entrance_at resources None = None
+entrance_at resources (Some n) = elim (slice_get resources n) [ None ↦ None | Some r ↦ Some (entrance_in n r) ]
+
+abbrev pub entrance : List Resource → Text → Option (Entrance Point)
+entrance resources uri = entrance_at resources (number_of (without_fragment uri) resources)
+
+-- a resolver of documents in a default draft, with the vocabularies of each draft
+abbrev pub resolving_of : Draft → (Draft → Vocabularies) → List Document → Table → Resolver Point
+resolving_of default_draft vocabularies documents table = record {
+  same_state = same_point;
+  value = value_in documents;
+  root = entrance table.resources;
+  lookup = looked_up table documents;
+  lookup_recursive = looked_up_recursive table;
+  in_subresource = λ s d p. entered table documents s d p (value_in documents p);
+  resolve_uri = λ s reference. resolve_uri table.rule s.base reference;
+  base_uri = λ s. s.base;
+  resource_root = root_of table;
+  find_vocabularies = λ s d p. vocabularies d;
+  detect = detected;
+  draft_for = root_draft;
+  id = identifier;
+  subresources_of = λ d p. map (at_path p) (subschemas_of table.rule d (value_in documents p));
+  is_known_keyword = λ d name. is_known table.rule d name;
+}
+
+abbrev pub table_of : HeldDocuments → Table
+table_of r = table_for r.rule r.default_draft (documents_of r)
+
+abbrev pub document_resolving : HeldDocuments → Resolver Point
+document_resolving r = resolving_of r.default_draft (λ d. vocabularies_in d r.vocabularies) (documents_of r) (table_of r)
+
+-- the root's URI without a fragment
+abbrev pub base_of : HeldDocuments → Text
+base_of r = without_fragment r.uri
+
+-- a refusal with this text, or want of memory
+abbrev pub RefusesWith : Text → LookupError → Type 0
+RefusesWith t (Refused text) = string_bytes text ≡ t
+RefusesWith t OutOfMemory = Unit {0}
+
+-- the value at the root's place is this document
+abbrev pub HasRoot : Value → HeldDocuments → Type 0
+HasRoot document r = (document_resolving r).value root_place ≡ Some (view document)
+
+-- the root's document is found under its URI
+abbrev pub FindsRoot : HeldDocuments → Type 0
+FindsRoot r = IsSome ((document_resolving r).root (base_of r))

@@ -1,0 +1,66 @@
+-- How much of a pointer lies outside the resource of its target. (Core 2020-12, section 8.2; section 3
+-- of RFC 6901)
+use Rattle.std.specs.Prelude.{Bool, false, true, None, Ok, Option, Some, [], if◌then◌else◌, is_some, length, slice_get, ℕ, ◌++◌, ◌≡◌, ◌∷◌}
+use Rattle.std.specs.Str.Lossy.{utf8_lossy}
+use Rattle.percent_encoding.specs.Percent.{percent_decode}
+use Rattle.serde_json.specs.Data.{Data}
+use Rattle.theory_definitions.specs.Instance.{Place, Text, a_value, after_step}
+use Rattle.theory_definitions.specs.Drafts.{Draft}
+use Rattle.theory_definitions.specs.Resolving.{Found}
+use Rattle.theory_definitions.specs.Parts.{Parts}
+use Rattle.theory_definitions.specs.Plan.{segments_length, start_of}
+use Rattle.standard_subschemas.specs.declared.rules.Rule.{Rule}
+use Rattle.standard_subschemas.specs.declared.rules.Rule.TheVariants.{Narrow}
+use Rattle.standard_subschemas.specs.SubschemaRules.{data_of, detected, fragment_of, identifier, without_fragment}
+use Rattle.standard_resolver.specs.ResolverDocuments.{HeldDocuments, documents_of, value_in}
+use Rattle.standard_resolver.specs.DocumentPointers.{path_of_pointer}
+use Rattle.standard_resolver.specs.DocumentResources.{Resource, Table, number_of, place_of_resource}
+use Rattle.standard_resolver.specs.DocumentStates.{Point, enter, resource_under, root_of}
+use Rattle.standard_resolver.specs.DocumentLookups.{is_subschema}
+use Rattle.standard_resolver.specs.ResolverAnswers.{document_resolving, table_of}
+
+-- The path of the innermost subschema with an identifier that a path passes into or ends at. Subschemas are walked through from a
+-- schema on; `since` leads from the last of them to the value reached so far, `gone` from that schema, and `last` to the last of
+-- them that has an identifier.
+abbrev pub innermost_along : Rule → Draft → Data → Place → Data → Place → Place → Place → Place
+innermost_along rule draft schema since reached gone last [] = last
+innermost_along rule draft schema since reached gone last (step ∷ path) = elim (data_of (after_step step (a_value reached))) [
+  | None ↦ last
+  | Some below ↦ elim (is_subschema rule draft (since ++ step ∷ []) schema) [
+    | false ↦ innermost_along rule draft schema (since ++ step ∷ []) below (gone ++ step ∷ []) last path
+    | true ↦ innermost_along rule (detected draft below) below
+        [] below (gone ++ step ∷ []) (if is_some (identifier (detected draft below) below) then gone ++ step ∷ [] else last) path
+  ]
+]
+
+-- counted from the root of a resource; the root itself where there is none
+abbrev pub innermost : Rule → Draft → Data → Option Place → Place
+innermost rule draft schema None = []
+innermost rule draft schema (Some path) = innermost_along rule draft schema [] schema [] [] path
+
+abbrev pub innermost_in : HeldDocuments → Text → Resource → Place
+innermost_in r pointer x = elim (value_in (documents_of r) (place_of_resource x))
+    [ None ↦ [] | Some schema ↦ innermost r.rule x.draft schema (path_of_pointer pointer schema) ]
+
+-- of a pointer into the resource that a URI names
+abbrev pub innermost_under : HeldDocuments → Text → Text → Place
+innermost_under r uri pointer = elim (resource_under (table_of r) (without_fragment uri)) [ None ↦ [] | Some x ↦ innermost_in r pointer x ]
+
+-- The base inside a resource that is found leads back to where the resource begins: by the narrow rule always, by the standard's where
+-- no two documents claim one URI.
+abbrev pub BasesStand : Table → Type 0
+BasesStand table = (uri : Text) (n : ℕ) (x : Resource) (s : Point)
+    → number_of uri table.resources ≡ Some n → slice_get table.resources n ≡ Some x
+    → root_of table (enter n x.base s) ≡ place_of_resource x
+
+abbrev pub NarrowBasesStand : Type 0
+NarrowBasesStand = (r : HeldDocuments) → r.rule ≡ Narrow → BasesStand (table_of r)
+
+-- what lies outside is the pointer's part up to there
+abbrev pub StartsAtInnermost : {K R : Type 0} → Parts Point K R → Type 0
+StartsAtInnermost w = (r : HeldDocuments) → BasesStand (table_of r) → w.resolver ≡ document_resolving r
+    → (s : Point) (reference uri rest : Text) (dynamic : Bool) (f : Found Point)
+    → (document_resolving r).resolve_uri s reference ≡ Ok uri → fragment_of uri ≡ 47 ∷ rest
+    → (document_resolving r).lookup s reference dynamic ≡ Ok f
+    → let pointer = utf8_lossy (percent_decode (47 ∷ rest)) in
+    start_of w f pointer ≡ segments_length (length (innermost_under r uri pointer)) pointer

@@ -1,0 +1,18 @@
+-- Resources as the resolver's code gathers them.
+use Rattle.std.specs.Prelude.{List, map, ◌≡◌}
+use Rattle.std.specs.HashMap.{get_by_text}
+use Rattle.standard_resolver.specs.declared.resolver.resources.Gathered.{Gathered}
+use Rattle.standard_resolver.specs.DocumentKeys.{IsNumbered}
+use Rattle.standard_resolver.specs.DocumentResources.{Resource, resource_key, with_resources}
+use Rattle.standard_resolver.specs.DocumentResourceViews.{resource_of}
+
+abbrev pub list_of : Gathered → List Resource
+list_of g = map resource_of g.resources.items
+
+-- each is found by its URI
+abbrev pub IsFound : Gathered → Type 0
+IsFound g = IsNumbered (map resource_key (list_of g)) (get_by_text g.numbers)
+
+-- some more are listed, and found, those aside whose URI an earlier one has
+abbrev pub Adds : List Resource → Gathered → Gathered → Type 0
+Adds added old new = IsFound old → (list_of new ≡ with_resources (list_of old) added) × IsFound new

@@ -1,0 +1,479 @@
+//! The resolver.
+ghost use Rattle.std.specs.Prelude.{◌≡◌, [], IfOk, codes, map, string_bytes};
+ghost use Rattle.serde_json.specs.View.{view};
+ghost use Rattle.theory_definitions.specs.Drafts.{draft_2020_12};
+ghost use Rattle.schema_drafts.specs.KeywordViews.{draft_of};
+ghost use Rattle.standard_subschemas.specs.declared.rules.Rule.TheVariants.{Narrow, Standard};
+ghost use Rattle.standard_subschemas.specs.SubschemaRules.{document_uri};
+ghost use Rattle.standard_resolver.specs.ResolverAnswers.{document_resolving, HasRoot, FindsRoot};
+ghost use Rattle.standard_resolver.specs.DocumentViews.{given_of};
+ghost use Rattle.standard_resolver.specs.ResolverHolds.{Customs, Defaults, Drafts, GoesBy, Holds, IsUnder, Others};
+
+pub mod documents;
+pub mod names;
+pub mod numbers;
+pub mod on_way;
+pub mod places;
+pub mod pointers;
+pub mod references;
+pub mod resources;
+pub mod rows;
+pub mod states;
+pub mod uris;
+pub mod vocabularies;
+pub mod walk;
+
+use crate::resolver::documents::{Document, Documents};
+use crate::resolver::places::{refusal, root_place, value_inside};
+use crate::resolver::references::{looked_up, looked_up_recursive};
+use crate::resolver::resources::{Resources, resources_of};
+use crate::resolver::states::entered;
+use crate::resolver::uris::resolve_uri;
+use crate::resolver::vocabularies::DraftVocabularies;
+use schema_drafts::keywords::{Draft, VocabularySet};
+use schema_reports::location::OutOfMemory;
+use schema_traits::resolver::{LookupError, PlacedSchema, Resolver, Target};
+use schema_traits::schema_place::{SchemaPath, SchemaPlace};
+use serde_json::{Map, Value};
+use standard_subschemas::drafts::detected;
+use standard_subschemas::identifiers::{identifier, without_fragment};
+use standard_subschemas::known::is_known;
+use standard_subschemas::named_drafts::names_draft_inside;
+use standard_subschemas::rules::Rule;
+use standard_subschemas::subschemas::{subschemas, subschemas_placed};
+pub use standard_subschemas::{drafts, identifiers, known, rules, subschemas};
+use std::alloc::Global;
+use std::marker::Model;
+use std::rc::{Rc, RcStr};
+
+/// A resolver of documents by the standard's rule: it is made by `of_document` or `of_documents`.
+pub type StandardResolver<'a> = DocumentResolver<'a>;
+
+/// Where a run of the resolver is: the base URI of its resource, and the numbers of the resources that it entered. Clones share both.
+#[derive(Clone, PartialEq, Eq, Hash, Drop)]
+pub struct DocumentState {
+    base: RcStr,
+    entered: Rc<Vec<usize>>,
+}
+
+/// A state apart from its representation; it holds no value.
+#[derive(Drop)]
+pub struct StatePoint {}
+
+impl Model for StatePoint {
+    ghost use Rattle.std.specs.Prelude.{[]};
+    ghost use Rattle.standard_resolver.specs.DocumentStates.{Point};
+
+    ghost Value = { Point };
+
+    ghost view = { λ _. record { base = []; entered = [] } };
+}
+
+/// A resolver of documents. It finds a resource, a document or a subschema with an identifier, by its URI, and in it what a pointer or a
+/// name leads to. By the narrow rule a reference is a fragment or a URI with its scheme; by the standard's it is resolved against the base.
+#[derive(Drop)]
+pub struct DocumentResolver<'a> {
+    rule: Rule,
+    documents: Documents<'a>,
+    default_draft: Draft,
+    vocabularies: DraftVocabularies,
+    resources: Resources,
+}
+
+impl<'a> Model for DocumentResolver<'a> {
+    ghost use Rattle.std.specs.Prelude.{◌≡◌, map, string_bytes};
+    ghost use Rattle.std.specs.Coded.{codes};
+    ghost use Rattle.serde_json.specs.contracts.value.Value as value;
+    ghost use Rattle.schema_drafts.specs.KeywordViews.{draft_of};
+    ghost use Rattle.standard_resolver.specs.ResolverDocuments.{HeldDocuments};
+    ghost use Rattle.standard_resolver.specs.DocumentResources.{table_for};
+    ghost use Rattle.standard_resolver.specs.DocumentViews.{given_of, held};
+
+    ghost Value = { HeldDocuments };
+
+    ghost coded = { Prim.hlevel (codes, value.the_row.coded) };
+
+    ghost view = { λ r. record {
+      rule = r.rule;
+      uri = string_bytes r.documents.uri;
+      document = r.documents.root.now;
+      others = map given_of r.documents.others.items;
+      default_draft = draft_of r.default_draft;
+      vocabularies = r.vocabularies;
+    } };
+
+    ghost invariant = { λ r. r.resources ≡ table_for r.rule (draft_of r.default_draft) (held r.documents) };
+}
+
+impl<'a> DocumentResolver<'a> {
+    /// A resolver of this document in the draft 2020-12, by the narrow rule. The document is found under its root's identifier without a
+    /// fragment, or under `json-schema:///`. The vocabularies are required ones: they are in force in every draft, beside the draft's own.
+    ///
+    /// # Errors
+    ///
+    /// Fails only if memory cannot be allocated.
+    pub fn new(
+        alloc: Global,
+        document: &'a Value,
+        vocabularies: VocabularySet,
+    ) -> Result<DocumentResolver<'a>, OutOfMemory>
+        ensures rule { GoesBy result Narrow }
+        ensures document { Holds result document.now }
+        ensures uri { IsUnder result (document_uri draft_2020_12 (view document.now)) }
+        ensures alone { Others result [] }
+        ensures draft { Defaults result draft_2020_12 }
+        ensures drafts { Drafts result vocabularies }
+        ensures custom { Customs result vocabularies }
+        ensures root_value { IfOk result (HasRoot document.now) }
+        ensures root { IfOk result FindsRoot }
+    {
+        DocumentResolver::with_draft(alloc, Draft::Draft202012, document, vocabularies)
+    }
+
+    /// A resolver of this document by the narrow rule, as `new` makes it, in a default draft: the one that the document and the way to
+    /// a target are read by, where no `$schema` says otherwise. A build takes the root's draft from its own option, or else 2020-12.
+    ///
+    /// # Errors
+    ///
+    /// Fails only if memory cannot be allocated.
+    pub fn with_draft(
+        alloc: Global,
+        draft: Draft,
+        document: &'a Value,
+        vocabularies: VocabularySet,
+    ) -> Result<DocumentResolver<'a>, OutOfMemory>
+        ensures rule { GoesBy result Narrow }
+        ensures document { Holds result document.now }
+        ensures uri { IsUnder result (document_uri (draft_of draft) (view document.now)) }
+        ensures alone { Others result [] }
+        ensures draft { Defaults result (draft_of draft) }
+        ensures drafts { Drafts result vocabularies }
+        ensures custom { Customs result vocabularies }
+        ensures root_value { IfOk result (HasRoot document.now) }
+        ensures root { IfOk result FindsRoot }
+    {
+        let uri = match identifier(detected(draft, document), document) {
+            Some(uri) => String::from_str(alloc, without_fragment(uri))?,
+            None => String::from_str(alloc, "json-schema:///")?,
+        };
+        let root = Document {
+            uri,
+            value: document,
+        };
+        DocumentResolver::with_documents(alloc, draft, root, Vec::new(alloc), vocabularies)
+    }
+
+    /// A resolver of several documents by the narrow rule, each found under the URI that it is given with. The first is the root's.
+    ///
+    /// # Errors
+    ///
+    /// Fails only if memory cannot be allocated.
+    pub fn with_documents(
+        alloc: Global,
+        draft: Draft,
+        root: Document<'a>,
+        others: Vec<Document<'a>>,
+        vocabularies: VocabularySet,
+    ) -> Result<DocumentResolver<'a>, OutOfMemory>
+        ensures rule { GoesBy result Narrow }
+        ensures document { Holds result root.entry.value.now }
+        ensures uri { IsUnder result (string_bytes root.entry.uri) }
+        ensures others { Others result (map given_of others.entry.items) }
+        ensures draft { Defaults result (draft_of draft) }
+        ensures drafts { Drafts result vocabularies }
+        ensures custom { Customs result vocabularies }
+        ensures root_value { IfOk result (HasRoot root.entry.value.now) }
+        ensures root { IfOk result FindsRoot }
+    {
+        DocumentResolver::by_rule(alloc, Rule::Narrow, draft, root, others, vocabularies)
+    }
+
+    /// A resolver of this document by the standard's rule, in a default draft, which it and the way to a target are read by where no
+    /// `$schema` says otherwise. The document is handed in under `json-schema:///`, and found under its root's identifier too: build with
+    /// `json-schema:///` as the base. The vocabularies are in force in every draft, beside the draft's own.
+    ///
+    /// # Errors
+    ///
+    /// Fails only if memory cannot be allocated.
+    pub fn of_document(
+        alloc: Global,
+        draft: Draft,
+        document: &'a Value,
+        vocabularies: VocabularySet,
+    ) -> Result<DocumentResolver<'a>, OutOfMemory>
+        ensures rule { GoesBy result Standard }
+        ensures document { Holds result document.now }
+        ensures uri { IsUnder result (codes "json-schema:///") }
+        ensures alone { Others result [] }
+        ensures draft { Defaults result (draft_of draft) }
+        ensures drafts { Drafts result vocabularies }
+        ensures custom { Customs result vocabularies }
+        ensures root_value { IfOk result (HasRoot document.now) }
+        ensures root { IfOk result FindsRoot }
+    {
+        let root = Document {
+            uri: String::from_str(alloc, "json-schema:///")?,
+            value: document,
+        };
+        DocumentResolver::of_documents(alloc, draft, root, Vec::new(alloc), vocabularies)
+    }
+
+    /// A resolver of several documents by the standard's rule. Each is handed in under a URI, and found under it and under its root's
+    /// identifier. The first is the root's: build with its URI as the base. Of several with one URI the first is found.
+    ///
+    /// # Errors
+    ///
+    /// Fails only if memory cannot be allocated.
+    pub fn of_documents(
+        alloc: Global,
+        draft: Draft,
+        root: Document<'a>,
+        others: Vec<Document<'a>>,
+        vocabularies: VocabularySet,
+    ) -> Result<DocumentResolver<'a>, OutOfMemory>
+        ensures rule { GoesBy result Standard }
+        ensures document { Holds result root.entry.value.now }
+        ensures uri { IsUnder result (string_bytes root.entry.uri) }
+        ensures others { Others result (map given_of others.entry.items) }
+        ensures draft { Defaults result (draft_of draft) }
+        ensures drafts { Drafts result vocabularies }
+        ensures custom { Customs result vocabularies }
+        ensures root_value { IfOk result (HasRoot root.entry.value.now) }
+        ensures root { IfOk result FindsRoot }
+    {
+        DocumentResolver::by_rule(alloc, Rule::Standard, draft, root, others, vocabularies)
+    }
+
+    /// A resolver of several documents by a rule.
+    fn by_rule(
+        alloc: Global,
+        rule: Rule,
+        draft: Draft,
+        root: Document<'a>,
+        others: Vec<Document<'a>>,
+        vocabularies: VocabularySet,
+    ) -> Result<DocumentResolver<'a>, OutOfMemory>
+        ensures rule { GoesBy result rule }
+        ensures document { Holds result root.entry.value.now }
+        ensures uri { IsUnder result (string_bytes root.entry.uri) }
+        ensures others { Others result (map given_of others.entry.items) }
+        ensures draft { Defaults result (draft_of draft) }
+        ensures drafts { Drafts result vocabularies }
+        ensures custom { Customs result vocabularies }
+        ensures root_value { IfOk result (HasRoot root.entry.value.now) }
+        ensures root { IfOk result FindsRoot }
+    {
+        let documents = Documents {
+            uri: root.uri,
+            root: root.value,
+            others,
+        };
+        let resources = resources_of(alloc, rule, draft, &documents)?;
+        Ok(DocumentResolver {
+            rule,
+            documents,
+            default_draft: draft,
+            vocabularies: DraftVocabularies::with_required(vocabularies)?,
+            resources,
+        })
+    }
+
+    /// The same resolver with these vocabularies in force in each draft, whatever it required before. Allocates nothing.
+    pub fn with_draft_vocabularies(self, vocabularies: DraftVocabularies) -> DocumentResolver<'a>
+        ensures vocabularies { result ≡ record self.entry { vocabularies = vocabularies } }
+    {
+        let mut resolver = self;
+        resolver.vocabularies = vocabularies;
+        resolver
+    }
+}
+
+impl<'a> Resolver for DocumentResolver<'a> {
+    ghost use Rattle.standard_resolver.specs.DocumentViews.{point_of as state_point};
+    ghost use Rattle.standard_resolver.specs.ResolverLaws.{cloned_points, same_points, values_stand_inside};
+    ghost use Rattle.standard_resolver.specs.SubschemaLaws.{subschemas_stand_below};
+
+    type State = DocumentState;
+
+    type Point = StatePoint;
+
+    ghost point = { state_point };
+
+    ghost resolving = { document_resolving };
+
+    fn contains_resource(&self, uri: &str) -> bool {
+        self.resources.under(without_fragment(uri)).is_some()
+    }
+
+    fn root(
+        &self,
+        alloc: Global,
+        uri: &str,
+    ) -> Result<Option<(DocumentState, SchemaPlace)>, OutOfMemory> {
+        let Some(number) = self.resources.number_of(without_fragment(uri)) else {
+            return Ok(None);
+        };
+        let Some(resource) = self.resources.get(number) else {
+            return Ok(None);
+        };
+        let mut entered = Vec::new(alloc);
+        entered.push(number)?;
+        let base = RcStr::from_str(alloc, resource.base.as_str())?;
+        let entered = Rc::new(alloc, entered)?;
+        Ok(Some((DocumentState { base, entered }, resource.place()?)))
+    }
+
+    fn value(&self, place: &SchemaPlace) -> Option<&Value> {
+        self.documents.value_at(place)
+    }
+
+    fn value_below<'v>(
+        &'v self,
+        members: &'v Map<String, Value>,
+        path: &SchemaPath,
+        place: &SchemaPlace,
+    ) -> Option<&'v Value> {
+        value_inside(&self.documents, members, path, place)
+    }
+
+    fn lookup(
+        &self,
+        alloc: Global,
+        state: &DocumentState,
+        reference: &str,
+        dynamic: bool,
+    ) -> Result<Target<DocumentState>, LookupError> {
+        let resources = &self.resources;
+        looked_up(alloc, &self.documents, resources, state, reference, dynamic)
+    }
+
+    fn lookup_recursive_ref(
+        &self,
+        alloc: Global,
+        state: &DocumentState,
+    ) -> Result<Target<DocumentState>, LookupError> {
+        looked_up_recursive(alloc, &self.resources, state)
+    }
+
+    fn in_subresource(
+        &self,
+        alloc: Global,
+        state: &DocumentState,
+        draft: Draft,
+        place: &SchemaPlace,
+    ) -> Result<DocumentState, LookupError> {
+        let value = self.documents.value_at(place);
+        self.in_subresource_read(alloc, state, draft, place, value)
+    }
+
+    fn in_subresource_read(
+        &self,
+        alloc: Global,
+        state: &DocumentState,
+        draft: Draft,
+        place: &SchemaPlace,
+        value: Option<&Value>,
+    ) -> Result<DocumentState, LookupError> {
+        let documents = &self.documents;
+        let resources = &self.resources;
+        entered(alloc, documents, resources, state, draft, place, value)
+    }
+
+    fn resolve_uri(
+        &self,
+        alloc: Global,
+        state: &DocumentState,
+        reference: &str,
+    ) -> Result<String, LookupError> {
+        resolve_uri(alloc, self.rule, state.base.as_str(), reference)
+    }
+
+    fn base_uri<'s>(&self, state: &'s DocumentState) -> &'s str {
+        state.base.as_str()
+    }
+
+    fn resource_root(
+        &self,
+        alloc: Global,
+        state: &DocumentState,
+    ) -> Result<SchemaPlace, OutOfMemory> {
+        match self.resources.under(state.base.as_str()) {
+            Some(resource) => resource.place(),
+            None => Ok(root_place(alloc)),
+        }
+    }
+
+    fn find_vocabularies(
+        &self,
+        _alloc: Global,
+        _state: &DocumentState,
+        draft: Draft,
+        _place: &SchemaPlace,
+    ) -> Result<VocabularySet, OutOfMemory> {
+        self.vocabularies.in_draft(draft)
+    }
+
+    fn detect(&self, draft: Draft, value: &Value) -> Draft {
+        detected(draft, value)
+    }
+
+    fn draft_for(&self, alloc: Global, value: &Value) -> Result<Draft, LookupError> {
+        match detected(Draft::Draft202012, value) {
+            Draft::Unknown => {
+                let text = "this resolver does not know the draft of the schema";
+                Err(refusal(alloc, text, ""))
+            }
+            draft => Ok(draft),
+        }
+    }
+
+    fn id<'v>(&self, draft: Draft, value: &'v Value) -> Option<&'v str> {
+        identifier(draft, value)
+    }
+
+    fn subresources_of(
+        &self,
+        alloc: Global,
+        draft: Draft,
+        place: &SchemaPlace,
+    ) -> Result<Vec<SchemaPlace>, OutOfMemory> {
+        match self.documents.value_at(place) {
+            Some(schema) => subschemas(alloc, self.rule, draft, place, schema),
+            None => Ok(Vec::new(alloc)),
+        }
+    }
+
+    fn may_change_draft(&self, _draft: Draft, _place: &SchemaPlace, value: Option<&Value>) -> bool {
+        match value {
+            Some(schema) => names_draft_inside(schema),
+            None => false,
+        }
+    }
+
+    fn subschemas_read<'v>(
+        &'v self,
+        alloc: Global,
+        draft: Draft,
+        place: &SchemaPlace,
+        value: Option<&'v Value>,
+    ) -> Result<Vec<PlacedSchema<'v>>, OutOfMemory> {
+        match value {
+            Some(schema) => subschemas_placed(alloc, self.rule, draft, place, schema),
+            None => Ok(Vec::new(alloc)),
+        }
+    }
+
+    fn is_known_keyword(&self, draft: Draft, name: &str) -> bool {
+        is_known(self.rule, draft, name)
+    }
+
+    ghost same = { λ r a b. same_points a b };
+
+    ghost equal = { λ s t. same_points (state_point s) (state_point t) };
+
+    ghost cloned = { λ s t same. cloned_points s t same.0 same.1 };
+
+    ghost inside = { values_stand_inside };
+
+    ghost below = { subschemas_stand_below };
+}

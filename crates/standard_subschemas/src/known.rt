@@ -1,0 +1,227 @@
+//! The names that schemas use.
+ghost use Rattle.std.specs.Prelude.{◌≡◌, bytes_eq};
+ghost use Rattle.std.specs.List.{list_any};
+ghost use Rattle.schema_drafts.specs.KeywordViews.{draft_of};
+ghost use Rattle.standard_subschemas.specs.SubschemaRules.{is_known, known_keywords};
+ghost use Rattle.standard_subschemas.specs.StandardNames.{is_known_in, is_known_in_6, is_known_in_7, is_known_late, known_in_2019_09_alone};
+ghost use Rattle.standard_subschemas.specs.StandardNames.{known_in_all, new_in_2019_09, new_in_2020_12, new_in_6, new_in_7};
+
+use crate::rules::Rule;
+use schema_drafts::keywords::Draft;
+
+/// Whether the name is one of these.
+fn is_among(name: &str, names: &[&str]) -> bool
+    ensures among { result ≡ list_any (λ k. bytes_eq name.now k.now) names.now }
+{
+    names.contains(&name)
+}
+
+/// Whether a draft knows a keyword of this name, by one of the rules. By the narrow one all drafts know the same, and by the
+/// standard's an unknown draft counts as 2020-12.
+pub fn is_known(rule: Rule, draft: Draft, name: &str) -> bool
+    ensures known { result ≡ is_known rule (draft_of draft) name.now }
+{
+    match rule {
+        Rule::Narrow => is_known_narrowly(name),
+        Rule::Standard => is_known_in(draft, name),
+    }
+}
+
+/// Whether a keyword of this name is known by the narrow rule, in all drafts.
+fn is_known_narrowly(name: &str) -> bool
+    ensures known { result ≡ list_any (bytes_eq name.now) known_keywords }
+{
+    is_among(
+        name,
+        &[
+            "type",
+            "const",
+            "enum",
+            "minimum",
+            "maximum",
+            "exclusiveMinimum",
+            "exclusiveMaximum",
+            "multipleOf",
+            "minLength",
+            "maxLength",
+            "minItems",
+            "maxItems",
+            "minProperties",
+            "maxProperties",
+            "required",
+            "dependentRequired",
+            "pattern",
+            "format",
+            "contentEncoding",
+            "contentMediaType",
+            "contentSchema",
+            "uniqueItems",
+            "properties",
+            "patternProperties",
+            "additionalProperties",
+            "propertyNames",
+            "items",
+            "prefixItems",
+            "additionalItems",
+            "contains",
+            "dependencies",
+            "dependentSchemas",
+            "allOf",
+            "anyOf",
+            "oneOf",
+            "not",
+            "if",
+            "unevaluatedProperties",
+            "unevaluatedItems",
+            "$ref",
+            "$recursiveRef",
+            "$dynamicRef",
+            "$schema",
+            "$id",
+            "id",
+            "$anchor",
+            "$dynamicAnchor",
+            "$recursiveAnchor",
+            "$defs",
+            "definitions",
+            "$comment",
+            "$vocabulary",
+            "then",
+            "else",
+        ],
+    )
+}
+
+/// Whether all drafts of the standard have this name.
+fn is_known_in_all(name: &str) -> bool
+    ensures known { result ≡ list_any (bytes_eq name.now) known_in_all }
+{
+    is_among(
+        name,
+        &[
+            "$schema",
+            "$ref",
+            "definitions",
+            "type",
+            "enum",
+            "minimum",
+            "maximum",
+            "exclusiveMinimum",
+            "exclusiveMaximum",
+            "multipleOf",
+            "minLength",
+            "maxLength",
+            "minItems",
+            "maxItems",
+            "minProperties",
+            "maxProperties",
+            "required",
+            "pattern",
+            "format",
+            "uniqueItems",
+            "properties",
+            "patternProperties",
+            "additionalProperties",
+            "items",
+            "additionalItems",
+            "dependencies",
+            "allOf",
+            "anyOf",
+            "oneOf",
+            "not",
+        ],
+    )
+}
+
+/// Whether the drafts from 6 on have this name too.
+fn is_new_in_6(name: &str) -> bool
+    ensures known { result ≡ list_any (bytes_eq name.now) new_in_6 }
+{
+    is_among(
+        name,
+        &[
+            "$id",
+            "const",
+            "contentEncoding",
+            "contentMediaType",
+            "propertyNames",
+            "contains",
+        ],
+    )
+}
+
+/// Whether the drafts from 7 on have this name too.
+fn is_new_in_7(name: &str) -> bool
+    ensures known { result ≡ list_any (bytes_eq name.now) new_in_7 }
+{
+    is_among(name, &["$comment", "if", "then", "else"])
+}
+
+/// Whether the drafts from 2019-09 on have this name too.
+fn is_new_in_2019_09(name: &str) -> bool
+    ensures known { result ≡ list_any (bytes_eq name.now) new_in_2019_09 }
+{
+    is_among(
+        name,
+        &[
+            "$anchor",
+            "$vocabulary",
+            "$defs",
+            "dependentRequired",
+            "contentSchema",
+            "minContains",
+            "maxContains",
+            "dependentSchemas",
+            "unevaluatedItems",
+            "unevaluatedProperties",
+        ],
+    )
+}
+
+/// Whether the draft 2019-09 alone has this name.
+fn is_known_in_2019_09_alone(name: &str) -> bool
+    ensures known { result ≡ list_any (bytes_eq name.now) known_in_2019_09_alone }
+{
+    is_among(name, &["$recursiveRef", "$recursiveAnchor"])
+}
+
+/// Whether the draft 2020-12 alone has this name.
+fn is_new_in_2020_12(name: &str) -> bool
+    ensures known { result ≡ list_any (bytes_eq name.now) new_in_2020_12 }
+{
+    is_among(name, &["$dynamicRef", "$dynamicAnchor", "prefixItems"])
+}
+
+/// Whether draft 6 knows a keyword of this name.
+fn is_known_in_6(name: &str) -> bool
+    ensures known { result ≡ is_known_in_6 name.now }
+{
+    is_known_in_all(name) || is_new_in_6(name)
+}
+
+/// Whether draft 7 knows a keyword of this name.
+fn is_known_in_7(name: &str) -> bool
+    ensures known { result ≡ is_known_in_7 name.now }
+{
+    is_known_in_6(name) || is_new_in_7(name)
+}
+
+/// Whether both 2019-09 and 2020-12 know a keyword of this name.
+fn is_known_late(name: &str) -> bool
+    ensures known { result ≡ is_known_late name.now }
+{
+    is_known_in_7(name) || is_new_in_2019_09(name)
+}
+
+/// Whether a draft of the standard knows a keyword of this name.
+fn is_known_in(draft: Draft, name: &str) -> bool
+    ensures known { result ≡ is_known_in (draft_of draft) name.now }
+{
+    match draft {
+        Draft::Draft4 => is_known_in_all(name) || name == "id",
+        Draft::Draft6 => is_known_in_6(name),
+        Draft::Draft7 => is_known_in_7(name),
+        Draft::Draft201909 => is_known_late(name) || is_known_in_2019_09_alone(name),
+        Draft::Draft202012 | Draft::Unknown => is_known_late(name) || is_new_in_2020_12(name),
+    }
+}

@@ -1,0 +1,98 @@
+//! The names of the keywords that subschemas lie under.
+ghost use Rattle.std.specs.Prelude.{◌≡◌, map};
+ghost use Rattle.schema_drafts.specs.KeywordViews.{draft_of};
+ghost use Rattle.standard_subschemas.specs.SubschemaRules.{names_of_lists, names_of_objects, names_of_values};
+ghost use Rattle.standard_subschemas.specs.StandardNames as standard;
+
+use crate::rules::Rule;
+use schema_drafts::keywords::Draft;
+
+/// The names under which subschemas lie among the members of an object.
+pub fn names_of_objects(rule: Rule, draft: Draft) -> &'static [&'static str]
+    ensures names { map (λ k. k.now) result.now ≡ names_of_objects rule (draft_of draft) }
+{
+    match rule {
+        Rule::Narrow => &["$defs", "definitions", "properties"],
+        Rule::Standard => match draft {
+            Draft::Draft4 | Draft::Draft6 | Draft::Draft7 => &[
+                "definitions",
+                "properties",
+                "patternProperties",
+                "dependencies",
+            ],
+            _ => &[
+                "$defs",
+                "definitions",
+                "properties",
+                "patternProperties",
+                "dependentSchemas",
+                "dependencies",
+            ],
+        },
+    }
+}
+
+/// The names under which subschemas lie among the items of a list.
+pub fn names_of_lists(rule: Rule, draft: Draft) -> &'static [&'static str]
+    ensures names { map (λ k. k.now) result.now ≡ names_of_lists rule (draft_of draft) }
+{
+    match rule {
+        Rule::Narrow => &["allOf", "anyOf", "oneOf", "prefixItems"],
+        Rule::Standard => match draft {
+            Draft::Draft202012 | Draft::Unknown => &["allOf", "anyOf", "oneOf", "prefixItems"],
+            _ => &["allOf", "anyOf", "oneOf", "items"],
+        },
+    }
+}
+
+/// The names under which a subschema lies as the value itself.
+pub fn names_of_values(rule: Rule, draft: Draft) -> &'static [&'static str]
+    ensures names { map (λ k. k.now) result.now ≡ names_of_values rule (draft_of draft) }
+{
+    match rule {
+        Rule::Narrow => &["not", "if", "then", "else", "items", "propertyNames"],
+        Rule::Standard => standard_values(draft),
+    }
+}
+
+/// The names under which a subschema lies as the value itself, by the standard's rule.
+fn standard_values(draft: Draft) -> &'static [&'static str]
+    ensures names { map (λ k. k.now) result.now ≡ standard.names_of_values (draft_of draft) }
+{
+    match draft {
+        Draft::Draft4 => &["not", "items", "additionalItems", "additionalProperties"],
+        Draft::Draft6 => &[
+            "not",
+            "items",
+            "additionalItems",
+            "additionalProperties",
+            "contains",
+            "propertyNames",
+        ],
+        Draft::Draft7 => &[
+            "not",
+            "items",
+            "additionalItems",
+            "additionalProperties",
+            "contains",
+            "propertyNames",
+            "if",
+            "then",
+            "else",
+        ],
+        _ => &[
+            "not",
+            "items",
+            "additionalItems",
+            "additionalProperties",
+            "contains",
+            "propertyNames",
+            "if",
+            "then",
+            "else",
+            "unevaluatedItems",
+            "unevaluatedProperties",
+            "contentSchema",
+        ],
+    }
+}

@@ -1,0 +1,374 @@
+//! Subschemas of schemas.
+ghost use Rattle.std.specs.Prelude.{◌≡◌, ◌++◌, ◌∷◌, [], map, IfOk, IfSome};
+ghost use Rattle.std.specs.Rc.{rc_str_bytes};
+ghost use Rattle.serde_json.specs.Find.{get};
+ghost use Rattle.serde_json.specs.Data.{object};
+ghost use Rattle.serde_json.specs.View.{view};
+ghost use Rattle.theory_definitions.specs.Drafts.{at_path};
+ghost use Rattle.schema_drafts.specs.KeywordViews.{draft_of};
+ghost use Rattle.schema_traits.specs.ResolverViews.{place_of, placed_of};
+ghost use Rattle.standard_subschemas.specs.SubschemaRules.{below_list, below_object, below_value, is_schema};
+ghost use Rattle.standard_subschemas.specs.SubschemaRules.{subschemas};
+ghost use Rattle.standard_subschemas.specs.FoundSchemas.{found_at, schema_if};
+ghost use Rattle.standard_subschemas.specs.FoundViews.{AddsBelow, AddsBelowEach, below, found_of, path_of, placed_at, steps_inside};
+ghost use Rattle.schema_traits.specs.Showing.{Shows};
+ghost use Rattle.schema_traits.specs.Readings.{fields, value_read};
+
+use crate::plain::any_names_schemas;
+use crate::rules::Rule;
+use crate::schema_names::{names_of_lists, names_of_objects, names_of_values};
+use schema_drafts::keywords::Draft;
+use schema_reports::location::OutOfMemory;
+use schema_traits::resolver::PlacedSchema;
+use schema_traits::schema_place::{SchemaPath, SchemaPlace, SchemaStep};
+use serde_json::{Map, Value};
+use std::alloc::Global;
+use std::rc::RcStr;
+
+/// Whether a value may be a schema: an object or a boolean.
+pub fn is_schema(value: &Value) -> bool
+    ensures schema { result ≡ is_schema (view value.now) }
+{
+    value.is_object() || value.is_boolean()
+}
+
+/// The value under a name.
+fn member<'v>(members: &'v Map<String, Value>, name: &str) -> Option<&'v Value>
+    ensures member { value_read result ≡ get name.now (object (fields members.now)) }
+{
+    members.get(name)
+}
+
+/// What leads from the value under a keyword to a subschema: nothing, where that value is the subschema, a member's name, or an
+/// item's index.
+#[derive(Clone, Copy)]
+pub enum Inside<'v> {
+    Nothing,
+    Member(&'v str),
+    Item(usize),
+}
+
+/// A subschema as it is found: the keyword that it lies under, what leads from there to it, and itself.
+#[derive(Clone, Copy)]
+pub struct FoundSchema<'v> {
+    pub keyword: &'v str,
+    pub inside: Inside<'v>,
+    pub schema: &'v Value,
+}
+
+impl<'v> FoundSchema<'v> {
+    /// Adds the steps that lead to the subschema to a path.
+    ///
+    /// # Errors
+    ///
+    /// Fails only if memory cannot be allocated.
+    pub fn add_steps(&self, alloc: Global, path: &mut SchemaPath) -> Result<(), OutOfMemory>
+        ensures added { IfOk result (λ _. path.new ≡ path.old ++ path_of self.now) }
+    {
+        path.push(SchemaStep::Member(RcStr::from_str(alloc, self.keyword)?))?;
+        self.add_inside(alloc, path)
+    }
+
+    /// Adds the steps that lead from the keyword's value to the subschema to a path. Fails only if memory cannot be allocated.
+    fn add_inside(&self, alloc: Global, path: &mut SchemaPath) -> Result<(), OutOfMemory>
+        ensures added { IfOk result (λ _. path.new ≡ path.old ++ steps_inside self.now.inside) }
+    {
+        match self.inside {
+            Inside::Nothing => Ok(()),
+            Inside::Member(name) => path.push(SchemaStep::Member(RcStr::from_str(alloc, name)?)),
+            Inside::Item(index) => path.push(SchemaStep::Item(index)),
+        }
+    }
+}
+
+/// Adds a value that was found, where it is a schema.
+fn add_schema<'v>(one: FoundSchema<'v>, found: &mut Vec<FoundSchema<'v>>) -> Result<(), OutOfMemory>
+    ensures added { IfOk result (λ _. map found_of found.new.items ≡ map found_of found.old.items ++ schema_if (found_of one.entry)) }
+{
+    if is_schema(one.schema) {
+        found.push(one)?;
+    }
+    Ok(())
+}
+
+/// Adds the schemas among the members of the object under a name.
+fn find_in_object<'v>(
+    members: &'v Map<String, Value>,
+    keyword: &'v str,
+    found: &mut Vec<FoundSchema<'v>>,
+) -> Result<(), OutOfMemory>
+    ensures found { IfOk result (λ _. AddsBelow (object (fields members.now)) below_object keyword.now found.old.items found.new.items) }
+{
+    let Some(value) = member(members, keyword) else {
+        return Ok(());
+    };
+    let Some(inner) = value.as_object() else {
+        return Ok(());
+    };
+    for (name, member) in inner.iter() {
+        let one = FoundSchema {
+            keyword,
+            inside: Inside::Member(name.as_str()),
+            schema: member,
+        };
+        add_schema(one, found)?;
+    }
+    Ok(())
+}
+
+/// Adds the schemas among the items of the list under a name.
+fn find_in_list<'v>(
+    members: &'v Map<String, Value>,
+    keyword: &'v str,
+    found: &mut Vec<FoundSchema<'v>>,
+) -> Result<(), OutOfMemory>
+    ensures found { IfOk result (λ _. AddsBelow (object (fields members.now)) below_list keyword.now found.old.items found.new.items) }
+{
+    let Some(value) = member(members, keyword) else {
+        return Ok(());
+    };
+    let Some(items) = value.as_array() else {
+        return Ok(());
+    };
+    for (index, item) in items.iter().enumerate() {
+        let one = FoundSchema {
+            keyword,
+            inside: Inside::Item(index),
+            schema: item,
+        };
+        add_schema(one, found)?;
+    }
+    Ok(())
+}
+
+/// Adds the schema under a name.
+fn find_value<'v>(
+    members: &'v Map<String, Value>,
+    keyword: &'v str,
+    found: &mut Vec<FoundSchema<'v>>,
+) -> Result<(), OutOfMemory>
+    ensures found { IfOk result (λ _. AddsBelow (object (fields members.now)) below_value keyword.now found.old.items found.new.items) }
+{
+    let Some(value) = member(members, keyword) else {
+        return Ok(());
+    };
+    let one = FoundSchema {
+        keyword,
+        inside: Inside::Nothing,
+        schema: value,
+    };
+    add_schema(one, found)
+}
+
+/// How subschemas lie under a keyword: among the members of an object, among the items of a list, or as the value itself.
+#[derive(Clone, Copy)]
+pub enum Lying {
+    InObject,
+    InList,
+    AsValue,
+}
+
+/// Adds the schemas that lie so under a name.
+fn find_under<'v>(
+    lying: Lying,
+    members: &'v Map<String, Value>,
+    keyword: &'v str,
+    found: &mut Vec<FoundSchema<'v>>,
+) -> Result<(), OutOfMemory>
+    ensures found { IfOk result (λ _. AddsBelow (object (fields members.now)) (below lying) keyword.now found.old.items found.new.items) }
+{
+    match lying {
+        Lying::InObject => find_in_object(members, keyword, found),
+        Lying::InList => find_in_list(members, keyword, found),
+        Lying::AsValue => find_value(members, keyword, found),
+    }
+}
+
+/// Adds the schemas that lie so under some names.
+fn find_under_each<'v>(
+    lying: Lying,
+    members: &'v Map<String, Value>,
+    keywords: &[&'v str],
+    found: &mut Vec<FoundSchema<'v>>,
+) -> Result<(), OutOfMemory>
+    ensures found { IfOk result (λ _. AddsBelowEach (object (fields members.now)) (below lying) (map (λ k. k.now) keywords.now)
+        found.old.items found.new.items) }
+{
+    for keyword in keywords {
+        find_under(lying, members, *keyword, found)?;
+    }
+    Ok(())
+}
+
+/// The subschemas of an object with these members, in order.
+#[tactic(auto, using(crate::proofs::PlaceLists::parts))]
+fn found_in<'v>(
+    alloc: Global,
+    rule: Rule,
+    draft: Draft,
+    members: &'v Map<String, Value>,
+) -> Result<Vec<FoundSchema<'v>>, OutOfMemory>
+    ensures found { IfOk result (λ found. let schema = object (fields members.now) in map found_of found.items ≡ map (found_at schema)
+        (subschemas rule (draft_of draft) schema)) }
+{
+    let mut found = Vec::new(alloc);
+    let objects = names_of_objects(rule, draft);
+    find_under_each(Lying::InObject, members, objects, &mut found)?;
+    let lists = names_of_lists(rule, draft);
+    find_under_each(Lying::InList, members, lists, &mut found)?;
+    let values = names_of_values(rule, draft);
+    find_under_each(Lying::AsValue, members, values, &mut found)?;
+    Ok(found)
+}
+
+/// The subschemas of a schema, in order, each with the path that leads to it.
+///
+/// # Errors
+///
+/// Fails only if memory cannot be allocated.
+pub fn subschemas_found<'v>(
+    alloc: Global,
+    rule: Rule,
+    draft: Draft,
+    schema: &'v Value,
+) -> Result<Vec<FoundSchema<'v>>, OutOfMemory>
+    ensures found { IfOk result (λ found. map found_of found.items ≡ map (found_at (view schema.now))
+        (subschemas rule (draft_of draft) (view schema.now))) }
+{
+    match schema {
+        Value::Object(members) => {
+            if any_names_schemas(rule, members) {
+                found_in(alloc, rule, draft, members)
+            } else {
+                Ok(Vec::new(alloc))
+            }
+        }
+        Value::Null => Ok(Vec::new(alloc)),
+        Value::Bool(_) => Ok(Vec::new(alloc)),
+        Value::Number(_) => Ok(Vec::new(alloc)),
+        Value::String(_) => Ok(Vec::new(alloc)),
+        Value::Array(_) => Ok(Vec::new(alloc)),
+    }
+}
+
+/// The last keyword again, where it is this one. A clone costs no memory.
+fn keyword_again(last: &Option<RcStr>, keyword: &str) -> Result<Option<RcStr>, OutOfMemory>
+    ensures same { IfOk result (λ again. IfSome again (λ k. rc_str_bytes k ≡ keyword.now)) }
+{
+    match last {
+        Some(last) => {
+            if last.as_str() == keyword {
+                Ok(Some(last.clone()?))
+            } else {
+                Ok(None)
+            }
+        }
+        None => Ok(None),
+    }
+}
+
+/// A keyword as a step has it: the last one where that is the same, so that the subschemas under one share it. It is the last one
+/// from then on.
+fn keyword_of(alloc: Global, last: &mut Option<RcStr>, keyword: &str) -> Result<RcStr, OutOfMemory>
+    ensures keyword { Shows rc_str_bytes result keyword.now }
+{
+    if let Some(again) = keyword_again(last, keyword)? {
+        return Ok(again);
+    }
+    let first = RcStr::from_str(alloc, keyword)?;
+    *last = Some(first.clone()?);
+    Ok(first)
+}
+
+/// The place of a subschema of the schema at a place, where the last one that was found has this keyword.
+fn place_found(
+    alloc: Global,
+    place: &SchemaPlace,
+    last: &mut Option<RcStr>,
+    found: &FoundSchema<'_>,
+) -> Result<SchemaPlace, OutOfMemory>
+    ensures place { Shows place_of result (at_path (place_of place.now) (path_of found.now)) }
+{
+    let keyword = keyword_of(alloc, last, found.keyword)?;
+    let mut path = place.path.with_room(alloc, 2)?;
+    path.push(SchemaStep::Member(keyword))?;
+    found.add_inside(alloc, &mut path)?;
+    Ok(SchemaPlace {
+        document: place.document,
+        path,
+    })
+}
+
+/// The places of subschemas of the schema at a place.
+fn places_found(
+    alloc: Global,
+    place: &SchemaPlace,
+    found: &[FoundSchema<'_>],
+) -> Result<Vec<SchemaPlace>, OutOfMemory>
+    ensures places { IfOk result (λ places. map place_of places.items ≡ map (at_path (place_of place.now)) (map path_of found.now)) }
+{
+    let mut places = Vec::with_capacity(alloc, found.len())?;
+    let mut last = None;
+    for one in found {
+        places.push(place_found(alloc, place, &mut last, one)?)?;
+    }
+    Ok(places)
+}
+
+/// Subschemas of the schema at a place, each with its own place.
+fn placed_found<'v>(
+    alloc: Global,
+    place: &SchemaPlace,
+    found: &[FoundSchema<'v>],
+) -> Result<Vec<PlacedSchema<'v>>, OutOfMemory>
+    ensures placed { IfOk result (λ ps. map placed_of ps.items ≡ map (placed_at (place_of place.now)) (map found_of found.now)) }
+{
+    let mut placed = Vec::with_capacity(alloc, found.len())?;
+    let mut last = None;
+    for one in found {
+        let below = place_found(alloc, place, &mut last, one)?;
+        placed.push(PlacedSchema {
+            place: below,
+            value: Some(one.schema),
+        })?;
+    }
+    Ok(placed)
+}
+
+/// The subschemas of the schema at a place, in order, each with its own place.
+///
+/// # Errors
+///
+/// Fails only if memory cannot be allocated.
+pub fn subschemas_placed<'v>(
+    alloc: Global,
+    rule: Rule,
+    draft: Draft,
+    place: &SchemaPlace,
+    schema: &'v Value,
+) -> Result<Vec<PlacedSchema<'v>>, OutOfMemory>
+    ensures placed { IfOk result (λ ps. map placed_of ps.items
+        ≡ map (placed_at (place_of place.now)) (map (found_at (view schema.now)) (subschemas rule (draft_of draft) (view schema.now)))) }
+{
+    let found = subschemas_found(alloc, rule, draft, schema)?;
+    placed_found(alloc, place, found.as_slice())
+}
+
+/// The places of the subschemas of a schema, in order.
+///
+/// # Errors
+///
+/// Fails only if memory cannot be allocated.
+pub fn subschemas(
+    alloc: Global,
+    rule: Rule,
+    draft: Draft,
+    place: &SchemaPlace,
+    schema: &Value,
+) -> Result<Vec<SchemaPlace>, OutOfMemory>
+    ensures places { IfOk result (λ places. map place_of places.items ≡ map (at_path (place_of place.now))
+        (subschemas rule (draft_of draft) (view schema.now))) }
+{
+    let found = subschemas_found(alloc, rule, draft, schema)?;
+    places_found(alloc, place, found.as_slice())
+}

@@ -1,8 +1,0 @@
-use Rattle.std.proofs.Common.{◌≡◌, ◌++◌, drop, map}
-use Rattle.serde_json.specs.View.{view}
-use Rattle.bench_resolver.specs.BenchViews.{given_of}
-use Rattle.standard_validator.specs.Sources.{values_of}
-use Rattle.standard_validator.proofs.sources.Sources.values.Given as goal
-
-abbrev pub invariant-loop-document : goal.invariant-loop-document
-invariant-loop-document l = values_of l.self ≡ map (λ v. view v.now) l.values.items ++ map (λ d. view d.value) (map given_of (drop l.document-index l.document-items))

@@ -1,0 +1,225 @@
+//! Builds of validators, and what these answer: the only functions here that build by `Validator::new` or by options, and ask.
+use bench_parts::matcher::BenchMatcher;
+use bench_parts::meta::BenchMeta;
+use bench_parts::table::BenchTable;
+use schema_drafts::keywords::VocabularySet;
+use schema_engine::options::ValidationOptions;
+use schema_engine::validator::Validator;
+use schema_keys::error::BuildError;
+use schema_reports::location::OutOfMemory;
+use schema_reports::reports::ErrorIterator;
+use schema_traits::keyword::Validate;
+use schema_traits::matcher::Matcher;
+use schema_traits::resolver::Resolver;
+use schema_traits::table::KeywordTable;
+use serde_json::Value;
+use standard_basics::keyword::BasicKeyword;
+use standard_resolver::resolver::DocumentResolver;
+use std::alloc::{AllocError, Global};
+use test_rows::tables::{column, list_at, number_at, push_all, texts_of};
+
+/// The resolver of a row's schema, and the matcher that leaves the row's patterns unfinished.
+#[derive(Drop)]
+pub(crate) struct Parts<'r> {
+    pub resolver: DocumentResolver<'r>,
+    pub matcher: BenchMatcher,
+}
+
+/// The parts of a row, of which column 1 is the schema, and column 4 the list of the patterns.
+pub(crate) fn parts_of(alloc: Global, row: &Value) -> Result<Parts<'_>, OutOfMemory> {
+    let matcher = BenchMatcher::new(texts_of(alloc, list_at(row, 4))?);
+    match DocumentResolver::new(alloc, column(row, 1), VocabularySet::new(alloc)) {
+        Ok(resolver) => Ok(Parts { resolver, matcher }),
+        Err(failed) => {
+            drop(matcher);
+            Err(failed)
+        }
+    }
+}
+
+/// The validator of a row's schema: by the default options, or else under the limit of keys in column 3.
+pub(crate) fn built<K: Validate, T: KeywordTable<K>, R: Resolver, M: Matcher>(
+    alloc: Global,
+    table: &T,
+    resolver: &R,
+    matcher: &M,
+    row: &Value,
+) -> Result<Validator<K, M>, BuildError> {
+    let schema = column(row, 1);
+    match number_at(row, 3) {
+        None => Validator::new(alloc, schema, table, resolver, matcher, &BenchMeta {}),
+        Some(limit) => ValidationOptions::new(alloc)
+            .with_node_limit(limit)
+            .build(alloc, schema, table, resolver, matcher, &BenchMeta {}),
+    }
+}
+
+/// The validator of a row's schema by its own parts.
+pub(crate) fn built_by<K: Validate, T: KeywordTable<K>>(
+    alloc: Global,
+    table: &T,
+    row: &Value,
+) -> Result<Validator<K, BenchMatcher>, BuildError> {
+    let parts = parts_of(alloc, row)?;
+    let built = built::<K, T, DocumentResolver, BenchMatcher>(
+        alloc,
+        table,
+        &parts.resolver,
+        &parts.matcher,
+        row,
+    );
+    drop(parts);
+    built
+}
+
+/// Adds that the schema was refused, and that it was by the limit.
+pub(crate) fn push_refusal(error: BuildError, log: &mut String) -> Result<(), OutOfMemory> {
+    let number = error.number();
+    drop(error);
+    match number {
+        8 => log.push_str("refused by the limit"),
+        9 => Err(AllocError),
+        _ => log.push_str("refused"),
+    }
+}
+
+/// Adds the verdict.
+fn push_verdict<K: Validate, M: Matcher>(
+    alloc: Global,
+    validator: &Validator<K, M>,
+    instance: &Value,
+    log: &mut String,
+) -> Result<(), OutOfMemory> {
+    log.push_str(if validator.is_valid(alloc, instance)? {
+        "yes"
+    } else {
+        "no"
+    })
+}
+
+/// Adds the text of the first error after a colon, if there is one.
+fn push_first<K: Validate, M: Matcher>(
+    alloc: Global,
+    validator: &Validator<K, M>,
+    instance: &Value,
+    log: &mut String,
+) -> Result<(), OutOfMemory> {
+    match validator.validate(alloc, instance)? {
+        Ok(()) => Ok(()),
+        Err(error) => {
+            let pushed = push_all(log, &[": ", error.text.as_str()]);
+            drop(error);
+            pushed
+        }
+    }
+}
+
+/// Adds the text of each error after a semicolon.
+fn push_texts(errors: ErrorIterator<'_>, log: &mut String) -> Result<(), OutOfMemory> {
+    for error in errors {
+        push_all(log, &["; ", error.text.as_str()])?;
+    }
+    Ok(())
+}
+
+/// The same of all errors of an instance.
+fn push_errors<K: Validate, M: Matcher>(
+    alloc: Global,
+    validator: &Validator<K, M>,
+    instance: &Value,
+    log: &mut String,
+) -> Result<(), OutOfMemory> {
+    push_texts(validator.iter_errors(alloc, instance)?, log)
+}
+
+/// Adds the verdict, the first error and all errors.
+pub(crate) fn push_answers<K: Validate, M: Matcher>(
+    alloc: Global,
+    validator: &Validator<K, M>,
+    instance: &Value,
+    log: &mut String,
+) -> Result<(), OutOfMemory> {
+    push_verdict(alloc, validator, instance, log)?;
+    push_first(alloc, validator, instance, log)?;
+    push_errors(alloc, validator, instance, log)
+}
+
+/// The same to an empty log; the validator is asked once more where memory was refused.
+pub(crate) fn push_answers_again<K: Validate, M: Matcher>(
+    alloc: Global,
+    validator: &Validator<K, M>,
+    instance: &Value,
+    log: &mut String,
+) -> Result<(), OutOfMemory> {
+    if push_answers(alloc, validator, instance, log).is_ok() {
+        return Ok(());
+    }
+    log.clear();
+    push_answers(alloc, validator, instance, log)
+}
+
+/// Adds what the validator of a row's schema answers of the instance in column 2, or why there is none.
+pub(crate) fn tell_with<K: Validate, T: KeywordTable<K>, R: Resolver, M: Matcher>(
+    alloc: Global,
+    table: &T,
+    resolver: &R,
+    matcher: &M,
+    row: &Value,
+    log: &mut String,
+) -> Result<(), OutOfMemory> {
+    match built::<K, T, R, M>(alloc, table, resolver, matcher, row) {
+        Ok(validator) => {
+            let told = push_answers_again(alloc, &validator, column(row, 2), log);
+            drop(validator);
+            told
+        }
+        Err(error) => push_refusal(error, log),
+    }
+}
+
+/// The same, by a table, with the row's parts.
+pub(crate) fn tell_by<K: Validate, T: KeywordTable<K>>(
+    alloc: Global,
+    table: &T,
+    row: &Value,
+    log: &mut String,
+) -> Result<(), OutOfMemory> {
+    let parts = parts_of(alloc, row)?;
+    let told = tell_with::<K, T, DocumentResolver, BenchMatcher>(
+        alloc,
+        table,
+        &parts.resolver,
+        &parts.matcher,
+        row,
+        log,
+    );
+    drop(parts);
+    told
+}
+
+/// The list of an evaluation.
+fn list_of<K: Validate, M: Matcher>(
+    alloc: Global,
+    validator: &Validator<K, M>,
+    instance: &Value,
+) -> Result<Value, OutOfMemory> {
+    let evaluation = validator.evaluate(alloc, instance)?;
+    let list = evaluation.list(alloc);
+    drop(evaluation);
+    list
+}
+
+/// The list of the instance in column 2, by the bench's table and a row's schema and parts, or null where the schema is refused.
+pub(crate) fn listed(alloc: Global, row: &Value) -> Result<Value, OutOfMemory> {
+    match built_by::<BasicKeyword, BenchTable>(alloc, &BenchTable {}, row) {
+        Ok(validator) => {
+            let list = list_of(alloc, &validator, column(row, 2));
+            drop(validator);
+            list
+        }
+        Err(error) => {
+            drop(error);
+            Ok(Value::Null)
+        }
+    }
+}

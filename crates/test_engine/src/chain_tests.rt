@@ -1,0 +1,40 @@
+//! A thousand references one inside the other. The rows have two hundred: Rattle's own compiler, which builds the program that reads
+//! them too, has no room for more on a usual stack.
+use crate::asking::listed;
+use schema_reports::location::OutOfMemory;
+use serde_json::Value;
+use std::alloc::Global;
+use test_parts::reference_chain::row_of;
+use test_rows::showing::units_counted;
+use test_rows::tables::{number_at, text_at};
+
+/// The list of a chain of so many references.
+fn list_of_chain(alloc: Global, references: u16) -> Result<Value, serde_json::Error> {
+    let row = row_of(alloc, references)?;
+    let list = listed(alloc, &row);
+    drop(row);
+    Ok(list?)
+}
+
+/// Whether what is counted of a list is so many units, one of them with errors, the last of them below a thousand references.
+fn tells_chain(alloc: Global, counted: &Value) -> Result<bool, OutOfMemory> {
+    let mut path = "/$ref".repeat(alloc, 1000)?;
+    path.push_str("/type")?;
+    Ok(
+        number_at(counted, 0) == Some(1002)
+            && number_at(counted, 1) == Some(1)
+            && text_at(counted, 2) == path.as_str(),
+    )
+}
+
+#[test]
+fn a_thousand_references_are_listed(rt: HostRuntime) -> Result<(), serde_json::Error> {
+    let list = list_of_chain(rt.alloc(), 999)?;
+    let counted = units_counted(rt.alloc(), &list);
+    drop(list);
+    let counted = counted?;
+    let told = tells_chain(rt.alloc(), &counted);
+    drop(counted);
+    assert!(rt; told?);
+    Ok(())
+}

@@ -1,0 +1,40 @@
+//! A resolver of its own, whose state grows by one with each lookup: a schema that refers to itself never comes back to a key. The
+//! rows of `test_check_rows` have no such resolver.
+use crate::asking::{Parts, parts_of, tell_with};
+use bench_parts::matcher::BenchMatcher;
+use bench_parts::table::BenchTable;
+use schema_reports::location::OutOfMemory;
+use serde_json::Value;
+use standard_basics::keyword::BasicKeyword;
+use std::alloc::Global;
+use test_parts::growing_resolver::GrowingResolver;
+
+/// Adds what is answered with a resolver whose states grow.
+pub(crate) fn tell_growing(
+    alloc: Global,
+    row: &Value,
+    log: &mut String,
+) -> Result<(), OutOfMemory> {
+    let Parts { resolver, matcher } = parts_of(alloc, row)?;
+    let resolver = GrowingResolver { document: resolver };
+    let told = tell_with::<BasicKeyword, BenchTable, GrowingResolver, BenchMatcher>(
+        alloc,
+        &BenchTable {},
+        &resolver,
+        &matcher,
+        row,
+        log,
+    );
+    drop(resolver);
+    drop(matcher);
+    told
+}
+
+// What is answered, schema, instance, limit of keys, no patterns. Each lookup reaches a new key, so no limit is enough. With no
+// reference there are two keys.
+pub(crate) const GROWING: &str = r##"[
+["refused by the limit", {"properties":{"n":{"$ref":"#"}}}, null, 1, []],
+["refused by the limit", {"properties":{"n":{"$ref":"#"}}}, null, 7, []],
+["refused by the limit", {"properties":{"n":{"$ref":"#"}}}, null, 1000, []],
+["yes", {"properties":{"n":{}}}, null, 2, []]
+]"##;

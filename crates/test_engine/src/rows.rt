@@ -1,0 +1,107 @@
+//! Tables of rows, and the walk over them: a row is right where what is told of it is the text in its first column, or the texts there,
+//! one after the other.
+use crate::asking::tell_by;
+use crate::failing_matcher_tests::{FAILURES, WANTING, tell_failure, tell_wanting};
+use crate::growing_tests::{GROWING, tell_growing};
+use crate::leaf_tests::{LEAVES, tell_leaf};
+use crate::mark_tests::MARKS;
+use crate::program_tests::{ANSWERS, FAULTS, WRITES, tell_program};
+use crate::reservation_tests::{RESERVATIONS, tell_numbers};
+use crate::vocabulary_tests::{VOCABULARIES, tell_names};
+use bench_parts::table::BenchTable;
+use keyword_makers::by_value::TableByValue;
+use schema_reports::location::OutOfMemory;
+use serde_json::Value;
+use standard_basics::keyword::BasicKeyword;
+use std::alloc::Global;
+use test_laws::both_once::BothOnce;
+use test_laws::items::ItemsKeyword;
+use test_laws::items_table::ItemsTable;
+use test_parts::marking_table::MarkingTable;
+use test_rows::tables::{wanted_of, wrong_row};
+
+/// What the rows of a table are about.
+#[derive(Clone, Copy)]
+pub(crate) enum Rows {
+    Failures,
+    Growing,
+    Leaves,
+    Marks,
+    Program,
+    Reservations,
+    Retries,
+    Vocabularies,
+    Wanting,
+}
+
+/// Adds what is told of a row.
+fn tell(alloc: Global, rows: Rows, row: &Value, log: &mut String) -> Result<(), OutOfMemory> {
+    match rows {
+        Rows::Failures => tell_failure(alloc, row, log),
+        Rows::Growing => tell_growing(alloc, row, log),
+        Rows::Leaves => tell_leaf(alloc, row, log),
+        Rows::Marks => tell_by::<BothOnce, TableByValue<MarkingTable>>(
+            alloc,
+            &TableByValue {
+                keywords: MarkingTable {},
+            },
+            row,
+            log,
+        ),
+        Rows::Program => tell_program(alloc, row, log),
+        Rows::Reservations => {
+            tell_numbers::<ItemsKeyword, ItemsTable>(alloc, &ItemsTable {}, row, log)
+        }
+        Rows::Retries => tell_by::<BasicKeyword, BenchTable>(alloc, &BenchTable {}, row, log),
+        Rows::Vocabularies => tell_names(alloc, row, log),
+        Rows::Wanting => tell_wanting(alloc, row, log),
+    }
+}
+
+/// Whether a row is right.
+fn is_right(alloc: Global, rows: Rows, row: &Value) -> Result<bool, OutOfMemory> {
+    let mut log = String::new(alloc);
+    let told = tell(alloc, rows, row, &mut log);
+    let wanted = wanted_of(alloc, row);
+    told?;
+    Ok(log == wanted?)
+}
+
+/// The number of the first row of a table that is wrong.
+pub(crate) fn wrong(
+    alloc: Global,
+    rows: Rows,
+    table: &str,
+) -> Result<Option<usize>, serde_json::Error> {
+    wrong_row(alloc, table, |row| is_right(alloc, rows, row))
+}
+
+/// The tables, each with what its rows are about, and with its name. Each says why its rows are none of `test_check_rows`.
+const TABLES: [(Rows, &str, &str); 10] = [
+    (Rows::Failures, "failures", FAILURES),
+    (Rows::Growing, "growing", GROWING),
+    (Rows::Leaves, "leaves", LEAVES),
+    (Rows::Marks, "marks", MARKS),
+    (Rows::Program, "answers", ANSWERS),
+    (Rows::Program, "faults", FAULTS),
+    (Rows::Program, "writes", WRITES),
+    (Rows::Reservations, "reservations", RESERVATIONS),
+    (Rows::Vocabularies, "vocabularies", VOCABULARIES),
+    (Rows::Wanting, "wanting", WANTING),
+];
+
+/// The name of the first table in which a row is wrong, and the number of the row.
+fn first_wrong(alloc: Global) -> Result<Option<(&'static str, usize)>, serde_json::Error> {
+    for (rows, name, table) in &TABLES {
+        if let Some(number) = wrong(alloc, *rows, table)? {
+            return Ok(Some((*name, number)));
+        }
+    }
+    Ok(None)
+}
+
+#[test]
+fn rows_hold(rt: HostRuntime) -> Result<(), serde_json::Error> {
+    assert_eq!(rt; first_wrong(rt.alloc())?, None);
+    Ok(())
+}

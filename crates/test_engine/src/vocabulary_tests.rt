@@ -1,0 +1,94 @@
+//! A vocabulary that one draft alone requires, which no option of a row says: a map asks for it at the root, and not for its entries.
+use crate::asking::push_refusal;
+use bench_parts::matcher::BenchMatcher;
+use bench_parts::meta::BenchMeta;
+use bench_parts::table::BenchTable;
+use schema_engine::keywords::VocabularySet;
+use schema_engine::map::ValidatorMap;
+use schema_engine::options::ValidationOptions;
+use schema_keys::error::BuildError;
+use schema_reports::location::OutOfMemory;
+use schema_traits::keyword::Validate;
+use schema_traits::matcher::Matcher;
+use schema_traits::resolver::Resolver;
+use schema_traits::table::KeywordTable;
+use serde_json::Value;
+use standard_basics::keyword::BasicKeyword;
+use standard_resolver::resolver::DocumentResolver;
+use std::alloc::Global;
+use test_parts::draft_vocabularies::requiring_in_2019_09;
+use test_rows::tables::{column, text_at};
+
+/// The map of a row's schema.
+fn map_of<K: Validate, T: KeywordTable<K>, R: Resolver, M: Matcher>(
+    alloc: Global,
+    table: &T,
+    resolver: &R,
+    matcher: &M,
+    row: &Value,
+) -> Result<ValidatorMap<K, M>, BuildError> {
+    let options = ValidationOptions::new(alloc);
+    let map = options.build_map::<R, T, K, M, BenchMeta>(
+        alloc,
+        column(row, 1),
+        table,
+        resolver,
+        matcher,
+        &BenchMeta {},
+    );
+    drop(options);
+    map
+}
+
+/// Adds whether the map of a row's schema has the name in column 2, or why there is no map.
+fn tell_name<K: Validate, T: KeywordTable<K>, R: Resolver, M: Matcher>(
+    alloc: Global,
+    table: &T,
+    resolver: &R,
+    matcher: &M,
+    row: &Value,
+    log: &mut String,
+) -> Result<(), OutOfMemory> {
+    match map_of::<K, T, R, M>(alloc, table, resolver, matcher, row) {
+        Ok(map) => {
+            let has = map.contains_key(text_at(row, 2));
+            drop(map);
+            log.push_str(if has { "yes" } else { "no" })
+        }
+        Err(error) => push_refusal(error, log),
+    }
+}
+
+/// The same where 2019-09 alone requires the custom vocabulary.
+pub(crate) fn tell_names(alloc: Global, row: &Value, log: &mut String) -> Result<(), OutOfMemory> {
+    let by_draft = requiring_in_2019_09(alloc)?;
+    match DocumentResolver::new(alloc, column(row, 1), VocabularySet::new(alloc)) {
+        Ok(plain) => {
+            let resolver = plain.with_draft_vocabularies(by_draft);
+            let matcher = BenchMatcher::new(Vec::new(alloc));
+            let told = tell_name::<BasicKeyword, BenchTable, DocumentResolver, BenchMatcher>(
+                alloc,
+                &BenchTable {},
+                &resolver,
+                &matcher,
+                row,
+                log,
+            );
+            drop(matcher);
+            drop(resolver);
+            told
+        }
+        Err(failed) => {
+            drop(by_draft);
+            Err(failed)
+        }
+    }
+}
+
+// Whether the map has the name, schema, name. What requires the vocabulary is a subschema; where no reference leads there it is in the
+// map, and what refers to it is not.
+pub(crate) const VOCABULARIES: &str = r##"[
+["yes", {"$defs":{"a":{"$schema":"https://json-schema.org/draft/2019-09/schema"}}}, "#/$defs/a"],
+["yes", {"$defs":{"a":{"$schema":"https://json-schema.org/draft/2019-09/schema"},"b":{"$ref":"#/$defs/a"}}}, "#/$defs/a"],
+["no", {"$defs":{"a":{"$schema":"https://json-schema.org/draft/2019-09/schema"},"b":{"$ref":"#/$defs/a"}}}, "#/$defs/b"]
+]"##;

@@ -1,0 +1,205 @@
+//! `x-items`, whose value is a schema that each item of an array is asked by, and `type` with the value "array". A run of `x-items`
+//! marks the number that its maker was given while it asks.
+ghost use Rattle.std.specs.Prelude.{◌≡◌, Bool, IfOk, true};
+ghost use Rattle.schema_reports.specs.InstanceViews.{subject_of};
+ghost use Rattle.schema_traits.specs.KeywordViews.{Tells, answer_of, reply_of, turn_of};
+ghost use Rattle.test_laws.specs.Items.{marks};
+ghost use Rattle.test_laws.specs.ItemsWords.{items_words, ways};
+ghost use Rattle.test_laws.specs.Marking.{shown, worked};
+ghost use Rattle.keyword_authoring.specs.OwnWays.{own_words};
+ghost use Rattle.keyword_authoring.specs.Borrowing.{Borrows};
+
+use crate::marking::{Stage, after_step, first_stage};
+use keyword_authoring::items::is_list;
+use keyword_authoring::planned::{Asks, Plan, Planned, PlannedKeyword};
+use keyword_authoring::run::Progress;
+use schema_reports::instance::Instance;
+use schema_reports::location::OutOfMemory;
+use schema_traits::keyword::{Answer, Marked, Mode, Reply, Step, Validate};
+use schema_traits::numbers::PendingSchemaNode;
+use std::alloc::Global;
+
+/// How a keyword goes about an instance.
+#[derive(Clone, Copy)]
+pub enum ItemsPlan {
+    /// `type` with the value "array".
+    ArrayType,
+    /// `x-items`, whose value is its only child.
+    EachItem,
+}
+
+impl PlannedKeyword for ItemsPlan {
+    ghost use Rattle.std.specs.Prelude.{true};
+    ghost use Rattle.test_laws.specs.Items.{items_plans_grow, name, planned, told};
+
+    type Shape = ItemsPlan;
+
+    ghost shape = { λ k. k };
+
+    ghost shows_no_fraction = { λ k. true };
+
+    ghost planned = { planned };
+
+    ghost called = { name };
+
+    ghost error_text = { told };
+
+    ghost says_monotone = { λ k. true };
+
+    fn plan(&self, instance: Instance<'_>) -> Plan {
+        match self {
+            ItemsPlan::ArrayType => Plan::Holds(is_list(instance)),
+            ItemsPlan::EachItem => Plan::PassesOn(Asks::Items),
+        }
+    }
+
+    fn name(&self) -> &str {
+        match self {
+            ItemsPlan::ArrayType => "type",
+            ItemsPlan::EachItem => "x-items",
+        }
+    }
+
+    fn text(
+        &self,
+        alloc: Global,
+        instance: Instance<'_>,
+        _accepted: usize,
+    ) -> Result<String, OutOfMemory> {
+        match self {
+            ItemsPlan::ArrayType => {
+                let mut text = instance.text(alloc)?;
+                text.push_str(" is not of type \"array\"")?;
+                Ok(text)
+            }
+            ItemsPlan::EachItem => Ok(String::new(alloc)),
+        }
+    }
+
+    fn monotone(&self) -> bool {
+        true
+    }
+
+    ghost grows = { items_plans_grow };
+}
+
+/// A keyword, and the number that the maker of `x-items` was given.
+#[derive(Drop)]
+pub struct ItemsKeyword {
+    pub planned: Planned<ItemsPlan>,
+    pub number: Option<PendingSchemaNode>,
+}
+
+impl ItemsKeyword {
+    // Whether its runs mark.
+    fn marks(&self) -> bool
+        ensures marks { result ≡ marks self.now.planned.keyword }
+    {
+        match self.planned.keyword {
+            ItemsPlan::ArrayType => false,
+            ItemsPlan::EachItem => true,
+        }
+    }
+
+    // A turn while it works.
+    fn work<'s, 'i: 's>(
+        &'s self,
+        alloc: Global,
+        run: &mut (Stage, Progress),
+        instance: Instance<'i>,
+        reply: Reply<'i>,
+        answer: &mut Answer<'i>,
+    ) -> Result<Step<'s>, OutOfMemory>
+        ensures turns { IfOk result (λ _. (texts : Bool) → Tells texts true (subject_of instance.entry)
+            → worked marks (own_words ways) texts self.now.planned.keyword (subject_of instance.entry)
+            (run.old.1, answer_of texts answer.old) (reply_of texts reply.entry) ≡ (run.new, answer_of texts answer.new)) }
+        ensures steps { IfOk result (λ step. (texts : Bool) → Tells texts true (subject_of instance.entry)
+            → shown (marks self.now.planned.keyword) ((own_words ways texts).step self.now.planned.keyword
+            (subject_of instance.entry) (run.old.1, answer_of texts answer.old) (reply_of texts reply.entry)) ≡ turn_of step) }
+        ensures borrows { Borrows reply.entry answer.old answer.new result }
+    {
+        let step = self
+            .planned
+            .turn(alloc, &mut run.1, instance, reply, answer)?;
+        let after = after_step(step, self.marks());
+        run.0 = after.0;
+        Ok(after.1)
+    }
+}
+
+impl Validate for ItemsKeyword {
+    ghost use Rattle.std.specs.Prelude.{refl, true};
+    ghost use Rattle.test_laws.specs.ItemsWords.{items_absorbed, items_can_be, items_ends, items_fits, items_functions, items_grows};
+    ghost use Rattle.test_laws.specs.ItemsWords.{items_hand_on, items_remaining, items_turns, items_units, items_verdicts, items_words};
+
+    type Run = (Stage, Progress);
+
+    type Shape = ItemsPlan;
+
+    ghost words = { items_words };
+
+    ghost shape = { λ k. k.planned.keyword };
+
+    ghost absorbed = { items_absorbed };
+
+    ghost is_whole = { λ m. true };
+
+    ghost says_monotone = { λ m. true };
+
+    ghost remaining = { items_remaining };
+
+    ghost can_be = { items_can_be };
+
+    ghost ends = { items_ends };
+
+    ghost fits = { items_fits };
+
+    fn begin(
+        &self,
+        alloc: Global,
+        instance: Instance,
+        mode: Mode,
+    ) -> Result<(Stage, Progress), OutOfMemory> {
+        let progress = self.planned.begin(alloc, instance, mode)?;
+        Ok((first_stage(self.marks()), progress))
+    }
+
+    fn turn<'s, 'i: 's>(
+        &'s self,
+        alloc: Global,
+        run: &mut (Stage, Progress),
+        instance: Instance<'i>,
+        reply: Reply<'i>,
+        answer: &mut Answer<'i>,
+    ) -> Result<Step<'s>, OutOfMemory> {
+        match run.0 {
+            Stage::Marks => {
+                run.0 = Stage::Enters;
+                Ok(Step::Mark(Marked::Reservation(0)))
+            }
+            Stage::Enters => self.work(alloc, run, instance, Reply::Nothing, answer),
+            Stage::Works => self.work(alloc, run, instance, reply, answer),
+            Stage::Over => Ok(Step::Done),
+        }
+    }
+
+    fn monotone(&self) -> bool {
+        self.planned.monotone()
+    }
+
+    ghost speaks = { λ texts. refl };
+
+    ghost answers = { λ texts run a. refl };
+
+    ghost turn_laws = { items_turns };
+
+    ghost function_laws = { items_functions };
+
+    ghost grows = { items_grows };
+
+    ghost hands_units_on = { items_hand_on };
+
+    ghost asks_no_units = { items_units };
+
+    ghost asks_verdicts = { items_verdicts };
+}

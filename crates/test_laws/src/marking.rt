@@ -1,0 +1,43 @@
+//! How the run of a keyword stands that marks a number while another run works.
+ghost use Rattle.std.specs.Prelude.{◌≡◌};
+ghost use Rattle.schema_traits.specs.KeywordViews.{turn_of};
+ghost use Rattle.test_laws.specs.Marking.{after, first, shown};
+
+use schema_traits::keyword::Step;
+
+/// What a run does in its next turn: it marks the number; it begins to work, as its mark was answered; it works; or it is over.
+#[derive(Clone, Copy)]
+pub enum Stage {
+    Marks,
+    Enters,
+    Works,
+    Over,
+}
+
+/// How a run begins: with the mark, where there is one to make.
+pub fn first_stage(marks: bool) -> Stage
+    ensures first { result ≡ first marks }
+{
+    if marks { Stage::Marks } else { Stage::Works }
+}
+
+/// What stands after a step of the run that works, and the step that is taken: where that run is done, the mark is taken away.
+pub fn after_step<'s>(step: Step<'s>, marks: bool) -> (Stage, Step<'s>)
+    ensures stage { result.0 ≡ after (turn_of step.entry) }
+    ensures step { turn_of result.1 ≡ shown marks (turn_of step.entry) }
+{
+    match step {
+        Step::Ask(child, below, mode) => (Stage::Works, Step::Ask(child, below, mode)),
+        Step::Match(pattern, subject, located) => {
+            (Stage::Works, Step::Match(pattern, subject, located))
+        }
+        Step::MatchAt(at, subject, below) => (Stage::Works, Step::MatchAt(at, subject, below)),
+        Step::Mark(marked) => (Stage::Works, Step::Mark(marked)),
+        Step::Unmark => (Stage::Works, Step::Unmark),
+        Step::Ecma(text) => (Stage::Works, Step::Ecma(text)),
+        Step::Done => {
+            let last = if marks { Step::Unmark } else { Step::Done };
+            (Stage::Over, last)
+        }
+    }
+}

@@ -1,0 +1,157 @@
+//! A table that refuses the value of each member, with the value's own text, which has digits of fractions. It makes no keyword, so
+//! it is a table for every keyword type.
+ghost use Rattle.std.specs.Prelude.{◌≡◌, IfOk, false, not, string_bytes};
+ghost use Rattle.serde_json.specs.Find.{get_member};
+ghost use Rattle.serde_json.specs.View.{view};
+ghost use Rattle.serde_json.specs.Written.{compact_text, has_float};
+ghost use Rattle.theory_definitions.specs.Reports.{told_error};
+ghost use Rattle.schema_reports.specs.ReportViews.{owned_error_of};
+ghost use Rattle.test_laws.specs.PrintingTable.{ending_of, printed_error, refuses_value};
+ghost use Rattle.schema_traits.specs.Showing.{Shows};
+ghost use Rattle.schema_traits.specs.Readings.{fields, value_read};
+
+use schema_drafts::keywords::{Draft, VocabularySet};
+use schema_reports::location::{Location, OutOfMemory};
+use schema_reports::reports::OwnedError;
+use schema_traits::keyword::Validate;
+use schema_traits::table::{KeywordOrigin, KeywordTable, MakerReply, MakerStep};
+use serde_json::{Map, Value};
+use std::alloc::Global;
+
+/// The table.
+#[derive(Drop)]
+pub struct PrintingTable {}
+
+/// A maker holds the value that it is to refuse.
+#[derive(Drop)]
+pub enum PrintingMaker {
+    Refuses(String, Value),
+    Nothing,
+}
+
+// The error, but for its text.
+fn located(
+    alloc: Global,
+    name: &String,
+    value: &Value,
+    text: String,
+) -> Result<OwnedError, OutOfMemory>
+    ensures error { IfOk result (λ e. told_error false (owned_error_of e)
+        ≡ told_error false (printed_error (string_bytes name.now) (view value.now))) }
+    ensures text { IfOk result (λ e. string_bytes e.text ≡ string_bytes text) }
+{
+    Ok(OwnedError {
+        instance: value.clone()?,
+        instance_path: Location::new(alloc),
+        schema_path: Location::new(alloc),
+        evaluation_path: Location::new(alloc),
+        absolute_keyword_location: None,
+        keyword: String::from_str(alloc, name.as_str())?,
+        text,
+    })
+}
+
+// The error with the value's text.
+fn printed(alloc: Global, name: &String, value: &Value) -> Result<OwnedError, OutOfMemory>
+    ensures error { IfOk result (λ e. told_error false (owned_error_of e)
+        ≡ told_error false (printed_error (string_bytes name.now) (view value.now))) }
+    ensures text { IfOk result (λ e. has_float (view value.now) ≡ false → string_bytes e.text ≡ compact_text (view value.now)) }
+{
+    let text = value.to_string(alloc)?;
+    located(alloc, name, value, text)
+}
+
+// The refusal of a value: its text is told where the value holds no fraction.
+#[tactic(auto, using(crate::specs::PrintingTable::told_alike))]
+fn refusal(alloc: Global, name: &String, value: &Value) -> Result<OwnedError, OutOfMemory>
+    ensures refusal { IfOk result (λ e. told_error (not (has_float (view value.now))) (owned_error_of e)
+        ≡ told_error (not (has_float (view value.now))) (printed_error (string_bytes name.now) (view value.now))) }
+{
+    printed(alloc, name, value)
+}
+
+// The value of this name in an object.
+fn value_in<'o>(object: &'o Map<String, Value>, name: &str) -> Option<&'o Value>
+    ensures value { value_read result ≡ get_member name.now (fields object.now) }
+{
+    object.get(name)
+}
+
+// The maker of a member with this value, if it has one.
+fn maker_with(
+    alloc: Global,
+    name: &str,
+    value: Option<&Value>,
+) -> Result<PrintingMaker, OutOfMemory>
+    ensures maker { Shows ending_of result (refuses_value name.now (value_read value.entry)) }
+{
+    match value {
+        Some(value) => {
+            let name = String::from_str(alloc, name)?;
+            Ok(PrintingMaker::Refuses(name, value.clone()?))
+        }
+        None => Ok(PrintingMaker::Nothing),
+    }
+}
+
+// The maker of a member.
+fn maker_of(
+    alloc: Global,
+    name: &str,
+    object: &Map<String, Value>,
+) -> Result<PrintingMaker, OutOfMemory>
+    ensures maker { Shows ending_of result (refuses_value name.now (get_member name.now (fields object.now))) }
+{
+    maker_with(alloc, name, value_in(object, name))
+}
+
+impl<K: Validate> KeywordTable<K> for PrintingTable {
+    ghost use Rattle.std.specs.Prelude.{true};
+    ghost use Rattle.schema_traits.specs.MakerViews.{begun};
+    ghost use Rattle.theory_definitions.specs.Making.{then_end};
+    ghost use Rattle.test_laws.specs.PrintingTable.{made_of, printing_script, prints_rightly};
+
+    type Maker = PrintingMaker;
+
+    ghost owned = { λ t name. true };
+
+    ghost script = { λ t. printing_script };
+
+    ghost waiting = { λ m. begun (then_end (made_of (ending_of m))) };
+
+    fn owns(&self, _name: &str) -> bool {
+        true
+    }
+
+    fn begin(
+        &self,
+        alloc: Global,
+        origin: KeywordOrigin<'_>,
+        object: &Map<String, Value>,
+        _draft: Draft,
+        _vocabularies: &VocabularySet,
+        _formats: bool,
+    ) -> Result<PrintingMaker, OutOfMemory> {
+        match origin {
+            KeywordOrigin::Own(name) => maker_of(alloc, name, object),
+            KeywordOrigin::Builtin(name) => maker_of(alloc, name, object),
+        }
+    }
+
+    fn turn(
+        &self,
+        alloc: Global,
+        maker: &mut PrintingMaker,
+        _reply: MakerReply,
+    ) -> Result<MakerStep<K>, OutOfMemory> {
+        match maker {
+            PrintingMaker::Refuses(name, value) => {
+                let error = refusal(alloc, name, value)?;
+                Ok(MakerStep::Refuse(error))
+            }
+            PrintingMaker::Nothing => Ok(MakerStep::Nothing),
+        }
+    }
+
+    ghost right = { λ t. prints_rightly K.absorbed K.is_whole };
+}

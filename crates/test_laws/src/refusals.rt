@@ -1,0 +1,76 @@
+//! An answer that refuses.
+ghost use Rattle.std.specs.Prelude.{All, ◌≡◌, [], Bool, IfOk};
+ghost use Rattle.serde_json.specs.Data.{Data};
+ghost use Rattle.schema_traits.specs.FaultViews.{faults_in, PassesBorrowed};
+ghost use Rattle.schema_traits.specs.KeywordViews.{answer_of, fault_of};
+ghost use Rattle.test_laws.specs.Refusals.{refusal, refused_in, told};
+ghost use Rattle.keyword_authoring.specs.AnswerWords.{Becomes};
+ghost use Rattle.keyword_authoring.specs.Borrowing.{Retains};
+
+use schema_reports::evaluation::ErrorDescription;
+use schema_reports::evaluation_result::EvaluationResult;
+use schema_reports::location::OutOfMemory;
+use schema_traits::keyword::{Answer, Fault, Found, OwnError};
+use std::alloc::Global;
+use std::mem;
+
+/// The error, at the keyword itself.
+fn refusal<'i>(alloc: Global) -> Result<Fault<'i>, OutOfMemory>
+    ensures refusal { IfOk result (λ fault. (texts : Bool) → fault_of texts fault ≡ refusal texts) }
+    ensures borrows { IfOk result (λ fault. (root : Data) → PassesBorrowed root fault) }
+{
+    let keyword = String::from_str(alloc, "refusal")?;
+    let text = String::from_str(alloc, "is refused")?;
+    Ok(Fault::Own(OwnError {
+        absorbed: None,
+        path: String::new(alloc),
+        below: Vec::new(alloc),
+        keyword,
+        text,
+    }))
+}
+
+/// The answer of the same mode that refuses with the error.
+fn refused<'i>(alloc: Global, before: Answer<'i>) -> Result<Answer<'i>, OutOfMemory>
+    ensures refused { IfOk result (λ after. (texts : Bool) → answer_of texts after ≡ refused_in texts (answer_of texts before.entry).mode) }
+    ensures borrows { IfOk result (λ after. (root : Data) → All (PassesBorrowed root) (faults_in after)) }
+{
+    match before {
+        Answer::Verdict(_) => Ok(Answer::Verdict(false)),
+        Answer::First(first) => {
+            drop(first);
+            let fault = refusal(alloc)?;
+            Ok(Answer::First(Some(Box::new(alloc, fault)?)))
+        }
+        Answer::All(others) => {
+            drop(others);
+            let mut faults = Vec::new(alloc);
+            faults.push(refusal(alloc)?)?;
+            Ok(Answer::All(faults))
+        }
+        Answer::Evaluation(found) => {
+            drop(found);
+            let mut errors = Vec::new(alloc);
+            errors.push(ErrorDescription {
+                keyword: String::from_str(alloc, "refusal")?,
+                text: String::from_str(alloc, "is refused")?,
+            })?;
+            let own = EvaluationResult::invalid_empty(alloc, errors);
+            let absorbed = Vec::new(alloc);
+            let found = Box::new(alloc, Found { own, absorbed })?;
+            Ok(Answer::Evaluation(found))
+        }
+    }
+}
+
+/// Leaves the answer as it is where the keyword holds, and else makes it one that refuses.
+pub fn tell<'i>(alloc: Global, holds: bool, answer: &mut Answer<'i>) -> Result<(), OutOfMemory>
+    ensures told { IfOk result (λ _. Becomes answer.old (λ texts a. told texts holds a) answer.new) }
+    ensures borrows { Retains answer.old answer.new result }
+{
+    if !holds {
+        let before = mem::replace(answer, Answer::Verdict(false));
+        *answer = refused(alloc, before)?;
+    }
+    Ok(())
+}

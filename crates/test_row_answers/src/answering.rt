@@ -1,0 +1,77 @@
+//! From a case to its answer.
+ghost use Rattle.std.specs.Prelude.{◌≡◌, IfOk};
+ghost use Rattle.serde_json.specs.View.{view};
+ghost use Rattle.test_rows.specs.Calls.{no_case};
+ghost use Rattle.test_rows.specs.Cases.{IsNoCase};
+
+use crate::building::answered;
+use crate::checking::checked;
+use crate::clones::answered_alike;
+use crate::free_calls::answered_free;
+use crate::maps::answered_by_map;
+use bench_parts::table::BenchTable;
+use example_fused_keywords::table::FusedTable;
+use example_keywords::strings::StringTable;
+use keyword_joins::table::BothTable;
+use keyword_makers::by_value::TableByValue;
+use schema_engine::context::keyword::Validate;
+use schema_engine::context::table::KeywordTable;
+use schema_engine::location::OutOfMemory;
+use serde_json::{Value, json};
+use std::alloc::Global;
+use test_laws::items_table::ItemsTable;
+use test_rows::call::Call;
+use test_rows::case::{Case, Table};
+
+// What the engine answers of a case by a table.
+fn answer_by<K: Validate, T: KeywordTable<K>>(
+    alloc: Global,
+    case: &Case<'_>,
+    table: &T,
+) -> Result<Value, OutOfMemory> {
+    match case.call {
+        Call::Validator(question) => answered(alloc, case, table, question),
+        Call::Clones(question) => answered_alike(alloc, case, question),
+        Call::Map(question) => answered_by_map(alloc, case, table, question),
+        Call::Free => answered_free(alloc, case, table),
+        Call::Check => checked(alloc, case),
+    }
+}
+
+// The table of `x-suffix`, `x-both` and `x-contains-between`, and for all other names the bench's.
+fn strings_table() -> BothTable<TableByValue<StringTable>, BenchTable> {
+    BothTable {
+        first: TableByValue {
+            keywords: StringTable {},
+        },
+        first_names: &["x-suffix", "x-both", "x-contains-between"],
+        second: BenchTable {},
+    }
+}
+
+/// Returns what the engine answers of a case: as its call says, or `{"refused": number, "at": place, "text": text}` where the schema
+/// is refused, its place `null` for refusals that have none, or `{"disagree": ..}` where calls that are to agree do not. A value
+/// that is no case is answered `{"fault": text}`. The table of the standard's keywords stands in a crate above, and is handed in: a
+/// case whose table is `standard` is answered by it.
+///
+/// # Errors
+///
+/// Fails only out of memory.
+pub fn answer<K: Validate, T: KeywordTable<K>>(
+    alloc: Global,
+    case: &Value,
+    standard: &T,
+) -> Result<Value, OutOfMemory>
+    ensures fault { IfOk result (λ v. IsNoCase (view case.now) → view v ≡ no_case) }
+{
+    let Some(case) = Case::read(case) else {
+        return json!(in alloc; {"fault": "no case"});
+    };
+    match case.table {
+        Table::Bench => answer_by(alloc, &case, &BenchTable {}),
+        Table::Fused => answer_by(alloc, &case, &FusedTable {}),
+        Table::Items => answer_by(alloc, &case, &ItemsTable {}),
+        Table::Strings => answer_by(alloc, &case, &strings_table()),
+        Table::Standard => answer_by(alloc, &case, standard),
+    }
+}

@@ -1,0 +1,33 @@
+//! The check of a schema by the meta validators alone.
+
+use crate::refusals::refusal;
+use crate::setting::{default_draft, resolver_of};
+use bench_parts::meta::BenchMeta;
+use schema_engine::location::OutOfMemory;
+use schema_keys::check::validate_schema;
+use schema_keys::error::BuildError;
+use serde_json::Value;
+use standard_resolver::resolver::places::root_place;
+use std::alloc::Global;
+use test_rows::case::Case;
+use test_rows::showing::text_or_null;
+
+// What the meta validators say of a case's schema, as one of its default draft.
+fn check_of(alloc: Global, case: &Case<'_>) -> Result<(), BuildError> {
+    let resolver = resolver_of(alloc, case)?;
+    let draft = default_draft(case);
+    validate_schema(alloc, &resolver, &BenchMeta {}, draft, &root_place(alloc))
+}
+
+// The instance path of the error by which the meta validators refuse a case's schema; `null` where they accept it.
+pub(crate) fn checked(alloc: Global, case: &Case<'_>) -> Result<Value, OutOfMemory> {
+    match check_of(alloc, case) {
+        Ok(()) => Ok(Value::Null),
+        Err(BuildError::MetaSchema(error)) => {
+            let path = text_or_null(alloc, Some(error.instance_path.as_str()));
+            drop(error);
+            path
+        }
+        Err(error) => refusal(alloc, error),
+    }
+}

@@ -1,0 +1,119 @@
+//! Clones of validators, which answer as their sources do, and each of which still answers where the other is dropped.
+
+use crate::asking::asked;
+use crate::building::built;
+use crate::refusals::refusal;
+use bench_parts::matcher::BenchMatcher;
+use bench_parts::table::BenchTable;
+use schema_engine::location::OutOfMemory;
+use schema_engine::validator::Validator;
+use serde_json::Value;
+use standard_basics::keyword::BasicKeyword;
+use std::alloc::Global;
+use test_rows::answers::disagreement;
+use test_rows::call::Question;
+use test_rows::case::Case;
+
+// What a clone answers; `null` where its root or its draft is not its source's.
+fn asked_of_clone(
+    alloc: Global,
+    source: &Validator<BasicKeyword, BenchMatcher>,
+    copy: &Validator<BasicKeyword, BenchMatcher>,
+    question: Question,
+    instance: &Value,
+) -> Result<Value, OutOfMemory> {
+    if copy.root() != source.root() || copy.draft() != source.draft() {
+        return Ok(Value::Null);
+    }
+    asked(alloc, copy, question, instance)
+}
+
+// What a clone answers while its source lives.
+fn beside_source(
+    alloc: Global,
+    source: &Validator<BasicKeyword, BenchMatcher>,
+    question: Question,
+    instance: &Value,
+) -> Result<Value, OutOfMemory> {
+    let copy = source.clone(alloc)?;
+    let answer = asked_of_clone(alloc, source, &copy, question, instance);
+    drop(copy);
+    answer
+}
+
+// What a clone answers after its source is dropped.
+fn after_source(
+    alloc: Global,
+    source: Validator<BasicKeyword, BenchMatcher>,
+    question: Question,
+    instance: &Value,
+) -> Result<Value, OutOfMemory> {
+    let copy = source.clone(alloc);
+    drop(source);
+    let copy = copy?;
+    let answer = asked(alloc, &copy, question, instance);
+    drop(copy);
+    answer
+}
+
+// What a clone of a clone answers after both of its sources are dropped.
+fn after_sources(
+    alloc: Global,
+    source: Validator<BasicKeyword, BenchMatcher>,
+    question: Question,
+    instance: &Value,
+) -> Result<Value, OutOfMemory> {
+    let copy = source.clone(alloc);
+    drop(source);
+    after_source(alloc, copy?, question, instance)
+}
+
+// What a validator and its clones answer: a clone beside it, itself after this clone, and a clone of a clone.
+fn answers_of(
+    alloc: Global,
+    source: Validator<BasicKeyword, BenchMatcher>,
+    question: Question,
+    instance: &Value,
+) -> [Result<Value, OutOfMemory>; 3] {
+    let of_clone = beside_source(alloc, &source, question, instance);
+    let of_source = asked(alloc, &source, question, instance);
+    let after = after_sources(alloc, source, question, instance);
+    [of_clone, of_source, after]
+}
+
+// What three answers are, if they are the same. Else each of them.
+fn alike(
+    alloc: Global,
+    of_clone: Value,
+    of_source: Value,
+    after: Value,
+) -> Result<Value, OutOfMemory> {
+    if of_clone == of_source && after == of_source {
+        return Ok(of_source);
+    }
+    let answers = vec![in alloc; of_clone, of_source, after]?;
+    disagreement(alloc, "clone, source, clone of a clone", answers)
+}
+
+// What a validator and its clones answer, if this is the same. Else what each answers.
+fn answered_by_each(
+    alloc: Global,
+    source: Validator<BasicKeyword, BenchMatcher>,
+    question: Question,
+    instance: &Value,
+) -> Result<Value, OutOfMemory> {
+    let [of_clone, of_source, after] = answers_of(alloc, source, question, instance);
+    alike(alloc, of_clone?, of_source?, after?)
+}
+
+// What clones of a case's validator answer, by the bench's table, or why there is no validator.
+pub(crate) fn answered_alike(
+    alloc: Global,
+    case: &Case<'_>,
+    question: Question,
+) -> Result<Value, OutOfMemory> {
+    match built(alloc, case, &BenchTable {}) {
+        Ok(source) => answered_by_each(alloc, source, question, case.instance),
+        Err(error) => refusal(alloc, error),
+    }
+}

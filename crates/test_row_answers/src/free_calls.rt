@@ -1,0 +1,161 @@
+//! The four calls that build by the default options and ask in one.
+
+use crate::refusals::refusal;
+use crate::setting::Setting;
+use bench_parts::meta::BenchMeta;
+use schema_engine::context::keyword::Validate;
+use schema_engine::context::table::KeywordTable;
+use schema_engine::location::OutOfMemory;
+use schema_engine::reports::{ErrorIterator, ValidationError};
+use schema_engine::{evaluate, is_valid, iter_errors, validate};
+use schema_keys::error::BuildError;
+use schema_output::evaluation::Evaluation;
+use serde_json::Value;
+use std::alloc::Global;
+use test_rows::answers::{Answers, agreed};
+use test_rows::case::Case;
+use test_rows::showing::{errors_in, first_in};
+
+// Whether the schema accepts the instance.
+fn accepts<K: Validate, T: KeywordTable<K>>(
+    alloc: Global,
+    case: &Case<'_>,
+    setting: &Setting<'_>,
+    table: &T,
+) -> Result<bool, BuildError> {
+    is_valid::<_, T, K, _, _>(
+        alloc,
+        case.schema,
+        case.instance,
+        table,
+        &setting.resolver,
+        &setting.matcher,
+        &BenchMeta {},
+    )
+}
+
+// The error by which the schema refuses the instance.
+fn refuses<'c, K: Validate, T: KeywordTable<K>>(
+    alloc: Global,
+    case: &Case<'c>,
+    setting: &Setting<'_>,
+    table: &T,
+) -> Result<Result<(), ValidationError<'c>>, BuildError> {
+    validate::<_, T, K, _, _>(
+        alloc,
+        case.schema,
+        case.instance,
+        table,
+        &setting.resolver,
+        &setting.matcher,
+        &BenchMeta {},
+    )
+}
+
+// All errors.
+fn all_errors<'c, K: Validate, T: KeywordTable<K>>(
+    alloc: Global,
+    case: &Case<'c>,
+    setting: &Setting<'_>,
+    table: &T,
+) -> Result<ErrorIterator<'c>, BuildError> {
+    iter_errors::<_, T, K, _, _>(
+        alloc,
+        case.schema,
+        case.instance,
+        table,
+        &setting.resolver,
+        &setting.matcher,
+        &BenchMeta {},
+    )
+}
+
+// The evaluation.
+fn evaluation<K: Validate, T: KeywordTable<K>>(
+    alloc: Global,
+    case: &Case<'_>,
+    setting: &Setting<'_>,
+    table: &T,
+) -> Result<Evaluation, BuildError> {
+    evaluate::<_, T, K, _, _>(
+        alloc,
+        case.schema,
+        case.instance,
+        table,
+        &setting.resolver,
+        &setting.matcher,
+        &BenchMeta {},
+    )
+}
+
+// A verdict, or why the schema is refused.
+fn verdict(alloc: Global, valid: Result<bool, BuildError>) -> Result<Value, OutOfMemory> {
+    match valid {
+        Ok(valid) => Ok(Value::Bool(valid)),
+        Err(error) => refusal(alloc, error),
+    }
+}
+
+// The first error, or `null`, or why the schema is refused.
+fn first(
+    alloc: Global,
+    verdict: Result<Result<(), ValidationError<'_>>, BuildError>,
+) -> Result<Value, OutOfMemory> {
+    match verdict {
+        Ok(verdict) => first_in(alloc, verdict),
+        Err(error) => refusal(alloc, error),
+    }
+}
+
+// All errors, or why the schema is refused.
+fn list(
+    alloc: Global,
+    errors: Result<ErrorIterator<'_>, BuildError>,
+) -> Result<Value, OutOfMemory> {
+    match errors {
+        Ok(errors) => Ok(Value::Array(errors_in(alloc, errors)?)),
+        Err(error) => refusal(alloc, error),
+    }
+}
+
+// The verdict of the evaluation, or why the schema is refused.
+fn evaluated(
+    alloc: Global,
+    evaluation: Result<Evaluation, BuildError>,
+) -> Result<Value, OutOfMemory> {
+    match evaluation {
+        Ok(evaluation) => {
+            let valid = evaluation.is_valid();
+            drop(evaluation);
+            Ok(Value::Bool(valid))
+        }
+        Err(error) => refusal(alloc, error),
+    }
+}
+
+// What the four calls answer.
+fn four_answers<K: Validate, T: KeywordTable<K>>(
+    alloc: Global,
+    case: &Case<'_>,
+    setting: &Setting<'_>,
+    table: &T,
+) -> Result<Answers, OutOfMemory> {
+    Ok(Answers {
+        valid: verdict(alloc, accepts(alloc, case, setting, table))?,
+        first: first(alloc, refuses(alloc, case, setting, table))?,
+        errors: list(alloc, all_errors(alloc, case, setting, table))?,
+        evaluated: evaluated(alloc, evaluation(alloc, case, setting, table))?,
+    })
+}
+
+// What the four calls answer, if they agree, or why they refuse.
+pub(crate) fn answered_free<K: Validate, T: KeywordTable<K>>(
+    alloc: Global,
+    case: &Case<'_>,
+    table: &T,
+) -> Result<Value, OutOfMemory> {
+    let setting = Setting::of(alloc, case)?;
+    let answers = four_answers(alloc, case, &setting, table);
+    drop(setting);
+    agreed(alloc, answers?)
+}

@@ -1,0 +1,37 @@
+//! Why there is no validator.
+
+use schema_engine::location::OutOfMemory;
+use schema_keys::error::BuildError;
+use serde_json::{Value, json};
+use std::alloc::{AllocError, Global};
+use test_rows::showing::text_or_null;
+
+// Where what was refused stands, for a refusal that says so: a location in the schema, the schema path that a table's error has, or, by
+// the meta validators, an instance path.
+fn place_of(error: &BuildError) -> Option<&str> {
+    match error {
+        BuildError::NotASchema(location) => Some(location.as_str()),
+        BuildError::ReferenceNotText(location) => Some(location.as_str()),
+        BuildError::KeywordRefused(error) => Some(error.schema_path.as_str()),
+        BuildError::MetaSchema(error) => Some(error.instance_path.as_str()),
+        _ => None,
+    }
+}
+
+// The number, the place and the text of a refusal.
+fn parts_of(alloc: Global, error: &BuildError) -> Result<Value, OutOfMemory> {
+    if matches!(error, BuildError::OutOfMemory) {
+        return Err(AllocError);
+    }
+    let number = error.number();
+    let place = text_or_null(alloc, place_of(error))?;
+    let text = format!(in alloc; "{error}")?;
+    json!(in alloc; {"refused": number, "at": place, "text": text})
+}
+
+// A refusal as a value.
+pub(crate) fn refusal(alloc: Global, error: BuildError) -> Result<Value, OutOfMemory> {
+    let parts = parts_of(alloc, &error);
+    drop(error);
+    parts
+}

@@ -1,0 +1,112 @@
+//! Lines that are read as rows, and what is answered of them.
+ghost use Rattle.std.specs.Prelude.{◌≡◌, IfOk, None, false};
+ghost use Rattle.serde_json.specs.Read.{read as read_text};
+ghost use Rattle.test_rows.specs.Rows.{is_right_answer};
+
+use crate::growing::grown;
+use crate::reading::{fault_in, row_in};
+use serde_json::Value;
+use std::alloc::{AllocError, Global};
+use std::collections::BTreeSet;
+
+/// Who answers cases.
+pub trait Answering {
+    /// Returns what is answered of a case, as JSON; `{"fault": text}` of what is none.
+    ///
+    /// # Errors
+    ///
+    /// Fails only out of memory.
+    fn answer(&self, alloc: Global, case: &Value) -> Result<Value, AllocError>;
+}
+
+/// What came of a row: what is wrong with the row itself, or the row, written out, and what is answered of it.
+#[derive(Drop)]
+pub enum RowAnswer {
+    Fault(String),
+    Given(Value, Value),
+}
+
+/// What came of a line, and the row's name, where one could be read.
+#[derive(Drop)]
+pub struct Line {
+    pub name: Option<String>,
+    pub answer: RowAnswer,
+}
+
+// What is wrong with a row by its shape or its name, which is put among `names`, where it may not be yet.
+fn fault_of(
+    alloc: Global,
+    names: &mut BTreeSet<String>,
+    row: &Value,
+) -> Result<Option<String>, AllocError> {
+    if let Some(fault) = fault_in(alloc, row)? {
+        return Ok(Some(fault));
+    }
+    let name = row.get("name").and_then(Value::as_str).unwrap_or("");
+    if names.insert(String::from_str(alloc, name)?)? {
+        Ok(None)
+    } else {
+        Ok(Some(String::from_str(alloc, "another row has this name")?))
+    }
+}
+
+// A row with what is answered of it.
+fn answered<A: Answering>(alloc: Global, cases: &A, row: Value) -> Result<RowAnswer, AllocError> {
+    let given = cases.answer(alloc, &row)?;
+    Ok(RowAnswer::Given(row, given))
+}
+
+// What comes of a row.
+fn answer_of<A: Answering>(
+    alloc: Global,
+    cases: &A,
+    names: &mut BTreeSet<String>,
+    row: &Value,
+) -> Result<RowAnswer, AllocError> {
+    match fault_of(alloc, names, row)? {
+        Some(fault) => Ok(RowAnswer::Fault(fault)),
+        None => answered(alloc, cases, grown(alloc, row)?),
+    }
+}
+
+// The name of a row, where it has one.
+fn name_of(alloc: Global, row: &Value) -> Result<Option<String>, AllocError> {
+    match row.get("name").and_then(Value::as_str) {
+        Some(name) => Ok(Some(String::from_str(alloc, name)?)),
+        None => Ok(None),
+    }
+}
+
+// What comes of a row, and its name.
+fn asked<A: Answering>(
+    alloc: Global,
+    cases: &A,
+    names: &mut BTreeSet<String>,
+    row: &Value,
+) -> Result<Line, AllocError> {
+    let name = name_of(alloc, row)?;
+    let answer = answer_of(alloc, cases, names, row)?;
+    Ok(Line { name, answer })
+}
+
+/// Returns what comes of a line. The row's name is put among `names`, where it may not be yet.
+///
+/// # Errors
+///
+/// Fails only out of memory.
+pub fn line_in<A: Answering>(
+    alloc: Global,
+    cases: &A,
+    names: &mut BTreeSet<String>,
+    text: &str,
+) -> Result<Line, AllocError>
+    ensures unread { IfOk result (λ line. read_text text.now ≡ None → is_right_answer line.answer ≡ false) }
+{
+    match row_in(alloc, text)? {
+        Some(row) => asked(alloc, cases, names, &row),
+        None => Ok(Line {
+            name: None,
+            answer: RowAnswer::Fault(String::from_str(alloc, "the line is no JSON")?),
+        }),
+    }
+}

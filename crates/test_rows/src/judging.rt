@@ -1,0 +1,122 @@
+//! Whether a row is answered as the row says.
+ghost use Rattle.std.specs.Prelude.{◌≡◌, ◌++◌, ◌∷◌, [], IfOk, None, codes, count_by, decimal, false, is_none, length, not, string_bytes};
+ghost use Rattle.serde_json.specs.Read.{read as read_text};
+ghost use Rattle.serde_json.specs.View.{view};
+ghost use Rattle.test_rows.specs.Rows.{is_right, is_right_answer};
+
+use crate::asking::{Answering, Line, RowAnswer, line_in};
+use crate::case::Case;
+use crate::comparing::is_wanted;
+use serde_json::Value;
+use std::alloc::{AllocError, Global};
+use std::collections::BTreeSet;
+
+/// A row that is wrong: its name, where one could be read, and what was given in place of what the row wants, as JSON, or what is
+/// wrong with the row itself.
+#[derive(Drop)]
+pub struct Wrong {
+    pub name: Option<String>,
+    pub given: String,
+}
+
+/// What was found of the rows so far.
+#[derive(Drop)]
+pub struct Tally {
+    /// Of each row whether it is right.
+    pub verdicts: Vec<bool>,
+    /// The names of rows.
+    pub names: BTreeSet<String>,
+}
+
+// Whether this answer is the one that a row wants.
+fn is_right(row: &Value, given: &Value) -> bool
+    ensures right { result ≡ is_right (view row.now) (view given.now) }
+{
+    let Some(case) = Case::read(row) else {
+        return false;
+    };
+    match row.get("want") {
+        Some(want) => is_wanted(case.call, given, want),
+        None => false,
+    }
+}
+
+// Whether what came of a row is right.
+fn is_right_answer(answer: &RowAnswer) -> bool
+    ensures right { result ≡ is_right_answer answer.now }
+{
+    match answer {
+        RowAnswer::Fault(_) => false,
+        RowAnswer::Given(row, given) => is_right(row, given),
+    }
+}
+
+// What is wrong with a row itself, or what is answered of it, as JSON.
+fn given_in(alloc: Global, answer: &RowAnswer) -> Result<String, AllocError> {
+    match answer {
+        RowAnswer::Fault(fault) => fault.clone(),
+        RowAnswer::Given(_, given) => given.to_string(alloc),
+    }
+}
+
+// The name of a line's row, and what was given.
+fn wrong_in(alloc: Global, line: &Line) -> Result<Wrong, AllocError> {
+    let name = line.name.clone()?;
+    let given = given_in(alloc, &line.answer)?;
+    Ok(Wrong { name, given })
+}
+
+impl Tally {
+    // Counts what came of a line. Returns what is wrong with it, if anything is.
+    fn count(&mut self, alloc: Global, line: &Line) -> Result<Option<Wrong>, AllocError>
+        ensures counted { IfOk result (λ wrong.
+            self.new.verdicts.items ≡ self.old.verdicts.items ++ (is_right_answer line.now.answer ∷ [])) }
+        ensures wrong { IfOk result (λ wrong. is_none wrong ≡ is_right_answer line.now.answer) }
+    {
+        let right = is_right_answer(&line.answer);
+        self.verdicts.push(right)?;
+        if right {
+            return Ok(None);
+        }
+        Ok(Some(wrong_in(alloc, line)?))
+    }
+
+    /// Judges and counts the row on a line: returns what is wrong with it, and `None` where it is answered as it says.
+    ///
+    /// # Errors
+    ///
+    /// Fails only out of memory.
+    pub fn judge<A: Answering>(
+        &mut self,
+        alloc: Global,
+        cases: &A,
+        text: &str,
+    ) -> Result<Option<Wrong>, AllocError>
+        ensures counted { IfOk result (λ wrong. self.new.verdicts.items ≡ self.old.verdicts.items ++ (is_none wrong ∷ [])) }
+        ensures unread { IfOk result (λ wrong. read_text text.now ≡ None → is_none wrong ≡ false) }
+    {
+        let line = line_in(alloc, cases, &mut self.names, text)?;
+        self.count(alloc, &line)
+    }
+}
+
+/// Returns how many rows are wrong.
+pub fn count_wrong(verdicts: &[bool]) -> usize
+    ensures count { result ≡ count_by not verdicts.now }
+{
+    verdicts.iter().filter(|right| !**right).count()
+}
+
+/// Returns the last line: how many rows there were, and how many of them were wrong.
+///
+/// # Errors
+///
+/// Fails only out of memory.
+pub fn summary(alloc: Global, verdicts: &[bool]) -> Result<String, AllocError>
+    ensures text { IfOk result (λ text. string_bytes text
+        ≡ decimal (length verdicts.now) ++ (codes " rows, " ++ (decimal (count_by not verdicts.now) ++ codes " wrong"))) }
+{
+    let rows = verdicts.len();
+    let wrong = count_wrong(verdicts);
+    format!(in alloc; "{rows} rows, {wrong} wrong")
+}

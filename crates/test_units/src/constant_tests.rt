@@ -1,0 +1,27 @@
+//! What no clause says and a check computes: how large the values are that a run moves, and the two marks of keywords that accept `null`.
+//!
+//! An evaluation, an error and a unit alone stand in a box, so that an answer, a reply and what a keyword asks for are a few words
+//! long in every mode.
+
+use schema_drafts::keywords::{NotNullable, Nullability, Nullable};
+use schema_reports::location::OutOfMemory;
+use schema_traits::keyword::{Answer, Reply, Step};
+use std::mem::size_of;
+
+const _: () = prove!(size_of::<Answer<'static>>() <= 32);
+
+const _: () = prove!(size_of::<Reply<'static>>() <= 32);
+
+// (an enum has a tag of its own, so the result of a reply is a word longer)
+const _: () = prove!(size_of::<Result<Reply<'static>, OutOfMemory>>() <= 40);
+
+// (a match at a spot is the largest that a step asks for: what the keyword owns of it, the subject, and a step below the spot by
+// the instance's own name, which is three words of the seven; so no turn allocates a place to ask at)
+const _: () = prove!(size_of::<Step<'static>>() <= 56);
+
+// (the result of a turn is a word longer, too)
+const _: () = prove!(size_of::<Result<Step<'static>, OutOfMemory>>() <= 64);
+
+const _: () = prove!(Nullable::ACCEPTS_NULL);
+
+const _: () = prove!(!NotNullable::ACCEPTS_NULL);

@@ -1,0 +1,196 @@
+//! What a `Context` answers that no call of the engine asks: a table's makers may, so no row of `test_check_rows` says it. Whether formats
+//! are checked: by the option, or else by the vocabularies, or in the drafts before 2019-09.
+use schema_drafts::keywords::{Draft, Vocabulary, VocabularySet};
+use schema_keys::context::Context;
+use schema_keys::key::SchemaKey;
+use schema_keys::options::CompileOptions;
+use schema_reports::location::{Location, OutOfMemory};
+use schema_traits::resolver::Resolver;
+use serde_json::Value;
+use standard_resolver::resolver::DocumentResolver;
+use std::alloc::Global;
+use test_rows::tables::{column, number_at, push_all, text_at};
+
+/// The draft of this number.
+fn draft_of(number: Option<usize>) -> Draft {
+    match number {
+        Some(4) => Draft::Draft4,
+        Some(6) => Draft::Draft6,
+        Some(7) => Draft::Draft7,
+        Some(2019) => Draft::Draft201909,
+        Some(2020) => Draft::Draft202012,
+        _ => Draft::Unknown,
+    }
+}
+
+/// The vocabulary of this name.
+fn vocabulary_of(name: &str) -> Vocabulary {
+    match name {
+        "format-annotation" => Vocabulary::FormatAnnotation,
+        "format-assertion" => Vocabulary::FormatAssertion,
+        "validation" => Vocabulary::Validation,
+        _ => Vocabulary::Core,
+    }
+}
+
+/// The key of a row, if the resolver has a document under its URI.
+fn key_of<R: Resolver>(
+    alloc: Global,
+    resolver: &R,
+    row: &Value,
+) -> Result<Option<SchemaKey<R::State>>, OutOfMemory> {
+    let vocabularies = VocabularySet::new(alloc).with(vocabulary_of(text_at(row, 4)))?;
+    let location = Location::from_escaped(alloc, text_at(row, 6))?;
+    let resource_base = Location::from_escaped(alloc, text_at(row, 7))?;
+    match resolver.root(alloc, text_at(row, 2))? {
+        None => Ok(None),
+        Some((state, place)) => Ok(Some(SchemaKey {
+            place,
+            state,
+            draft: draft_of(number_at(row, 3)),
+            vocabularies,
+            location,
+            resource_base,
+            resource_start: number_at(row, 8).unwrap_or(0),
+        })),
+    }
+}
+
+/// Adds the context's own absolute location, if it has one.
+fn push_located<R: Resolver>(context: &Context<R>, log: &mut String) -> Result<(), OutOfMemory> {
+    match context.absolute_location(context.location())? {
+        None => log.push_str("none"),
+        Some(absolute) => {
+            let pushed = log.push_str(absolute.as_str());
+            drop(absolute);
+            pushed
+        }
+    }
+}
+
+/// The same by what was kept for it.
+fn push_located_later<R: Resolver>(
+    context: &Context<R>,
+    log: &mut String,
+) -> Result<(), OutOfMemory> {
+    match context.deferred_absolute_location()? {
+        None => log.push_str(" none"),
+        Some(kept) => {
+            let absolute = kept.resolve(context.location())?;
+            let pushed = push_all(log, &[" ", absolute.as_str()]);
+            drop(absolute);
+            pushed
+        }
+    }
+}
+
+/// A word, where this holds.
+fn where_true(holds: bool, word: &str) -> &str {
+    if holds { word } else { "" }
+}
+
+/// Adds what follows on what the last reference gave, whether numbers with an integer's value are integers, which of three
+/// vocabularies are in force, and whether formats are checked.
+fn push_known<R: Resolver>(context: &Context<R>, log: &mut String) -> Result<(), OutOfMemory> {
+    let words = [
+        " ",
+        context.suffix().unwrap_or("elsewhere"),
+        where_true(context.supports_integer_valued_numbers(), " integers"),
+        where_true(context.has_vocabulary(&Vocabulary::Core), " core"),
+        where_true(
+            context.has_vocabulary(&Vocabulary::Validation),
+            " validation",
+        ),
+        where_true(
+            context.has_vocabulary(&Vocabulary::Applicator),
+            " applicator",
+        ),
+        where_true(context.validates_formats_by_default(), " formats"),
+    ];
+    push_all(log, &words)
+}
+
+/// Adds what a context answers.
+fn push_told<R: Resolver>(context: &Context<R>, log: &mut String) -> Result<(), OutOfMemory> {
+    push_located(context, log)?;
+    push_located_later(context, log)?;
+    push_known(context, log)
+}
+
+/// Adds what the context of a key answers, under this option for formats.
+fn push_context<R: Resolver>(
+    alloc: Global,
+    resolver: &R,
+    key: &SchemaKey<R::State>,
+    formats: Option<bool>,
+    log: &mut String,
+) -> Result<(), OutOfMemory> {
+    let options = CompileOptions {
+        formats,
+        declared: Vec::new(alloc),
+        node_limit: 1,
+    };
+    let context = Context {
+        alloc,
+        resolver,
+        options: &options,
+        key,
+    };
+    let told = push_told(&context, log);
+    drop(options);
+    told
+}
+
+/// Adds what the context of a row's key answers.
+fn tell_of<R: Resolver>(
+    alloc: Global,
+    resolver: &R,
+    row: &Value,
+    log: &mut String,
+) -> Result<(), OutOfMemory> {
+    match key_of(alloc, resolver, row)? {
+        None => log.push_str("no document"),
+        Some(key) => {
+            let told = push_context(alloc, resolver, &key, column(row, 5).as_bool(), log);
+            drop(key);
+            told
+        }
+    }
+}
+
+/// The same with the resolver of the row's schema.
+pub(crate) fn tell_context(
+    alloc: Global,
+    row: &Value,
+    log: &mut String,
+) -> Result<(), OutOfMemory> {
+    let resolver = DocumentResolver::new(alloc, column(row, 1), VocabularySet::new(alloc))?;
+    let told = tell_of(alloc, &resolver, row, log);
+    drop(resolver);
+    told
+}
+
+// The absolute location twice, what follows, and what is known; then schema, URI of a document, draft (0 for one that is not known),
+// vocabulary that is in force, whether formats are to be checked, location, what the last reference gave of it, how many bytes of it
+// lie outside the resource.
+//
+// The first two are in a resource inside another. In the drafts before 2019-09 each vocabulary is in force, and formats are checked;
+// in draft 4 the number 1.0 is no integer. The others are at a root whose URI is not shown. The option not to check formats holds in
+// every draft, whatever vocabulary is in force.
+pub(crate) const CONTEXTS: &str = r##"[
+["http://x/e#/$defs/t http://x/e#/$defs/t /$defs/t integers core validation",
+ {"$defs":{"e":{"$id":"http://x/e","$defs":{"t":{"type":"string"}}}}},
+ "http://x/e", 2020, "validation", null, "/$defs/e/$defs/t", "/$defs/e", 8],
+["http://x/e#/$defs/t http://x/e#/$defs/t /$defs/t core validation applicator formats",
+ {"$defs":{"e":{"$id":"http://x/e","$defs":{"t":{"type":"string"}}}}},
+ "http://x/e", 4, "validation", null, "/$defs/e/$defs/t", "/$defs/e", 8],
+["none none  integers core validation applicator formats", {}, "json-schema:///", 7, "core", null, "", "", 0],
+["none none  integers core", {}, "json-schema:///", 2020, "format-annotation", null, "", "", 0],
+["none none  integers core formats", {}, "json-schema:///", 2020, "format-assertion", null, "", "", 0],
+["none none  core validation applicator", {}, "json-schema:///", 4, "format-assertion", false, "", "", 0],
+["none none  integers core validation applicator", {}, "json-schema:///", 6, "format-assertion", false, "", "", 0],
+["none none  integers core validation applicator", {}, "json-schema:///", 7, "format-assertion", false, "", "", 0],
+["none none  integers core", {}, "json-schema:///", 2019, "format-assertion", false, "", "", 0],
+["none none  integers core", {}, "json-schema:///", 2020, "format-assertion", false, "", "", 0],
+["none none  integers core", {}, "json-schema:///", 0, "format-assertion", false, "", "", 0]
+]"##;

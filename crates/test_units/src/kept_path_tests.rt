@@ -1,0 +1,65 @@
+//! How many evaluation paths are kept: none of the first 4,095 under a reference, and from then on each that is asked for, once. Which
+//! path a call gives is in clauses, and how many are kept is not.
+use schema_reports::location::{Location, OutOfMemory};
+use schema_run_context::evaluation_path::EvaluationPath;
+use schema_run_context::kept_paths::KeptPaths;
+use serde_json::Value;
+use std::alloc::Global;
+use test_rows::tables::{column, list_at, text_at};
+
+/// Asks so many times for the path of a turn's keyword after this one, and adds how many paths are then kept.
+fn push_kept(
+    alloc: Global,
+    kept: &mut KeptPaths,
+    path: &EvaluationPath<'_>,
+    turn: &Value,
+    log: &mut String,
+) -> Result<(), OutOfMemory> {
+    for _ in 0..column(turn, 2).as_u64().unwrap_or(0) {
+        let _path = kept.evaluation_path(alloc, path, text_at(turn, 1), "/0")?;
+    }
+    let count = kept.len();
+    write!(log, "{count};")
+}
+
+/// The same of the path that a turn names, which goes on from this one.
+fn push_turn(
+    alloc: Global,
+    kept: &mut KeptPaths,
+    start: &Location,
+    reference: &Location,
+    turn: &Value,
+    log: &mut String,
+) -> Result<(), OutOfMemory> {
+    let plain = EvaluationPath::given(start);
+    let under = plain.under_reference();
+    let target = under.across(reference);
+    match text_at(turn, 0) {
+        "target" => push_kept(alloc, kept, &target, turn, log),
+        "under" => push_kept(alloc, kept, &under, turn, log),
+        _ => push_kept(alloc, kept, &plain, turn, log),
+    }
+}
+
+/// Adds how many paths are kept after each turn of a row.
+pub(crate) fn tell_kept(alloc: Global, row: &Value, log: &mut String) -> Result<(), OutOfMemory> {
+    let start = Location::from_escaped(alloc, "/allOf/0")?;
+    let reference = Location::from_escaped(alloc, "/$ref")?;
+    let mut kept = KeptPaths::new(alloc);
+    for turn in list_at(row, 1) {
+        push_turn(alloc, &mut kept, &start, &reference, turn, log)?;
+    }
+    Ok(())
+}
+
+// How many are kept after each turn, and the turns: which path, the keyword, and how many calls. Paths under no reference are not
+// counted, and past the threshold not kept. Past it each other path and each other keyword is one more, and the same are none.
+pub(crate) const KEPT: &str = r##"[
+["0;0;1;1;",
+ [["target", "x~y", 1], ["target", "x~y", 4094], ["target", "x~y", 1], ["target", "x~y", 904]]],
+["0;0;0;1;1;",
+ [["plain", "x~y", 5000], ["target", "x~y", 4095], ["plain", "x~y", 10], ["target", "x~y", 1], ["plain", "x~y", 10]]],
+["1;1;2;3;3;3;3;",
+ [["target", "type", 5000], ["target", "type", 1], ["target", "enum", 1], ["under", "type", 1], ["target", "type", 1],
+  ["target", "enum", 1], ["under", "type", 1]]]
+]"##;

@@ -1,0 +1,79 @@
+//! Public calls that no other crate makes, each once: a clause says what a call gives where it succeeds, and not that it does.
+use schema_node_table::node::Nodes;
+use schema_reports::evaluation::{EvaluationNode, UnitReport};
+use schema_reports::evaluation_result::EvaluationResult;
+use schema_reports::location::{Location, OutOfMemory};
+use schema_reports::shared_location::SharedLocation;
+use schema_traits::schema_place::SchemaPath;
+use serde_json::Value;
+use std::alloc::Global;
+use unfinished_matches::assumptions::MatchAssumptions;
+use unfinished_matches::site::{MatchSite, Reason};
+
+/// Adds a node that refuses, and one that has no entry.
+fn add_two(alloc: Global, nodes: &mut Nodes<usize>) -> Result<(), OutOfMemory> {
+    let _never = nodes.from_boolean(Location::new(alloc), None, 0, false)?;
+    let _empty = nodes.from_array(Location::new(alloc), None, 0, Vec::new(alloc))?;
+    Ok(())
+}
+
+/// How many nodes there are then.
+fn count_nodes(alloc: Global) -> Result<usize, OutOfMemory> {
+    let mut nodes: Nodes<usize> = Nodes::new(alloc);
+    let added = add_two(alloc, &mut nodes);
+    let count = nodes.len();
+    drop(nodes);
+    added?;
+    Ok(count)
+}
+
+/// Whether the result of one valid unit is valid.
+fn is_valid_of_one(alloc: Global) -> Result<bool, OutOfMemory> {
+    let root = SharedLocation::root(alloc)?;
+    let unit = EvaluationNode {
+        report: UnitReport {
+            valid: true,
+            evaluation_path: root.clone()?,
+            absolute_keyword_location: None,
+            schema_location: root.clone()?,
+            instance_location: root,
+            annotations: None,
+            errors: Vec::new(alloc),
+        },
+        children: Vec::new(alloc),
+    };
+    let mut result = EvaluationResult::from_node(alloc, unit)?;
+    result.annotate(Value::Null);
+    Ok(result.is_valid())
+}
+
+/// Whether a match that was met is known, and comes out as no where it is met again.
+fn comes_out_again(alloc: Global, met: &mut MatchAssumptions<'_>) -> Result<bool, OutOfMemory> {
+    if !met.is_unfinished("p", "s") {
+        return Ok(false);
+    }
+    let again = MatchSite::schema(Location::new(alloc));
+    Ok(!met.resolve_unfinished("p", "s", again)?)
+}
+
+/// The same, once it has been met.
+fn is_known_then(alloc: Global) -> Result<bool, OutOfMemory> {
+    let mut met = MatchAssumptions::new(alloc);
+    let site = MatchSite::schema(Location::new(alloc));
+    let known = match met.resolve("p", "s", Reason::Engine, site) {
+        Ok(_) => comes_out_again(alloc, &mut met),
+        Err(failed) => Err(failed),
+    };
+    drop(met);
+    known
+}
+
+#[test]
+fn calls_succeed(rt: HostRuntime) -> Result<(), OutOfMemory> {
+    let alloc = rt.alloc();
+    assert_eq!(rt; count_nodes(alloc)?, 2);
+    assert!(rt; is_valid_of_one(alloc)?);
+    assert!(rt; is_known_then(alloc)?);
+    assert_eq!(rt; SchemaPath::root(alloc).first(alloc, 1)?.len(), 0);
+    Ok(())
+}

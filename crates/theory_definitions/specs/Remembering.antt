@@ -1,0 +1,59 @@
+-- What runs of one question for its verdict have in common by two evaluation paths, and when nothing is left to remember of an
+-- unfinished match that is met again. (Core 2020-12, 12.4.2, keyword location)
+use Rattle.std.specs.Prelude.{List, [], is_some, suc, true, zero, ℕ, ◌||◌, ◌∷◌, ◌≡◌}
+use Rattle.theory_definitions.specs.Instance.{Place, Subject, Text}
+use Rattle.theory_definitions.specs.Matching.{Assumptions, Completion, Matcher, assumed}
+use Rattle.theory_definitions.specs.Keywords.{Keywords, Reply, Turn, ask, for_verdict, no_reply}
+use Rattle.theory_definitions.specs.Runs.{Met, Run}
+use Rattle.theory_definitions.specs.Unfinished.{Remembered, site_of}
+use Rattle.theory_definitions.specs.Guarded.{Nodes, guarded_node, guarded_within, node_outcome, yes_outcome, yes_run}
+
+-- ---- what two evaluation paths have in common
+
+-- the same match, in both at a site with an instance path or in both at one without
+abbrev pub SameMet : Met → Met → Type 0
+SameMet a b = (a.pair ≡ b.pair) × (is_some a.site.located ≡ is_some b.site.located)
+
+abbrev pub SameMets : List Met → List Met → Type 0
+SameMets [] [] = Unit {0}
+SameMets (a ∷ xs) (b ∷ ys) = SameMet a b × SameMets xs ys
+SameMets [] (b ∷ ys) = ⊥
+SameMets (a ∷ xs) [] = ⊥
+
+-- runs for the verdict have the same one, and meet the same
+pub record SameRuns (a b : Run) : Type 0 where
+  pub verdict : (a.outcome tt).verdict ≡ (b.outcome tt).verdict
+  pub met : SameMets (a.met for_verdict) (b.met for_verdict)
+
+-- ---- a run for the verdict asks for verdicts
+
+abbrev pub AsksVerdict : Turn → Type 0
+AsksVerdict (ask q mode) = mode ≡ for_verdict
+AsksVerdict _ = Unit {0}
+
+module _ {K R : Type 0} (keywords : Keywords K R) where
+  -- in at most n more turns, whatever is replied
+  abbrev pub AlwaysAsksVerdict : K → Subject → ℕ → R → Reply → Type 0
+  AlwaysAsksVerdict m s zero r reply = Unit {0}
+  AlwaysAsksVerdict m s (suc n) r reply = AsksVerdict (keywords.step m s r reply) × ((next : Reply) → AlwaysAsksVerdict m s n (keywords.turn m s r reply) next)
+
+  -- each question of each such run is for a verdict
+  abbrev pub EachAsksVerdicts : Type 0
+  EachAsksVerdicts = (m : K) (s : Subject) → AlwaysAsksVerdict m s (keywords.most_turns m s) (keywords.begin m s for_verdict) no_reply
+
+  -- ---- by each evaluation path a question's verdict is the same
+
+  abbrev pub PathsKeepVerdicts : Type 0
+  PathsKeepVerdicts = (matcher : Matcher) (nodes : Nodes K) (subject_of : Place → Subject) (c : Completion) (n i : ℕ) (path path' : Text) (p : Place) (busy : List ℕ)
+      → (guarded_within yes_outcome (node_outcome keywords matcher nodes subject_of c) n i path p busy).verdict ≡ (guarded_within yes_outcome (node_outcome keywords matcher nodes subject_of c) n i path' p busy).verdict
+
+  -- and its run for the verdict meets the same
+  abbrev pub PathsKeepRuns : Type 0
+  PathsKeepRuns = EachAsksVerdicts → (matcher : Matcher) (nodes : Nodes K) (subject_of : Place → Subject) (as' : Assumptions) (n i : ℕ) (path path' : Text) (p : Place) (busy : List ℕ)
+      → SameRuns (guarded_within (yes_run nodes) (guarded_node keywords matcher nodes subject_of as') n i path p busy) (guarded_within (yes_run nodes) (guarded_node keywords matcher nodes subject_of as') n i path' p busy)
+
+-- ---- what is remembered of matches
+
+-- nothing is left to remember of this match
+abbrev pub HasMet : Remembered → Met → Type 0
+HasMet r m = (is_some (assumed r.assumptions m.pair) || is_some r.unassumed ≡ true) × (is_some m.site.located ≡ true → is_some (site_of r.located m.pair) ≡ true)

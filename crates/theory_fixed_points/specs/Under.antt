@@ -1,0 +1,76 @@
+-- What a number says at a place where some edges are answered by a set of pairs, and the others by what they lead to.
+use Rattle.std.specs.Prelude.{Bool, [], false, suc, true, zero, ℕ, ◌<◌, ◌≡◌}
+use Rattle.serde_json.specs.Data.{Data}
+use Rattle.theory_definitions.specs.Instance.{Place}
+use Rattle.theory_definitions.specs.Matching.{Completion, Matcher}
+use Rattle.theory_definitions.specs.Keywords.{Below, Keywords}
+use Rattle.theory_definitions.specs.Meaning.{place_below}
+use Rattle.theory_definitions.specs.Laws.{EachKeeps}
+use Rattle.theory_definitions.specs.Guarded.{NodeEdge, Nodes}
+use Rattle.theory_meaning.specs.Numbered.{Ranked, left, subject_in}
+use Rattle.theory_fixed_points.specs.NodesSay.{AreMonotone, node_holds}
+
+-- pairs of a number and a place
+abbrev pub PairSet : Type 0
+PairSet = ℕ → Place → Bool
+
+-- what is solved: numbered nodes and how many there are, of an instance, under a completion, and which edges are answered by a set
+pub record Solving (K R : Type 0) : Type 0 where
+  pub keywords : Keywords K R
+  pub matcher : Matcher
+  pub nodes : Nodes K
+  pub count : ℕ
+  pub instance : Data
+  pub completion : Completion
+  pub cut : NodeEdge → Bool
+
+-- each keyword keeps its laws, unguarded edges fall in rank, and every guarded edge is answered by a set; so are both or neither of two edges
+-- to one number that are guarded alike
+pub record IsSolvable {K R : Type 0} (w : Solving K R) : Type 0 where
+  pub laws : EachKeeps w.keywords
+  pub ranked : Ranked w.nodes w.count
+  pub cuts : (e : NodeEdge) → e.guarded ≡ true → w.cut e ≡ true
+  pub alike : (a b : NodeEdge) → a.node ≡ b.node → a.guarded ≡ b.guarded → w.cut a ≡ w.cut b
+
+-- each keyword is monotone
+abbrev pub EachMonotone : {K R : Type 0} → Solving K R → Type 0
+EachMonotone w = AreMonotone w.keywords w.nodes w.count
+
+-- what edges answer that are not answered by what their numbers say: by the edge, and the place that it leads to
+abbrev pub EdgeAnswers : Type 0
+EdgeAnswers = NodeEdge → Place → Bool
+
+-- edges to one number that are guarded alike are answered alike
+abbrev pub AreAlike : EdgeAnswers → Type 0
+AreAlike answers = (a b : NodeEdge) (p : Place) → a.node ≡ b.node → a.guarded ≡ b.guarded → answers a p ≡ answers b p
+
+-- a set answers each edge by the pair that it leads to
+abbrev pub by_set : PairSet → EdgeAnswers
+by_set inside e p = inside e.node p
+
+module _ {K R : Type 0} (w : Solving K R) where
+  -- what an edge answers: by these answers, or by what another says of its number
+  abbrev pub across_by : EdgeAnswers → PairSet → Place → NodeEdge → Below → Bool
+  across_by answers go p e b = elim (w.cut e) [ true ↦ answers e (place_below p b) | false ↦ go e.node (place_below p b) ]
+
+  -- with at most n edges in a row that are not answered by these
+  abbrev pub by_within : EdgeAnswers → ℕ → PairSet
+  by_within answers zero i p = true
+  by_within answers (suc n) i p = node_holds w.keywords w.matcher w.nodes (subject_in w.instance) w.completion i p (across_by answers (by_within answers n) p)
+
+  -- at a depth that is enough
+  abbrev pub under_by : EdgeAnswers → PairSet
+  under_by answers i p = by_within answers (suc (left w.nodes w.count i (subject_in w.instance p) [])) i p
+
+  -- ---- the same by a set of pairs
+
+  abbrev pub under : PairSet → PairSet
+  under inside = under_by (by_set inside)
+
+  -- a set stands by itself: each pair of it holds under it
+  abbrev pub Stands : PairSet → Type 0
+  Stands inside = (i : ℕ) (p : Place) → i < w.count → inside i p ≡ true → under inside i p ≡ true
+
+  -- the pair holds under no set that stands by itself
+  abbrev pub FailsUnderEach : ℕ → Place → Type 0
+  FailsUnderEach i p = (inside : PairSet) → Stands inside → under inside i p ≡ true → ⊥

@@ -1,0 +1,13 @@
+//! What the greatest solutions of small schemas accept.
+ghost use Rattle.theory_fixed_points.specs.Cycles.{AllAndMatchRefuses, AnyOrMatchAccepts, TwoAcceptText, TwoRefuseNumber};
+
+/// The worked rows hold: each clause is one row.
+///
+/// The rows are computed from the definitions alone, over a tiny resolver, table, matcher and keyword type. The
+/// function does nothing when it runs.
+pub fn worked_rows()
+    ensures two_refuse_number { TwoRefuseNumber }
+    ensures two_accept_text { TwoAcceptText }
+    ensures any_or_match_accepts { AnyOrMatchAccepts }
+    ensures all_and_match_refuses { AllAndMatchRefuses }
+{}

@@ -1,0 +1,102 @@
+-- A plain run reads its answers only where the keywords may ask.
+use Rattle.std.proofs.Common.{◌≡◌, zero, List, [], ◌∷◌, refl, ap, ap₂, arith}
+use Rattle.std.specs.Prelude.{Contains, Option, Some, None}
+use Rattle.serde_json.specs.Data.{Data}
+use Rattle.theory_definitions.specs.Instance.{Text, Place}
+use Rattle.theory_definitions.specs.Reports.{Unit_}
+use Rattle.theory_definitions.specs.Matching.{Assumptions, Completion, completion_of, matching}
+use Rattle.theory_definitions.specs.Making.{Request}
+use Rattle.theory_definitions.specs.Keywords.{Mode, Question}
+use Rattle.theory_definitions.specs.Parts.{Parts}
+use Rattle.theory_definitions.specs.Plan.{Key, Edge, Part, Form, keyword, reference, Reference, Plan, always, never, these, plan, child, reference_edge, same_child}
+use Rattle.theory_definitions.specs.Meaning.{at, subject, asked, referred_to, place_below}
+use Rattle.theory_definitions.specs.Units.{Entry, annotations_of, entries_of, false_unit, no_unit, part_units, plan_unit, reference_units, true_unit, unit_of}
+use Rattle.theory_definitions.specs.Runs.{Looked, Met, Run, looked, no_run, part_met, plan_met, run_node}
+use Rattle.theory_meaning.proofs.Reading.{Reads}
+use Rattle.theory_meaning.proofs.Questions.{later, PartAsks, by_keyword, by_reference, Asks}
+use Rattle.theory_meaning.proofs.Local.{outcome_local, part_same}
+use Rattle.theory_meaning.proofs.RunsRead.{units_read, met_reads}
+
+module _ {S K R : Type 0} (w : Parts S K R) (instance : Data) (reads : Reads w.keywords) (k : Key S) (path : Text) (p : Place) where
+  -- ---- an answer of any kind
+
+  module _ {X : Type 0} (none : X) (f g : Edge S → Place → X) where
+    edge_answers : (o : Option (Edge S)) (q : Place) → ((edge : Edge S) → o ≡ Some edge → f edge q ≡ g edge q)
+        → ◌≡◌ {A = X} (elim o [ None ↦ none | Some edge ↦ f edge q ]) (elim o [ None ↦ none | Some edge ↦ g edge q ])
+    edge_answers None q h = refl
+    edge_answers (Some edge) q h = h edge refl
+
+    keyword_answers : (name : Text) (m : K) (requests : List Request) (absorbed : List Text) → ((edge : Edge S) (q : Place) → PartAsks w instance k p name (keyword m requests absorbed) edge q → f edge q ≡ g edge q)
+        → (q : Question) → Contains (w.keywords.may_ask m (subject w instance p)) q → asked w instance none k name requests p f q ≡ asked w instance none k name requests p g q
+    keyword_answers name m requests absorbed h q is = edge_answers (child w k name requests q.child) (place_below p q.below) (λ edge at_edge. h edge _ (by_keyword q is at_edge))
+
+    reference_answers : (name : Text) (kind : Reference) (text : Text) → ((edge : Edge S) (q : Place) → PartAsks w instance k p name (reference kind text) edge q → f edge q ≡ g edge q)
+        → referred_to w instance none k name kind text p f ≡ referred_to w instance none k name kind text p g
+    reference_answers name kind text h = edge_answers (reference_edge w k name kind text) p (λ edge is. h edge p (by_reference is))
+
+    PartsAlike : List (Part K) → Type 0
+    PartsAlike xs = (x : Part K) → Contains xs x → (edge : Edge S) (q : Place) → PartAsks w instance k p x.name x.form edge q → f edge q ≡ g edge q
+
+    first_alike : (x : Part K) (xs : List (Part K)) → PartsAlike (x ∷ xs) → (edge : Edge S) (q : Place) → PartAsks w instance k p x.name x.form edge q → f edge q ≡ g edge q
+    unfolding PartsAlike
+    first_alike x xs h = h x (zero, omega arith, refl)
+
+    others_alike : (x : Part K) (xs : List (Part K)) → PartsAlike (x ∷ xs) → PartsAlike xs
+    unfolding PartsAlike
+    others_alike x xs h y is = h y (later x xs y is)
+
+    plan_alike : (xs : List (Part K)) → plan w k ≡ these xs → ((edge : Edge S) (q : Place) → Asks w instance k p edge q → f edge q ≡ g edge q) → PartsAlike xs
+    unfolding PartsAlike
+    plan_alike xs is h x in_xs edge q a = h edge q (record { xs = xs; is_plan = is; part = x; is_part = in_xs; asks = a })
+
+  -- ---- units
+
+  module _ (c : Completion) (f g : Edge S → Place → Unit_) where
+    form_units : (name : Text) (form : Form K) → ((edge : Edge S) (q : Place) → PartAsks w instance k p name form edge q → f edge q ≡ g edge q) → part_units w instance c k path p f name form ≡ part_units w instance c k path p g name form
+    form_units name (keyword m requests absorbed) h = units_read w.keywords reads (at w instance k path p) name m (subject w instance p) (matching w.matcher c) _ _ (keyword_answers no_unit f g name m requests absorbed h)
+    form_units name (reference kind text) h = ap (reference_units (at w instance k path p) name) (reference_answers no_unit f g name kind text h)
+
+    entries_same : (xs : List (Part K)) → PartsAlike no_unit f g xs → entries_of w instance c k path p f xs ≡ entries_of w instance c k path p g xs
+    entries_same [] h = refl
+    entries_same (x ∷ xs) h = let e = form_units x.name x.form (first_alike no_unit f g x xs h) in
+        ap₂ (λ (z : Entry) zs. z ∷ zs) (λ j. record { priority = x.priority; units = e j }) (entries_same xs (others_alike no_unit f g x xs h))
+
+    plan_units : (o : Plan K) → plan w k ≡ o → ((edge : Edge S) (q : Place) → Asks w instance k p edge q → f edge q ≡ g edge q)
+        → ◌≡◌ {A = Unit_} (elim o [ always ↦ true_unit (at w instance k path p) | never ↦ false_unit w.keywords.texts (at w instance k path p) (subject w instance p) | these xs ↦ plan_unit (at w instance k path p) (annotations_of w k) (entries_of w instance c k path p f xs) ])
+        (elim o [ always ↦ true_unit (at w instance k path p) | never ↦ false_unit w.keywords.texts (at w instance k path p) (subject w instance p) | these xs ↦ plan_unit (at w instance k path p) (annotations_of w k) (entries_of w instance c k path p g xs) ])
+    plan_units always is h = refl
+    plan_units never is h = refl
+    plan_units (these xs) is h = ap (plan_unit (at w instance k path p) (annotations_of w k)) (entries_same xs (plan_alike no_unit f g xs is h))
+
+    pub unit_local : ((edge : Edge S) (q : Place) → Asks w instance k p edge q → f edge q ≡ g edge q) → unit_of w instance c k path p f ≡ unit_of w instance c k path p g
+    unit_local h = plan_units (plan w k) refl h
+
+  -- ---- what is met
+
+  module _ (as' : Assumptions) (f g : Edge S → Place → Run) where
+    form_met : (name : Text) (form : Form K) → ((edge : Edge S) (q : Place) → PartAsks w instance k p name form edge q → f edge q ≡ g edge q)
+        → (mode : Mode) → part_met w instance as' k path p f name form mode ≡ part_met w instance as' k path p g name form mode
+    form_met name (keyword m requests absorbed) h mode = met_reads w.keywords reads (at w instance k path p) name m (subject w instance p) w.matcher as' (same_child w k name requests) mode _ _ (keyword_answers no_run f g name m requests absorbed h)
+    form_met name (reference kind text) h mode = ap (λ r. r.met mode) (reference_answers no_run f g name kind text h)
+
+    looked_same : (xs : List (Part K)) → PartsAlike no_run f g xs → looked w instance as' k path p f xs ≡ looked w instance as' k path p g xs
+    looked_same [] h = refl
+    looked_same (x ∷ xs) h =
+        let first = first_alike no_run f g x xs h in
+        let outcome = part_same w instance (completion_of as') reads k path p (λ e q. (f e q).outcome tt) (λ e q. (g e q).outcome tt) x.name x.form (λ edge q a. ap (λ r. r.outcome tt) (first edge q a)) in
+        let met = form_met x.name x.form first in
+        ap₂ (λ (z : Looked) zs. z ∷ zs) (λ j. record { is_leaf = x.is_leaf; holds = (outcome j).verdict; met = λ mode. met mode j }) (looked_same xs (others_alike no_run f g x xs h))
+
+    plan_meets : (mode : Mode) (o : Plan K) → plan w k ≡ o → ((edge : Edge S) (q : Place) → Asks w instance k p edge q → f edge q ≡ g edge q)
+        → ◌≡◌ {A = List Met} (elim o [ always ↦ [] | never ↦ [] | these xs ↦ plan_met mode (looked w instance as' k path p f xs) ]) (elim o [ always ↦ [] | never ↦ [] | these xs ↦ plan_met mode (looked w instance as' k path p g xs) ])
+    plan_meets mode always is h = refl
+    plan_meets mode never is h = refl
+    plan_meets mode (these xs) is h = ap (plan_met mode) (looked_same xs (plan_alike no_run f g xs is h))
+
+    pub run_local : ((edge : Edge S) (q : Place) → Asks w instance k p edge q → f edge q ≡ g edge q) → run_node w instance as' k path p f ≡ run_node w instance as' k path p g
+    run_local h =
+        let c : Completion = completion_of as' in
+        let outcome = outcome_local w instance c reads k path p (λ e q. (f e q).outcome tt) (λ e q. (g e q).outcome tt) (λ edge q a. ap (λ r. r.outcome tt) (h edge q a)) in
+        let units = unit_local c (λ e q. (f e q).units tt) (λ e q. (g e q).units tt) (λ edge q a. ap (λ r. r.units tt) (h edge q a)) in
+        let met : (mode : Mode) → (run_node w instance as' k path p f).met mode ≡ (run_node w instance as' k path p g).met mode = λ mode. plan_meets mode (plan w k) refl h in
+        λ j. record { outcome = λ t. outcome j; units = λ t. units j; met = λ mode. met mode j }

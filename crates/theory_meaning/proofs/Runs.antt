@@ -1,0 +1,197 @@
+-- The plain run under assumptions speaks, in each mode, for every completion that extends them, where no question returns.
+use Rattle.std.proofs.Common.{◌≡◌, ℕ, zero, suc, ◌≤◌, List, [], ◌∷◌, ◌++◌, refl, ap, sym, subst, ◌∙◌, Bool, true, false, map, arith}
+use Rattle.std.specs.Prelude.{Decides, Option, Some, None, option_map}
+use Rattle.serde_json.specs.Data.{Data}
+use Rattle.theory_definitions.specs.Instance.{Text, Place}
+use Rattle.theory_definitions.specs.Pointer.{joined}
+use Rattle.theory_definitions.specs.Reports.{Error, Unit_, Outcome, accepted}
+use Rattle.theory_definitions.specs.Parts.{Parts}
+use Rattle.theory_definitions.specs.Matching.{Completion, Assumptions, matching, completion_of, Extends}
+use Rattle.theory_definitions.specs.Keywords.{Mode, for_verdict, for_first, for_all, for_units}
+use Rattle.theory_definitions.specs.Plan.{Key, Edge, height, Part, Form, keyword, reference, Plan, always, never, these, plan, child, reference_edge, same_child, absolute_of}
+use Rattle.theory_definitions.specs.Meaning.{at, subject, asked, referred_to, within, unfold_, unfolded, part_outcome, parts_outcome, outcome_of, false_outcome, stamped}
+use Rattle.theory_definitions.specs.Units.{Entry, PartUnits, plain_units, part_units, entries_of, unit_of, given_units, reference_units, no_unit, annotations_of, true_unit, false_unit, plan_unit}
+use Rattle.theory_definitions.specs.Runs.{Run, looked, plan_met, part_met, no_run, run_node, run, first_error}
+use Rattle.theory_definitions.specs.Laws.{Agrees, EachKeeps, KeepsLaws}
+use Rattle.theory_meaning.specs.Returns.{Return}
+use Rattle.theory_meaning.specs.Reach.{IsReach, deep_enough, targets_of}
+use Rattle.theory_meaning.specs.Headline.{at_root}
+use Rattle.theory_meaning.specs.Numbered.{MakersAskBelow, ValuesInside}
+use Rattle.theory_meaning.specs.Members.{AllAssumed, SameIn, Speaks}
+use Rattle.theory_meaning.proofs.SameTurns.{assumed_front, assumed_back, keyword_same, same_units}
+use Rattle.theory_meaning.proofs.Plans.{Along, ends, goes, along_in_mode, same_itself_in, first_stamped}
+use Rattle.theory_meaning.proofs.Valid.{part_agrees, node_agrees, node_valid}
+use Rattle.theory_meaning.proofs.Reading.{reads_of}
+use Rattle.theory_meaning.proofs.Questions.{Asks}
+use Rattle.theory_meaning.proofs.Local.{outcome_local}
+use Rattle.theory_meaning.proofs.PlainRuns.{run_local, unit_local}
+use Rattle.theory_meaning.proofs.AtPlaces.{at_places}
+use Rattle.theory_meaning.proofs.Reaching.{at_targets}
+use Rattle.theory_meaning.proofs.Inside.{subschemas_inside}
+use Rattle.theory_meaning.proofs.SameRun.{one_place, one_target, same_through}
+use Rattle.theory_meaning.proofs.Steps.{in_steps, steps_unfold}
+use Rattle.theory_meaning.proofs.KeysAlike.{KeysAlike, keys_answered, steps_alike}
+
+-- one more entry of the same units
+pub one_more_entry : (priority : ℕ) {x y : PartUnits} {xs ys : List Entry} → x ≡ y → xs ≡ ys
+    → ◌≡◌ {A = List Entry} (record { priority = priority; units = x } ∷ xs) (record { priority = priority; units = y } ∷ ys)
+one_more_entry priority e es = λ i. record { priority = priority; units = e i } ∷ es i
+
+-- ---- a run's outcome is that of its own completion
+
+module _ {S K R : Type 0} (w : Parts S K R) (instance : Data) (as' : Assumptions) where
+  by_kind : {X : Type 0} (f : Run → X) (t : Bool) (r r' : Run) (x x' : X) → f r ≡ x → f r' ≡ x' → f (elim t [ true ↦ r | false ↦ r' ]) ≡ (elim t [ true ↦ x | false ↦ x' ])
+  by_kind f true r r' x x' e e' = e
+  by_kind f false r r' x x' e e' = e'
+
+  within_outcome : (a : Key S → Text → Place → Run) (b : Key S → Text → Place → Outcome) → ((k : Key S) (path : Text) (p : Place) → (a k path p).outcome tt ≡ b k path p)
+      → (h : ℕ) (k : Key S) (path : Text) (p : Place) → (within w instance no_run (run_node w instance as') a h k path p).outcome tt ≡ within w instance accepted (outcome_of w instance (completion_of as')) b h k path p
+  within_outcome a b s zero k path p = refl
+  within_outcome a b s (suc h) k path p = ap (outcome_of w instance (completion_of as') k path p)
+      (λ i edge q. by_kind (λ r. r.outcome tt) edge.is_reference (a edge.key (path ++ edge.path) q) (within w instance no_run (run_node w instance as') a h edge.key (path ++ edge.path) q) _ _ (s edge.key (path ++ edge.path) q) (within_outcome a b s h edge.key (path ++ edge.path) q) i)
+
+  pub run_outcome : (n : ℕ) (k : Key S) (path : Text) (p : Place) → (run w instance as' n k path p).outcome tt ≡ unfold_ w instance (completion_of as') n k path p
+  run_outcome zero k path p = within_outcome (λ k' path' p'. no_run) (λ k' path' p'. accepted) (λ k' path' p'. refl) (height w k) k path p
+  run_outcome (suc n) k path p = within_outcome (run w instance as' n) (unfold_ w instance (completion_of as') n) (run_outcome n) (height w k) k path p
+
+  steps_outcome : (n : ℕ) (k : Key S) (path : Text) (p : Place) → (in_steps w instance no_run (run_node w instance as') n k path p).outcome tt ≡ in_steps w instance accepted (outcome_of w instance (completion_of as')) n k path p
+  steps_outcome zero k path p = refl
+  steps_outcome (suc n) k path p = ap (outcome_of w instance (completion_of as') k path p) (λ j e q. steps_outcome n e.key (path ++ e.path) q j)
+
+  runs_alike : (n : ℕ) (path : Text) → KeysAlike (λ e q. (in_steps w instance no_run (run_node w instance as') n e.key (path ++ e.path) q).outcome tt)
+  runs_alike n path = subst KeysAlike (λ j e q. sym (steps_outcome n e.key (path ++ e.path) q) j) (steps_alike w instance (completion_of as') n path)
+
+-- ---- a run speaks
+
+module _ {S K R : Type 0} (w : Parts S K R) (instance : Data) (absorbs : K → List Text) (laws : (m : K) → KeepsLaws w.keywords m (absorbs m)) (states : (a b : S) → Decides (w.resolver.same_state a b) (a ≡ b))
+    (as' : Assumptions) (c : Completion) (mine : Extends (completion_of as') as') (ext : Extends c as') where
+  no_run_speaks : Speaks as' no_run accepted no_unit
+  no_run_speaks = record { run_agrees = (λ e. refl, λ e. refl); agrees = (λ e. refl, λ e. refl); run_valid = refl; valid = refl; in_mode = λ mode e. same_itself_in mode accepted; units = λ e. refl }
+
+  module _ (k : Key S) (path : Text) (p : Place) (f : Edge S → Place → Run) (g : Edge S → Place → Outcome) (u : Edge S → Place → Unit_)
+      (speaks : (e : Edge S) (q : Place) → Speaks as' (f e q) (g e q) (u e q)) (alike_run : KeysAlike (λ e q. (f e q).outcome tt)) (alike : KeysAlike g) where
+    abbrev g1 : Edge S → Place → Outcome
+    g1 e q = (f e q).outcome tt
+
+    abbrev u1 : Edge S → Place → Unit_
+    u1 e q = (f e q).units tt
+
+    option_speaks : (o : Option (Edge S)) (q : Place)
+        → Speaks as' (elim o [ None ↦ no_run | Some e ↦ f e q ]) (elim o [ None ↦ accepted | Some e ↦ g e q ]) (elim o [ None ↦ no_unit | Some e ↦ u e q ])
+    option_speaks None q = no_run_speaks
+    option_speaks (Some e) q = speaks e q
+
+    option_outcome : (o : Option (Edge S)) (q : Place) → ◌≡◌ {A = Outcome} (let r : Run = elim o [ None ↦ no_run | Some e ↦ f e q ] in r.outcome tt) (elim o [ None ↦ accepted | Some e ↦ g1 e q ])
+    option_outcome None q = refl
+    option_outcome (Some e) q = refl
+
+    option_units : (o : Option (Edge S)) (q : Place) → ◌≡◌ {A = Unit_} (let r : Run = elim o [ None ↦ no_run | Some e ↦ f e q ] in r.units tt) (elim o [ None ↦ no_unit | Some e ↦ u1 e q ])
+    option_units None q = refl
+    option_units (Some e) q = refl
+
+    abbrev own_outcome : Text → Form K → Outcome
+    own_outcome = part_outcome w instance (completion_of as') k path p g1
+
+    abbrev its_outcome : Text → Form K → Outcome
+    its_outcome = part_outcome w instance c k path p g
+
+    own_agrees : (name : Text) (form : Form K) → Agrees (own_outcome name form)
+    own_agrees = part_agrees w instance absorbs laws (completion_of as') k path p g1 u1 (λ e q. (speaks e q).run_agrees) (λ e q. (speaks e q).run_valid)
+
+    its_agrees : (name : Text) (form : Form K) → Agrees (its_outcome name form)
+    its_agrees = part_agrees w instance absorbs laws c k path p g u (λ e q. (speaks e q).agrees) (λ e q. (speaks e q).valid)
+
+    abbrev stamp : Text → Error → Error
+    stamp name = stamped (absolute_of w k (joined k.location name))
+
+    in_form : (name : Text) (form : Form K) (mode : Mode) → AllAssumed as' (part_met w instance as' k path p f name form mode) → SameIn mode (own_outcome name form) (its_outcome name form)
+    in_form name (keyword m requests absorbed) mode e = keyword_same w.keywords w.matcher as' c mine ext (at w instance k path p) (subject w instance p)
+        (asked w instance no_run k name requests p f) (asked w instance accepted k name requests p g1) (asked w instance accepted k name requests p g)
+        (asked w instance no_unit k name requests p u1) (asked w instance no_unit k name requests p u) (same_child w k name requests) name m
+        (λ q. option_outcome (child w k name requests q.child) _) (λ q. option_units (child w k name requests q.child) _) (λ q. option_speaks (child w k name requests q.child) _)
+        (keys_answered w instance states k name requests p g1 alike_run) (keys_answered w instance states k name requests p g alike) (absorbs m) (laws m) mode e
+    in_form name (reference kind text) mode e = by mode ((option_speaks (reference_edge w k name kind text) p).in_mode mode e)
+      where
+        by : (mode : Mode) → SameIn mode (let r : Run = referred_to w instance no_run k name kind text p f in r.outcome tt) (referred_to w instance accepted k name kind text p g)
+            → SameIn mode (own_outcome name (reference kind text)) (its_outcome name (reference kind text))
+        by for_verdict h = sym (ap (λ o. o.verdict) (option_outcome (reference_edge w k name kind text) p)) ∙ h
+        by for_first h = first_stamped (stamp name) _ ∙ (ap (option_map (stamp name)) (sym (ap (λ o. first_error o.errors) (option_outcome (reference_edge w k name kind text) p)) ∙ h) ∙ sym (first_stamped (stamp name) _))
+        by for_all h = ap (map (stamp name)) (sym (ap (λ o. o.errors) (option_outcome (reference_edge w k name kind text) p)) ∙ h)
+        by for_units h = sym (ap (λ o. o.verdict) (option_outcome (reference_edge w k name kind text) p)) ∙ h
+
+    along : (xs : List (Part K)) → Along as' (looked w instance as' k path p f xs) (parts_outcome w instance (completion_of as') k path p g1 xs) (parts_outcome w instance c k path p g xs)
+    along [] = ends
+    along (x ∷ xs) = goes (record { holds = refl; agrees_a = own_agrees x.name x.form; agrees_b = its_agrees x.name x.form; in_mode = λ mode e. in_form x.name x.form mode e }) (along xs)
+
+    form_units : (name : Text) (form : Form K) → AllAssumed as' (part_met w instance as' k path p f name form for_units)
+        → part_units w instance (completion_of as') k path p u1 name form ≡ part_units w instance c k path p u name form
+    form_units name (keyword m requests absorbed) e =
+        let same : (w.keywords.units m (subject w instance p) (matching w.matcher (completion_of as')) (asked w instance no_unit k name requests p u1) ≡ w.keywords.units m (subject w instance p) (matching w.matcher c) (asked w instance no_unit k name requests p u))
+        × ((own_outcome name (keyword m requests absorbed)).verdict ≡ (its_outcome name (keyword m requests absorbed)).verdict)
+        = same_units w.keywords w.matcher as' c mine ext (at w instance k path p) (subject w instance p)
+        (asked w instance no_run k name requests p f) (asked w instance accepted k name requests p g1) (asked w instance accepted k name requests p g)
+        (asked w instance no_unit k name requests p u1) (asked w instance no_unit k name requests p u) (same_child w k name requests) name m
+        (λ q. option_outcome (child w k name requests q.child) _) (λ q. option_units (child w k name requests q.child) _) (λ q. option_speaks (child w k name requests q.child) _)
+        (keys_answered w instance states k name requests p g1 alike_run) (keys_answered w instance states k name requests p g alike) (absorbs m) (laws m) e in
+        ap (given_units (at w instance k path p) name) same.0
+    form_units name (reference kind text) e =
+        ap (reference_units (at w instance k path p) name)
+        (sym (option_units (reference_edge w k name kind text) p) ∙ (option_speaks (reference_edge w k name kind text) p).units e)
+
+    entries_same : (xs : List (Part K)) → AllAssumed as' (plan_met for_units (looked w instance as' k path p f xs))
+        → entries_of w instance (completion_of as') k path p u1 xs ≡ entries_of w instance c k path p u xs
+    entries_same [] e = refl
+    entries_same (x ∷ xs) e = one_more_entry x.priority (form_units x.name x.form (assumed_front as' _ _ e)) (entries_same xs (assumed_back as' (part_met w instance as' k path p f x.name x.form for_units) _ e))
+
+    in_plan : (o : Plan K) (mode : Mode) → AllAssumed as' (elim o [ always ↦ [] | never ↦ [] | these xs ↦ plan_met mode (looked w instance as' k path p f xs) ])
+        → SameIn mode (elim o [ always ↦ accepted | never ↦ false_outcome w.keywords.texts (at w instance k path p) (subject w instance p) | these xs ↦ parts_outcome w instance (completion_of as') k path p g1 xs ])
+        (elim o [ always ↦ accepted | never ↦ false_outcome w.keywords.texts (at w instance k path p) (subject w instance p) | these xs ↦ parts_outcome w instance c k path p g xs ])
+    in_plan always mode e = same_itself_in mode _
+    in_plan never mode e = same_itself_in mode _
+    in_plan (these xs) mode e = along_in_mode as' mode (along xs) e
+
+    units_in_plan : (o : Plan K) → AllAssumed as' (elim o [ always ↦ [] | never ↦ [] | these xs ↦ plan_met for_units (looked w instance as' k path p f xs) ])
+        → ◌≡◌ {A = Unit_}
+        (elim o [ always ↦ true_unit (at w instance k path p) | never ↦ false_unit w.keywords.texts (at w instance k path p) (subject w instance p) | these xs ↦ plan_unit (at w instance k path p) (annotations_of w k) (entries_of w instance (completion_of as') k path p u1 xs) ])
+        (elim o [ always ↦ true_unit (at w instance k path p) | never ↦ false_unit w.keywords.texts (at w instance k path p) (subject w instance p) | these xs ↦ plan_unit (at w instance k path p) (annotations_of w k) (entries_of w instance c k path p u xs) ])
+    units_in_plan always e = refl
+    units_in_plan never e = refl
+    units_in_plan (these xs) e = ap (plan_unit (at w instance k path p) (annotations_of w k)) (entries_same xs e)
+
+    node_speaks : Speaks as' (run_node w instance as' k path p f) (outcome_of w instance c k path p g) (unit_of w instance c k path p u)
+    node_speaks = record {
+      run_agrees = node_agrees w instance absorbs laws (completion_of as') k path p g1 u1 (λ e q. (speaks e q).run_agrees) (λ e q. (speaks e q).run_valid);
+      agrees = node_agrees w instance absorbs laws c k path p g u (λ e q. (speaks e q).agrees) (λ e q. (speaks e q).valid);
+      run_valid = node_valid w instance absorbs laws (completion_of as') k path p g1 u1 (λ e q. (speaks e q).run_agrees) (λ e q. (speaks e q).run_valid);
+      valid = node_valid w instance absorbs laws c k path p g u (λ e q. (speaks e q).agrees) (λ e q. (speaks e q).valid);
+      in_mode = in_plan (plan w k);
+      units = units_in_plan (plan w k);
+    }
+
+  -- ---- questions at most n deep
+
+  steps_speak : (n : ℕ) (k : Key S) (path : Text) (p : Place)
+      → Speaks as' (in_steps w instance no_run (run_node w instance as') n k path p) (in_steps w instance accepted (outcome_of w instance c) n k path p) (in_steps w instance no_unit (unit_of w instance c) n k path p)
+  steps_speak zero k path p = no_run_speaks
+  steps_speak (suc n) k path p = node_speaks k path p _ _ _ (λ e q. steps_speak n e.key (path ++ e.path) q) (runs_alike w instance as' n path) (steps_alike w instance c n path)
+
+-- the plain run of a root speaks at every depth that is enough, where no question returns
+module _ {S K R : Type 0} (w : Parts S K R) (each : EachKeeps w.keywords) (values : ValuesInside w) (makers : MakersAskBelow w.table) (states : (a b : S) → Decides (w.resolver.same_state a b) (a ≡ b))
+    (instance : Data) (root : Key S) (none : ¬ (Return w instance (at_root w root instance))) (keys : List (Key S)) (reach : IsReach w root keys) (n : ℕ) (enough : deep_enough w keys instance ≤ n) where
+  in_steps_is : {X : Type 0} (last : X) (node : Key S → Text → Place → (Edge S → Place → X) → X)
+      → ((k : Key S) (path : Text) (p : Place) (f g : Edge S → Place → X) → ((edge : Edge S) (q : Place) → Asks w instance k p edge q → f edge q ≡ g edge q) → node k path p f ≡ node k path p g)
+      → in_steps w instance last node n root [] [] ≡ unfolded w instance last node n root [] []
+  in_steps_is last node local = steps_unfold w instance last node (subschemas_inside w values makers) local (at_root w root instance) none (targets_of w keys)
+      (at_targets w instance root (same_through w states) keys reach) (at_places w instance (reads_of w.keywords each) root) (one_target w states) one_place n n (omega arith) (omega arith)
+
+  pub run_speaks : (as' : Assumptions) (c : Completion) → Extends (completion_of as') as' → Extends c as'
+      → Speaks as' (run w instance as' n root [] []) (unfold_ w instance c n root [] []) (plain_units w instance c n root [] [])
+  run_speaks as' c mine ext =
+      let reads = reads_of w.keywords each in
+      let runs : in_steps w instance no_run (run_node w instance as') n root [] [] ≡ run w instance as' n root [] [] = in_steps_is no_run (run_node w instance as') (λ k path p f g h. run_local w instance reads k path p as' f g h) in
+      let says : in_steps w instance accepted (outcome_of w instance c) n root [] [] ≡ unfold_ w instance c n root [] [] = in_steps_is accepted (outcome_of w instance c) (outcome_local w instance c reads) in
+      let units : in_steps w instance no_unit (unit_of w instance c) n root [] [] ≡ plain_units w instance c n root [] [] = in_steps_is no_unit (unit_of w instance c) (λ k path p f g h. unit_local w instance reads k path p c f g h) in
+      subst (λ r. Speaks as' r (unfold_ w instance c n root [] []) (plain_units w instance c n root [] [])) runs
+      (subst (λ o. Speaks as' (in_steps w instance no_run (run_node w instance as') n root [] []) o (plain_units w instance c n root [] [])) says
+      (subst (λ u. Speaks as' (in_steps w instance no_run (run_node w instance as') n root [] []) (in_steps w instance accepted (outcome_of w instance c) n root [] []) u) units
+      (steps_speak w instance (λ m. (each m).0) (λ m. (each m).1) states as' c mine ext n root [] [])))

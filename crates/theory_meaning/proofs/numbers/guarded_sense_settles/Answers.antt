@@ -1,0 +1,5 @@
+use Rattle.theory_meaning.proofs.numbers.guarded_sense_settles.Goals as goal
+use Rattle.theory_meaning.proofs.NodeRuns as lemmas
+
+pub returns : goal.returns
+returns g c = record { settles = λ keywords. lemmas.guarded_sense_settles keywords }

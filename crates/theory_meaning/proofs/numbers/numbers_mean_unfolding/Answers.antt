@@ -1,0 +1,5 @@
+use Rattle.theory_meaning.proofs.numbers.numbers_mean_unfolding.Goals as goal
+use Rattle.theory_meaning.proofs.SameRun as lemmas
+
+pub returns : goal.returns
+returns g c = record { means = λ w keys nodes. lemmas.numbers_mean_unfolding w keys nodes }

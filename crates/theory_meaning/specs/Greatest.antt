@@ -1,0 +1,40 @@
+-- The largest set of pairs of a target and a place that accept where exactly the pairs of the set do.
+use Rattle.std.specs.List.{list_all}
+use Rattle.std.specs.Prelude.{Bool, None, Option, Some, false, true, ◌≡◌}
+use Rattle.serde_json.specs.Data.{Data}
+use Rattle.theory_definitions.specs.Instance.{Place, Subject}
+use Rattle.theory_definitions.specs.Matching.{Completion, Matching, matching}
+use Rattle.theory_definitions.specs.Keywords.{Keywords, Question}
+use Rattle.theory_definitions.specs.Parts.{Parts}
+use Rattle.theory_definitions.specs.Plan.{Edge, Key, Part, always, child, keyword, never, plan, reference, reference_edge, these}
+use Rattle.theory_definitions.specs.Meaning.{place_below, subject}
+
+module _ {S K R : Type 0} (w : Parts S K R) (instance : Data) (c : Completion) where
+  -- ---- the largest set of pairs, each of which accepts where exactly the pairs of the set do
+
+  abbrev pub Pairs : Type 0
+  Pairs = Key S → Place → Bool
+
+  abbrev pub in_set : Pairs → Option (Edge S) → Place → Bool
+  in_set accepts None p = true
+  in_set accepts (Some edge) p = accepts edge.key p
+
+  abbrev pub part_accepts : Pairs → Key S → Place → Part K → Bool
+  part_accepts accepts k p x = elim x.form [
+    | keyword m requests absorbed ↦ w.keywords.holds m (subject w instance p) (matching w.matcher c) (λ q. in_set accepts (child w k x.name requests q.child) (place_below p q.below))
+    | reference kind text ↦ in_set accepts (reference_edge w k x.name kind text) p
+  ]
+
+  abbrev pub accepts_by : Pairs → Key S → Place → Bool
+  accepts_by accepts k p = elim (plan w k) [ always ↦ true | never ↦ false | these xs ↦ list_all (part_accepts accepts k p) xs ]
+
+  abbrev pub IsSolution : Pairs → Type 0
+  IsSolution accepts = (k : Key S) (p : Place) → accepts k p ≡ true → accepts_by accepts k p ≡ true
+
+  -- the largest solution has a pair where some solution has it
+  abbrev pub AcceptsGreatest : Key S → Place → Type 0
+  AcceptsGreatest k p = (accepts : Pairs) × IsSolution accepts × (accepts k p ≡ true)
+
+-- a yes more among the answers turns no yes to a no
+abbrev pub IsMonotone : {K R : Type 0} → Keywords K R → K → Type 0
+IsMonotone {K} keywords m = (s : Subject) (matches : Matching) (a b : Question → Bool) → ((q : Question) → a q ≡ true → b q ≡ true) → keywords.holds m s matches a ≡ true → keywords.holds m s matches b ≡ true

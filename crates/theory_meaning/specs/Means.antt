@@ -1,0 +1,40 @@
+-- What numbered nodes mean of an instance, as a sense: from some depth on, they say and meet what the sense does.
+use Rattle.std.specs.Prelude.{[], ◌≡◌, ℕ, ◌≤◌, length, Decides}
+use Rattle.serde_json.specs.Data.{Data}
+use Rattle.theory_definitions.specs.Matching.{Completion, Matcher}
+use Rattle.theory_definitions.specs.Keywords.{Keywords}
+use Rattle.theory_definitions.specs.Parts.{Parts}
+use Rattle.theory_definitions.specs.Plan.{Key}
+use Rattle.theory_definitions.specs.Reports.{Unit_}
+use Rattle.theory_definitions.specs.Cover.{Sense}
+use Rattle.theory_definitions.specs.Laws.{EachKeeps}
+use Rattle.theory_definitions.specs.Guarded.{Nodes, guarded_sense, guarded_within, node_unit, yes_unit}
+use Rattle.theory_meaning.specs.Headline.{Guardedly, Plainly, PlainlyWithUnits}
+use Rattle.theory_meaning.specs.Numbered.{Numbers, IsNumber, AreNumbered, Ranked, ValuesInside, MakersAskBelow, subject_in}
+
+module _ {K R : Type 0} (keywords : Keywords K R) (matcher : Matcher) (nodes : Nodes K) (root : ℕ) (instance : Data) where
+  -- the nodes mean the sense
+  abbrev pub Means : Sense → Type 0
+  Means v = (deep : ℕ) × ((n : ℕ) → deep ≤ n → guarded_sense keywords matcher nodes (subject_in instance) n root ≡ v)
+
+  -- a sentence that is said of every sense that the nodes mean
+  abbrev pub OfEverySense : (Sense → Type 0) → Type 0
+  OfEverySense fact = (v : Sense) → Means v → fact v
+
+  -- and one that is said of what the nodes say from some depth on, where chains of questions return too
+  abbrev pub FromSomeDepth : (Sense → Type 0) → Type 0
+  FromSomeDepth fact = Guardedly keywords matcher nodes (subject_in instance) root fact
+
+  -- the nodes have these units under each completion, from some depth on
+  abbrev pub HaveUnits : (Completion → Unit_) → Type 0
+  HaveUnits units = (deep : ℕ) × ((n : ℕ) → deep ≤ n → (c : Completion) → guarded_within (yes_unit nodes) (node_unit keywords matcher nodes (subject_in instance) c) n root [] [] [] ≡ units c)
+
+-- numbers that stand for keys mean the plain meaning of the root's key, where no chain of questions returns
+abbrev pub NumbersMean : {S K R : Type 0} → Parts S K R → Numbers S → Nodes K → Type 0
+NumbersMean {S} w keys nodes = EachKeeps w.keywords → ValuesInside w → MakersAskBelow w.table → ((a b : S) → Decides (w.resolver.same_state a b) (a ≡ b)) → AreNumbered w keys nodes → Ranked nodes (length keys)
+    → (instance : Data) (i : ℕ) (root : Key S) → IsNumber keys i root → Plainly w root instance (Means w.keywords w.matcher nodes i instance)
+
+-- and they have the units of the plain meaning
+abbrev pub NumbersHaveUnits : {S K R : Type 0} → Parts S K R → Numbers S → Nodes K → Type 0
+NumbersHaveUnits {S} w keys nodes = EachKeeps w.keywords → ValuesInside w → MakersAskBelow w.table → ((a b : S) → Decides (w.resolver.same_state a b) (a ≡ b)) → AreNumbered w keys nodes → Ranked nodes (length keys)
+    → (instance : Data) (i : ℕ) (root : Key S) → IsNumber keys i root → PlainlyWithUnits w root instance (λ v units. HaveUnits w.keywords w.matcher nodes i instance units)

@@ -1,0 +1,36 @@
+-- Which errors all completions share.
+use Rattle.std.specs.List.{list_all, list_any}
+use Rattle.std.specs.Prelude.{Bool, List, [], false, filter, true, ◌∷◌, ◌≡◌}
+use Rattle.theory_definitions.specs.Reports.{Error, same_error}
+use Rattle.theory_definitions.specs.Matching.{Assumptions, Completion, all_match, completion_of}
+use Rattle.theory_definitions.specs.Cover.{Sense}
+
+module _ (v : Sense) where
+  abbrev pub EachAccepts : Type 0
+  EachAccepts = (c : Completion) → (v.says c).verdict ≡ true
+
+  abbrev pub SomeRefuses : Type 0
+  SomeRefuses = (c : Completion) × ((v.says c).verdict ≡ false)
+
+  -- every completion gives an error that is the same in all paths and the text
+  abbrev pub IsShared : Error → Type 0
+  IsShared e = (c : Completion) → list_any (same_error e) (v.says c).errors ≡ true
+
+  pub data Kept : List Error → List Error → Type 0 where
+    none : Kept [] []
+    keep : {e : Error} {es kept : List Error} → IsShared e → Kept es kept → Kept (e ∷ es) (e ∷ kept)
+    leave : {e : Error} {es kept : List Error} → ¬ (IsShared e) → Kept es kept → Kept (e ∷ es) kept
+
+  -- the shared errors, in the order of the completion that takes every unfinished match as matching
+  abbrev pub Shared : List Error → Type 0
+  Shared kept = Kept (v.says all_match).errors kept
+
+  -- the same over the members of a cover, the last of which assumes a yes everywhere
+  abbrev pub errors_of : Assumptions → List Error
+  errors_of as' = (v.says (completion_of as')).errors
+
+  abbrev pub in_each : List Assumptions → Error → Bool
+  in_each members e = list_all (λ as'. list_any (same_error e) (errors_of as')) members
+
+  abbrev pub shared_by : List Assumptions → Assumptions → List Error
+  shared_by members last = filter (in_each members) (errors_of last)

@@ -1,0 +1,61 @@
+-- A unit of an evaluation that has an error points at a keyword and at a value, as the error would by itself: its evaluation
+-- path leads from the root to a target and goes on to one of the target's keywords; its place in the schema is the target's
+-- location, going on alike; and its place in the instance is one that is there. (Core 2020-12, 12.3)
+use Rattle.std.specs.Prelude.{All, Contains, List, [], is_some, true, ℕ, ◌++◌, ◌≡◌}
+use Rattle.serde_json.specs.Data.{Data}
+use Rattle.theory_definitions.specs.Instance.{Place, Subject, Text, subject_at}
+use Rattle.theory_definitions.specs.Pointer.{pointer_to}
+use Rattle.theory_definitions.specs.Reports.{Report, Unit_, Units, a_unit, no_units, unit}
+use Rattle.theory_definitions.specs.Matching.{Completion, Matching}
+use Rattle.theory_definitions.specs.Keywords.{Keywords, Named, Question}
+use Rattle.theory_definitions.specs.Parts.{Parts}
+use Rattle.theory_definitions.specs.Plan.{Key, absolute_of}
+use Rattle.theory_definitions.specs.Guarded.{Nodes, guarded_within, node_unit, yes_unit}
+use Rattle.theory_meaning.specs.Paths.{Leads}
+use Rattle.theory_meaning.specs.ErrorsLead.{EachKeepsAbsorbing, MakesAbsorbing}
+use Rattle.theory_meaning.specs.Numbered.{AreNumbered, IsNumber, Numbers, subject_in}
+
+-- what is true of a unit, and of each unit inside it
+abbrev mutual
+  pub EachUnit : (Report → Type 0) → Unit_ → Type 0
+  EachUnit P (unit r us) = P r × EachUnitOf P us
+
+  pub EachUnitOf : (Report → Type 0) → Units → Type 0
+  EachUnitOf P no_units = Unit {0}
+  EachUnitOf P (a_unit u us) = EachUnit P u × EachUnitOf P us
+
+-- the unit is what one of these questions answers
+abbrev pub IsHandedOn : (Question → Unit_) → List Question → Unit_ → Type 0
+IsHandedOn answers qs u = (q : Question) × Contains qs q × (u ≡ answers q)
+
+module _ {K R : Type 0} (keywords : Keywords K R) (absorbs : K → List Text) where
+  -- the units that a keyword gives inside its own are what its questions answer; so are those inside the units that it absorbs, whose names are names that it absorbs
+  pub record HandsUnitsOn (m : K) (s : Subject) (matches : Matching) (answers : Question → Unit_) : Type 0 where
+    pub own : All (IsHandedOn answers (keywords.may_ask m s)) (keywords.units m s matches answers).children
+    pub absorbed : All (λ (a : Named). Contains (absorbs m) a.name × All (IsHandedOn answers (keywords.may_ask m s)) a.children) (keywords.units m s matches answers).absorbed
+
+  -- each keyword does so
+  abbrev pub EachHandsUnitsOn : Type 0
+  EachHandsUnitsOn = (m : K) (s : Subject) (matches : Matching) (answers : Question → Unit_) → HandsUnitsOn m s matches answers
+
+module _ {S K R : Type 0} (w : Parts S K R) (root : Key S) (instance : Data) where
+  -- the unit points at a keyword of a target that its evaluation path leads to, and at a value inside the instance; its absolute location is that of its place in the schema
+  pub record UnitPointsAt (r : Report) : Type 0 where
+    pub key : Key S
+    pub rest : Text
+    pub leads : Leads w root r.evaluation_path key rest
+    pub schema_path : r.schema_path ≡ key.location ++ rest
+    pub place : Place
+    pub present : is_some (subject_at instance place) ≡ true
+    pub instance_location : r.instance_location ≡ pointer_to place
+    pub absolute : r.absolute ≡ absolute_of w key r.schema_path
+
+  -- so does it, and each unit inside it, where it has an error of its own
+  abbrev pub UnitsPoint : Unit_ → Type 0
+  UnitsPoint u = EachUnit (λ r. ¬ (r.errors ≡ []) → UnitPointsAt r) u
+
+-- the units of numbered nodes point so, whether questions return or not, where each keyword hands on what its questions answer
+abbrev pub NodeUnitsLead : {S K R : Type 0} → Parts S K R → (K → List Text) → Numbers S → Nodes K → Type 0
+NodeUnitsLead {S} w absorbs keys nodes = EachKeepsAbsorbing w.keywords absorbs → MakesAbsorbing absorbs w.table → EachHandsUnitsOn w.keywords absorbs → AreNumbered w keys nodes
+    → (instance : Data) (c : Completion) (n i : ℕ) (root : Key S) → IsNumber keys i root
+    → UnitsPoint w root instance (guarded_within (yes_unit nodes) (node_unit w.keywords w.matcher nodes (subject_in instance) c) n i [] [] [])

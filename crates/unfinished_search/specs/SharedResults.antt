@@ -1,0 +1,60 @@
+-- The errors that all results of a search share.
+use Rattle.std.specs.List.{list_all, list_any}
+use Rattle.std.specs.Prelude.{Bool, List, None, Option, Some, [], false, filter, true, unwrap_or, ◌++◌, ◌∷◌, ◌≡◌}
+use Rattle.serde_json.specs.Data.{Data}
+use Rattle.theory_definitions.specs.Instance.{a_value, subject_at}
+use Rattle.schema_reports.specs.InstanceViews.{subject_of}
+use Rattle.theory_definitions.specs.Reports.{same_error}
+use Rattle.schema_reports.specs.ReportViews.{error_of}
+use Rattle.theory_meaning.specs.Searched.{failure_error}
+use Rattle.theory_definitions.specs.Unfinished.{Failure}
+use Rattle.schema_reports.specs.declared.reports.ValidationError.{ValidationError}
+
+-- the same in instance path, schema path, evaluation path and text
+abbrev pub same_key : ValidationError → ValidationError → Bool
+same_key a b = same_error (error_of true a) (error_of true b)
+
+abbrev pub has_key : List ValidationError → ValidationError → Bool
+has_key es e = list_any (same_key e) es
+
+abbrev pub in_each_of : List (List ValidationError) → ValidationError → Bool
+in_each_of others e = list_all (λ es. has_key es e) others
+
+-- those of the last result whose key is in each other one, in its order
+abbrev pub shared_among : List (List ValidationError) → List ValidationError → List ValidationError
+shared_among others last = filter (in_each_of others) last
+
+abbrev pub is_empty : List ValidationError → Bool
+is_empty [] = true
+is_empty (e ∷ es) = false
+
+-- the failure as one error, whose instance is what stands at its place
+pub record OneError (root : Data) (f : Failure) (es : List ValidationError) : Type 0 where
+  pub error : ValidationError
+  pub alone : es ≡ error ∷ []
+  pub is : error_of true error ≡ failure_error f
+  pub instance : subject_of error.instance ≡ unwrap_or (subject_at root error.place) (a_value root)
+
+-- the shared errors, or that there is none although some result has one
+abbrev pub or_none : List ValidationError → Bool → Option (List ValidationError)
+or_none (e ∷ es) empty = Some (e ∷ es)
+or_none [] true = Some []
+or_none [] false = None
+
+abbrev pub OfSome : List (List ValidationError) → Option (List ValidationError) → Type 0
+OfSome results answer =
+    (others : List (List ValidationError)) × (last : List ValidationError) × (results ≡ others ++ last ∷ [])
+    × (answer ≡ or_none (shared_among others last) (list_all is_empty (others ++ last ∷ [])))
+
+-- of no result, no error
+abbrev pub IsSharedBy : List (List ValidationError) → Option (List ValidationError) → Type 0
+IsSharedBy [] answer = answer ≡ Some []
+IsSharedBy (r ∷ rs) answer = OfSome (r ∷ rs) answer
+
+abbrev pub OrFailure : Data → Failure → Option (List ValidationError) → List ValidationError → Type 0
+OrFailure root f (Some es) answer = answer ≡ es
+OrFailure root f None answer = OneError root f answer
+
+-- the shared errors; where there is none although some result has one, the failure
+abbrev pub AreShared : Data → Failure → List (List ValidationError) → List ValidationError → Type 0
+AreShared root f results answer = (o : Option (List ValidationError)) × IsSharedBy results o × OrFailure root f o answer

@@ -1,0 +1,187 @@
+//! The errors of a result, found by hash. An error's key is its three paths and its text.
+ghost use Rattle.std.specs.Prelude.{◌≡◌, IfOk, bytes_eq, map, nat_eq};
+ghost use Rattle.schema_reports.specs.Showing.{Yields};
+ghost use Rattle.std.specs.HashMap.{get};
+ghost use Rattle.unfinished_matches.specs.HashIndex.{IsIndexed};
+ghost use Rattle.unfinished_search.specs.KeyHashes.{key_hash};
+ghost use Rattle.theory_definitions.specs.Pointer.{pointer_to};
+ghost use Rattle.unfinished_search.specs.SharedResults.{has_key, in_each_of, same_key};
+
+use schema_reports::instance::Place;
+use schema_reports::location::OutOfMemory;
+use schema_reports::reports::ValidationError;
+use std::alloc::Global;
+use std::collections::HashMap;
+use std::hash::{FoldHasher, Hasher};
+use std::marker::Model;
+use unfinished_matches::positions::add_position;
+
+/// The errors of a result in their order. Contracts see the list.
+#[derive(Drop)]
+pub(super) struct KeyedErrors<'i> {
+    errors: Vec<ValidationError<'i>>,
+    // For each hash of a key the first position that has it.
+    positions: HashMap<u64, usize>,
+}
+
+impl<'i> Model for KeyedErrors<'i> {
+    ghost use Rattle.std.specs.Prelude.{List, map, nat_eq};
+    ghost use Rattle.std.specs.HashMap.{get};
+    ghost use Rattle.unfinished_matches.specs.HashIndex.{IsIndexed};
+    ghost use Rattle.unfinished_search.specs.KeyHashes.{key_hash};
+    ghost use Rattle.schema_reports.specs.declared.reports.ValidationError.{ValidationError};
+    ghost use Rattle.std.specs.Coded.{codes};
+    ghost use Rattle.serde_json.specs.contracts.value.Value as e;
+
+    ghost Value = { List ValidationError };
+
+    ghost coded = { Prim.hlevel (codes, e.the_row.coded) };
+
+    ghost view = { λ k. k.errors.items };
+
+    ghost invariant = { λ k. IsIndexed (map key_hash k.errors.items) (get nat_eq k.positions) };
+}
+
+// The hash of an error's key.
+#[tactic(auto, unfolding(crate::specs::KeyHashes::hash_of_key))]
+fn key_hash(alloc: Global, error: &ValidationError<'_>) -> Result<u64, OutOfMemory>
+    ensures hash { Yields result (key_hash error.now) }
+{
+    let instance_path = error.instance_path(alloc)?;
+    let mut hasher = FoldHasher::default();
+    hasher.write(instance_path.as_str().as_bytes());
+    drop(instance_path);
+    hasher.write(error.schema_path.as_str().as_bytes());
+    hasher.write(error.evaluation_path.as_str().as_bytes());
+    hasher.write(error.text.as_bytes());
+    Ok(hasher.finish())
+}
+
+// The positions of these errors by the hashes of their keys.
+fn positions(
+    alloc: Global,
+    errors: &[ValidationError<'_>],
+) -> Result<HashMap<u64, usize>, OutOfMemory>
+    ensures indexed { IfOk result (λ p. IsIndexed (map key_hash errors.now) (get nat_eq p)) }
+{
+    let mut positions = HashMap::new(alloc);
+    for (i, error) in errors.iter().enumerate() {
+        add_position(&mut positions, key_hash(alloc, error)?, i)?;
+    }
+    Ok(positions)
+}
+
+// Whether two places have one pointer: two that differ may, since a name's place is shown by its object's pointer.
+fn have_one_pointer(alloc: Global, one: &Place<'_>, other: &Place<'_>) -> Result<bool, OutOfMemory>
+    ensures same { Yields result (bytes_eq (pointer_to one.now) (pointer_to other.now)) }
+{
+    if one == other {
+        return Ok(true);
+    }
+    let one = one.pointer(alloc)?;
+    let other = other.pointer(alloc)?;
+    let same = one.as_str() == other.as_str();
+    drop((one, other));
+    Ok(same)
+}
+
+// Whether two errors are the same in all paths and the text. What is cheap is compared first.
+fn is_same_key(
+    alloc: Global,
+    one: &ValidationError<'_>,
+    other: &ValidationError<'_>,
+) -> Result<bool, OutOfMemory>
+    ensures same { Yields result (same_key one.now other.now) }
+{
+    if one.text.as_str() != other.text.as_str()
+        || one.schema_path.as_str() != other.schema_path.as_str()
+        || one.evaluation_path.as_str() != other.evaluation_path.as_str()
+    {
+        return Ok(false);
+    }
+    have_one_pointer(alloc, &one.place, &other.place)
+}
+
+// Whether one of the errors is the same.
+fn has_key_of(
+    alloc: Global,
+    errors: &[ValidationError<'_>],
+    error: &ValidationError<'_>,
+) -> Result<bool, OutOfMemory>
+    ensures has { Yields result (has_key errors.now error.now) }
+{
+    for (i, one) in errors.iter().enumerate() {
+        if is_same_key(alloc, error, one)? {
+            return Ok(true);
+        }
+    }
+    Ok(false)
+}
+
+impl<'i> KeyedErrors<'i> {
+    // These errors; it fails only if memory does.
+    fn new(alloc: Global, errors: Vec<ValidationError<'i>>) -> Result<KeyedErrors<'i>, OutOfMemory>
+        ensures same { Yields result errors.entry.items }
+    {
+        match positions(alloc, &errors) {
+            Ok(positions) => Ok(KeyedErrors { errors, positions }),
+            Err(error) => {
+                drop(errors);
+                Err(error)
+            }
+        }
+    }
+
+    // Whether one of the errors is the same as this one, whose key has this hash.
+    fn contains(
+        &self,
+        alloc: Global,
+        error: &ValidationError<'_>,
+        hash: u64,
+    ) -> Result<bool, OutOfMemory>
+        requires hash { hash ≡ key_hash error.now }
+        ensures has { Yields result (has_key self.now error.now) }
+    {
+        match self.positions.get(&hash) {
+            Some(position) => {
+                if is_same_key(alloc, error, &self.errors[*position])? {
+                    Ok(true)
+                } else {
+                    has_key_of(alloc, &self.errors, error)
+                }
+            }
+            None => Ok(false),
+        }
+    }
+}
+
+/// The errors of each result, found by their keys.
+pub(super) fn keyed<'i>(
+    alloc: Global,
+    results: Vec<Vec<ValidationError<'i>>>,
+) -> Result<Vec<KeyedErrors<'i>>, OutOfMemory>
+    ensures same { IfOk result (λ k. k.items ≡ map (λ r. r.items) results.entry.items) }
+{
+    let mut keyed = Vec::new(alloc);
+    for errors in results {
+        keyed.push(KeyedErrors::new(alloc, errors)?)?;
+    }
+    Ok(keyed)
+}
+
+/// Whether each result has such an error.
+pub(super) fn is_in_each(
+    alloc: Global,
+    results: &[KeyedErrors<'_>],
+    error: &ValidationError<'_>,
+) -> Result<bool, OutOfMemory>
+    ensures each { Yields result (in_each_of results.now error.now) }
+{
+    let hash = key_hash(alloc, error)?;
+    for (i, errors) in results.iter().enumerate() {
+        if !errors.contains(alloc, error, hash)? {
+            return Ok(false);
+        }
+    }
+    Ok(true)
+}
