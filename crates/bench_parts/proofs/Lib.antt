@@ -1,4 +1,3 @@
-pub mod MemberNames
 pub mod TextsWithin
 pub mod BelowPlaces
 pub mod MetaFaults

@@ -1,5 +1,3 @@
-pub mod Makers
-pub mod MakerLaws
 pub mod BenchMatching
 pub mod BenchMeta
 pub mod MetaPlaces

@@ -5,4 +5,3 @@
 pub mod matcher;
 pub mod meta;
 mod meta_place;
-pub mod table;

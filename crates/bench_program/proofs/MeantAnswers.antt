@@ -12,7 +12,7 @@ use Rattle.schema_compiled.specs.Program.{OfEverySense, Program}
 use Rattle.bench_parts.specs.BenchMatching.{bench_matcher}
 use Rattle.standard_resolver.specs.DocumentStates.{Point}
 use Rattle.standard_basics.specs.BasicShape.{BasicShape, is_whole}
-use Rattle.schema_calls.specs.Evaluated.{UnitsAnswered}
+use Rattle.schema_compiled.specs.Evaluated.{UnitsAnswered}
 use Rattle.schema_validator.proofs.PlainAnswers.{plainly_with_units}
 use Rattle.bench_program.specs.ProgramMeaning.{AnswersInEverySense, AnswersPlainly, BenchHasUnits, BenchMeans, OfPlainMeaning}
 use Rattle.standard_basics.specs.Shapes.{shape_of}

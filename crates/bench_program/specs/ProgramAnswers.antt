@@ -10,8 +10,8 @@ use Rattle.schema_reports.specs.declared.evaluation.EvaluationNode.{EvaluationNo
 use Rattle.schema_reports.specs.declared.reports.ValidationError.{ValidationError}
 use Rattle.schema_traits.specs.KeywordViews.{is_nil}
 use Rattle.schema_output.specs.Output.{output_list}
-use Rattle.schema_calls.specs.Evaluated.{EvaluationAnswered}
-use Rattle.schema_calls.specs.Spoken.{ErrorsAnswered, FirstAnswered}
+use Rattle.schema_compiled.specs.Evaluated.{EvaluationAnswered}
+use Rattle.schema_compiled.specs.Spoken.{ErrorsAnswered, FirstAnswered}
 use Rattle.bench_program.specs.ProgramTexts.{IsJsonLine, errors_text, first_text, verdict_text}
 use Rattle.bench_program.specs.declared.program.requests.Call.{Call}
 use Rattle.bench_program.specs.declared.program.requests.Call.TheVariants.{Evaluate, IsValid, IterErrors, Validate}

@@ -14,7 +14,7 @@ use Rattle.schema_reports.specs.declared.evaluation.EvaluationNode.{EvaluationNo
 use Rattle.schema_keys.specs.declared.error.BuildError.{BuildError}
 use Rattle.schema_validator.specs.Checked.{FailsCheck, PassesCheck}
 use Rattle.schema_validator.specs.Handed.{default_nested, default_runs, Options, default_options, parts_of, table_of}
-use Rattle.schema_calls.specs.Evaluated.{UnitsAnswered}
+use Rattle.schema_compiled.specs.Evaluated.{UnitsAnswered}
 use Rattle.schema_compiled.specs.Program.{FromSomeDepth, HasUnits, OfEveryEvaluation, OfEverySense, Program}
 use Rattle.schema_validator.specs.ProgramOf.{IsProgramOf}
 use Rattle.schema_validator.specs.Promised.{HasSchemasUnits, MeansSchema, OfSchema}
@@ -26,7 +26,7 @@ use Rattle.standard_resolver.specs.ResolverDocuments.{HeldDocuments, HasCustom, 
 use Rattle.bench_parts.specs.BenchMatching.{bench_matcher}
 use Rattle.bench_parts.specs.BenchMeta.{document_fault}
 use Rattle.standard_resolver.specs.DocumentStates.{Point}
-use Rattle.bench_parts.specs.Makers.{basic_script}
+use Rattle.standard_basics.specs.Makers.{basic_script}
 use Rattle.standard_basics.specs.BasicShape.{BasicShape, is_whole}
 use Rattle.bench_program.specs.ProgramAnswers.{Answers}
 use Rattle.bench_program.specs.ProgramWords.{Holds}

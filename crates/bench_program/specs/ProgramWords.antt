@@ -3,7 +3,7 @@ use Rattle.std.specs.Prelude.{IsUtf8, List, None, Option, Some, [], bytes_eq, co
 use Rattle.serde_json.specs.Data.{Data, array}
 use Rattle.serde_json.specs.Read.{read}
 use Rattle.theory_definitions.specs.Instance.{Text}
-use Rattle.bench_parts.specs.Makers.{texts_of}
+use Rattle.standard_basics.specs.Makers.{texts_of}
 use Rattle.bench_program.specs.declared.program.requests.Call.{Call}
 use Rattle.bench_program.specs.declared.program.requests.Call.TheVariants.{Evaluate, IsValid, IterErrors, Validate}
 

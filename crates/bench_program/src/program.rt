@@ -19,10 +19,10 @@ use crate::program::faults::Fault;
 use crate::program::requests::{Request, request_in};
 use bench_parts::matcher::BenchMatcher;
 use bench_parts::meta::BenchMeta;
-use bench_parts::table::BenchTable;
 use schema_drafts::keywords::VocabularySet;
 use schema_engine::validator::Validator;
 use standard_basics::keyword::BasicKeyword;
+use standard_basics::table::BasicTable;
 use standard_resolver::resolver::DocumentResolver;
 use std::alloc::Global;
 use std::io;
@@ -79,7 +79,7 @@ fn answer_to(alloc: Global, words: &[Vec<u8>]) -> Result<Answer, Fault>
     let validator = Validator::<BasicKeyword, BenchMatcher>::new(
         alloc,
         &schema,
-        &BenchTable {},
+        &BasicTable {},
         &resolver,
         &matcher,
         &BenchMeta {},

@@ -11,9 +11,9 @@ use Rattle.schema_traits.specs.MakerViews.{MakesRightly, begun, waits}
 use Rattle.standard_basics.specs.BasicShape.{BasicShape, is_whole}
 use Rattle.standard_basics.specs.Laws.{none_absorbed}
 use Rattle.keyword_makers.specs.ByValue.{IsRightMember, makes_by_value}
-use Rattle.bench_parts.specs.MakerLaws.{makes_rightly}
+use Rattle.standard_basics.specs.MakerLaws.{makes_rightly}
 use Rattle.keyword_makers.specs.declared.by_value.MemberKeyword.TheVariants.{Nothing}
-use Rattle.bench_parts.specs.Makers.{basic_script}
+use Rattle.standard_basics.specs.Makers.{basic_script}
 use Rattle.keyword_makers.specs.Making.{asks_for, waiting_in}
 use Rattle.keyword_makers.specs.MakingLaws.{either_rightly}
 use Rattle.example_fused_keywords.specs.FusedScripts.{are_known, fused_limit, fused_script, is_absorbed, least_in, least_keyword, least_made, limit_of, made_among, plain_script, script_among, script_by, waiting_among}

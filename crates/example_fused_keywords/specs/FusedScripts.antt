@@ -9,7 +9,7 @@ use Rattle.schema_drafts.specs.KeywordTable.{builtin_in}
 use Rattle.theory_definitions.specs.Making.{Made, Script, a_keyword, nothing, refused, then_compile, then_end, then_pending, then_refer, then_reserve}
 use Rattle.schema_traits.specs.MakerViews.{Waiting, begun, ended, wants_pending, wants_reserved, waits}
 use Rattle.keyword_makers.specs.ByValue.{MadeMember, script_at}
-use Rattle.bench_parts.specs.Makers.{basic_script, items_before}
+use Rattle.standard_basics.specs.Makers.{basic_script, items_before}
 use Rattle.keyword_makers.specs.declared.by_value.Children.TheVariants as children
 use Rattle.keyword_makers.specs.declared.by_value.MemberKeyword.TheVariants.{Keyword, Malformed, Nothing}
 use Rattle.example_fused_keywords.specs.FusedShape.{FusedShape, of_array, of_bench}

@@ -16,8 +16,6 @@ ghost use Rattle.schema_traits.specs.Showing.{Shows};
 
 use crate::array::ArrayKeyword;
 use crate::keyword::FusedKeyword;
-use bench_parts::table::BenchTable;
-use bench_parts::table::schema_values::items_before;
 use keyword_makers::by_value::{Children, MakesByValue, MemberKeyword, TableByValue};
 use keyword_makers::maker::{Ending, PathsMaker, ends};
 use keyword_makers::paths::{value_in, value_of};
@@ -26,6 +24,8 @@ use schema_reports::location::OutOfMemory;
 use schema_traits::table::{KeywordOrigin, KeywordTable, MakerReply, MakerStep};
 use serde_json::{Map, Value};
 use standard_basics::keyword::BasicKeyword;
+use standard_basics::table::BasicTable;
+use standard_basics::table::schema_values::items_before;
 use std::alloc::Global;
 
 /// The bench's table, with `minItems`, and with `items` that absorbs `minItems` and `type` where an object has the three, `type`
@@ -181,7 +181,7 @@ fn plain_maker(
         };
         return table.begin(alloc, origin, object, draft, vocabularies, formats);
     }
-    let table = BenchTable {};
+    let table = BasicTable {};
     let maker = table.begin(alloc, origin, object, draft, vocabularies, formats)?;
     Ok(among(maker))
 }

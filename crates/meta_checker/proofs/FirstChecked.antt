@@ -13,10 +13,10 @@ use Rattle.schema_node_table.specs.NodeTable.{numbered}
 use Rattle.schema_compiled.specs.Asked.{FirstFromSomeDepth}
 use Rattle.schema_compiled.specs.Program.{Program}
 use Rattle.schema_compiled.specs.Stopped.{UnlessStopped}
-use Rattle.schema_calls.specs.Spoken.{FirstAnswered}
-use Rattle.schema_calls.proofs.Searches.{finishes_of}
-use Rattle.first_errors.specs.FirstErrors.{FirstAlone}
-use Rattle.first_errors.proofs.Told.{first_is_told}
+use Rattle.schema_compiled.specs.Spoken.{FirstAnswered}
+use Rattle.schema_compiled.proofs.Searches.{finishes_of}
+use Rattle.meta_checker.specs.FirstErrors.{FirstAlone}
+use Rattle.meta_checker.proofs.Told.{first_is_told}
 use Rattle.meta_checker.specs.Checks.{Checks, first_by}
 
 -- where no match is met, what is answered is what the sentence says, texts being spoken of or not

@@ -1,1 +1,3 @@
 pub mod FirstChecked
+pub mod Told
+mod Tables

@@ -9,7 +9,7 @@ use Rattle.schema_traits.specs.declared.keyword.Validate.{Ghosts as KeywordMembe
 use Rattle.schema_traits.specs.declared.matcher.Matcher.{Ghosts as MatcherMembers}
 use Rattle.schema_node_table.specs.NodeTable.{numbered}
 use Rattle.schema_compiled.specs.Program.{Program}
-use Rattle.first_errors.specs.FirstErrors.{first_told}
+use Rattle.meta_checker.specs.FirstErrors.{first_told}
 
 -- C is a keyword of the code, K what is known of it, M a matcher of the code
 module _ {C Run K M : Type 0} (keywords : KeywordMembers C Run K) (matchers : MatcherMembers M) (p : Program C M) where

@@ -1,2 +1,4 @@
 pub mod Checks
 pub mod DraftChecks
+pub mod FirstErrors
+pub mod Shown

@@ -4,3 +4,6 @@
 
 pub mod checker;
 pub mod drafts;
+pub mod laws;
+pub mod nodes;
+pub mod values;

@@ -16,9 +16,9 @@ use Rattle.schema_node_table.specs.NodeTable.{numbered}
 use Rattle.schema_traits.specs.declared.keyword.Validate.{Ghosts as KeywordMembers}
 use Rattle.schema_traits.specs.declared.matcher.Matcher.{Ghosts as MatcherMembers}
 use Rattle.schema_compiled.specs.Cloned.{AnswerSame, SaySame}
-use Rattle.schema_calls.specs.Evaluated.{EvaluationAnswered}
+use Rattle.schema_compiled.specs.Evaluated.{EvaluationAnswered}
 use Rattle.schema_compiled.specs.Program.{Program}
-use Rattle.schema_calls.specs.Spoken.{ErrorsAnswered, FirstAnswered}
+use Rattle.schema_compiled.specs.Spoken.{ErrorsAnswered, FirstAnswered}
 
 both : {A : Type 0} (P : A → Type 0) (x y : A) → x ≡ y → P x ↔ P y
 both P x y e = (subst P e, subst P (sym e))

@@ -31,8 +31,8 @@ use Rattle.schema_compiled.specs.Program.{Program, Speaks}
 use Rattle.schema_compiled.specs.SharedErrors.{AreShared, Begins}
 use Rattle.schema_compiled.specs.Taken.{TakesByRuns}
 use Rattle.schema_compiled.proofs.Taken.{takes_searched}
-use Rattle.schema_calls.proofs.Searches.{sense}
-use Rattle.schema_calls.proofs.ErrorSearches.{AreRuns, borrowed, errors_searched, evaluated_searched, first_searched, none_runs}
+use Rattle.schema_compiled.proofs.Searches.{sense}
+use Rattle.schema_compiled.proofs.ErrorSearches.{AreRuns, borrowed, errors_searched, evaluated_searched, first_searched, none_runs}
 
 -- what two values have stays so of what they become
 pub both_on : {A B : Type 0} {x y p : A} {u v q : B} → x ≡ y → u ≡ v → (y ≡ p) × (v ≡ q) → (x ≡ p) × (u ≡ q)

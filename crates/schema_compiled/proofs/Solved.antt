@@ -13,7 +13,7 @@ use Rattle.schema_node_table.specs.NodeTable.{NodeEntry, numbered}
 use Rattle.schema_solver_state.specs.Following.{IsFollowing}
 use Rattle.schema_solver.specs.Asked.{solver_over}
 use Rattle.schema_solver.specs.Solving.{LimitWithinBound, SaysAsNodes}
-use Rattle.schema_verdicts.specs.Saying.{EachSays}
+use Rattle.schema_solver.specs.Saying.{EachSays}
 use Rattle.schema_compiled.specs.Answers.{SaysVerdict}
 use Rattle.schema_compiled.specs.Program.{Program}
 use Rattle.schema_traits.specs.declared.keyword.Validate.{Ghosts as KeywordMembers}

@@ -17,7 +17,7 @@ use Rattle.schema_run_context.specs.Works.{Asks, Budget, Spends}
 use Rattle.schema_run_context.proofs.Matches.{nothing_twice}
 use Rattle.theory_runs.proofs.Spending.{asks_spends, spends_none, spends_on}
 use Rattle.unfinished_search.specs.RunCounts.{MakesFurther}
-use Rattle.schema_calls.proofs.Remembers.{remembers_of}
+use Rattle.schema_compiled.proofs.Remembers.{remembers_of}
 use Rattle.schema_traits.specs.declared.keyword.Validate.{Ghosts as KeywordMembers}
 use Rattle.schema_traits.specs.declared.matcher.Matcher.{Ghosts as MatcherMembers}
 use Rattle.schema_compiled.specs.Asked.{RunMeets}

@@ -15,7 +15,7 @@ use Rattle.schema_node_table.specs.NodeTable.{numbered}
 use Rattle.schema_run_context.specs.Works.{Asks, Budget}
 use Rattle.schema_run_context.proofs.Matches.{nothing_twice}
 use Rattle.unfinished_search.specs.RunCounts.{MakesFurther}
-use Rattle.schema_calls.proofs.Searches.{follows, reached_has, sense, verdict_runs}
+use Rattle.schema_compiled.proofs.Searches.{follows, reached_has, sense, verdict_runs}
 use Rattle.schema_traits.specs.declared.keyword.Validate.{Ghosts as KeywordMembers}
 use Rattle.schema_traits.specs.declared.matcher.Matcher.{Ghosts as MatcherMembers}
 use Rattle.schema_compiled.specs.Asked.{DecidesFromSomeDepth, RunDecides, RunMeets}

@@ -14,9 +14,9 @@ use Rattle.schema_traits.specs.declared.keyword.Reply.{Reply}
 use Rattle.schema_traits.specs.declared.keyword.Validate.{Ghosts as KeywordMembers}
 use Rattle.schema_traits.specs.declared.matcher.Matcher.{Ghosts as MatcherMembers}
 use Rattle.schema_compiled.specs.Answers.{MeetsMatches, SaysErrors, SaysFirst, SaysReply, SaysUnit, SaysVerdict}
-use Rattle.schema_calls.specs.Evaluated.{EvaluationAnswered, UnitsAnswered}
+use Rattle.schema_compiled.specs.Evaluated.{EvaluationAnswered, UnitsAnswered}
 use Rattle.schema_compiled.specs.Program.{FromSomeDepth, HasUnits, OfEveryEvaluation, OfEverySense, Program}
-use Rattle.schema_calls.specs.Spoken.{EachIsGiven, ErrorsAnswered, FirstAnswered, FirstIsGiven}
+use Rattle.schema_compiled.specs.Spoken.{EachIsGiven, ErrorsAnswered, FirstAnswered, FirstIsGiven}
 
 -- this is so where the answer is a yes
 abbrev pub IfYes : {E : Type 0} → Result Bool E → Type 0 → Type 0

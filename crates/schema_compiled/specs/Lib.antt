@@ -6,3 +6,5 @@ pub mod Cloned
 pub mod SharedErrors
 pub mod Stopped
 pub mod Taken
+pub mod Spoken
+pub mod Evaluated

@@ -10,9 +10,9 @@ use Rattle.schema_run_context.specs.Works.{Budget}
 use Rattle.schema_solver_state.specs.Following.{IsFollowing}
 use Rattle.schema_solver.specs.Asked.{solver_over}
 use Rattle.schema_solver.specs.Solving.{BeginsFew, HasEachCut, LimitWithinBound, Setting}
-use Rattle.schema_verdicts.specs.Finding.{IsFoundAt}
-use Rattle.schema_verdicts.specs.Saying.{EachSays}
-use Rattle.schema_verdicts.specs.declared.eligible.SolvedVerdict.{SolvedVerdict}
+use Rattle.schema_solver.specs.Finding.{IsFoundAt}
+use Rattle.schema_solver.specs.Saying.{EachSays}
+use Rattle.schema_solver.specs.declared.eligible.SolvedVerdict.{SolvedVerdict}
 use Rattle.schema_compiled.specs.Program.{Program}
 
 -- the pairs that the context of a verdict began are counted, where there is a limit: what was left before is these and what is left

@@ -18,14 +18,14 @@ use Rattle.schema_node_table.specs.NodeTable.{numbered}
 use Rattle.schema_traits.specs.declared.keyword.Validate.{Ghosts as KeywordMembers}
 use Rattle.schema_traits.specs.declared.matcher.Matcher.{Ghosts as MatcherMembers}
 use Rattle.schema_validator.specs.Called.{GuardedlyOf, IsCompiledFrom, UnitsGuardedly}
-use Rattle.schema_calls.specs.Evaluated.{EvaluationAnswered, verdict_in}
+use Rattle.schema_compiled.specs.Evaluated.{EvaluationAnswered, verdict_in}
 use Rattle.schema_validator.specs.Handed.{Handed, Options}
 use Rattle.schema_compiled.specs.Program.{FromSomeDepth, Program}
-use Rattle.schema_calls.specs.Spoken.{ErrorsAnswered, FirstAnswered}
+use Rattle.schema_compiled.specs.Spoken.{ErrorsAnswered, FirstAnswered}
 use Rattle.schema_engine.specs.FreeCalls as calls
 use Rattle.schema_engine.specs.FreeCalls.{OfAllCompiled}
 use Rattle.schema_engine.specs.Nesting.{ErrorsAgree, EvaluationsAgree, FirstsAgree}
-use Rattle.schema_calls.proofs.Verdicts.{errors_verdict, first_verdict}
+use Rattle.schema_compiled.proofs.Verdicts.{errors_verdict, first_verdict}
 use Rattle.schema_engine.proofs.Nesting.{errors_agree, evaluations_agree, firsts_agree, same_verdict}
 use Rattle.schema_engine.proofs.OneTable.{speak_alike}
 

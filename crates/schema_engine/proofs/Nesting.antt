@@ -23,10 +23,10 @@ use Rattle.schema_traits.specs.declared.table.KeywordTable.{Ghosts as TableMembe
 use Rattle.schema_output.specs.ErrorUnits.{errors_unit}
 use Rattle.schema_compiled.specs.Asked.{UnitsInEverySense}
 use Rattle.schema_validator.specs.Called.{HasPlainUnits, MeansPlainly, PlainlyOf, UnitsPlainly}
-use Rattle.schema_calls.specs.Evaluated.{EvaluationAnswered, verdict_in}
+use Rattle.schema_compiled.specs.Evaluated.{EvaluationAnswered, verdict_in}
 use Rattle.schema_validator.specs.Handed.{Handed, Options}
 use Rattle.schema_compiled.specs.Program.{OfEverySense, Program}
-use Rattle.schema_calls.specs.Spoken.{ErrorsAnswered, FirstAnswered, IsGiven}
+use Rattle.schema_compiled.specs.Spoken.{ErrorsAnswered, FirstAnswered, IsGiven}
 use Rattle.schema_engine.specs.Nesting.{AllErrorsAgree, ErrorsAgree, EvaluationsAgree, EvaluationsOfBoth, FirstErrorsAgree, FirstsAgree, IsOfFailure, LargerErrors, LargerEvaluations, LargerFirstErrors, LargerVerdicts, SameErrors, SameFirst, SameUnits, UnitsOfBoth, VerdictsAgree, handed_to_both as both}
 use Rattle.schema_validator.proofs.PlainAnswers.{plainly_from}
 

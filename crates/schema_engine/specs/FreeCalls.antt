@@ -19,7 +19,7 @@ use Rattle.schema_traits.specs.declared.matcher.Matcher.{Ghosts as MatcherMember
 use Rattle.schema_compiled.specs.Asked.{DecidesFromSomeDepth, ErrorsFromSomeDepth, EvaluatesFromSomeDepth, FirstFromSomeDepth, UnitsFromSomeDepth}
 use Rattle.schema_validator.specs.Called.{DecidesGuardedly, ErrorsGuardedly, EvaluatesGuardedly, FirstGuardedly, IsCompiledFrom, UnitsGuardedly}
 use Rattle.schema_validator.specs.Handed.{Handed, Options}
-use Rattle.schema_calls.specs.Evaluated.{verdict_in}
+use Rattle.schema_compiled.specs.Evaluated.{verdict_in}
 use Rattle.schema_compiled.specs.Program.{FromSomeDepth, Program, Speaks}
 use Rattle.schema_engine.specs.Nesting.{ErrorsAgree, EvaluationsAgree, FirstsAgree}
 

@@ -24,7 +24,7 @@ use Rattle.schema_node_table.specs.NodeTable.{numbered}
 use Rattle.schema_validator.specs.Called.{PointingOf}
 use Rattle.schema_validator.specs.Greatest.{AcceptsAsSchema, DecidesAccepted, NodesAccept, NodesAreMonotone, SaysAccepted, parts}
 use Rattle.schema_validator.specs.Handed.{Handed, Options}
-use Rattle.schema_calls.specs.Evaluated.{verdict_in}
+use Rattle.schema_compiled.specs.Evaluated.{verdict_in}
 use Rattle.schema_compiled.specs.Program.{Program, Speaks}
 use Rattle.schema_engine.specs.Nesting.{handed_to_both}
 

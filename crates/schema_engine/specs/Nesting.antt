@@ -26,7 +26,7 @@ use Rattle.schema_keys.specs.declared.error.BuildError.TheVariants.{OutOfMemory}
 use Rattle.schema_compiled.specs.Asked.{DecidesInEverySense, ErrorsInEverySense, EvaluatesInEverySense, FirstInEverySense, UnitsInEverySense}
 use Rattle.schema_validator.specs.Called.{BuildRefused, HasPlainUnits, MeansPlainly, PlainlyOf, SchemaBuilds}
 use Rattle.schema_validator.specs.Checked.{PassesCheck}
-use Rattle.schema_calls.specs.Evaluated.{verdict_in}
+use Rattle.schema_compiled.specs.Evaluated.{verdict_in}
 use Rattle.schema_validator.specs.Handed.{Handed, Options, handed, limited}
 use Rattle.schema_compiled.specs.Program.{Program}
 

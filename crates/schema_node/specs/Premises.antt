@@ -25,7 +25,7 @@ use Rattle.schema_run_steps.specs.NodeRuns.{HasChildren, HasForm, HasParts, form
 use Rattle.schema_run_steps.specs.declared.question.Engine.{Engine}
 use Rattle.schema_run_steps.specs.declared.question.NamedKeyword.{NamedKeyword}
 use Rattle.schema_run_steps.specs.declared.question.Question.{Question}
-use Rattle.asked_questions.specs.Questions.{QuestionsLeft, SaysByQuestions}
+use Rattle.schema_traits.specs.Questions.{QuestionsLeft, SaysByQuestions}
 use Rattle.theory_runs.specs.Answered.{IsAsked, Wanted, an_edge, setting_by, the_entry, the_keyword}
 use Rattle.theory_runs.specs.RunStates.{HasBegun, MayRun}
 use Rattle.theory_runs.specs.UnitStates.{MayAsk, MayEvaluate}

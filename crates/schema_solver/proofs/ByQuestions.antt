@@ -11,7 +11,7 @@ use Rattle.theory_meaning.specs.Numbered.{Ranked, subject_in}
 use Rattle.schema_traits.specs.KeywordViews.{Tells as MayTell}
 use Rattle.schema_traits.specs.declared.asking.Asking.{Asking}
 use Rattle.schema_traits.specs.declared.asking.Asking.TheVariants as asking
-use Rattle.asked_questions.specs.Questions.{SaysByQuestions, answers_say, puts_questions}
+use Rattle.schema_traits.specs.Questions.{SaysByQuestions, answers_say, puts_questions}
 use Rattle.schema_run_steps.specs.NodeRuns.{HasForm}
 use Rattle.schema_run_steps.proofs.NodeRuns.{stands_in}
 use Rattle.theory_fixed_points.specs.Under.{EdgeAnswers, Solving}
@@ -19,7 +19,7 @@ use Rattle.theory_fixed_points.specs.Stages.{ChildTells, Fits, FormTells, child_
 use Rattle.theory_fixed_points.proofs.Between.{grows_fits, lean_less}
 use Rattle.theory_fixed_points.proofs.Says.{fits_consistent}
 use Rattle.schema_solver_state.specs.Contexts.{Solver, found_of}
-use Rattle.asked_questions.proofs.AnswersSay.{first_as_it_has_to, first_otherwise, none_say}
+use Rattle.schema_traits.proofs.AnswersSay.{first_as_it_has_to, first_otherwise, none_say}
 use Rattle.schema_solver.specs.Needs.{SaysByTheRest}
 use Rattle.schema_solver.specs.Solving.{Goes, InEach, MaySolve, Setting, solving_in}
 use Rattle.schema_solver.proofs.Turned.{solvable_in, tells_there}

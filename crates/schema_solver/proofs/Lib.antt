@@ -7,3 +7,4 @@ pub mod Turned
 pub mod Stopping
 pub mod ByQuestions
 pub mod Telling
+mod Says

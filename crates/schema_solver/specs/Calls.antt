@@ -12,8 +12,8 @@ use Rattle.schema_traits.specs.KeywordViews.{answer_of, fresh}
 use Rattle.schema_traits.specs.declared.keyword.Answer as code_answer
 use Rattle.schema_traits.specs.declared.keyword.Validate as keyword
 use Rattle.schema_traits.specs.declared.matcher.Matcher as matcher
-use Rattle.asked_questions.specs.Members.{Entries}
-use Rattle.asked_questions.specs.Questions.{SaysByQuestions}
+use Rattle.schema_traits.specs.Members.{Entries}
+use Rattle.schema_traits.specs.Questions.{SaysByQuestions}
 use Rattle.schema_node_table.specs.NodeTable.{numbered}
 use Rattle.schema_run_steps.specs.declared.question.NamedKeyword.{NamedKeyword}
 use Rattle.schema_run_steps.specs.EvaluationPlaces.{steps_to}

@@ -6,3 +6,5 @@ pub mod Solved
 pub mod Calls
 pub mod ToldAtOnce
 pub mod Telling
+pub mod Finding
+pub mod Saying

@@ -8,7 +8,7 @@ use Rattle.theory_definitions.specs.Guarded.{Children, NodeEdge, NodePart, Nodes
 use Rattle.theory_definitions.specs.Keywords.{Question}
 use Rattle.theory_meaning.specs.Numbered.{left}
 use Rattle.schema_traits.specs.AskedAtOnce.{HoldsAsTold}
-use Rattle.asked_questions.specs.Questions.{answers_say}
+use Rattle.schema_traits.specs.Questions.{answers_say}
 use Rattle.schema_traits.specs.KeywordViews.{Tells as MayTell}
 use Rattle.schema_traits.specs.declared.asking.Asking.{Asking}
 use Rattle.theory_fixed_points.specs.Under.{EdgeAnswers, Solving}

@@ -11,8 +11,8 @@ use Rattle.schema_traits.specs.EdgeViews.{edge_of}
 use Rattle.schema_traits.specs.KeywordViews.{below_of}
 use Rattle.schema_traits.specs.declared.keyword.Below.{Below}
 use Rattle.schema_traits.specs.declared.numbers.Edge.{Edge}
-use Rattle.asked_questions.specs.Questions.{question_in}
-use Rattle.asked_questions.specs.declared.AskedQuestion.{AskedQuestion}
+use Rattle.schema_traits.specs.Questions.{question_in}
+use Rattle.schema_traits.specs.declared.asked.AskedQuestion.{AskedQuestion}
 use Rattle.schema_node_table.specs.NodeTable.{shaped_form, shaped_part}
 use Rattle.schema_node_table.specs.NodeViews.{entry_of, form_of}
 use Rattle.schema_node_table.specs.declared.node.Entry.{Entry}

@@ -2,6 +2,8 @@
 //! at each place at most as often as there are numbers.
 #![tactic(auto)]
 
+pub mod eligible;
+pub mod monotone;
 pub mod question;
 pub mod solve;
 mod told;

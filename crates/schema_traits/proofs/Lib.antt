@@ -3,3 +3,9 @@ pub mod Replies
 pub mod PartLaws
 pub mod SchemaPaths
 pub mod Drops
+pub mod Steps
+pub mod FirstAsked
+pub mod MemberWalks
+pub mod NameWalks
+pub mod AskedAtOnceBy
+pub mod AnswersSay

@@ -12,3 +12,6 @@ pub mod FaultViews
 pub mod EdgeViews
 pub mod MatcherViews
 pub mod Readings
+pub mod Questions
+pub mod Members
+pub mod Walks

@@ -2,6 +2,7 @@
 #![tactic(auto)]
 
 pub mod ascending;
+pub mod asked;
 pub mod asking;
 pub mod cloning;
 pub mod keyword;

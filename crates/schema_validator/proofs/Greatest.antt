@@ -35,11 +35,11 @@ use Rattle.schema_validator.specs.Called.{IsCompiledFrom}
 use Rattle.schema_validator.specs.Compiled.{IsCompiled}
 use Rattle.schema_validator.specs.Greatest.{AcceptAlike, AcceptsAsKey, AcceptsAsSchema, DecidesAccepted, ErrorsAccepted, EvaluatesAccepted, FirstAccepted, SaysAccepted}
 use Rattle.schema_validator.specs.Handed.{Handed, Options, parts_of}
-use Rattle.schema_calls.specs.Evaluated.{verdict_in}
+use Rattle.schema_compiled.specs.Evaluated.{verdict_in}
 use Rattle.schema_compiled.specs.Program.{FromSomeDepth, Program}
 use Rattle.schema_validator.specs.ProgramOf.{IsProgramFrom}
 use Rattle.schema_validator.proofs.Built.{in_map}
-use Rattle.schema_calls.proofs.Verdicts.{errors_verdict, first_verdict}
+use Rattle.schema_compiled.proofs.Verdicts.{errors_verdict, first_verdict}
 use Rattle.schema_validator.proofs.OtherParts.{numbered_too, reached_too}
 use Rattle.schema_validator.proofs.RootKeys.{one_root_key, root_key_of, root_key_too}
 

@@ -12,7 +12,7 @@ use Rattle.theory_definitions.specs.Parts.{Parts}
 use Rattle.theory_definitions.specs.Reports.{Unit_}
 use Rattle.theory_definitions.specs.Units.{plain_units}
 use Rattle.schema_reports.specs.declared.evaluation.EvaluationNode.{EvaluationNode}
-use Rattle.schema_calls.specs.Evaluated.{UnitsAnswered}
+use Rattle.schema_compiled.specs.Evaluated.{UnitsAnswered}
 use Rattle.schema_compiled.specs.Program.{HasUnits, OfEveryEvaluation, OfEverySense, Program}
 use Rattle.schema_validator.specs.Handed.{Options, parts_of}
 use Rattle.schema_validator.specs.Promised.{HasSchemasUnits, MeansSchema, OfSchema}

@@ -28,9 +28,9 @@ use Rattle.theory_meaning.proofs.UnitsLead.{node_units_lead}
 use Rattle.theory_meaning.proofs.ListedLead.{of_failure, of_first, of_found, of_lists}
 use Rattle.schema_node_table.specs.NodeTable.{numbered}
 use Rattle.schema_traits.proofs.PartLaws.{makes_absorbed}
-use Rattle.schema_calls.specs.Evaluated.{EvaluationAnswered, IsOfErrors}
+use Rattle.schema_compiled.specs.Evaluated.{EvaluationAnswered, IsOfErrors}
 use Rattle.schema_compiled.specs.Program.{FromSomeDepth, HasUnits, Program}
-use Rattle.schema_calls.specs.Spoken.{EachIsGiven, ErrorsAnswered, FirstAnswered, FirstIsGiven, IsGiven}
+use Rattle.schema_compiled.specs.Spoken.{EachIsGiven, ErrorsAnswered, FirstAnswered, FirstIsGiven, IsGiven}
 use Rattle.schema_validator.specs.Compiled.{IsWhole}
 use Rattle.schema_validator.specs.ProgramOf.{IsProgramFrom, IsProgramOf}
 use Rattle.schema_keys.specs.Compiling.{no_keywords, no_matcher}

@@ -12,7 +12,7 @@ use Rattle.schema_reports.specs.declared.reports.ValidationError.{ValidationErro
 use Rattle.schema_traits.specs.declared.keyword.Validate.{Ghosts as KeywordMembers}
 use Rattle.schema_traits.specs.declared.matcher.Matcher.{Ghosts as MatcherMembers}
 use Rattle.schema_node_table.specs.NodeTable.{NodeEntry}
-use Rattle.schema_verdicts.specs.declared.eligible.SolvedVerdict.{SolvedVerdict}
+use Rattle.schema_solver.specs.declared.eligible.SolvedVerdict.{SolvedVerdict}
 use Rattle.schema_compiled.specs.Answers.{refusal_of}
 use Rattle.schema_compiled.specs.Program.{Program}
 use Rattle.schema_compiled.specs.Stopped.{FirstTellsLimit, GivesLimit, OnlyTellsLimit, UnlessStopped}

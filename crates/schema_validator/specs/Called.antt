@@ -17,12 +17,12 @@ use Rattle.schema_validator.specs.Compiled.{IsCompiled}
 use Rattle.schema_keys.specs.Compiling.{no_keywords, no_matcher}
 use Rattle.schema_validator.specs.Handed.{Handed, Options, parts_of}
 use Rattle.schema_validator.specs.Pointing.{EachPoints, EvaluationPoints, FirstPoints}
-use Rattle.schema_calls.specs.Evaluated.{EvaluationAnswered, UnitsAnswered}
+use Rattle.schema_compiled.specs.Evaluated.{EvaluationAnswered, UnitsAnswered}
 use Rattle.schema_compiled.specs.Program.{FromSomeDepth, HasUnits, Program}
 use Rattle.schema_validator.specs.ProgramOf.{IsProgramOf}
 use Rattle.schema_validator.specs.Promised.{HasKeysUnits, HasSchemasUnits, MeansKey, MeansSchema, OfSchema, PointsIntoSchema, UnitsPointIntoSchema}
 use Rattle.schema_validator.specs.Roots.{Builds, RefusesBuild}
-use Rattle.schema_calls.specs.Spoken.{ErrorsAnswered, FirstAnswered}
+use Rattle.schema_compiled.specs.Spoken.{ErrorsAnswered, FirstAnswered}
 
 -- what is handed in, the options, and the schema
 module _ {S K R C M : Type 0} (h : Handed S K R C M) (options : Options) (schema : Data) where

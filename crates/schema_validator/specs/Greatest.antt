@@ -19,7 +19,7 @@ use Rattle.schema_traits.specs.declared.keyword.Validate.{Ghosts as KeywordMembe
 use Rattle.schema_traits.specs.declared.matcher.Matcher.{Ghosts as MatcherMembers}
 use Rattle.schema_node_table.specs.NodeTable.{numbered}
 use Rattle.schema_validator.specs.Handed.{Handed, Options, parts_of}
-use Rattle.schema_calls.specs.Evaluated.{verdict_in}
+use Rattle.schema_compiled.specs.Evaluated.{verdict_in}
 use Rattle.schema_compiled.specs.Program.{FromSomeDepth, Program}
 
 -- ---- a validator

@@ -9,12 +9,12 @@ use crate::validator::{CallLimits, Validator};
 use schema_drafts::keywords::Draft;
 use schema_node_table::node::Nodes;
 use schema_reports::location::OutOfMemory;
+use schema_solver::eligible::Solver;
 use schema_traits::keyword::Validate;
 use schema_traits::matcher::Matcher;
 use schema_traits::numbers::SchemaNode;
 use schema_traits::resolver::Resolver;
 use schema_traits::table::KeywordTable;
-use schema_verdicts::eligible::Solver;
 use std::alloc::Global;
 use unfinished_search::MAX_ASSUMED_RUNS;
 

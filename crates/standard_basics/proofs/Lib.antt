@@ -4,3 +4,4 @@ pub mod PropertyCounts
 pub mod MissingNames
 pub mod NamesAsked
 pub mod AtOnce
+pub mod MemberNames

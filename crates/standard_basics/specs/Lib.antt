@@ -9,3 +9,5 @@ pub mod VerdictsAsked
 pub mod Grows
 pub mod Telling
 pub mod RunWays
+pub mod Makers
+pub mod MakerLaws

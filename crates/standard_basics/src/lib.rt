@@ -11,6 +11,7 @@ pub mod pattern;
 pub mod properties;
 pub mod property_names;
 pub mod required;
+pub mod table;
 pub mod texts;
 pub mod type_names;
 pub mod types;

@@ -9,7 +9,7 @@ use Rattle.idna.specs.declared.deny_list.TheConstants.AsciiDenyList.{STD3}
 use Rattle.idna.specs.declared.options.DnsLength.TheVariants.{Verify}
 use Rattle.idna.specs.declared.options.Hyphens.TheVariants.{Check}
 use Rattle.theory_definitions.specs.Instance.{Text}
-use Rattle.dates_and_addresses.specs.Characters.{is_between}
+use Rattle.text_formats.specs.Characters.{is_between}
 
 -- a character that is disallowed by exception (RFC 5892, section 2.6), whatever UTS #46 says of it
 abbrev pub is_excepted : ℕ → Bool

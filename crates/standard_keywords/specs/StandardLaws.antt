@@ -18,8 +18,8 @@ use Rattle.keyword_joins.specs.declared.both.Both.{Both}
 use Rattle.keyword_joins.specs.declared.both.Both.TheVariants.{First, Second}
 use Rattle.standard_basics.specs.BasicShape.{BasicShape, is_whole}
 use Rattle.standard_basics.specs.Laws.{none_absorbed}
-use Rattle.bench_parts.specs.MakerLaws as bench
-use Rattle.bench_parts.specs.Makers.{basic_script}
+use Rattle.standard_basics.specs.MakerLaws as bench
+use Rattle.standard_basics.specs.Makers.{basic_script}
 use Rattle.standard_applicators.specs.Makers as applicators
 use Rattle.standard_applicators.specs.declared.applicator.StandardApplicator.{StandardApplicator}
 use Rattle.standard_assertions.specs.Made as assertions

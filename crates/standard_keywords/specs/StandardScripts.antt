@@ -17,7 +17,7 @@ use Rattle.keyword_joins.specs.BothScripts.{script_as}
 use Rattle.keyword_joins.specs.declared.both.Both.{Both}
 use Rattle.keyword_joins.specs.declared.both.Both.TheVariants.{First, Second}
 use Rattle.standard_basics.specs.BasicShape.{BasicShape}
-use Rattle.bench_parts.specs.Makers.{basic_script}
+use Rattle.standard_basics.specs.Makers.{basic_script}
 use Rattle.standard_applicators.specs.Makers as applicators
 use Rattle.standard_applicators.specs.declared.applicator.StandardApplicator.{StandardApplicator}
 use Rattle.standard_assertions.specs.Made as assertions

@@ -8,7 +8,7 @@ use Rattle.serde_json.specs.Find.{get_member}
 use Rattle.theory_definitions.specs.Drafts.{Draft}
 use Rattle.theory_definitions.specs.Instance.{Text}
 use Rattle.keyword_authoring.specs.Texts.{is_among}
-use Rattle.bench_parts.specs.Makers.{has_prefix, is_older_list}
+use Rattle.standard_basics.specs.Makers.{has_prefix, is_older_list}
 use Rattle.standard_keywords.specs.declared.treatment.Treatment.{Treatment}
 use Rattle.standard_keywords.specs.declared.treatment.Treatment.TheVariants.{Applied, Asserted, Basic, Formatted, Gated, Refused, Silent}
 

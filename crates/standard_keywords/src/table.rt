@@ -11,7 +11,6 @@ ghost use Rattle.schema_traits.specs.Readings.{fields};
 use crate::assertions::AssertionsOrRefusals;
 use crate::patterns::{UnreadablePatterns, pattern_refusal};
 use crate::treatment::{Treatment, treatment_of};
-use bench_parts::table::BenchTable;
 use keyword_authoring::leaves::Telling;
 use keyword_joins::both::Both;
 use keyword_joins::routed::{Route, RoutedTables};
@@ -27,6 +26,7 @@ use standard_applicators::applicator::StandardApplicator;
 use standard_applicators::table::StandardApplicatorTable;
 use standard_assertions::assertion::Assertion;
 use standard_basics::keyword::BasicKeyword;
+use standard_basics::table::BasicTable;
 use standard_formats::keyword::FormatKeyword;
 use standard_formats::table::FormatTable;
 use standard_pattern_properties::keyword::GatedKeyword;
@@ -53,7 +53,7 @@ type Maker = Both<
     >,
 >;
 
-type Formats = RoutedTables<FormatTable, FormatRoute, BenchTable>;
+type Formats = RoutedTables<FormatTable, FormatRoute, BasicTable>;
 
 type Gates = RoutedTables<GatedTable, GateRoute, Formats>;
 
@@ -171,7 +171,7 @@ fn tables() -> Tables {
                 second: RoutedTables {
                     first: FormatTable {},
                     route: FormatRoute {},
-                    second: BenchTable {},
+                    second: BasicTable {},
                 },
             },
         },

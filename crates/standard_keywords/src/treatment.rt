@@ -2,7 +2,7 @@
 ghost use Rattle.std.specs.Prelude.{◌≡◌, string_bytes};
 ghost use Rattle.schema_drafts.specs.KeywordViews.{draft_of};
 ghost use Rattle.keyword_authoring.specs.Texts.{is_among};
-ghost use Rattle.bench_parts.specs.Makers.{has_prefix};
+ghost use Rattle.standard_basics.specs.Makers.{has_prefix};
 ghost use Rattle.schema_traits.specs.Showing.{Shows};
 ghost use Rattle.standard_keywords.specs.Treatments.{is_applied, is_asserted, is_basic, is_formatted, is_gated, is_older_items};
 ghost use Rattle.standard_keywords.specs.Treatments.{of_branches, of_counts, of_each_draft, of_lists_and_objects};
@@ -10,11 +10,11 @@ ghost use Rattle.standard_keywords.specs.Treatments.{of_numbers, of_places};
 ghost use Rattle.standard_keywords.specs.Treatments.{is_silent, of_texts_and_members, refusal_text, treated};
 ghost use Rattle.schema_traits.specs.Readings.{fields};
 
-use bench_parts::table::schema_values::is_older_list;
 use keyword_makers::paths::value_in;
 use schema_drafts::keywords::Draft;
 use schema_reports::location::OutOfMemory;
 use serde_json::{Map, Value};
+use standard_basics::table::schema_values::is_older_list;
 use std::alloc::Global;
 
 /// What becomes of a keyword of the standard.

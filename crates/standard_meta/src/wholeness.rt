@@ -5,9 +5,9 @@ ghost use Rattle.standard_basics.specs.Shapes.{shape_of};
 ghost use Rattle.standard_assertions.specs.Assertions.{shows_no_fraction};
 
 use keyword_joins::both::Both;
+use meta_checker::nodes::TellsFractions;
+use meta_checker::values::has_fraction;
 use schema_traits::keyword::Validate;
-use shown_fractions::nodes::TellsFractions;
-use shown_fractions::values::has_fraction;
 use standard_assertions::assertion::Assertion;
 use standard_basics::keyword::BasicKeyword;
 use standard_keywords::table::{Applied, StandardKeyword};

@@ -1,7 +1,6 @@
 //! Builds of validators, and what these answer: the only functions here that build by `Validator::new` or by options, and ask.
 use bench_parts::matcher::BenchMatcher;
 use bench_parts::meta::BenchMeta;
-use bench_parts::table::BenchTable;
 use schema_drafts::keywords::VocabularySet;
 use schema_engine::options::ValidationOptions;
 use schema_engine::validator::Validator;
@@ -14,6 +13,7 @@ use schema_traits::resolver::Resolver;
 use schema_traits::table::KeywordTable;
 use serde_json::Value;
 use standard_basics::keyword::BasicKeyword;
+use standard_basics::table::BasicTable;
 use standard_resolver::resolver::DocumentResolver;
 use std::alloc::{AllocError, Global};
 use test_rows::tables::{column, list_at, number_at, push_all, texts_of};
@@ -211,7 +211,7 @@ fn list_of<K: Validate, M: Matcher>(
 
 /// The list of the instance in column 2, by the bench's table and a row's schema and parts, or null where the schema is refused.
 pub(crate) fn listed(alloc: Global, row: &Value) -> Result<Value, OutOfMemory> {
-    match built_by::<BasicKeyword, BenchTable>(alloc, &BenchTable {}, row) {
+    match built_by::<BasicKeyword, BasicTable>(alloc, &BasicTable {}, row) {
         Ok(validator) => {
             let list = list_of(alloc, &validator, column(row, 2));
             drop(validator);

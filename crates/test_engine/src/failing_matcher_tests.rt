@@ -2,7 +2,6 @@
 //! does neither.
 use crate::asking::{built, push_answers, push_refusal};
 use bench_parts::meta::BenchMeta;
-use bench_parts::table::BenchTable;
 use schema_drafts::keywords::VocabularySet;
 use schema_engine::validate;
 use schema_engine::validator::Validator;
@@ -15,6 +14,7 @@ use schema_traits::resolver::Resolver;
 use schema_traits::table::KeywordTable;
 use serde_json::Value;
 use standard_basics::keyword::BasicKeyword;
+use standard_basics::table::BasicTable;
 use standard_resolver::resolver::DocumentResolver;
 use std::alloc::Global;
 use std::cell::Cell;
@@ -65,9 +65,9 @@ pub(crate) fn tell_failure(
 ) -> Result<(), OutOfMemory> {
     let resolver = DocumentResolver::new(alloc, column(row, 1), VocabularySet::new(alloc))?;
     let matcher = FailingMatcher { left: Cell::new(0) };
-    let told = first_of::<BasicKeyword, BenchTable, DocumentResolver, FailingMatcher>(
+    let told = first_of::<BasicKeyword, BasicTable, DocumentResolver, FailingMatcher>(
         alloc,
-        &BenchTable {},
+        &BasicTable {},
         &resolver,
         &matcher,
         row,
@@ -139,9 +139,9 @@ pub(crate) fn tell_wanting(
     let matcher = FailingMatcher {
         left: Cell::new(number_at(row, 4).unwrap_or(0)),
     };
-    let told = tell_again::<BasicKeyword, BenchTable, DocumentResolver, FailingMatcher>(
+    let told = tell_again::<BasicKeyword, BasicTable, DocumentResolver, FailingMatcher>(
         alloc,
-        &BenchTable {},
+        &BasicTable {},
         &resolver,
         &matcher,
         row,

@@ -2,10 +2,10 @@
 //! rows of `test_check_rows` have no such resolver.
 use crate::asking::{Parts, parts_of, tell_with};
 use bench_parts::matcher::BenchMatcher;
-use bench_parts::table::BenchTable;
 use schema_reports::location::OutOfMemory;
 use serde_json::Value;
 use standard_basics::keyword::BasicKeyword;
+use standard_basics::table::BasicTable;
 use std::alloc::Global;
 use test_parts::growing_resolver::GrowingResolver;
 
@@ -17,9 +17,9 @@ pub(crate) fn tell_growing(
 ) -> Result<(), OutOfMemory> {
     let Parts { resolver, matcher } = parts_of(alloc, row)?;
     let resolver = GrowingResolver { document: resolver };
-    let told = tell_with::<BasicKeyword, BenchTable, GrowingResolver, BenchMatcher>(
+    let told = tell_with::<BasicKeyword, BasicTable, GrowingResolver, BenchMatcher>(
         alloc,
-        &BenchTable {},
+        &BasicTable {},
         &resolver,
         &matcher,
         row,

@@ -8,11 +8,11 @@ use crate::mark_tests::MARKS;
 use crate::program_tests::{ANSWERS, FAULTS, WRITES, tell_program};
 use crate::reservation_tests::{RESERVATIONS, tell_numbers};
 use crate::vocabulary_tests::{VOCABULARIES, tell_names};
-use bench_parts::table::BenchTable;
 use keyword_makers::by_value::TableByValue;
 use schema_reports::location::OutOfMemory;
 use serde_json::Value;
 use standard_basics::keyword::BasicKeyword;
+use standard_basics::table::BasicTable;
 use std::alloc::Global;
 use test_laws::both_once::BothOnce;
 use test_laws::items::ItemsKeyword;
@@ -52,7 +52,7 @@ fn tell(alloc: Global, rows: Rows, row: &Value, log: &mut String) -> Result<(), 
         Rows::Reservations => {
             tell_numbers::<ItemsKeyword, ItemsTable>(alloc, &ItemsTable {}, row, log)
         }
-        Rows::Retries => tell_by::<BasicKeyword, BenchTable>(alloc, &BenchTable {}, row, log),
+        Rows::Retries => tell_by::<BasicKeyword, BasicTable>(alloc, &BasicTable {}, row, log),
         Rows::Vocabularies => tell_names(alloc, row, log),
         Rows::Wanting => tell_wanting(alloc, row, log),
     }

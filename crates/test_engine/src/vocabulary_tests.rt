@@ -2,7 +2,6 @@
 use crate::asking::push_refusal;
 use bench_parts::matcher::BenchMatcher;
 use bench_parts::meta::BenchMeta;
-use bench_parts::table::BenchTable;
 use schema_engine::keywords::VocabularySet;
 use schema_engine::map::ValidatorMap;
 use schema_engine::options::ValidationOptions;
@@ -14,6 +13,7 @@ use schema_traits::resolver::Resolver;
 use schema_traits::table::KeywordTable;
 use serde_json::Value;
 use standard_basics::keyword::BasicKeyword;
+use standard_basics::table::BasicTable;
 use standard_resolver::resolver::DocumentResolver;
 use std::alloc::Global;
 use test_parts::draft_vocabularies::requiring_in_2019_09;
@@ -66,9 +66,9 @@ pub(crate) fn tell_names(alloc: Global, row: &Value, log: &mut String) -> Result
         Ok(plain) => {
             let resolver = plain.with_draft_vocabularies(by_draft);
             let matcher = BenchMatcher::new(Vec::new(alloc));
-            let told = tell_name::<BasicKeyword, BenchTable, DocumentResolver, BenchMatcher>(
+            let told = tell_name::<BasicKeyword, BasicTable, DocumentResolver, BenchMatcher>(
                 alloc,
-                &BenchTable {},
+                &BasicTable {},
                 &resolver,
                 &matcher,
                 row,

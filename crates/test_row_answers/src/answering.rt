@@ -9,7 +9,6 @@ use crate::checking::checked;
 use crate::clones::answered_alike;
 use crate::free_calls::answered_free;
 use crate::maps::answered_by_map;
-use bench_parts::table::BenchTable;
 use example_fused_keywords::table::FusedTable;
 use example_keywords::strings::StringTable;
 use keyword_joins::table::BothTable;
@@ -18,6 +17,7 @@ use schema_engine::context::keyword::Validate;
 use schema_engine::context::table::KeywordTable;
 use schema_engine::location::OutOfMemory;
 use serde_json::{Value, json};
+use standard_basics::table::BasicTable;
 use std::alloc::Global;
 use test_laws::items_table::ItemsTable;
 use test_rows::call::Call;
@@ -39,13 +39,13 @@ fn answer_by<K: Validate, T: KeywordTable<K>>(
 }
 
 // The table of `x-suffix`, `x-both` and `x-contains-between`, and for all other names the bench's.
-fn strings_table() -> BothTable<TableByValue<StringTable>, BenchTable> {
+fn strings_table() -> BothTable<TableByValue<StringTable>, BasicTable> {
     BothTable {
         first: TableByValue {
             keywords: StringTable {},
         },
         first_names: &["x-suffix", "x-both", "x-contains-between"],
-        second: BenchTable {},
+        second: BasicTable {},
     }
 }
 
@@ -68,7 +68,7 @@ pub fn answer<K: Validate, T: KeywordTable<K>>(
         return json!(in alloc; {"fault": "no case"});
     };
     match case.table {
-        Table::Bench => answer_by(alloc, &case, &BenchTable {}),
+        Table::Bench => answer_by(alloc, &case, &BasicTable {}),
         Table::Fused => answer_by(alloc, &case, &FusedTable {}),
         Table::Items => answer_by(alloc, &case, &ItemsTable {}),
         Table::Strings => answer_by(alloc, &case, &strings_table()),

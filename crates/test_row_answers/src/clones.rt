@@ -4,11 +4,11 @@ use crate::asking::asked;
 use crate::building::built;
 use crate::refusals::refusal;
 use bench_parts::matcher::BenchMatcher;
-use bench_parts::table::BenchTable;
 use schema_engine::location::OutOfMemory;
 use schema_engine::validator::Validator;
 use serde_json::Value;
 use standard_basics::keyword::BasicKeyword;
+use standard_basics::table::BasicTable;
 use std::alloc::Global;
 use test_rows::answers::disagreement;
 use test_rows::call::Question;
@@ -112,7 +112,7 @@ pub(crate) fn answered_alike(
     case: &Case<'_>,
     question: Question,
 ) -> Result<Value, OutOfMemory> {
-    match built(alloc, case, &BenchTable {}) {
+    match built(alloc, case, &BasicTable {}) {
         Ok(source) => answered_by_each(alloc, source, question, case.instance),
         Err(error) => refusal(alloc, error),
     }

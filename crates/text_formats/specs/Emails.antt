@@ -3,9 +3,9 @@
 -- a U-label, no more is asked.
 use Rattle.std.specs.Prelude.{Bool, None, Option, Some, [], bytes_eq, codes, drop, false, if◌then◌else◌, length, nat_le, not, option_and_then, take, true, ◌&&◌, ◌-◌, ◌==◌, ◌||◌, ◌∷◌, ℕ}
 use Rattle.std.specs.List.{list_all, list_any}
-use Rattle.dates_and_addresses.specs.Addresses.{is_ipv4, is_ipv6}
-use Rattle.dates_and_addresses.specs.Characters.{Text, is_between, is_digit, is_letter}
-use Rattle.dates_and_addresses.specs.Cutting.{after, cut, is_empty, parts}
+use Rattle.text_formats.specs.Addresses.{is_ipv4, is_ipv6}
+use Rattle.text_formats.specs.Characters.{Text, is_between, is_digit, is_letter}
+use Rattle.text_formats.specs.Cutting.{after, cut, is_empty, parts}
 use Rattle.text_formats.specs.Hostnames.{is_label}
 
 -- atext

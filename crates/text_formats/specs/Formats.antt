@@ -1,9 +1,9 @@
 -- The formats that are checked by their grammar, each with its name and its texts. (JSON Schema Validation, draft 2020-12, section 7.3)
 use Rattle.std.specs.Prelude.{Bool, None, Option, Some, bytes_eq, codes, if◌then◌else◌}
-use Rattle.dates_and_addresses.specs.Addresses.{is_ipv4, is_ipv6}
-use Rattle.dates_and_addresses.specs.Characters.{Text}
-use Rattle.dates_and_addresses.specs.Dates.{is_date, is_date_time, is_time}
-use Rattle.dates_and_addresses.specs.Durations.{is_duration}
+use Rattle.text_formats.specs.Addresses.{is_ipv4, is_ipv6}
+use Rattle.text_formats.specs.Characters.{Text}
+use Rattle.text_formats.specs.Dates.{is_date, is_date_time, is_time}
+use Rattle.text_formats.specs.Durations.{is_duration}
 use Rattle.text_formats.specs.Emails.{is_email, is_idn_email}
 use Rattle.text_formats.specs.Hostnames.{is_hostname}
 use Rattle.text_formats.specs.Iris.{is_iri, is_iri_reference}

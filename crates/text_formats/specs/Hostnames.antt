@@ -2,8 +2,8 @@
 -- label may have characters outside ASCII too, as in the domain of a mail address. (RFC 6531, section 3.3)
 use Rattle.std.specs.Prelude.{Bool, false, length, nat_le, not, slice_index, ◌&&◌, ◌-◌, ◌==◌, ◌||◌, ℕ}
 use Rattle.std.specs.List.{list_all, list_any}
-use Rattle.dates_and_addresses.specs.Characters.{Text, is_digit, is_letter}
-use Rattle.dates_and_addresses.specs.Cutting.{parts}
+use Rattle.text_formats.specs.Characters.{Text, is_digit, is_letter}
+use Rattle.text_formats.specs.Cutting.{parts}
 
 abbrev pub is_label_character : Bool → ℕ → Bool
 is_label_character wide c = is_letter c || is_digit c || (c == 45) || (wide && nat_le 128 c)

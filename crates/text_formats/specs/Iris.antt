@@ -3,7 +3,7 @@ use Rattle.std.specs.Prelude.{Bool, None, Option, Some, is_some, nat_le, true, â
 use Rattle.std.specs.List.{list_all}
 use Rattle.std.specs.Str.{chars}
 use Rattle.uri_references.specs.Components.{Components, components}
-use Rattle.dates_and_addresses.specs.Characters.{Text, is_between}
+use Rattle.text_formats.specs.Characters.{Text, is_between}
 use Rattle.text_formats.specs.Uris.{fit}
 
 -- ucschar: of the planes after the first, all but the last two characters of each, and of the fourteenth those from the 4096th on

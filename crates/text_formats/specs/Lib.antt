@@ -7,3 +7,8 @@ pub mod Pointers
 pub mod Templates
 pub mod Uris
 pub mod Uuids
+pub mod Addresses
+pub mod Characters
+pub mod Cutting
+pub mod Dates
+pub mod Durations

@@ -1,6 +1,6 @@
 -- What each part of a text round a mark may be.
 use Rattle.std.specs.Prelude.{Bool}
-use Rattle.dates_and_addresses.specs.Characters.{Text}
+use Rattle.text_formats.specs.Characters.{Text}
 use Rattle.text_formats.specs.Emails.{is_atom}
 use Rattle.text_formats.specs.Hostnames.{is_label}
 use Rattle.text_formats.specs.Templates.{is_variable}

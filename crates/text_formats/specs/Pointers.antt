@@ -1,8 +1,8 @@
 -- Pointers into JSON values. (section 3 of RFC 6901; for relative ones section 3 of the Internet-Draft on relative JSON pointers, in the state
 -- that draft 7 cites)
 use Rattle.std.specs.Prelude.{Bool, [], false, if◌then◌else◌, true, ◌&&◌, ◌==◌, ◌||◌, ◌∷◌}
-use Rattle.dates_and_addresses.specs.Characters.{Text, is_digit}
-use Rattle.dates_and_addresses.specs.Cutting.{is_empty, past_digits}
+use Rattle.text_formats.specs.Characters.{Text, is_digit}
+use Rattle.text_formats.specs.Cutting.{is_empty, past_digits}
 
 -- escaped = "~" ( "0" / "1" ): a tilde stands before `0` or `1` only
 abbrev pub is_escaped : Text → Bool

@@ -4,8 +4,8 @@
 use Rattle.std.specs.Prelude.{Bool, None, Option, Some, [], codes, false, if◌then◌else◌, length, nat_le, not, true, ◌&&◌, ◌==◌, ◌∷◌, ℕ}
 use Rattle.std.specs.List.{list_all, list_any}
 use Rattle.std.specs.Str.{chars}
-use Rattle.dates_and_addresses.specs.Characters.{Text, is_between, is_digit}
-use Rattle.dates_and_addresses.specs.Cutting.{cut, is_empty, parts}
+use Rattle.text_formats.specs.Characters.{Text, is_between, is_digit}
+use Rattle.text_formats.specs.Cutting.{cut, is_empty, parts}
 use Rattle.text_formats.specs.Iris.{is_of_query}
 use Rattle.text_formats.specs.Uris.{is_made}
 use Rattle.text_formats.specs.declared.uris.Class.TheVariants.{Literal, Variable}

@@ -4,9 +4,9 @@
 use Rattle.std.specs.Prelude.{Bool, None, Option, Some, [], codes, false, if◌then◌else◌, is_some, nat_le, not, true, ◌&&◌, ◌==◌, ◌||◌, ◌∷◌, ℕ}
 use Rattle.std.specs.List.{list_all, list_any}
 use Rattle.uri_references.specs.Components.{Components, components}
-use Rattle.dates_and_addresses.specs.Addresses.{is_ipv6}
-use Rattle.dates_and_addresses.specs.Characters.{Text, is_between, is_digit, is_hex_digit, is_letter}
-use Rattle.dates_and_addresses.specs.Cutting.{cut, is_empty}
+use Rattle.text_formats.specs.Addresses.{is_ipv6}
+use Rattle.text_formats.specs.Characters.{Text, is_between, is_digit, is_hex_digit, is_letter}
+use Rattle.text_formats.specs.Cutting.{cut, is_empty}
 use Rattle.text_formats.specs.declared.uris.Class.{Class}
 use Rattle.text_formats.specs.declared.uris.Class.TheVariants.{Fragment, Literal, Name, Path, User, Variable}
 

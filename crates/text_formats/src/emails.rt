@@ -2,13 +2,13 @@
 //! with characters outside ASCII.
 ghost use Rattle.std.specs.Prelude.{◌≡◌, option_map};
 ghost use Rattle.std.specs.List.{list_all};
-ghost use Rattle.dates_and_addresses.specs.Cutting as Cutting;
+ghost use Rattle.text_formats.specs.Cutting as Cutting;
 ghost use Rattle.text_formats.specs.Emails as spec;
 
+use crate::addresses::{is_ipv4_in, is_ipv6_in};
+use crate::characters::{is_digit, is_letter};
+use crate::cutting::{after, cut, split};
 use crate::parts::Part;
-use dates_and_addresses::addresses::{is_ipv4_in, is_ipv6_in};
-use dates_and_addresses::characters::{is_digit, is_letter};
-use dates_and_addresses::cutting::{after, cut, split};
 
 fn is_atom_character(wide: bool, byte: u8) -> bool
     ensures atom { result ≡ spec.is_atom_character wide byte }

@@ -2,6 +2,9 @@
 ghost use Rattle.std.specs.Prelude.{◌≡◌};
 ghost use Rattle.text_formats.specs.Formats as spec;
 
+use crate::addresses::{is_ipv4, is_ipv6};
+use crate::dates::{is_date, is_date_time, is_time};
+use crate::durations::is_duration;
 use crate::emails::{is_email, is_idn_email};
 use crate::hostnames::is_hostname;
 use crate::iris::{is_iri, is_iri_reference};
@@ -9,9 +12,6 @@ use crate::pointers::{is_json_pointer, is_relative_json_pointer};
 use crate::templates::is_uri_template;
 use crate::uris::{is_uri, is_uri_reference};
 use crate::uuids::is_uuid;
-use dates_and_addresses::addresses::{is_ipv4, is_ipv6};
-use dates_and_addresses::dates::{is_date, is_date_time, is_time};
-use dates_and_addresses::durations::is_duration;
 
 /// A format that is checked by its grammar.
 #[derive(Clone, Copy)]

@@ -3,8 +3,8 @@ ghost use Rattle.std.specs.Prelude.{◌≡◌, nat_le};
 ghost use Rattle.std.specs.List.{list_all, list_any};
 ghost use Rattle.text_formats.specs.Hostnames as spec;
 
+use crate::characters::{is_digit, is_letter};
 use crate::parts::Part;
-use dates_and_addresses::characters::{is_digit, is_letter};
 
 fn is_label_character(wide: bool, byte: u8) -> bool
     ensures label { result ≡ spec.is_label_character wide byte }

@@ -2,6 +2,11 @@
 //! the standard that defines it.
 #![tactic(auto)]
 
+pub mod addresses;
+pub mod characters;
+pub mod cutting;
+pub mod dates;
+pub mod durations;
 pub mod emails;
 pub mod formats;
 pub mod hostnames;

@@ -1,13 +1,13 @@
 //! The parts of a text round a mark.
 ghost use Rattle.std.specs.Prelude.{◌≡◌};
 ghost use Rattle.std.specs.List.{list_all};
-ghost use Rattle.dates_and_addresses.specs.Cutting.{parts};
+ghost use Rattle.text_formats.specs.Cutting.{parts};
 ghost use Rattle.text_formats.specs.Parts as spec;
 
+use crate::cutting::cut;
 use crate::emails::is_atom;
 use crate::hostnames::is_label;
 use crate::templates::is_variable;
-use dates_and_addresses::cutting::cut;
 
 // What each part may be: an atom of an address of mail, a label of a host's name, where true characters outside ASCII are allowed; a
 // variable of a template.
@@ -29,7 +29,7 @@ impl Part {
         }
     }
 
-    #[tactic(auto, using(dates_and_addresses::proofs::Parting::each_after, dates_and_addresses::proofs::Parting::each_alone))]
+    #[tactic(auto, using(crate::proofs::Parting::each_after, crate::proofs::Parting::each_alone))]
     // Whether each part of a text round a mark is one.
     pub(crate) fn is_each(self, text: &[u8], mark: u8) -> bool
         ensures each { result ≡ list_all (spec.is_part self) (parts mark text.now) }

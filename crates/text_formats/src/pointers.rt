@@ -2,8 +2,8 @@
 ghost use Rattle.std.specs.Prelude.{◌≡◌};
 ghost use Rattle.text_formats.specs.Pointers as spec;
 
-use dates_and_addresses::characters::is_digit;
-use dates_and_addresses::cutting::past_digits;
+use crate::characters::is_digit;
+use crate::cutting::past_digits;
 
 // Whether each tilde of a text stands before `0` or `1`.
 fn is_escaped(text: &[u8]) -> bool

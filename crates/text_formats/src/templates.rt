@@ -1,14 +1,14 @@
 //! Templates of uniform resource identifiers. (RFC 6570, section 2)
 ghost use Rattle.std.specs.Prelude.{◌≡◌};
 ghost use Rattle.std.specs.List.{list_all};
-ghost use Rattle.dates_and_addresses.specs.Cutting as Cutting;
+ghost use Rattle.text_formats.specs.Cutting as Cutting;
 ghost use Rattle.text_formats.specs.Templates as spec;
 
+use crate::characters::are_digits;
+use crate::cutting::cut;
 use crate::iris::are_of_query;
 use crate::parts::Part;
 use crate::uris::Class;
-use dates_and_addresses::characters::are_digits;
-use dates_and_addresses::cutting::cut;
 
 // Whether no dot stands first, last or beside another.
 fn are_dots_apart(text: &[u8]) -> bool
@@ -95,7 +95,7 @@ fn is_after_brace(text: &[u8]) -> bool
     }
 }
 
-#[tactic(auto, using(dates_and_addresses::proofs::Parting::each_after, dates_and_addresses::proofs::Parting::each_alone))]
+#[tactic(auto, using(crate::proofs::Parting::each_after, crate::proofs::Parting::each_alone))]
 fn are_after_braces(text: &[u8]) -> bool
     ensures each { result ≡ list_all spec.is_after_brace (Cutting.parts 123 text.now) }
 {

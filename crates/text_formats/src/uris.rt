@@ -2,14 +2,12 @@
 ghost use Rattle.std.specs.Prelude.{◌≡◌, option_map};
 ghost use Rattle.std.specs.List.{list_all};
 ghost use Rattle.uri_references.specs.Views.{components_of};
-ghost use Rattle.dates_and_addresses.specs.Cutting as Cutting;
+ghost use Rattle.text_formats.specs.Cutting as Cutting;
 ghost use Rattle.text_formats.specs.Uris as spec;
 
-use dates_and_addresses::addresses::is_ipv6_in;
-use dates_and_addresses::characters::{
-    are_digits, are_hex_digits, is_digit, is_hex_digit, is_letter,
-};
-use dates_and_addresses::cutting::cut;
+use crate::addresses::is_ipv6_in;
+use crate::characters::{are_digits, are_hex_digits, is_digit, is_hex_digit, is_letter};
+use crate::cutting::cut;
 use uri_references::components::Components;
 
 // What characters a component may have: a name of a host, what stands before a host, a path, a query or a fragment; or the literals

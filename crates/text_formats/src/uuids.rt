@@ -2,7 +2,7 @@
 ghost use Rattle.std.specs.Prelude.{◌≡◌};
 ghost use Rattle.text_formats.specs.Uuids as spec;
 
-use dates_and_addresses::characters::fits;
+use crate::characters::fits;
 
 /// Whether a text is a universally unique identifier, as `f81d4fae-7dec-11d0-a765-00a0c91e6bf6`.
 pub fn is_uuid(text: &str) -> bool

@@ -9,8 +9,8 @@ use Rattle.theory_meaning.specs.Numbered.{left, subject_in}
 use Rattle.schema_traits.specs.KeywordViews.{Tells, reply_of}
 use Rattle.schema_traits.specs.MatcherViews.{FinishesEach}
 use Rattle.schema_traits.specs.declared.keyword.Reply.TheVariants as told
-use Rattle.asked_questions.specs.Questions.{SaysByQuestions, answers_say}
-use Rattle.asked_questions.proofs.AnswersSay.{first_as_it_has_to, first_otherwise, none_say}
+use Rattle.schema_traits.specs.Questions.{SaysByQuestions, answers_say}
+use Rattle.schema_traits.proofs.AnswersSay.{first_as_it_has_to, first_otherwise, none_say}
 use Rattle.schema_run_context.specs.Matches.{settling}
 use Rattle.schema_run_context.specs.Progress.{Context, busy_at}
 use Rattle.schema_run_context.proofs.Matches.{meets_same, moved}

@@ -1,16 +1,16 @@
 //! What the words ask for.
 ghost use Rattle.std.specs.Prelude.{◌≡◌, IfOk, IfErr, map, option_map, string_bytes};
 ghost use Rattle.serde_json.specs.View.{view};
-ghost use Rattle.bench_parts.specs.Makers.{texts_of};
+ghost use Rattle.standard_basics.specs.Makers.{texts_of};
 ghost use Rattle.schema_traits.specs.Showing.{Shows};
 ghost use Rattle.bench_program.specs.ProgramFaults.{FaultStands, Unlisted, Unread};
 ghost use Rattle.bench_program.specs.ProgramViews.{texts, words_of};
 ghost use Rattle.bench_program.specs.ProgramWords.{Holds, IsListOf, IsTextOf, call_in, call_named, listed, words_in};
 
 use crate::program::faults::{Fault, Word};
-use bench_parts::table::keyword_values::texts_of;
 use schema_reports::location::OutOfMemory;
 use serde_json::{Category, Value};
+use standard_basics::table::keyword_values::texts_of;
 use std::alloc::Global;
 
 /// A call of the engine. MODE names it: `valid`, `first`, `errors` or `list`.

@@ -15,13 +15,13 @@ use schema_compiler::compiler::compile;
 use schema_keys::check::validate_schema;
 use schema_keys::error::BuildError;
 use schema_keys::key::SchemaKey;
+use schema_solver::eligible::Solver;
 use schema_traits::keyword::Validate;
 use schema_traits::matcher::Matcher;
 use schema_traits::meta::MetaValidators;
 use schema_traits::numbers::SchemaNode;
 use schema_traits::resolver::Resolver;
 use schema_traits::table::KeywordTable;
-use schema_verdicts::eligible::Solver;
 use serde_json::Value;
 use std::alloc::Global;
 

@@ -22,6 +22,7 @@ use schema_keys::error::BuildError;
 use schema_keys::key::SchemaKey;
 use schema_keys::schemas::schemas_in;
 use schema_reports::location::OutOfMemory;
+use schema_solver::eligible::Solver;
 use schema_traits::keyword::Validate;
 use schema_traits::matcher::Matcher;
 use schema_traits::meta::MetaValidators;
@@ -29,7 +30,6 @@ use schema_traits::numbers::SchemaNode;
 use schema_traits::resolver::Resolver;
 use schema_traits::schema_place::SchemaPath;
 use schema_traits::table::KeywordTable;
-use schema_verdicts::eligible::Solver;
 use serde_json::Value;
 use std::alloc::Global;
 

@@ -6,7 +6,7 @@ use Rattle.theory_definitions.specs.Cover.{evaluate}
 use Rattle.theory_definitions.specs.Laws.{EachKeeps}
 use Rattle.theory_meaning.specs.ErrorsLead.{EachKeepsAbsorbing}
 use Rattle.theory_meaning.proofs.TurnsGiveRuns.{keeps_of_turns}
-use Rattle.schema_calls.specs.Evaluated.{EvaluationAnswered, UnitsAnswered, verdict_in}
+use Rattle.schema_compiled.specs.Evaluated.{EvaluationAnswered, UnitsAnswered, verdict_in}
 use Rattle.schema_validator.specs.Handed.{default_options, default_runs, handed, table_of}
 use Rattle.schema_validator.proofs.Pointing.{evaluation_points}
 use Rattle.schema_validator.proofs.PlainAnswers.{plainly_from, plainly_with_units}

@@ -6,7 +6,7 @@ use Rattle.theory_definitions.specs.Cover.{validate}
 use Rattle.theory_definitions.specs.Laws.{EachKeeps}
 use Rattle.theory_meaning.proofs.TurnsGiveRuns.{keeps_of_turns}
 use Rattle.schema_compiled.specs.Answers.{refusal_of}
-use Rattle.schema_calls.specs.Spoken.{FirstAnswered}
+use Rattle.schema_compiled.specs.Spoken.{FirstAnswered}
 use Rattle.schema_validator.specs.Handed.{default_options, default_runs, handed, table_of}
 use Rattle.schema_validator.proofs.Pointing.{first_points}
 use Rattle.schema_validator.proofs.PlainAnswers.{plainly_from}

@@ -62,8 +62,8 @@ use Rattle.theory_runs.proofs.Shared.{meets_again, read_again, shared_counts, st
 use Rattle.schema_node_table.proofs.ClosedNumbers.{reaches_numbered}
 use Rattle.theory_definitions.specs.Laws.{EachKeeps}
 use Rattle.theory_definitions.specs.Instance.{after_step}
-use Rattle.asked_questions.specs.Questions.{StandsThere, at_names, below_in, question_in}
-use Rattle.asked_questions.proofs.AnswersSay.{likewise, otherwise, present_there, says_by_questions}
+use Rattle.schema_traits.specs.Questions.{StandsThere, at_names, below_in, question_in}
+use Rattle.schema_traits.proofs.AnswersSay.{likewise, otherwise, present_there, says_by_questions}
 use Rattle.theory_runs.proofs.AskedAtOnce.{SaysByTheRest, match_says, meets_on, met_none, question_ends, question_goes_on, questions_begin, questions_end}
 use Rattle.theory_runs.proofs.Children.{answered_below, answered_here, may_below, may_here, needs_below, needs_here}
 use Rattle.schema_node.proofs.node.+verdict.Goals as goal

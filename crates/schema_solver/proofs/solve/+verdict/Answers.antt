@@ -12,8 +12,8 @@ use Rattle.theory_meaning.specs.Numbered.{left}
 use Rattle.theory_meaning.proofs.TurnsGiveRuns.{keeps_of_turns}
 use Rattle.schema_reports.specs.InstanceViews.{step_of, subject_of}
 use Rattle.schema_traits.specs.EdgeViews.{edge_of}
-use Rattle.asked_questions.specs.Members.{at_their_names}
-use Rattle.asked_questions.specs.Questions.{SaysByQuestions, StandsThere, at_names, below_in, question_in}
+use Rattle.schema_traits.specs.Members.{at_their_names}
+use Rattle.schema_traits.specs.Questions.{SaysByQuestions, StandsThere, at_names, below_in, question_in}
 use Rattle.schema_traits.specs.KeywordViews.{below_of, answer_of, keyword_point, marked_of, mode_of, reply_of, spot_point, turn_of}
 use Rattle.schema_traits.specs.declared.asking.Asking.TheVariants as asking
 use Rattle.schema_traits.specs.declared.numbers.SchemaNode.{SchemaNode}
@@ -48,7 +48,7 @@ use Rattle.theory_definitions.specs.Matching.{Pair}
 use Rattle.schema_run_steps.specs.NodeRuns.{HasChildren, HasForm, form_at_work}
 use Rattle.schema_run_steps.proofs.KeywordTurns.{asks_there, can_after, falls_turned, tells_nothing, ask_goes_on, match_goes_on, ecma_goes_on, mark_goes_on, unmark_goes_on}
 use Rattle.schema_solver.proofs.Turned.{asked_verdict, asks_begun, asks_on, begun_with, can_begun, carries_on, goes_marked, leads_asked, leads_begun, leads_ended, leads_marked, leads_matched, leads_told, leads_unmarked, says_after, stepped_by, turned_by}
-use Rattle.asked_questions.proofs.AnswersSay.{present_there, says_by_questions}
+use Rattle.schema_traits.proofs.AnswersSay.{present_there, says_by_questions}
 use Rattle.schema_solver.proofs.ByQuestions.{match_says, question_ends, question_goes_on, questions_begin, questions_end}
 use Rattle.schema_solver.proofs.Stopping.{solved_none, stops_begun, stops_for_memory, stops_full, stops_here, stops_leaning, stops_on, stops_still, turned_stops}
 use Rattle.schema_solver.proofs.Telling.{ends_after, goes_on_after, leans_once, solved_at}

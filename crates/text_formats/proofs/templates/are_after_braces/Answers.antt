@@ -1,5 +1,5 @@
 use Rattle.std.proofs.Common.{◌∙◌, sym}
-use Rattle.dates_and_addresses.proofs.Parting.{each_goes_on, each_stops}
+use Rattle.text_formats.proofs.Parting.{each_goes_on, each_stops}
 use Rattle.text_formats.specs.Templates.{is_after_brace}
 use Rattle.text_formats.proofs.templates.are_after_braces.Goals as goal
 

@@ -1,6 +1,6 @@
 use Rattle.std.proofs.Common.{◌≡◌, length}
 use Rattle.std.specs.List.{list_all}
-use Rattle.dates_and_addresses.specs.Cutting.{parts}
+use Rattle.text_formats.specs.Cutting.{parts}
 use Rattle.text_formats.specs.Templates as spec
 use Rattle.text_formats.proofs.templates.are_after_braces.Given as goal
 

@@ -7,12 +7,12 @@ use Rattle.theory_meaning.proofs.TurnsGiveRuns.{keeps_of_turns}
 use Rattle.schema_node_table.specs.NodeTable.{numbered}
 use Rattle.schema_run_context.proofs.Matches.{nothing_twice}
 use Rattle.schema_traits.specs.MatcherViews.{FinishesEach}
-use Rattle.schema_verdicts.specs.declared.eligible.SolvedVerdict.{SolvedVerdict}
+use Rattle.schema_solver.specs.declared.eligible.SolvedVerdict.{SolvedVerdict}
 use Rattle.schema_compiled.specs.Answers.{SaysVerdict}
 use Rattle.schema_compiled.specs.Program.{Program}
-use Rattle.schema_calls.proofs.ErrorSearches.{errors_at_once, first_at_once}
+use Rattle.schema_compiled.proofs.ErrorSearches.{errors_at_once, first_at_once}
 use Rattle.schema_compiled.proofs.Solved.{of_some}
-use Rattle.schema_calls.proofs.Searches.{finishes_of}
+use Rattle.schema_compiled.proofs.Searches.{finishes_of}
 use Rattle.theory_runs.proofs.Spending.{asks_spends, spends_on}
 use Rattle.schema_compiled.proofs.compiled_schema.CompiledSchema.accepts_at_once.Goals as goal
 

@@ -12,8 +12,8 @@ use Rattle.schema_reports.specs.declared.reports.ValidationError.{ValidationErro
 use Rattle.schema_traits.proofs.Replies.{if_ok_mono}
 use Rattle.schema_compiled.specs.Answers.{MeetsMatches, SaysErrors}
 use Rattle.schema_compiled.specs.Asked.{ErrorsFromSomeDepth}
-use Rattle.schema_calls.proofs.ErrorSearches.{errors_first}
-use Rattle.schema_calls.proofs.Searches.{finishes_of, none_of}
+use Rattle.schema_compiled.proofs.ErrorSearches.{errors_first}
+use Rattle.schema_compiled.proofs.Searches.{finishes_of, none_of}
 use Rattle.theory_runs.proofs.Spending.{asks_spends, spends_on}
 use Rattle.schema_compiled.proofs.Taken.{takes_after, takes_finished, takes_first}
 use Rattle.schema_compiled.proofs.compiled_schema.CompiledSchema.all_under_each.Goals as goal

@@ -5,7 +5,7 @@ use Rattle.schema_reports.specs.ReportViews.{BorrowsItsPlace}
 use Rattle.schema_traits.specs.FaultViews.{errors_in}
 use Rattle.schema_traits.specs.KeywordViews.{reply_of}
 use Rattle.schema_traits.specs.declared.keyword.Reply.{Reply}
-use Rattle.schema_calls.proofs.Searches.{errors_are}
+use Rattle.schema_compiled.proofs.Searches.{errors_are}
 use Rattle.schema_compiled.proofs.compiled_schema.CompiledSchema.errors.Goals as goal
 
 pub returns-clause-says : goal.returns-clause-says

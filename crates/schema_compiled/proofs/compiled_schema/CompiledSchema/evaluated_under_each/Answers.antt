@@ -7,8 +7,8 @@ use Rattle.theory_meaning.proofs.TurnsGiveRuns.{keeps_of_turns}
 use Rattle.schema_node_table.specs.NodeTable.{numbered}
 use Rattle.schema_run_context.proofs.Matches.{nothing_twice}
 use Rattle.schema_traits.proofs.Replies.{if_ok_always, if_ok_mono}
-use Rattle.schema_calls.proofs.ErrorSearches.{evaluated_first, units_first, units_searched}
-use Rattle.schema_calls.proofs.Searches.{none_of}
+use Rattle.schema_compiled.proofs.ErrorSearches.{evaluated_first, units_first, units_searched}
+use Rattle.schema_compiled.proofs.Searches.{none_of}
 use Rattle.theory_runs.proofs.Spending.{asks_spends}
 use Rattle.schema_compiled.proofs.Taken.{takes_after, takes_first}
 use Rattle.theory_meaning.proofs.Sentences.{evaluate_later}

@@ -11,8 +11,8 @@ use Rattle.theory_meaning.proofs.TurnsGiveRuns.{keeps_of_turns}
 use Rattle.schema_node_table.specs.NodeTable.{numbered}
 use Rattle.schema_run_context.proofs.Matches.{nothing_twice}
 use Rattle.schema_compiled.specs.Asked.{FirstFromSomeDepth}
-use Rattle.schema_calls.proofs.ErrorSearches.{first_first, first_has}
-use Rattle.schema_calls.proofs.Searches.{finishes_of, none_of}
+use Rattle.schema_compiled.proofs.ErrorSearches.{first_first, first_has}
+use Rattle.schema_compiled.proofs.Searches.{finishes_of, none_of}
 use Rattle.theory_runs.proofs.Spending.{asks_spends, spends_on}
 use Rattle.schema_compiled.proofs.Taken.{takes_after, takes_finished, takes_first}
 use Rattle.schema_compiled.proofs.compiled_schema.CompiledSchema.first_under_each.Goals as goal

@@ -4,7 +4,7 @@ use Rattle.theory_definitions.specs.Laws.{EachKeeps}
 use Rattle.theory_meaning.proofs.TurnsGiveRuns.{keeps_of_turns}
 use Rattle.schema_node_table.specs.NodeTable.{numbered}
 use Rattle.schema_run_context.specs.Works.{Asks}
-use Rattle.schema_calls.proofs.Searches.{reached_has}
+use Rattle.schema_compiled.proofs.Searches.{reached_has}
 use Rattle.schema_compiled.specs.Program.{Program}
 use Rattle.schema_compiled.specs.Taken.{TakesByRuns}
 use Rattle.schema_compiled.proofs.SharedErrors.{both_on, shared_of, shared_takes, told_of}

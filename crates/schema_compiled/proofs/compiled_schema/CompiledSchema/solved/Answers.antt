@@ -11,12 +11,12 @@ use Rattle.schema_traits.proofs.Replies.{if_ok_mono}
 use Rattle.schema_traits.specs.MatcherViews.{FinishesEach}
 use Rattle.schema_solver.specs.Asked.{solver_over}
 use Rattle.schema_solver.specs.Solving.{BeginsFew, LimitWithinBound, SaysAsNodes}
-use Rattle.schema_verdicts.specs.Finding.{IsFoundAt}
-use Rattle.schema_verdicts.specs.Saying.{EachSays}
-use Rattle.schema_verdicts.specs.declared.eligible.SolvedVerdict.{SolvedVerdict}
+use Rattle.schema_solver.specs.Finding.{IsFoundAt}
+use Rattle.schema_solver.specs.Saying.{EachSays}
+use Rattle.schema_solver.specs.declared.eligible.SolvedVerdict.{SolvedVerdict}
 use Rattle.schema_compiled.specs.Program.{Program}
-use Rattle.schema_calls.proofs.ErrorSearches.{verdict_at_once}
-use Rattle.schema_calls.proofs.Searches.{finishes_of}
+use Rattle.schema_compiled.proofs.ErrorSearches.{verdict_at_once}
+use Rattle.schema_compiled.proofs.Searches.{finishes_of}
 use Rattle.schema_compiled.proofs.Solved.{if_ok_some_both, solved_decides}
 use Rattle.schema_compiled.proofs.compiled_schema.CompiledSchema.solved.Goals as goal
 

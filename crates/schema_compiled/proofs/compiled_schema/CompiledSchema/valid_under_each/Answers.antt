@@ -14,7 +14,7 @@ use Rattle.schema_run_context.proofs.Matches.{nothing_twice}
 use Rattle.schema_traits.proofs.Replies.{if_ok_mono}
 use Rattle.schema_traits.specs.MatcherViews.{FinishesEach}
 use Rattle.theory_runs.proofs.Spending.{asks_spends, spends_on}
-use Rattle.schema_verdicts.specs.declared.eligible.SolvedVerdict.{SolvedVerdict}
+use Rattle.schema_solver.specs.declared.eligible.SolvedVerdict.{SolvedVerdict}
 use Rattle.schema_compiled.specs.Answers.{MeetsMatches, SaysVerdict}
 use Rattle.schema_compiled.specs.Asked.{DecidesFromSomeDepth}
 use Rattle.schema_compiled.specs.Program.{Program}
@@ -22,7 +22,7 @@ use Rattle.schema_compiled.specs.Taken.{TakesByRuns}
 use Rattle.schema_compiled.proofs.Solved.{enough_decide, gives_a_verdict, of_some, on_err}
 use Rattle.schema_compiled.proofs.Taken.{takes_after, takes_finished, takes_first}
 use Rattle.schema_compiled.proofs.VerdictsSearched.{is_searched}
-use Rattle.schema_calls.proofs.Searches.{finishes_of, none_of, verdict_first}
+use Rattle.schema_compiled.proofs.Searches.{finishes_of, none_of, verdict_first}
 use Rattle.schema_compiled.proofs.compiled_schema.CompiledSchema.valid_under_each.Goals as goal
 
 pub returns-in-Some : goal.returns-in-Some

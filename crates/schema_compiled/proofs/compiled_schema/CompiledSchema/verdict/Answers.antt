@@ -1,6 +1,6 @@
 use Rattle.std.proofs.Common.{◌∙◌, sym, ap}
 use Rattle.schema_traits.specs.KeywordViews.{reply_of}
-use Rattle.schema_calls.proofs.Searches.{truth_is}
+use Rattle.schema_compiled.proofs.Searches.{truth_is}
 use Rattle.schema_compiled.proofs.compiled_schema.CompiledSchema.verdict.Goals as goal
 
 pub returns-clause-says : goal.returns-clause-says

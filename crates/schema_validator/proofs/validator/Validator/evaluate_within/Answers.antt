@@ -7,7 +7,7 @@ use Rattle.theory_meaning.proofs.SensesMeant.{of_every_sense}
 use Rattle.theory_meaning.proofs.TurnsGiveRuns.{keeps_of_turns}
 use Rattle.schema_node_table.specs.NodeTable.{numbered}
 use Rattle.schema_compiled.specs.Asked.{EvaluatesFromSomeDepth}
-use Rattle.schema_calls.specs.Evaluated.{EvaluationAnswered}
+use Rattle.schema_compiled.specs.Evaluated.{EvaluationAnswered}
 use Rattle.schema_compiled.specs.Program.{HasUnits, Program}
 use Rattle.schema_validator.proofs.Greatest.{evaluates_accepted}
 use Rattle.schema_validator.proofs.PlainAnswers.{units_in_every_sense}

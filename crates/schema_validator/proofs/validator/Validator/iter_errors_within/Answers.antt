@@ -13,7 +13,7 @@ use Rattle.theory_meaning.proofs.TurnsGiveRuns.{keeps_of_turns}
 use Rattle.schema_node_table.specs.NodeTable.{numbered}
 use Rattle.schema_compiled.specs.Asked.{ErrorsFromSomeDepth}
 use Rattle.schema_compiled.specs.Program.{Program}
-use Rattle.schema_calls.specs.Spoken.{EachIsGiven, ErrorsAnswered}
+use Rattle.schema_compiled.specs.Spoken.{EachIsGiven, ErrorsAnswered}
 use Rattle.schema_validator.proofs.Greatest.{errors_accepted}
 use Rattle.schema_validator.proofs.Pointing.{each_is_given}
 use Rattle.schema_validator.proofs.validator.Validator.iter_errors_within.Goals as goal

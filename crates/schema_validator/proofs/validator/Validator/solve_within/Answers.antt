@@ -8,8 +8,8 @@ use Rattle.theory_meaning.proofs.TurnsGiveRuns.{keeps_of_turns}
 use Rattle.schema_node_table.specs.NodeTable.{numbered}
 use Rattle.schema_traits.proofs.Replies.{if_ok_mono}
 use Rattle.schema_traits.specs.MatcherViews.{FinishesEach}
-use Rattle.schema_verdicts.specs.Saying.{EachSays}
-use Rattle.schema_verdicts.specs.declared.eligible.SolvedVerdict.{SolvedVerdict}
+use Rattle.schema_solver.specs.Saying.{EachSays}
+use Rattle.schema_solver.specs.declared.eligible.SolvedVerdict.{SolvedVerdict}
 use Rattle.schema_compiled.specs.Asked.{DecidesFromSomeDepth}
 use Rattle.schema_compiled.specs.Program.{Program}
 use Rattle.schema_compiled.specs.Solved.{BeganFew, RestsOnContext, StopsLate}

@@ -14,7 +14,7 @@ use Rattle.schema_node_table.specs.NodeTable.{numbered}
 use Rattle.schema_compiled.specs.Answers.{refusal_of}
 use Rattle.schema_compiled.specs.Asked.{FirstFromSomeDepth}
 use Rattle.schema_compiled.specs.Program.{Program}
-use Rattle.schema_calls.specs.Spoken.{FirstAnswered, FirstIsGiven}
+use Rattle.schema_compiled.specs.Spoken.{FirstAnswered, FirstIsGiven}
 use Rattle.schema_validator.proofs.Greatest.{first_accepted}
 use Rattle.schema_validator.proofs.Pointing.{first_is_given}
 use Rattle.schema_validator.proofs.validator.Validator.validate_within.Goals as goal

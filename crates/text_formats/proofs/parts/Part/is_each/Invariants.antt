@@ -1,6 +1,6 @@
 use Rattle.std.proofs.Common.{◌≡◌, length}
 use Rattle.std.specs.List.{list_all}
-use Rattle.dates_and_addresses.specs.Cutting.{parts}
+use Rattle.text_formats.specs.Cutting.{parts}
 use Rattle.text_formats.specs.Parts as spec
 use Rattle.text_formats.proofs.parts.Part.is_each.Given as goal
 

@@ -1,6 +1,0 @@
-pub mod Steps
-pub mod FirstAsked
-pub mod MemberWalks
-pub mod NameWalks
-pub mod AskedAtOnceBy
-pub mod AnswersSay

@@ -1,3 +1,0 @@
-pub mod Questions
-pub mod Members
-pub mod Walks

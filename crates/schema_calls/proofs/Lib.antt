@@ -1,4 +1,0 @@
-pub mod Remembers
-pub mod Searches
-pub mod ErrorSearches
-pub mod Verdicts

@@ -1,2 +1,0 @@
-pub mod Spoken
-pub mod Evaluated

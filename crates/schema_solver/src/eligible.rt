@@ -1,0 +1,162 @@
+//! Where a solver finds the verdicts of some nodes.
+ghost use Rattle.std.specs.Prelude.{◌≡◌, ◌<◌, ◌+◌, ◌&&◌, [], IfOk, IfSome, None, OnErr, false, is_some, length, true};
+ghost use Rattle.serde_json.specs.View.{view};
+ghost use Rattle.schema_solver_state.specs.Following.{IsFollowing};
+ghost use Rattle.schema_traits.specs.MatcherViews.{FinishesEach};
+ghost use Rattle.schema_node_table.specs.NodeTable.{numbered};
+ghost use Rattle.schema_solver.specs.Asked.{solver_over};
+ghost use Rattle.schema_solver.specs.Solving.{BeginsFew, EachSays, LimitWithinBound, SaysAsNodes};
+ghost use Rattle.schema_run_context.specs.Works.{Spends};
+ghost use Rattle.schema_traits.specs.Showing.{Shows, Yields};
+ghost use Rattle.schema_solver.specs.Finding.{IsFoundAt};
+
+use crate::question::{SolverEngine, Stopped};
+use crate::solve::solve_root;
+use schema_node_table::node::Nodes;
+use schema_places::on_demand::PlacesOnDemand;
+use schema_reports::location::OutOfMemory;
+use schema_run_context::work::Work;
+use schema_solver_state::context::SolverContext;
+use schema_solver_state::followed::Followed;
+use schema_traits::keyword::Validate;
+use schema_traits::matcher::Matcher;
+use schema_traits::numbers::SchemaNode;
+use serde_json::Value;
+use std::alloc::{AllocError, Global};
+use std::marker::Model;
+
+/// A verdict that a solver found, and the context that it found it in: what the verdict rests on, and how many pairs were begun for it
+/// (`SolverContext::begun`).
+#[derive(Drop)]
+pub struct SolvedVerdict<'i> {
+    pub valid: bool,
+    pub context: SolverContext<'i>,
+}
+
+/// Finds the verdicts of some nodes by a solver, where the matcher finishes every match and the solver does not give up, and none
+/// elsewhere. Contracts see which numbers the solver follows, where there is one.
+#[derive(Drop)]
+pub struct Solver {
+    followed: Option<Followed>,
+}
+
+impl Model for Solver {
+    ghost use Rattle.std.specs.Prelude.{Bool, List, Option};
+
+    ghost Value = { Option (List Bool) };
+
+    ghost view = { λ f. f.followed };
+}
+
+// Says in a call's work that a solver stopped at its limit, where it did.
+fn stop_at_limit(work: &mut Work, stopped: Stopped)
+    ensures limit { stopped ≡ Stopped.Limit → work.old.limited ≡ true → work.new ≡ record work.old { left = 0; stopped = true } }
+    ensures other { stopped ≡ Stopped.OutOfMemory → work.new ≡ work.old }
+{
+    match stopped {
+        Stopped::Limit => work.stop(),
+        Stopped::OutOfMemory => (),
+        Stopped::Leans => (),
+    }
+}
+
+impl Solver {
+    /// Returns the one that finds no verdict. It allocates nothing.
+    pub fn none() -> Solver
+        ensures none { result ≡ None }
+    {
+        Solver { followed: None }
+    }
+
+    /// Returns the one of these nodes. Fails only if memory cannot be allocated.
+    pub fn of<K: Validate>(alloc: Global, nodes: &Nodes<K>) -> Result<Solver, OutOfMemory>
+        ensures made { Shows is_some result true }
+        ensures follows { IfOk result (λ f. IfSome f (IsFollowing nodes.now)) }
+    {
+        let numbers = Followed::of(alloc, nodes)?;
+        Ok(Solver {
+            followed: Some(numbers),
+        })
+    }
+
+    /// Returns the same once more. Fails only if memory cannot be allocated.
+    pub fn clone(&self) -> Result<Solver, OutOfMemory>
+        ensures same { Yields result self.now }
+    {
+        match &self.followed {
+            Some(numbers) => Ok(Solver {
+                followed: Some(numbers.clone()?),
+            }),
+            None => Ok(Solver::none()),
+        }
+    }
+
+    /// Returns the verdict of a node of the instance, where a solver finds it: where it may find verdicts of these nodes, the matcher is
+    /// said to finish every match, and it does not give up, which it never does where each keyword says that it is monotone. Elsewhere it
+    /// returns `None`. With the verdict it returns the context in which it was found, which speaks of this instance: each verdict that it
+    /// holds is what the nodes say, and the verdict is what the node says under each set with all pairs that the context answers yes and
+    /// none that it refused; where each keyword is monotone, all that it holds is so of every set that stands by itself. With g numbers
+    /// that a guarded edge leads to or that are not followed, and p places, that context began at most g * p * g pairs. (Which numbers
+    /// are followed changes nothing of what is said, so `says` names none.) The pairs that it begins are counted in the work; where this
+    /// has a limit, no more are begun than it has left. Fails if memory cannot be allocated, and then the work is as it was; and if one
+    /// more pair was to be begun than the work has left, and then the work says that it is stopped: so only where it has less than
+    /// g * p * g left.
+    pub fn verdict<'i, K: Validate, M: Matcher>(
+        &self,
+        alloc: Global,
+        nodes: &Nodes<K>,
+        matcher: &M,
+        finishes: bool,
+        node: SchemaNode,
+        instance: &'i Value,
+        work: &mut Work,
+    ) -> Result<Option<SolvedVerdict<'i>>, OutOfMemory>
+        requires known { node.0 < length nodes.now }
+        requires finishes { finishes ≡ true → FinishesEach (M.matching matcher.now) }
+        ensures exactly { EachSays K.says_monotone (numbered K.shape nodes.now) (length nodes.now)
+            → IfOk result (λ found. is_some found ≡ (is_some self.now && finishes)) }
+        ensures only { IfOk result (λ found. is_some found ≡ true → (is_some self.now && finishes) ≡ true) }
+        ensures finishes { IfOk result (λ found. IfSome found (λ _. FinishesEach (M.matching matcher.now))) }
+        ensures says { IfOk result (λ found. IfSome found (λ v. SaysAsNodes
+            (solver_over K.words K.is_whole K.shape nodes.now [] (M.matching matcher.now)) (view instance.now) node.0 v.valid)) }
+        ensures rests { IfOk result (λ found. IfSome found (λ v. IfSome self.now (λ followed. IsFoundAt
+            (solver_over K.words K.is_whole K.shape nodes.now followed (M.matching matcher.now)) instance.now node.0 v))) }
+        ensures few { IfOk result (λ found. IfSome found (λ v. IfSome self.now (λ followed. BeginsFew
+            (solver_over K.words K.is_whole K.shape nodes.now followed (M.matching matcher.now)) instance.now v.context.begun))) }
+        ensures unasked { (is_some self.now && finishes) ≡ false → work.new ≡ work.old }
+        ensures works { IfOk result (λ _. Spends work.old work.new) }
+        ensures counted { IfOk result (λ found. IfSome found (λ v. work.old.limited ≡ true
+            → v.context.begun + work.new.left ≡ work.old.left)) }
+        ensures late { OnErr result (work.old.stopped ≡ false → work.new.stopped ≡ true
+            → IfSome self.now (λ followed. LimitWithinBound
+            (solver_over K.words K.is_whole K.shape nodes.now followed (M.matching matcher.now)) instance.now work.old.left)) }
+        ensures stays { OnErr result (work.new.stopped ≡ false → work.new ≡ work.old) }
+    {
+        if let Some(followed) = &self.followed {
+            if finishes {
+                let engine = SolverEngine {
+                    nodes,
+                    alloc,
+                    matcher,
+                    followed,
+                    most: work.left(),
+                };
+                let mut context = SolverContext::new(alloc, PlacesOnDemand::of(instance));
+                match solve_root(&engine, node, instance, &mut context) {
+                    Ok(found) => {
+                        work.spend(context.begun());
+                        if let Some(valid) = found {
+                            return Ok(Some(SolvedVerdict { valid, context }));
+                        }
+                        return Ok(None);
+                    }
+                    Err(stopped) => {
+                        stop_at_limit(work, stopped);
+                        return Err(AllocError);
+                    }
+                }
+            }
+        }
+        Ok(None)
+    }
+}

@@ -1,0 +1,16 @@
+use Rattle.std.proofs.Common.{refl}
+use Rattle.serde_json.specs.Data.{object}
+use Rattle.serde_json.specs.View.{members_view}
+use Rattle.theory_definitions.specs.Instance.{a_value}
+use Rattle.schema_traits.specs.Members.{at_their_names}
+use Rattle.schema_traits.proofs.FirstAsked.{says_first}
+use Rattle.schema_traits.proofs.asked.names.NamesQuestions.next.Goals as goal
+
+pub invariant_of-self : goal.invariant_of-self
+invariant_of-self c = c.next_name.ensures.way (a_value (object (members_view c.self.inside.whole.now.entries))) c.self.invariant
+
+pub returns : goal.returns
+returns c =
+    let s = a_value (object (members_view c.self.inside.whole.now.entries)) in
+    let it = says_first (record { subject = s; left = at_their_names c.self.inside.members }) c.args.self.now (record { subject = s; left = at_their_names c.next_name.new.members }) c.next_name.result c.self.view_is refl (c.next_name.ensures.asks s c.self.invariant) in
+    record { next = it.0; there = it.1; ended = it.2; subject = it.3 }

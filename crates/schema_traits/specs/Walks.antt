@@ -1,0 +1,28 @@
+-- What is left of a walk through children at the keyword's own place, or through items.
+use Rattle.std.specs.Prelude.{List, length, map, ◌-◌, ◌≤◌}
+use Rattle.serde_json.specs.Data.{array}
+use Rattle.serde_json.specs.View.{items_view}
+use Rattle.theory_definitions.specs.Instance.{Subject, a_value}
+use Rattle.theory_definitions.specs.Keywords.{Question}
+use Rattle.schema_reports.specs.InstanceViews.{subject_of}
+use Rattle.schema_traits.specs.AskedAtOnce.{child_at, child_here, numbers_from}
+use Rattle.schema_traits.specs.declared.asked.counted.Walk.{Walk}
+use Rattle.schema_traits.specs.declared.asked.counted.Walk.TheVariants as walk
+
+-- the subject that a walk goes through
+abbrev pub subject_in : Walk → Subject
+subject_in (walk.Here w) = subject_of w.instance
+subject_in (walk.Items w) = a_value (array (items_view w.items.now))
+subject_in (walk.Listed w) = a_value (array (items_view w.items.now))
+
+-- the questions that are left, in their order
+abbrev pub left_in : Walk → List Question
+left_in (walk.Here w) = map child_here (numbers_from w.next (w.end - w.next))
+left_in (walk.Items w) = map (child_at 0) (numbers_from w.next (length w.items.now - w.next))
+left_in (walk.Listed w) = map (λ k. child_at k k) (numbers_from w.next (w.end - w.next))
+
+-- it ends within the items
+abbrev pub IsOnItsWay : Walk → Type 0
+IsOnItsWay (walk.Here w) = Unit {0}
+IsOnItsWay (walk.Items w) = Unit {0}
+IsOnItsWay (walk.Listed w) = w.end ≤ length w.items.now

@@ -1,0 +1,175 @@
+//! The questions of a keyword's children at its own place, and of items.
+ghost use Rattle.std.specs.Prelude.{◌≡◌, ◌∷◌, ◌-◌, ◌≤◌, [], IfSome, MatchOption, length, map, min};
+ghost use Rattle.serde_json.specs.Data.{array};
+ghost use Rattle.serde_json.specs.View.{items_view};
+ghost use Rattle.theory_definitions.specs.Instance.{Subject, a_value};
+ghost use Rattle.schema_reports.specs.InstanceViews.{subject_of};
+ghost use Rattle.schema_traits.specs.AskedAtOnce.{child_at, child_here, numbers_from};
+ghost use Rattle.schema_traits.specs.Questions.{AsksFirst, StandsThere, question_in};
+
+use crate::asked::AskedQuestion;
+use schema_reports::instance::{Instance, InstanceStep};
+use serde_json::Value;
+use std::marker::Model;
+
+// The children at the keyword's own place: the next one, and where they end.
+#[derive(Drop)]
+struct HereWalk<'i> {
+    instance: Instance<'i>,
+    next: usize,
+    end: usize,
+}
+
+// The first child at each item: the next item.
+#[derive(Drop)]
+struct ItemsWalk<'i> {
+    items: &'i [Value],
+    next: usize,
+}
+
+// Each child at the item of its number: the next one, and where they end.
+#[derive(Drop)]
+struct ListedWalk<'i> {
+    items: &'i [Value],
+    next: usize,
+    end: usize,
+}
+
+// The ways of asking, each with how far it has come.
+#[derive(Drop)]
+enum Walk<'i> {
+    Here(HereWalk<'i>),
+    Items(ItemsWalk<'i>),
+    Listed(ListedWalk<'i>),
+}
+
+/// The questions that are left of those of children at the keyword's own place, or at items. Contracts see the subject, and the questions
+/// that are left.
+#[derive(Drop)]
+pub struct CountedQuestions<'i> {
+    walk: Walk<'i>,
+}
+
+impl<'i> Model for CountedQuestions<'i> {
+    ghost use Rattle.std.specs.Coded.{codes};
+    ghost use Rattle.json_values.specs.Coding.{data_code};
+    ghost use Rattle.schema_traits.specs.Questions.{QuestionsLeft};
+    ghost use Rattle.schema_traits.specs.Walks.{IsOnItsWay, left_in, subject_in};
+
+    ghost Value = { QuestionsLeft };
+
+    ghost coded = { Prim.hlevel (codes, data_code) };
+
+    ghost view = { λ q. record { subject = subject_in q.walk; left = left_in q.walk } };
+
+    ghost invariant = { λ q. IsOnItsWay q.walk };
+}
+
+impl<'i> CountedQuestions<'i> {
+    /// Returns the questions of so many children at the keyword's own place. It allocates nothing.
+    #[inline(always)]
+    pub fn here(instance: Instance<'i>, end: usize) -> CountedQuestions<'i>
+        ensures subject { result.subject ≡ subject_of instance.entry }
+        ensures left { result.left ≡ map child_here (numbers_from 0 end) }
+    {
+        CountedQuestions {
+            walk: Walk::Here(HereWalk {
+                instance,
+                next: 0,
+                end,
+            }),
+        }
+    }
+
+    /// Returns the questions of the first child at each item from this one on. It allocates nothing.
+    #[inline(always)]
+    pub fn items(next: usize, items: &'i [Value]) -> CountedQuestions<'i>
+        ensures subject { result.subject ≡ a_value (array (items_view items.now)) }
+        ensures left { result.left ≡ map (child_at 0) (numbers_from next (length items.now - next)) }
+    {
+        CountedQuestions {
+            walk: Walk::Items(ItemsWalk { items, next }),
+        }
+    }
+
+    /// Returns the questions of each of so many children at the item of its number, where there is one. It allocates nothing.
+    #[inline(always)]
+    pub fn listed(count: usize, items: &'i [Value]) -> CountedQuestions<'i>
+        ensures subject { result.subject ≡ a_value (array (items_view items.now)) }
+        ensures left { result.left ≡ map (λ k. child_at k k) (numbers_from 0 (min count (length items.now))) }
+    {
+        CountedQuestions {
+            walk: Walk::Listed(ListedWalk {
+                items,
+                next: 0,
+                end: count.min(items.len()),
+            }),
+        }
+    }
+
+    /// Returns the next question; `None` where none is left. It allocates nothing.
+    #[inline(always)]
+    pub fn next(&mut self) -> Option<AskedQuestion<'i>>
+        ensures next { MatchOption result (self.old.left ≡ []) (λ a. self.old.left ≡ question_in a ∷ self.new.left) }
+        ensures there { IfSome result (λ a. StandsThere self.old.subject a) }
+        ensures ended { self.old.left ≡ [] → self.new.left ≡ [] }
+        ensures subject { self.new.subject ≡ self.old.subject }
+    {
+        match &mut self.walk {
+            Walk::Here(walk) => next_here(&mut walk.next, walk.end),
+            Walk::Items(walk) => next_item(walk.items, &mut walk.next),
+            Walk::Listed(walk) => next_listed(walk.items, &mut walk.next, walk.end),
+        }
+    }
+}
+
+// The next child at the keyword's own place.
+#[inline(always)]
+fn next_here<'i>(next: &mut usize, end: usize) -> Option<AskedQuestion<'i>>
+    ensures asks { (s : Subject) → AsksFirst s (map child_here (numbers_from next.old (end - next.old))) result
+        (map child_here (numbers_from next.new (end - next.new))) }
+{
+    if *next >= end {
+        return None;
+    }
+    let child = *next;
+    *next += 1;
+    Some(AskedQuestion { child, below: None })
+}
+
+// The first child at the next item.
+#[inline(always)]
+fn next_item<'i>(items: &'i [Value], next: &mut usize) -> Option<AskedQuestion<'i>>
+    ensures asks { AsksFirst (a_value (array (items_view items.now)))
+        (map (child_at 0) (numbers_from next.old (length items.now - next.old))) result
+        (map (child_at 0) (numbers_from next.new (length items.now - next.new))) }
+{
+    if *next >= items.len() {
+        return None;
+    }
+    let place = *next;
+    *next += 1;
+    Some(AskedQuestion {
+        child: 0,
+        below: Some((Instance::Value(&items[place]), InstanceStep::Item(place))),
+    })
+}
+
+// The next child at the item of its number.
+#[inline(always)]
+fn next_listed<'i>(items: &'i [Value], next: &mut usize, end: usize) -> Option<AskedQuestion<'i>>
+    requires within { end ≤ length items.now }
+    ensures asks { AsksFirst (a_value (array (items_view items.now)))
+        (map (λ k. child_at k k) (numbers_from next.old (end - next.old))) result
+        (map (λ k. child_at k k) (numbers_from next.new (end - next.new))) }
+{
+    if *next >= end {
+        return None;
+    }
+    let place = *next;
+    *next += 1;
+    Some(AskedQuestion {
+        child: place,
+        below: Some((Instance::Value(&items[place]), InstanceStep::Item(place))),
+    })
+}

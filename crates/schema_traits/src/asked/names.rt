@@ -1,0 +1,78 @@
+//! The questions of a keyword's first child at the names of members.
+ghost use Rattle.std.specs.Prelude.{◌≡◌, ◌∷◌, [], IfSome, MatchOption};
+ghost use Rattle.serde_json.specs.Data.{object};
+ghost use Rattle.serde_json.specs.View.{members_view};
+ghost use Rattle.theory_definitions.specs.Instance.{Subject, a_value};
+ghost use Rattle.schema_traits.specs.Members.{AreNamed, at_their_names};
+ghost use Rattle.schema_traits.specs.Questions.{AsksFirst, StandsThere, question_in};
+
+use crate::asked::AskedQuestion;
+use schema_reports::instance::{Instance, InstanceStep};
+use serde_json::{Map, Value};
+use std::collections::btree_map::Iter;
+use std::marker::Model;
+
+/// The questions that are left of those of the first child at the name of each member: the members that are left. Contracts see the
+/// subject, and the questions that are left.
+#[derive(Drop)]
+pub struct NamesQuestions<'i> {
+    whole: &'i Map<String, Value>,
+    members: Iter<'i, String, Value>,
+}
+
+impl<'i> Model for NamesQuestions<'i> {
+    ghost use Rattle.std.specs.Coded.{codes};
+    ghost use Rattle.json_values.specs.Coding.{data_code};
+    ghost use Rattle.serde_json.specs.Data.{object};
+    ghost use Rattle.serde_json.specs.View.{members_view};
+    ghost use Rattle.theory_definitions.specs.Instance.{a_value};
+    ghost use Rattle.schema_traits.specs.Members.{AreNamed, at_their_names};
+    ghost use Rattle.schema_traits.specs.Questions.{QuestionsLeft};
+
+    ghost Value = { QuestionsLeft };
+
+    ghost coded = { Prim.hlevel (codes, data_code) };
+
+    ghost view = { λ q. record { subject = a_value (object (members_view q.whole.now.entries)); left = at_their_names q.members } };
+
+    ghost invariant = { λ q. AreNamed (a_value (object (members_view q.whole.now.entries))) q.members };
+}
+
+impl<'i> NamesQuestions<'i> {
+    /// Returns the questions of the first child at the name of each member. It allocates nothing.
+    #[inline(always)]
+    pub fn of(members: &'i Map<String, Value>) -> NamesQuestions<'i>
+        ensures subject { result.subject ≡ a_value (object (members_view members.now.entries)) }
+        ensures left { result.left ≡ at_their_names members.now.entries }
+    {
+        NamesQuestions {
+            whole: members,
+            members: members.iter(),
+        }
+    }
+
+    /// Returns the next question; `None` where none is left. It allocates nothing.
+    #[inline(always)]
+    pub fn next(&mut self) -> Option<AskedQuestion<'i>>
+        ensures next { MatchOption result (self.old.left ≡ []) (λ a. self.old.left ≡ question_in a ∷ self.new.left) }
+        ensures there { IfSome result (λ a. StandsThere self.old.subject a) }
+        ensures ended { self.old.left ≡ [] → self.new.left ≡ [] }
+        ensures subject { self.new.subject ≡ self.old.subject }
+    {
+        next_name(&mut self.members)
+    }
+}
+
+// The first child at the next member's name.
+#[inline(always)]
+fn next_name<'i>(members: &mut Iter<'i, String, Value>) -> Option<AskedQuestion<'i>>
+    ensures way { (s : Subject) → AreNamed s members.old → AreNamed s members.new }
+    ensures asks { (s : Subject) → AreNamed s members.old → AsksFirst s (at_their_names members.old) result (at_their_names members.new) }
+{
+    let (name, _) = members.next()?;
+    let name = name.as_str();
+    Some(AskedQuestion {
+        child: 0,
+        below: Some((Instance::Name(name), InstanceStep::NameOf(name))),
+    })
+}

@@ -1,0 +1,52 @@
+//! What `items` reads of the values beside it.
+ghost use Rattle.std.specs.Prelude.{◌≡◌, codes, option_and_then};
+ghost use Rattle.serde_json.specs.Find.{as_array, get_member};
+ghost use Rattle.serde_json.specs.View.{view};
+ghost use Rattle.schema_drafts.specs.KeywordViews.{draft_of};
+ghost use Rattle.keyword_authoring.specs.Items.{count_in};
+ghost use Rattle.standard_basics.specs.Makers.{has_prefix, is_older_list, items_before};
+ghost use Rattle.schema_traits.specs.Readings.{fields};
+
+use keyword_makers::lists::list_length;
+use keyword_makers::paths::value_in;
+use schema_drafts::keywords::Draft;
+use serde_json::{Map, Value};
+
+/// Whether `items` goes on after `prefixItems` in this draft.
+fn has_prefix(draft: Draft) -> bool
+    ensures prefix { result ≡ has_prefix (draft_of draft) }
+{
+    match draft {
+        Draft::Draft202012 => true,
+        Draft::Unknown => true,
+        _ => false,
+    }
+}
+
+/// Whether a value of `items` is a list in a draft in which a list makes no keyword.
+pub fn is_older_list(draft: Draft, value: &Value) -> bool
+    ensures older { result ≡ is_older_list (draft_of draft) (view value.now) }
+{
+    !has_prefix(draft) && value.is_array()
+}
+
+/// How many items come before those of `items`: as many as `prefixItems` has schemas, in the drafts that have it.
+pub fn items_before(draft: Draft, object: &Map<String, Value>) -> usize
+    ensures before { result ≡ items_before (draft_of draft) (fields object.now) }
+{
+    if has_prefix(draft) {
+        prefix_length(object)
+    } else {
+        0
+    }
+}
+
+/// How many schemas `prefixItems` has.
+fn prefix_length(object: &Map<String, Value>) -> usize
+    ensures length { result ≡ count_in (option_and_then as_array (get_member (codes "prefixItems") (fields object.now))) }
+{
+    match value_in(object, "prefixItems") {
+        Some(value) => list_length(value),
+        None => 0,
+    }
+}

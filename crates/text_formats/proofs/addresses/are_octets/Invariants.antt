@@ -1,0 +1,11 @@
+use Rattle.std.proofs.Common.{◌≡◌, length}
+use Rattle.std.specs.List.{list_all}
+use Rattle.text_formats.specs.Cutting.{parts}
+use Rattle.text_formats.specs.Addresses as spec
+use Rattle.text_formats.proofs.addresses.are_octets.Given as goal
+
+abbrev pub invariant-loop-part : goal.invariant-loop-part
+invariant-loop-part l = list_all spec.is_octet (parts 46 l.text) ≡ list_all spec.is_octet (parts 46 l.rest)
+
+abbrev pub decreases-loop-part : goal.decreases-loop-part
+decreases-loop-part l = length l.rest
