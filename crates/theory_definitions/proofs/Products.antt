@@ -1,4 +1,4 @@
--- Pairs, and the place of a test in a list.
+-- Pairs, and the index at which a test passes in a list.
 use Rattle.std.proofs.Common.{◌≡◌, ℕ, zero, suc, ◌+◌, ◌*◌, ◌<◌, List, [], ◌∷◌, ◌++◌, length, map, refl, Bool, true, false, ◌||◌, ◌&&◌, arith}
 use Rattle.std.specs.Prelude.{flat_map}
 use Rattle.std.specs.List.{list_any}
@@ -21,7 +21,7 @@ index_below t (x ∷ xs) e = go (t x) e (index_below t xs)
     go true h k = omega arith
     go false h k = let l = k h in omega arith
 
--- two tests with one index pass at one element
+-- Two tests that pass first at the same index pass at the same element.
 pub met_at : {A : Type 0} (t u : A → Bool) (xs : List A) → list_any t xs ≡ true → list_any u xs ≡ true → index u xs ≡ index t xs → (x : A) × (t x ≡ true) × (u x ≡ true)
 unfolding index
 met_at t u [] e f same = absurd (cc e)

@@ -1,4 +1,5 @@
--- Texts that rise: one more at its place rises too, and two rising lists that hold the same texts are one.
+-- Sorted texts: one more at its place keeps them sorted, and two sorted lists of the same texts are
+-- equal.
 use Rattle.std.proofs.Common.{◌≡◌, ◌∙◌, ◌&&◌, ◌||◌, List, [], ◌∷◌, Bool, true, false, refl, ap, ap₂, sym, subst, true≢false}
 use Rattle.std.specs.Prelude.{bytes_eq}
 use Rattle.std.specs.List.{list_all, list_any}
@@ -66,7 +67,7 @@ placed_rises text (first ∷ rest) h =
     go Equal is after below = h
     go Greater is after below = both (list_all (is_before first) (placed_text text rest)) (is_rising (placed_text text rest)) (placed_after first text rest (after_before text first is) after) below
 
--- ---- two rising lists that hold the same texts are one
+-- ---- two sorted lists of the same texts are equal
 
 holds_all : (p : Text → Bool) (texts : List Text) (t : Text) → list_all p texts ≡ true → list_any (bytes_eq t) texts ≡ true → p t ≡ true
 holds_all p [] t h k = absurd (true≢false (sym k))
@@ -87,7 +88,7 @@ one_test true s f g = sym (f refl)
 one_test false true f g = g refl
 one_test false false f g = refl
 
--- the first is before the rest, so a text of the rest is another one
+-- The first text comes before the rest, so a text of the rest differs from it.
 not_first : (first : Text) (rest : List Text) (t : Text) → list_all (is_before first) rest ≡ true → list_any (bytes_eq t) rest ≡ true → bytes_eq t first ≡ true → ⊥
 not_first first rest t after k same =
     let e : t ≡ first = (bytes_eq-Decides t first).0 same in

@@ -1,5 +1,5 @@
--- Lists of vocabularies that are the same are equal; and the lists of two sets are the same exactly where the sets'
--- flags and URIs are.
+-- Lists of vocabularies that are the same are equal, and the lists of two sets are the same if and
+-- only if their flags and URIs are.
 use Rattle.std.proofs.Common.{ap, ap₂, sym, true≢false, ◌∙◌}
 use Rattle.std.proofs.lemmas.Slice.Eq.{bytes_eq-Decides, slice_eq-Decides}
 use Rattle.std.proofs.Math.Bool.{beq}
@@ -82,7 +82,7 @@ module _ (a b d e f g h i j : Bool) (us : List Text) (a' b' d' e' f' g' h' i' j'
       let equal : listed fs us ≡ listed gs vs = ap₂ listed flags uris in
       rw equal (vocabularies_itself (listed gs vs)))
 
-  -- ---- sets that hold the same are one
+  -- ---- sets that contain the same vocabularies are equal
 
   flags_held : HoldSame (listed (a ∷ b ∷ d ∷ e ∷ f ∷ g ∷ h ∷ i ∷ j ∷ []) us) (listed (a' ∷ b' ∷ d' ∷ e' ∷ f' ∷ g' ∷ h' ∷ i' ∷ j' ∷ []) vs) → (a ∷ b ∷ d ∷ e ∷ f ∷ g ∷ h ∷ i ∷ j ∷ []) ≡ (a' ∷ b' ∷ d' ∷ e' ∷ f' ∷ g' ∷ h' ∷ i' ∷ j' ∷ [])
   flags_held same = λ k. (sym (has_core a b d e f g h i j us) ∙ same core_vocabulary ∙ has_core a' b' d' e' f' g' h' i' j' vs) k ∷ (sym (has_applicator a b d e f g h i j us) ∙ same applicator_vocabulary ∙ has_applicator a' b' d' e' f' g' h' i' j' vs) k ∷ (sym (has_unevaluated a b d e f g h i j us) ∙ same unevaluated_vocabulary ∙ has_unevaluated a' b' d' e' f' g' h' i' j' vs) k ∷ (sym (has_validation a b d e f g h i j us) ∙ same validation_vocabulary ∙ has_validation a' b' d' e' f' g' h' i' j' vs) k ∷ (sym (has_metadata a b d e f g h i j us) ∙ same metadata_vocabulary ∙ has_metadata a' b' d' e' f' g' h' i' j' vs) k ∷ (sym (has_format a b d e f g h i j us) ∙ same format_vocabulary ∙ has_format a' b' d' e' f' g' h' i' j' vs) k ∷ (sym (has_format_annotation a b d e f g h i j us) ∙ same format_annotation_vocabulary ∙ has_format_annotation a' b' d' e' f' g' h' i' j' vs) k ∷ (sym (has_format_assertion a b d e f g h i j us) ∙ same format_assertion_vocabulary ∙ has_format_assertion a' b' d' e' f' g' h' i' j' vs) k ∷ (sym (has_content a b d e f g h i j us) ∙ same content_vocabulary ∙ has_content a' b' d' e' f' g' h' i' j' vs) k ∷ []

@@ -1,4 +1,4 @@
--- Which vocabularies a set lists.
+-- Which vocabularies a set contains.
 use Rattle.std.proofs.Common.{ap, arith, subst, sym, ◌∙◌}
 use Rattle.std.proofs.Math.Bool.{and-false, and-true, or-false}
 use Rattle.std.proofs.lemmas.List.Folds.{list_any-append}
@@ -13,7 +13,7 @@ use Rattle.theory_definitions.specs.Instance.{Text}
 use Rattle.theory_definitions.specs.Drafts.{Vocabularies, Vocabulary, applicator_vocabulary, content_vocabulary, core_vocabulary, custom_vocabulary, format_annotation_vocabulary, format_assertion_vocabulary, format_vocabulary, has_vocabulary, metadata_vocabulary, same_vocabulary, unevaluated_vocabulary, validation_vocabulary}
 use Rattle.theory_definitions.specs.VocabularySets.{custom_of, flagged, listed, placed_by, placed_text, standard_vocabularies, uri_of}
 
--- one of these is flagged and the same
+-- The vocabulary is one of these, and its flag is set.
 abbrev pub has_flag : Vocabulary → List Bool → Vocabularies → Bool
 has_flag w [] vs = false
 has_flag w (b ∷ bs) [] = false
@@ -29,7 +29,7 @@ pub has-listed : (w : Vocabulary) (bs : List Bool) (uris : List Text) → has_vo
 unfolding listed
 has-listed w bs uris = list_any-append (same_vocabulary w) (flagged bs standard_vocabularies) (map custom_vocabulary uris) ∙ ap (λ (x : Bool). x || has_vocabulary (map custom_vocabulary uris) w) (has-flagged w bs standard_vocabularies)
 
--- a vocabulary of the standard is none of the others
+-- A vocabulary of the standard is none of the custom ones.
 none_custom : (w : Vocabulary) → ((uri : Text) → same_vocabulary w (custom_vocabulary uri) ≡ false) → (uris : List Text) → has_vocabulary (map custom_vocabulary uris) w ≡ false
 none_custom w h [] = refl
 none_custom w h (uri ∷ uris) = rw (h uri) (none_custom w h uris)
@@ -101,15 +101,15 @@ pub custom_of-listed : (bs : List Bool) (uris : List Text) → custom_of (listed
 unfolding listed
 custom_of-listed bs uris = custom_of-flagged bs standard_vocabularies (map custom_vocabulary uris) refl ∙ custom_of-map uris
 
--- ---- one more
+-- ---- one more vocabulary
 
--- the flag at an index set
+-- The flags with the one at an index set.
 abbrev pub raised : ℕ → List Bool → List Bool
 raised i [] = []
 raised zero (b ∷ bs) = true ∷ bs
 raised (suc i) (b ∷ bs) = b ∷ raised i bs
 
--- the vocabulary at an index
+-- The vocabulary at an index.
 abbrev pub vocabulary_at : ℕ → Vocabularies → Vocabulary
 vocabulary_at i [] = core_vocabulary
 vocabulary_at zero (v ∷ vs) = v
@@ -156,7 +156,7 @@ twice : (s r : Bool) → (s || r) ≡ (s || (s || r))
 twice true r = refl
 twice false r = refl
 
--- a text at its place is one more of them, or one of them
+-- Placing a text adds this text and no other.
 placed-custom : (w : Vocabulary) (uri : Text) (uris : List Text) → has_vocabulary (map custom_vocabulary (placed_text uri uris)) w ≡ (same_vocabulary w (custom_vocabulary uri) || has_vocabulary (map custom_vocabulary uris) w)
 placed-custom w uri [] = refl
 placed-custom w uri (first ∷ rest) = go (slice_cmp nat_cmp uri first) refl (placed-custom w uri rest)

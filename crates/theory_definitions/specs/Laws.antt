@@ -1,4 +1,4 @@
--- What a keyword has to keep, said of whole runs.
+-- The laws of a keyword, stated for whole runs.
 use Rattle.std.specs.List.{list_any}
 use Rattle.std.specs.Prelude.{All, Bool, Contains, List, None, Option, Some, [], is_some, suc, true, zero, ℕ, ◌↔◌, ◌∷◌, ◌≡◌, ◌⊎◌}
 use Rattle.theory_definitions.specs.Instance.{Place, Subject, Text, subject_from}
@@ -8,56 +8,64 @@ use Rattle.theory_definitions.specs.Matching.{Matching}
 use Rattle.theory_definitions.specs.Keywords.{Answer, Answers, Below, Fault, Keywords, Marked, Mode, Question, Reply, Spot, Turn, a_child, all_of_it, ask, done, down, ecma, all_valid, first_of_it, for_all, for_first, for_units, for_verdict, here, mark, match_text, no_reply, own, passed, truth, unit_of_it, unmark}
 use Rattle.theory_definitions.specs.Runs.{first_error, with_mark, without_last}
 
--- the verdict is yes exactly where there is no error
+-- The verdict is yes if and only if there is no error.
 abbrev pub Agrees : Outcome → Type 0
 Agrees o = (o.verdict ≡ true) ↔ (o.errors ≡ [])
 
--- children of one key are answered alike, whatever is asked of them
+-- Children of the same key have the same verdict, at the keyword's place and at each place below
+-- it.
 abbrev pub AnsweredAlike : (Marked → Marked → Bool) → Answers → Type 0
 AnsweredAlike same a = (i j : ℕ) → same (a_child i) (a_child j) ≡ true → (below : Below)
     → (a (record { child = i; below = below })).verdict ≡ (a (record { child = j; below = below })).verdict
 
+-- The first fault, if there is one.
 abbrev pub first_fault : List Fault → List Fault
 first_fault [] = []
 first_fault (f ∷ fs) = f ∷ []
 
+-- The steps from the keyword's place to that of a question.
 abbrev pub steps_below : Below → Place
 steps_below here = []
 steps_below (down s) = s ∷ []
 
+-- The instance has a value or a name at this place.
 abbrev pub IsPresent : Subject → Place → Type 0
 IsPresent s p = is_some (subject_from p s) ≡ true
 
--- a spot lies at the keyword or at one that it absorbs, or below, and inside the instance
+-- A location lies inside the instance, and at the keyword or one that it absorbs, or below.
 abbrev pub SpotInside : Subject → List Text → Spot → Type 0
 SpotInside s absorbed spot = IsPresent s spot.below × ((path : Place) × (spot.path ≡ pointer_to path)) × (elim spot.absorbed [ None ↦ Unit {0} | Some name ↦ Contains absorbed name ])
 
 module _ {K R : Type 0} (keywords : Keywords K R) (m : K) (s : Subject) where
-  -- a run ends in at most n more turns, whatever is replied
+  -- The run ends in at most n more turns, whatever the replies are.
   abbrev pub EndsWithin : ℕ → R → Reply → Type 0
   EndsWithin zero r reply = ⊥
   EndsWithin (suc n) r reply = (keywords.step m s r reply ≡ done) ⊎ ((next : Reply) → EndsWithin n (keywords.turn m s r reply) next)
 
-  -- a turn asks only what the keyword may ask, and for matches only at the keyword and inside the instance
+  -- A turn asks only questions that the keyword may ask, and requests matches only at the keyword
+  -- and inside the instance.
   abbrev pub AsksRightly : List Text → Turn → Type 0
   AsksRightly absorbed (ask q mode) = Contains (keywords.may_ask m s) q
   AsksRightly absorbed (match_text a point) = SpotInside s absorbed point.spot
   AsksRightly absorbed _ = Unit {0}
 
+  -- The next n turns of the run do so, whatever the replies are.
   abbrev pub AlwaysAsksRightly : List Text → ℕ → R → Reply → Type 0
   AlwaysAsksRightly absorbed zero r reply = Unit {0}
   AlwaysAsksRightly absorbed (suc n) r reply = AsksRightly absorbed (keywords.step m s r reply) × ((next : Reply) → AlwaysAsksRightly absorbed n (keywords.turn m s r reply) next)
 
-  -- ---- a run whose matches, questions and marks are answered in one way; `same` says which children have one key
+  -- ---- a run whose matches, questions and marks have fixed answers; `same` says which marks have
+  -- the same key
 
   module _ (matches : Matching) (answers : Answers) (unit_at : Question → Unit_) (same : Marked → Marked → Bool) where
+    -- The reply to a question of a mode.
     abbrev pub answer_in : Mode → Question → Reply
     answer_in for_verdict q = truth (answers q).verdict
     answer_in for_first q = first_of_it (first_error (answers q).errors)
     answer_in for_all q = all_of_it (answers q).errors
     answer_in for_units q = unit_of_it (unit_at q)
 
-    -- the state in which the run ends
+    -- The state in which the run ends, if it ends within n turns.
     abbrev pub ended : ℕ → List Marked → R → Reply → Option R
     ended zero marks r reply = None
     ended (suc n) marks r reply =
@@ -71,28 +79,32 @@ module _ {K R : Type 0} (keywords : Keywords K R) (m : K) (s : Subject) where
           | done ↦ Some r'
         ]
 
+    -- The verdict of each question.
     abbrev pub verdicts : Question → Bool
     verdicts q = (answers q).verdict
 
-    -- what stands in the answer at the end, by mode
+    -- The answer at the end of the run is the right one for its mode.
     abbrev pub IsRight : Mode → Answer → Type 0
     IsRight for_verdict a = a.verdict ≡ keywords.holds m s matches verdicts
     IsRight for_first a = a.errors ≡ first_fault (keywords.faults m s matches answers)
     IsRight for_all a = a.errors ≡ keywords.faults m s matches answers
     IsRight for_units a = (a.gives ≡ keywords.units m s matches unit_at) × (a.verdict ≡ keywords.holds m s matches verdicts)
 
+    -- The run ends, and its answer is the right one for its mode.
     abbrev pub EndsRightly : Mode → Type 0
     EndsRightly mode = (r : R) × (ended (keywords.most_turns m s) [] (keywords.begin m s mode) no_reply ≡ Some r) × IsRight mode (keywords.answer r)
 
+-- An error of the keyword's own lies inside the keyword and the instance.
 abbrev pub StandsInside : Subject → List Text → Fault → Type 0
 StandsInside s absorbed (own o) = SpotInside s absorbed o.spot
 StandsInside s absorbed (passed e) = Unit {0}
 
--- an error that is passed on is one that a question answered
+-- An error that is passed on is one of the errors that a question was answered with.
 abbrev pub PassesUnchanged : Answers → List Question → Fault → Type 0
 PassesUnchanged answers qs (own o) = Unit {0}
 PassesUnchanged answers qs (passed e) = (q : Question) × Contains qs q × Contains (answers q).errors e
 
+-- The laws of a keyword that absorbs these names.
 pub record KeepsLaws {K R : Type 0} (keywords : Keywords K R) (m : K) (absorbed : List Text) : Type 0 where
   pub ends : (s : Subject) (mode : Mode) → EndsWithin keywords m s (keywords.most_turns m s) (keywords.begin m s mode) no_reply
   pub present : (s : Subject) → All (λ q. IsPresent s (steps_below q.below)) (keywords.may_ask m s)
@@ -102,7 +114,8 @@ pub record KeepsLaws {K R : Type 0} (keywords : Keywords K R) (m : K) (absorbed 
       → EndsRightly keywords m s matches a u same mode
   pub agree : (s : Subject) (matches : Matching) (a : Answers) → ((q : Question) → Agrees (a q))
       → (keywords.holds m s matches (λ q. (a q).verdict) ≡ true) ↔ (keywords.faults m s matches a ≡ [])
-  -- its own unit and all that it absorbs are valid exactly where it holds
+  -- The keyword's own unit and all units that it absorbs are valid if and only if the keyword
+  -- holds.
   pub units_valid : (s : Subject) (matches : Matching) (u : Question → Unit_)
       → all_valid (keywords.units m s matches u) ≡ keywords.holds m s matches (λ q. (report_of (u q)).valid)
   pub holds_reads : (s : Subject) (matches : Matching) (a b : Question → Bool) → All (λ q. a q ≡ b q) (keywords.may_ask m s)
@@ -114,6 +127,6 @@ pub record KeepsLaws {K R : Type 0} (keywords : Keywords K R) (m : K) (absorbed 
   pub stands : (s : Subject) (matches : Matching) (a : Answers) → All (StandsInside s absorbed) (keywords.faults m s matches a)
   pub passes : (s : Subject) (matches : Matching) (a : Answers) → All (PassesUnchanged a (keywords.may_ask m s)) (keywords.faults m s matches a)
 
--- every keyword keeps them, absorbing what it absorbs
+-- Every keyword keeps the laws, for the names that it absorbs.
 abbrev pub EachKeeps : {K R : Type 0} → Keywords K R → Type 0
 EachKeeps {K} keywords = (m : K) → (absorbed : List Text) × KeepsLaws keywords m absorbed

@@ -1,5 +1,6 @@
--- What a schema says of an instance, with every reference looked up anew: `true` accepts, `false` refuses, and a list of
--- keywords accepts where each of them holds. (Core 2020-12, 4.3.2, 7.6 and 8.2.3)
+-- What a schema says of an instance, with every reference resolved afresh: `true` accepts, `false`
+-- rejects, and a list of keywords accepts if each of them holds. (Core 2020-12, 4.3.2, 7.6 and
+-- 8.2.3)
 use Rattle.std.specs.Prelude.{Bool, List, None, Option, Some, [], codes, false, if◌then◌else◌, map, suc, true, unwrap_or, zero, ℕ, ◌&&◌, ◌++◌, ◌∷◌}
 use Rattle.json.specs.Print.{quoted}
 use Rattle.serde_json.specs.Data.{Data, null}
@@ -13,97 +14,118 @@ use Rattle.theory_definitions.specs.Keywords.{Answers, Below, Fault, Keywords, O
 use Rattle.theory_definitions.specs.Parts.{Parts}
 use Rattle.theory_definitions.specs.Plan.{Edge, Form, Key, Part, Reference, absolute_of, always, child, height, keyword, never, plan, reference, reference_edge, these}
 
+-- The text by which a message shows a value, or the name of a member.
 abbrev pub subject_text : Subject → Text
 subject_text (a_value d) = compact_text d
 subject_text (a_name name) = quoted name
 
+-- The place of a question: the given place itself, or one step below it.
 abbrev pub place_below : Place → Below → Place
 place_below p here = p
 place_below p (down s) = p ++ s ∷ []
 
--- where a schema is at work: the place, the evaluation path, its location, and the absolute location of each location
+-- The context in which a schema is applied: the place in the instance, the evaluation path, the
+-- schema's location, and a function from each location to its absolute location.
 pub record Where : Type 0 where
   pub place : Place
   pub path : Text
   pub location : Text
   pub absolute : Text → Option Text
 
--- an error of the keyword's own, or of one that it absorbs, with the absolute location of the one that its paths name
+-- The error that a keyword reports itself or for a keyword that it absorbs. Its absolute location
+-- is that of the keyword that its paths name.
 abbrev pub error_at : Where → Text → Own → Error
 error_at x name o = let name' = unwrap_or o.spot.absorbed name in
     record { place = x.place ++ o.spot.below; schema_path = joined x.location name' ++ o.spot.path; evaluation_path = joined x.path name' ++ o.spot.path; absolute = x.absolute (joined x.location name'); name = o.name; text = o.text }
 
--- the keyword that passes an error on gives it its own absolute location, where it has none yet
+-- A keyword that passes an error on adds its own absolute location, if the error has none yet.
 abbrev pub stamped : Option Text → Error → Error
 stamped location e = record e { absolute = elim e.absolute [ None ↦ location | Some a ↦ Some a ] }
 
+-- The error that a fault of a keyword becomes.
 abbrev pub fault_error : Where → Text → Fault → Error
 fault_error x name (own o) = error_at x name o
 fault_error x name (passed e) = stamped (x.absolute (joined x.location name)) e
 
+-- The message of a `false` schema; it is empty if texts are not covered.
 abbrev pub false_text : Bool → Subject → Text
 false_text texts s = if texts then codes "False schema does not allow " ++ subject_text s else []
 
+-- The error of a `false` schema.
 abbrev pub false_error : Bool → Where → Subject → Error
 false_error texts x s = record { place = x.place; schema_path = x.location; evaluation_path = x.path; absolute = x.absolute x.location; name = codes "falseSchema"; text = false_text texts s }
 
--- a keyword's verdict and errors, by what its questions answer
+-- The verdict and the errors of a keyword, given the answers to its questions.
 abbrev pub keyword_outcome : {K R : Type 0} → Keywords K R → Where → Text → K → Subject → Matching → Answers → Outcome
 keyword_outcome keywords x name m s matches answers = record {
   verdict = keywords.holds m s matches (λ q. (answers q).verdict);
   errors = map (fault_error x name) (keywords.faults m s matches answers);
 }
 
+-- The outcome of a reference: that of its target, with the absolute location of the reference added
+-- to errors that have none.
 abbrev pub reference_outcome : Where → Text → Outcome → Outcome
 reference_outcome x name o = record { verdict = o.verdict; errors = map (stamped (x.absolute (joined x.location name))) o.errors }
 
+-- The outcome of a `false` schema.
 abbrev pub false_outcome : Bool → Where → Subject → Outcome
 false_outcome texts x s = record { verdict = false; errors = false_error texts x s ∷ [] }
 
--- all of them
+-- Both outcomes together: valid if both are valid, with the errors of both.
 abbrev pub both : Outcome → Outcome → Outcome
 both a b = record { verdict = a.verdict && b.verdict; errors = a.errors ++ b.errors }
 
 module _ {S K R : Type 0} (w : Parts S K R) (instance : Data) where
+  -- The value or the name at a place, or `null` if there is none.
   abbrev pub subject : Place → Subject
   subject p = unwrap_or (subject_at instance p) (a_value null)
 
-  -- ---- unfolding references n deep. X is what is answered, `last` what a reference deeper than that answers,
-  -- and `node` what a key at an evaluation path and a place answers, by what its children answer
+  -- ---- unfolding references n deep. `X` is the type of an answer, `last` is the answer of a
+  -- reference that lies deeper than n, and `node` answers for a key at an evaluation path and a
+  -- place, given the answers of its children
 
   module _ {X : Type 0} (last : X) (node : Key S → Text → Place → (Edge S → Place → X) → X) where
-    -- subschemas lie strictly inside their schema, so at most h of them in one another
+    -- Follows references by `across`, and subschemas by itself. Subschemas lie strictly inside
+    -- their schema, so they nest at most h deep.
     abbrev pub within : (Key S → Text → Place → X) → ℕ → Key S → Text → Place → X
     within across zero k path p = last
     within across (suc h) k path p = node k path p (λ edge q. elim edge.is_reference [ true ↦ across edge.key (path ++ edge.path) q | false ↦ within across h edge.key (path ++ edge.path) q ])
 
+    -- The answer of a key, with references followed n deep.
     abbrev pub unfolded : ℕ → Key S → Text → Place → X
     unfolded zero k path p = within (λ k' path' p'. last) (height w k) k path p
     unfolded (suc n) k path p = within (unfolded n) (height w k) k path p
 
   -- ---- verdicts and errors
 
+  -- The answer to a question of a keyword; `none` if the keyword has no such child.
   abbrev pub asked : {X : Type 0} → X → Key S → Text → List Request → Place → (Edge S → Place → X) → Question → X
   asked none k name requests p ask q = elim (child w k name requests q.child) [ None ↦ none | Some edge ↦ ask edge (place_below p q.below) ]
 
+  -- The answer of a reference's target; `none` if the reference leads nowhere.
   abbrev pub referred_to : {X : Type 0} → X → Key S → Text → Reference → Text → Place → (Edge S → Place → X) → X
   referred_to none k name kind text p ask = elim (reference_edge w k name kind text) [ None ↦ none | Some edge ↦ ask edge p ]
 
+  -- The context of a key at an evaluation path and a place.
   abbrev pub at : Key S → Text → Place → Where
   at k path p = record { place = p; path = path; location = k.location; absolute = absolute_of w k }
 
   module _ (c : Completion) where
+    -- The outcome of one keyword or reference of a plan.
     abbrev pub part_outcome : Key S → Text → Place → (Edge S → Place → Outcome) → Text → Form K → Outcome
     part_outcome k path p ask name (keyword m requests absorbed) = keyword_outcome w.keywords (at k path p) name m (subject p) (matching w.matcher c) (asked accepted k name requests p ask)
     part_outcome k path p ask name (reference kind text) = reference_outcome (at k path p) name (referred_to accepted k name kind text p ask)
 
+    -- The outcome of all these keywords and references together.
     abbrev pub parts_outcome : Key S → Text → Place → (Edge S → Place → Outcome) → List (Part K) → Outcome
     parts_outcome k path p ask [] = accepted
     parts_outcome k path p ask (x ∷ xs) = both (part_outcome k path p ask x.name x.form) (parts_outcome k path p ask xs)
 
+    -- The outcome of a schema at a place, given the answers of its children.
     abbrev pub outcome_of : Key S → Text → Place → (Edge S → Place → Outcome) → Outcome
     outcome_of k path p ask = elim (plan w k) [ always ↦ accepted | never ↦ false_outcome w.keywords.texts (at k path p) (subject p) | these xs ↦ parts_outcome k path p ask xs ]
 
-    -- the verdict and the errors with references followed n deep; one deeper is yes without errors
+    -- The verdict and the errors with references followed n deep. A reference that lies deeper
+    -- counts as valid, without errors.
     abbrev pub unfold_ : ℕ → Key S → Text → Place → Outcome
     unfold_ = unfolded accepted outcome_of

@@ -1,11 +1,12 @@
--- An error says where the instance and the schema disagree. A unit says of one place of the schema and one of the
--- instance what its evaluation gave, with the units inside it. (Core 2020-12, 12.3 and 12.4)
+-- An error says where the instance and the schema disagree. A unit reports the result of evaluating
+-- one place of the schema at one place of the instance, with the units inside it. (Core 2020-12,
+-- 12.3 and 12.4)
 use Rattle.std.specs.Prelude.{Bool, List, Option, [], bytes_eq, if◌then◌else◌, true, ◌&&◌, ◌∷◌}
 use Rattle.serde_json.specs.Data.{Data}
 use Rattle.theory_definitions.specs.Instance.{Place, Text}
 use Rattle.theory_definitions.specs.Pointer.{pointer_to}
 
--- the instance is what stands at its place
+-- An error; the instance that it concerns is the one at its place.
 pub record Error : Type 0 where
   pub place : Place
   pub schema_path : Text
@@ -14,14 +15,15 @@ pub record Error : Type 0 where
   pub name : Text
   pub text : Text
 
+-- The place of an error as a pointer (RFC 6901).
 abbrev pub instance_path : Error → Text
 instance_path e = pointer_to e.place
 
--- the same in instance path, schema path, evaluation path and text
+-- Two errors have the same instance path, schema path, evaluation path and text.
 abbrev pub same_error : Error → Error → Bool
 same_error a b = bytes_eq (instance_path a) (instance_path b) && bytes_eq a.schema_path b.schema_path && bytes_eq a.evaluation_path b.evaluation_path && bytes_eq a.text b.text
 
--- an error that holds its instance, apart from any run
+-- An error that contains its instance, and so is independent of any run.
 pub record OwnedError : Type 0 where
   pub instance : Data
   pub instance_path : Text
@@ -31,15 +33,16 @@ pub record OwnedError : Type 0 where
   pub name : Text
   pub text : Text
 
--- the error with its text where that is told, else with an empty one
+-- The error with its text if texts are reported, and with an empty text if not.
 abbrev pub told_error : Bool → OwnedError → OwnedError
 told_error told e = record e { text = if told then e.text else [] }
 
+-- The name and the text of an error that a unit contains.
 pub record Described : Type 0 where
   pub name : Text
   pub text : Text
 
--- what a unit says of itself; the place of the instance as a pointer (RFC 6901)
+-- What a unit says of itself. The place of the instance is a pointer (RFC 6901).
 pub record Report : Type 0 where
   pub valid : Bool
   pub instance_location : Text
@@ -49,6 +52,7 @@ pub record Report : Type 0 where
   pub annotations : Option Data
   pub errors : List Described
 
+-- A unit: its report and the units inside it.
 mutual
   pub data Unit_ : Type 0 where
     unit : Report → Units → Unit_
@@ -57,9 +61,11 @@ mutual
     no_units : Units
     a_unit : Unit_ → Units → Units
 
+-- The report of a unit.
 abbrev pub report_of : Unit_ → Report
 report_of (unit r us) = r
 
+-- The units inside a unit.
 abbrev pub children_of : Unit_ → Units
 children_of (unit r us) = us
 
@@ -67,10 +73,11 @@ abbrev pub units_of : List Unit_ → Units
 units_of [] = no_units
 units_of (u ∷ us) = a_unit u (units_of us)
 
--- a verdict and an error list
+-- A verdict and a list of errors.
 pub record Outcome : Type 0 where
   pub verdict : Bool
   pub errors : List Error
 
+-- Valid, without errors.
 abbrev pub accepted : Outcome
 accepted = record { verdict = true; errors = [] }

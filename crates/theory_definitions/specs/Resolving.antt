@@ -1,19 +1,22 @@
--- A resolver answers what references and identifiers lead to. (Core 2020-12, 8.2 and 9.1; RFC 3986, 5)
+-- A resolver defines what references and identifiers lead to. (Core 2020-12, 8.2 and 9.1; RFC 3986,
+-- 5)
 use Rattle.std.specs.Prelude.{Bool, List, Option, Result}
 use Rattle.serde_json.specs.Data.{Data}
 use Rattle.theory_definitions.specs.Instance.{Text}
 use Rattle.theory_definitions.specs.Drafts.{Draft, SchemaPlace, Vocabularies}
 
+-- The target of a reference: its place, the state of the resolver there, and its draft.
 pub record Found (S : Type 0) : Type 0 where
   pub place : SchemaPlace
   pub state : S
   pub draft : Draft
 
--- where the document with a base begins
+-- Where the document with a base URI begins.
 pub record Entrance (S : Type 0) : Type 0 where
   pub place : SchemaPlace
   pub state : S
 
+-- The functions of a resolver; `S` is the type of its states.
 pub record Resolver (S : Type 0) : Type 0 where
   pub same_state : S → S → Bool
   pub value : SchemaPlace → Option Data

@@ -1,4 +1,4 @@
--- What a keyword type states of its keywords, said of how a run begins and of one turn.
+-- The laws of a keyword type, stated for the start of a run and for one turn.
 use Rattle.std.specs.List.{list_any}
 use Rattle.std.specs.Prelude.{All, Bool, List, [], true, ℕ, ◌<◌, ◌↔◌, ◌≡◌, ◌⊎◌}
 use Rattle.theory_definitions.specs.Instance.{Subject, Text}
@@ -9,7 +9,7 @@ use Rattle.theory_definitions.specs.Runs.{with_mark, without_last}
 use Rattle.theory_definitions.specs.Laws.{Agrees, AnsweredAlike, AsksRightly, IsPresent, IsRight, PassesUnchanged, StandsInside, answer_in, steps_below}
 
 module _ {K R : Type 0} (keywords : Keywords K R) (m : K) (s : Subject) (matches : Matching) (answers : Answers) (unit_at : Question → Unit_) (same : Marked → Marked → Bool) where
-  -- the true reply to a turn of a run that holds these marks
+  -- The true reply to a turn of a run that has these marks.
   abbrev pub reply_to : List Marked → Turn → Reply
   reply_to marks (ask q mode) = answer_in keywords m s matches answers unit_at same mode q
   reply_to marks (match_text a point) = truth (matches.matches a.pattern a.subject)
@@ -18,13 +18,14 @@ module _ {K R : Type 0} (keywords : Keywords K R) (m : K) (s : Subject) (matches
   reply_to marks (ecma text) = truth (matches.is_ecma text)
   reply_to marks done = no_reply
 
-  -- and the marks that it holds after the turn
+  -- The marks that the run has after the turn.
   abbrev pub marks_after : List Marked → Turn → List Marked
   marks_after marks (mark i) = with_mark same i marks
   marks_after marks unmark = without_last marks
   marks_after marks _ = marks
 
--- how a run stands: what answers its turns, its marks, its state and the last reply
+-- A run in progress: what its turns are answered from, its marks, the keyword's state and the last
+-- reply.
 pub record Standing (R : Type 0) : Type 0 where
   pub subject : Subject
   pub matches : Matching
@@ -36,13 +37,15 @@ pub record Standing (R : Type 0) : Type 0 where
   pub reply : Reply
 
 module _ {K R : Type 0} (keywords : Keywords K R) (m : K) where
+  -- The next turn of the run.
   abbrev pub step_at : Standing R → Turn
   step_at x = keywords.step m x.subject x.state x.reply
 
+  -- The keyword's state after the next turn.
   abbrev pub turned : Standing R → R
   turned x = keywords.turn m x.subject x.state x.reply
 
-  -- after one turn, the true reply to it being the last one
+  -- The run after one more turn, which gets the true reply.
   abbrev pub next : Standing R → Standing R
   next x = record x {
     marks = marks_after keywords m x.subject x.matches x.answers x.unit_at x.same x.marks (step_at x);
@@ -50,15 +53,16 @@ module _ {K R : Type 0} (keywords : Keywords K R) (m : K) where
     reply = reply_to keywords m x.subject x.matches x.answers x.unit_at x.same x.marks (step_at x);
   }
 
-  -- as it begins
+  -- The run at its start.
   abbrev pub standing : Subject → Mode → Matching → Answers → (Question → Unit_) → (Marked → Marked → Bool) → Standing R
   standing s mode matches answers unit_at same = record { subject = s; matches = matches; answers = answers; unit_at = unit_at; same = same; marks = []; state = keywords.begin m s mode; reply = no_reply }
 
--- The run's state and the answer so far name the end that each completion and answers give: after `begin` it is the
--- keyword's own, a turn whose reply is the true one keeps it, and at `done` it stands in the answer. A number falls with
--- each turn, whatever is replied; it falls, and the turn asks rightly, in those states that a run on the instance can be in.
--- `remaining` is that number, `can_be` says which states these are, `end_of` is the answer that a standing run ends in, and
--- `Fits` what is true of each run that stands.
+-- The laws of a keyword's turns. The state of a run, with the answer so far, determines the end
+-- that the matches and answers lead to. After `begin` that end is the right one for the keyword, a
+-- turn with the true reply keeps it, and at `done` it is the answer. In the states that a run on
+-- the instance can reach, each turn decreases a number and asks only what it may, whatever the
+-- replies are. `remaining` is that number, `can_be` says which states a run can reach, `end_of` is
+-- the answer in which a run in progress ends, and `Fits` holds of each run in progress.
 pub record TurnLaws {K R : Type 0} (keywords : Keywords K R) (m : K) (absorbed : List Text) (remaining : Subject → R → ℕ) (can_be : Subject → R → Type 0) (end_of : Standing R → Answer) (Fits : Standing R → Type 0) : Type 0 where
   pub bounded : (s : Subject) (mode : Mode) → remaining s (keywords.begin m s mode) < keywords.most_turns m s
   pub starts : (s : Subject) (mode : Mode) → can_be s (keywords.begin m s mode)
@@ -71,12 +75,14 @@ pub record TurnLaws {K R : Type 0} (keywords : Keywords K R) (m : K) (absorbed :
   pub keeps : (x : Standing R) → Fits x → (step_at keywords m x ≡ done → ⊥) → Fits (next keywords m x) × (end_of (next keywords m x) ≡ end_of x)
   pub stands : (x : Standing R) → Fits x → step_at keywords m x ≡ done → keywords.answer (turned keywords m x) ≡ end_of x
 
--- Its functions agree with each other, read no more than they may, and stay inside the instance.
+-- The functions of a keyword agree with one another, read no more than they may, and stay inside
+-- the instance.
 pub record FunctionLaws {K R : Type 0} (keywords : Keywords K R) (m : K) (absorbed : List Text) : Type 0 where
   pub present : (s : Subject) → All (λ q. IsPresent s (steps_below q.below)) (keywords.may_ask m s)
   pub agree : (s : Subject) (matches : Matching) (a : Answers) → ((q : Question) → Agrees (a q))
       → (keywords.holds m s matches (λ q. (a q).verdict) ≡ true) ↔ (keywords.faults m s matches a ≡ [])
-  -- its own unit and all that it absorbs are valid exactly where it holds
+  -- The keyword's own unit and all units that it absorbs are valid if and only if the keyword
+  -- holds.
   pub units_valid : (s : Subject) (matches : Matching) (u : Question → Unit_)
       → all_valid (keywords.units m s matches u) ≡ keywords.holds m s matches (λ q. (report_of (u q)).valid)
   pub holds_reads : (s : Subject) (matches : Matching) (a b : Question → Bool) → All (λ q. a q ≡ b q) (keywords.may_ask m s)

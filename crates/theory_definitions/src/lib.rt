@@ -1,2 +1,2 @@
-//! The definitions by which the parts of an engine, and what it answers, are said.
+//! Definitions of the parts of an engine, and of its answers.
 #![tactic(auto)]
