@@ -1,4 +1,5 @@
--- A node's verdict does not depend on its evaluation path, so marked children of one number and guard are answered alike.
+-- The verdict of a node does not depend on its evaluation path, so marked children of the same
+-- number and guard have the same answers.
 use Rattle.std.proofs.Common.{◌≡◌, ℕ, zero, suc, ◌==◌, Bool, true, false, not, ◌&&◌, List, [], ◌∷◌, ◌++◌, refl, sym, ap, ap₂}
 use Rattle.std.specs.Prelude.{Option, Some, None}
 use Rattle.std.specs.List.{list_any}
@@ -12,7 +13,7 @@ use Rattle.theory_definitions.specs.Guarded.{Children, NodeEdge, node_child, sam
 use Rattle.theory_definitions.specs.Laws.{AnsweredAlike}
 use Rattle.theory_definitions.proofs.Products.{both_left, both_right, in_either}
 
--- edges to one number that are guarded alike have the same verdicts
+-- Edges to the same number that are guarded alike have the same verdicts.
 abbrev pub EdgesAlike : (NodeEdge → Below → Outcome) → Type 0
 EdgesAlike g = (a b : NodeEdge) → a.node ≡ b.node → a.guarded ≡ b.guarded → (below : Below) → (g a below).verdict ≡ (g b below).verdict
 
@@ -33,7 +34,7 @@ guard_same a b e = go a.guarded b.guarded e
     go false y h = ap not (sym h)
 
 module _ {K R : Type 0} (keywords : Keywords K R) (matcher : Matcher) (nodes : Nodes K) (subject_of : Place → Subject) where
-  -- so are marked children
+  -- So do marked children.
   pub children_alike : (es : Children) (g : NodeEdge → Below → Outcome) → EdgesAlike g → AnsweredAlike (same_edge es) (node_asked keywords matcher nodes subject_of accepted es g)
   children_alike es g alike i j is below = in_either (i == j) (same_node (node_child es i) (node_child es j))
       (λ e. ap (λ k. (node_asked keywords matcher nodes subject_of accepted es g (record { child = k; below = below })).verdict) (eqb-true i j e))
@@ -73,7 +74,7 @@ module _ {K R : Type 0} (keywords : Keywords K R) (matcher : Matcher) (nodes : N
           go node_never = refl
           go (node_these xs) = parts_verdict xs
 
-    -- edges to one number that are guarded alike answer alike by any paths
+    -- Edges to the same number that are guarded alike have the same answers with any paths.
     across_verdict : (n : ℕ) → ((i : ℕ) (path path' : Text) (p : Place) (busy : List ℕ) → (Says n i path p busy).verdict ≡ (Says n i path' p busy).verdict)
         → (path path' : Text) (p : Place) (busy : List ℕ) (a b : NodeEdge) → a.node ≡ b.node → a.guarded ≡ b.guarded → (below : Below)
         → (across yes_outcome (node_outcome keywords matcher nodes subject_of c) (Says n) path p busy a below).verdict ≡ (across yes_outcome (node_outcome keywords matcher nodes subject_of c) (Says n) path' p busy b below).verdict
@@ -97,7 +98,7 @@ module _ {K R : Type 0} (keywords : Keywords K R) (matcher : Matcher) (nodes : N
             by true = refl
             by false = free k (path ++ a.path) (path' ++ b.path) (place_below p below) (k ∷ progress_below busy below)
 
-    -- the verdict at every depth is the same by any path
+    -- The verdict at every depth is the same with any path.
     pub verdict_by_any_path : (n i : ℕ) (path path' : Text) (p : Place) (busy : List ℕ) → (Says n i path p busy).verdict ≡ (Says n i path' p busy).verdict
     verdict_by_any_path zero i path path' p busy = refl
     verdict_by_any_path (suc n) i path path' p busy = node_verdict i path path' p
@@ -106,7 +107,7 @@ module _ {K R : Type 0} (keywords : Keywords K R) (matcher : Matcher) (nodes : N
     pub edges_alike : (n : ℕ) (path : Text) (p : Place) (busy : List ℕ) → EdgesAlike (across yes_outcome (node_outcome keywords matcher nodes subject_of c) (Says n) path p busy)
     edges_alike n path p busy a b one guards below = across_verdict n (verdict_by_any_path n) path path p busy a b one guards below
 
-    -- marked children of a node are answered alike
+    -- Marked children of a node have the same answers.
     pub asked_alike : (n : ℕ) (path : Text) (p : Place) (busy : List ℕ) (es : Children)
         → AnsweredAlike (same_edge es) (node_asked keywords matcher nodes subject_of accepted es (across yes_outcome (node_outcome keywords matcher nodes subject_of c) (Says n) path p busy))
     asked_alike n path p busy es = children_alike es _ (edges_alike n path p busy)

@@ -1,4 +1,4 @@
--- Questions come only to places of the instance.
+-- Questions are asked only at places of the instance.
 use Rattle.std.proofs.Common.{◌≡◌, ℕ, zero, suc, ◌+◌, ◌==◌, ◌&&◌, ◌||◌, Bool, true, false, cond, List, [], ◌∷◌, ◌++◌, map, refl, sym, subst, ◌∙◌, ap, arith, true≢false}
 use Rattle.std.specs.Prelude.{Contains, Option, Some, None, is_some, option_and_then, option_map, unwrap_or, All, filter_map, flat_map, bytes_eq}
 use Rattle.std.specs.List.{list_any, cons_option}
@@ -79,7 +79,7 @@ item_case : (n : ℕ) (p : Place) (ds : Items) (o : Option Data) → item_of n d
 item_case n p ds None e f h = stuck h
 item_case n p ds (Some d) e f h = let i : 0 + n ≡ n = omega arith in subst (λ u. list_any (same_place (to_item u ∷ p)) (item_places 0 ds) ≡ true) i (in_items n 0 p ds d e (f d h))
 
--- a place at which something stands is a place of the instance
+-- A place with a value or a name is a place of the instance.
 pub is_place : (p : Place) (d : Data) → There p d
 is_place [] null h = refl
 is_place [] (boolean b) h = refl

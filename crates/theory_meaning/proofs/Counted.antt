@@ -1,4 +1,4 @@
--- The targets reached times the places are deep enough.
+-- The number of reached targets times the number of places is a sufficient depth.
 use Rattle.std.proofs.Common.{◌≡◌, ℕ, ◌*◌, ◌≤◌, List, length, sym, ◌∙◌, true, arith}
 use Rattle.std.specs.List.{list_any}
 use Rattle.serde_json.specs.Data.{Data}
@@ -36,7 +36,7 @@ module _ {S K R : Type 0} (w : Parts S K R) (instance : Data) {X : Type 0} (last
       (λ a l. index_below (test w instance root none (targets_of w keys) at_targets at_places one_target one_place a) cells (on_grid w instance root none (targets_of w keys) at_targets at_places one_target one_place a l))
       (tells w instance root none (targets_of w keys) at_targets at_places one_target one_place)
 
-  -- every two depths that are enough give the same
+  -- Any two sufficient depths yield the same.
   pub enough_agree : (m n : ℕ) → deep_enough w keys instance ≤ m → deep_enough w keys instance ≤ n
       → unfolded w instance last node m root.key root.path root.place ≡ unfolded w instance last node n root.key root.path root.place
   enough_agree m n h k = let e = count in at_least m (omega arith) ∙ sym (at_least n (omega arith))

@@ -1,4 +1,5 @@
--- A completion extends one member of a cover; the runs of a cover are counted; branches are on distinct pairs.
+-- Each completion extends one member of a cover, the runs of a cover are counted, and branches are
+-- on distinct pairs.
 use Rattle.std.proofs.Common.{arith, ◌≡◌, zero, suc, List, [], ◌∷◌, ◌++◌, ◌+◌, ◌*◌, length, map, refl, ap, sym, subst, ◌∙◌, ◌⊎◌, inl, inr, cond}
 use Rattle.std.specs.Prelude.{Bool, Contains, Some, None, false, find, option_map, true}
 use Rattle.std.proofs.lemmas.List.{length-append}
@@ -38,7 +39,7 @@ once_append {A} xs ys one two apart i j x e f = go (get_cases xs ys i x e) (get_
     go (inr (n, is, a)) (inl b) = absurd (apart x (in_list xs j x b) (in_list ys n x a))
     go (inr (n, is, a)) (inr (n', is', b)) = let same : n ≡ n' = two n n' x a b in omega arith
 
--- ---- a pair that is not assumed stands nowhere in the list
+-- ---- a pair that is not assumed occurs nowhere in the list
 
 not_listed : (as' : Assumptions) (a : Pair) → assumed as' a ≡ None → Contains (map (λ x. x.pair) as') a → ⊥
 not_listed [] a e (i, is, at_i) = absurd (omega arith)
@@ -105,7 +106,8 @@ module _ (v : Sense) (call : Call) where
       go (inl same) f g = subst (IsRun v call) same r
       go (inr later) f g = elim (Contains-append_cases (runs_of s) (runs_of t) x later) [ inl k ↦ f k | inr k ↦ g k ]
 
-  -- ---- no list stands twice among them: on the two sides of a branch one pair is assumed with two outcomes
+  -- ---- no list occurs twice among them: on the two sides of a branch the same pair is assumed
+  -- with different outcomes
 
   still_assumed : (as' : Assumptions) (m : Met) (d : Bool) → branch_at v call as' ≡ Some m → (a : Pair) (b : Bool) → assumed as' a ≡ Some b → assumed (assuming m d as') a ≡ Some b
   still_assumed as' m d e a b is = go (same_pair a m.pair) refl

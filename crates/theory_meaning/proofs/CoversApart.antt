@@ -1,4 +1,4 @@
--- A cover takes the completions apart, and so which errors all completions share is decided by its members.
+-- A cover separates the completions, so its members decide which errors all completions share.
 use Rattle.std.proofs.Common.{◌≡◌, zero, suc, List, [], ◌∷◌, ◌++◌, refl, ap, sym, subst, ◌∙◌, Bool, true, false, ◌&&◌, arith, cond, not}
 use Rattle.std.specs.Prelude.{All, Contains, Option, Some, None, find, option_map, is_some, Decides, filter}
 use Rattle.std.specs.List.{list_any}
@@ -26,7 +26,7 @@ same_is a b e = λ i. record { pattern = (bytes_eq-Decides a.pattern b.pattern).
 pub Some-is : {A : Type 0} (a b : A) → ◌≡◌ {A = Option A} (Some a) (Some b) → a ≡ b
 Some-is a b e = ap (λ o. elim o [ Some x ↦ x | None ↦ a ]) e
 
--- one more assumption, with the completion's own answer
+-- One more assumption, with the completion's own outcome.
 pub extended : (c : Completion) (as' : Assumptions) (m : Met) (b : Bool) → Extends c as' → completed c m.pair ≡ b → Extends c (assuming m b as')
 extended c as' m b h e a b' is = go (same_pair a m.pair) refl is
   where
@@ -35,7 +35,7 @@ extended c as' m b h e a b' is = go (same_pair a m.pair) refl is
     go false s i = h a b' i
 
 module _ (v : Sense) (call : Call) where
-  -- each completion that extends the list extends a member that grows from it
+  -- Each completion that extends the list extends a member that grows from it.
   pub covered : {as' : Assumptions} {ms : List Assumptions} (c : Completion) → Cover v call as' ms → Extends c as' → (m : Assumptions) × Contains ms m × Extends c m
   covered {as'} c (whole e) h = (as', (zero, omega arith, refl), h)
   covered {as'} c (split {no = ns} {yes = ys} m e ns_cover ys_cover) h = go (completed c m.pair) refl (covered c ns_cover) (covered c ys_cover)
@@ -47,7 +47,7 @@ module _ (v : Sense) (call : Call) where
       go false is no_side yes_side = let (x, in_it, ext) = no_side (extended c as' m false h is) in (x, Contains-append_left ns ys x in_it, ext)
       go true is no_side yes_side = let (x, in_it, ext) = yes_side (extended c as' m true h is) in (x, Contains-append_right ns ys x in_it, ext)
 
--- the run of a member speaks for every completion that extends it
+-- The run of a member speaks for every completion that extends the member.
 abbrev pub Faithful : Sense → List Assumptions → Type 0
 Faithful v ms = (c : Completion) → All (λ m. Extends c m → v.says c ≡ v.says (completion_of m)) ms
 
@@ -61,7 +61,7 @@ shared_decides v call ms cover faithful e = (to, from)
     from : IsShared v e → in_each v ms e ≡ true
     from shared = list_all-from_AllPass _ ms (λ i d is. shared _)
 
--- what the test keeps is what all completions share
+-- The errors that pass the test are those that all completions share.
 kept_by : (v : Sense) (test : Error → Bool) → ((e : Error) → Decides (test e) (IsShared v e)) → (es : List Error) → Kept v es (filter test es)
 kept_by v test h [] = none
 kept_by v test h (e ∷ es) = go (kept_by v test h es) (test e) refl
@@ -70,7 +70,7 @@ kept_by v test h (e ∷ es) = go (kept_by v test h es) (test e) refl
     go tail true is = keep ((h e).0 is) tail
     go tail false is = leave (λ shared. absurd (cc ((h e).1 shared, is))) tail
 
--- the shared errors are those of the last member that each member has
+-- The shared errors are those of the last member that each member has.
 pub shared_is : (v : Sense) (call : Call) (ms : List Assumptions) (last : Assumptions) → Cover v call [] ms → Faithful v ms → Contains ms last → Extends all_match last
     → Shared v (shared_by v ms last)
 shared_is v call ms last cover faithful in_ms ext = subst (λ o. Kept v o.errors (shared_by v ms last)) (sym (All-contains (λ x. Extends all_match x → v.says all_match ≡ v.says (completion_of x)) ms last (faithful all_match) in_ms ext))

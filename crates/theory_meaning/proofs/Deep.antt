@@ -1,4 +1,5 @@
--- Where no chain of questions returns, as many references as there are targets and places are deep enough.
+-- If no chain of questions returns, the number of targets times the number of places is a
+-- sufficient depth.
 use Rattle.std.proofs.Common.{◌≡◌, ℕ, zero, suc, ◌+◌, ◌≤◌, ◌<◌, List, length, true, arith}
 use Rattle.serde_json.specs.Data.{Data}
 use Rattle.theory_definitions.specs.Instance.{Text, Place}
@@ -13,7 +14,8 @@ use Rattle.theory_meaning.proofs.Trails.{Trail, begins, goes, short}
 module _ {S K R : Type 0} (w : Parts S K R) (instance : Data) {X : Type 0} (last : X) (node : Key S → Text → Place → (Edge S → Place → X) → X)
     (local : (k : Key S) (path : Text) (p : Place) (f g : Edge S → Place → X) → ((edge : Edge S) (q : Place) → Asks w instance k p edge q → f edge q ≡ g edge q) → node k path p f ≡ node k path p g)
     (root : Asked w instance) (none : ¬ (Return w instance root))
-    -- a number below `bound` for each question that the root leads to, equal for two that ask one target at one place
+    -- A number below `bound` for each question that the root leads to, equal for two questions with
+    -- the same target at the same place.
     (bound : ℕ) (code : Asked w instance → ℕ)
     (below : (a : Asked w instance) → LeadsTo w instance root a → code a < bound)
     (tells : (a b : Asked w instance) → LeadsTo w instance root a → LeadsTo w instance root b → code b ≡ code a → same_question w instance a b ≡ true) where
@@ -27,7 +29,7 @@ module _ {S K R : Type 0} (w : Parts S K R) (instance : Data) {X : Type 0} (last
       (λ edge q h is. shallow b (goes t (asked_in w instance a edge q h)) (omega arith))
       (λ edge q h is. stable.deeper w instance last node (Asks w instance) local (shallow b (goes t (asked_in w instance a edge q h)) (omega arith)))
 
-  -- every depth from the bound on gives the same
+  -- Every depth from the bound on yields the same.
   pub no_return_stable : (m : ℕ) → bound ≤ m → unfolded w instance last node m root.key root.path root.place ≡ unfolded w instance last node bound root.key root.path root.place
   unfolding Flat
   no_return_stable m h = stable.stable w instance last node (Asks w instance) local bound m h root.key root.path root.place (shallow bound begins (omega arith))

@@ -1,4 +1,5 @@
--- Every depth from the targets reached times the places on gives one meaning, where no question returns.
+-- If no question returns, every depth from the number of reached targets times the number of places
+-- on yields the same meaning.
 use Rattle.std.proofs.Common.{◌≡◌, ℕ, List, [], ◌≤◌}
 use Rattle.std.specs.Prelude.{Decides}
 use Rattle.serde_json.specs.Data.{Data}

@@ -28,7 +28,7 @@ use Rattle.theory_meaning.proofs.PlanForms.{EachForm, PlanForms, plan_forms}
 abbrev pub Stands : Data → Place → Type 0
 Stands instance p = is_some (subject_at instance p) ≡ true
 
--- what is present at a subject is present below its place
+-- Whatever is present at a subject is present below its place.
 from_joined : (p q : Place) (x y : Subject) → subject_from p x ≡ Some y → is_some (subject_from q y) ≡ true → is_some (subject_from (p ++ q) x) ≡ true
 from_joined [] q x y e h = subst (λ (o : Option Subject). is_some (option_and_then (subject_from q) o) ≡ true) (sym e) h
 from_joined (s ∷ p) q x y e h = go (after_step s x) (λ z. from_joined p q z y) e
@@ -54,7 +54,7 @@ stands_at instance p (down s) there h = stands_below instance p (s ∷ []) there
 abbrev or_else : Option Text → Option Text → Option Text
 or_else a b = elim a [ None ↦ b | Some x ↦ Some x ]
 
--- an error that is passed on twice has the inner location, or else the outer one
+-- An error that is passed on twice has the inner location, or else the outer one.
 stamped_twice : (a : Option Text) (as' : List (Option Text)) (e : Error) → stamped (innermost as') (stamped a e) ≡ stamped (innermost (a ∷ as')) e
 stamped_twice a as' e = λ j. record e { absolute = go e.absolute a j }
   where
@@ -91,7 +91,7 @@ module _ {S K R : Type 0} (w : Parts S K R) (absorbs : K → List Text) where
   absorbing makers k (array ds) = tt
   absorbing makers k (object ms) = plan_forms w k ms Absorbing (λ kind text. tt) (λ custom name m absorbed e. makers custom name ms _ _ _ _ m absorbed (ends_until (is_refused w k) (scripted w k ms custom name).requests (scripted w k ms custom name).ends m absorbed e))
 
--- a part of a target absorbs what its keyword does
+-- A part of a target absorbs the same names as its keyword.
 pub absorbs_its : {S K R : Type 0} (w : Parts S K R) (absorbs : K → List Text) → MakesAbsorbing absorbs w.table → (k : Key S) (xs : List (Part K)) → plan w k ≡ these xs
     → (x : Part K) → Contains xs x → (m : K) (requests : List Request) (absorbed : List Text) → x.form ≡ keyword m requests absorbed → absorbed ≡ absorbs m
 absorbs_its w absorbs makers k xs is_plan x in_xs m requests absorbed is_form =
@@ -104,7 +104,7 @@ absorbed_by form = elim form [ keyword m requests absorbed ↦ absorbed | refere
 abbrev IsAbsorbed : List Text → Option Text → Type 0
 IsAbsorbed absorbed o = elim o [ None ↦ Unit {0} | Some name ↦ Contains absorbed name ]
 
--- ---- ways
+-- ---- paths
 
 module _ {S K R : Type 0} (w : Parts S K R) (root : Key S) where
   abbrev EdgesOf : Key S → Plan K → List (Edge S)
@@ -127,10 +127,11 @@ module _ {S K R : Type 0} (w : Parts S K R) (root : Key S) where
   rest_of k rest location never h = h.0
   rest_of k rest location (these xs) (x, name, path, in_xs, in_names, is, at_location) = (name, path, in_flat_map (names w) xs x name in_xs in_names, is)
 
-  -- ---- errors of one target, which the way leads to
+  -- ---- errors of one target to which the path leads
 
   module _ (instance : Data) where
-    -- the error points at keyword and value once the keywords on the way have given it their absolute locations
+    -- The error points at a keyword and at a value, after the keywords on the path have added their
+    -- absolute locations.
     abbrev pub Leading : List (Option Text) → Error → Type 0
     Leading locations e = PointsAt w root instance (stamped (innermost locations) e)
 
@@ -157,7 +158,8 @@ module _ {S K R : Type 0} (w : Parts S K R) (root : Key S) where
         pub is_part : IsPartOf w (plan w k) x
         is_part = subst (λ o. IsPartOf w o x) (sym is_plan) in_xs
 
-        -- an error that passes through the keyword has its absolute location, or else the keyword's
+        -- An error that passes through the keyword has its own absolute location, or else the
+        -- keyword's.
         passed_leads : (e : Error) → Leading (keyword_location w k x.name ∷ locations) e → Leading locations (stamped (keyword_location w k x.name) e)
         passed_leads e h = subst (PointsAt w root instance) (sym (stamped_twice (keyword_location w k x.name) locations e)) h
 
@@ -172,7 +174,7 @@ module _ {S K R : Type 0} (w : Parts S K R) (root : Key S) where
           going_on : (front name : Text) (steps : Place) (below : Text) → below ≡ pointer_to steps → joined front name ++ below ≡ front ++ (joined [] name ++ pointer_to steps)
           going_on front name steps below e = append_assoc front (joined [] name) below ∙ ap (λ t. front ++ (joined [] name ++ t)) e
 
-          -- an error of the keyword's own
+          -- An error of the keyword's own.
           own_leads : (o : Own) → SpotInside (subject_in instance p) absorbed o.spot → Leading locations (fault_error (at w instance k path p) x.name (own o))
           own_leads o (present, (steps, is_path), in_absorbed) =
               let name : Text = unwrap_or o.spot.absorbed x.name in
@@ -187,7 +189,7 @@ module _ {S K R : Type 0} (w : Parts S K R) (root : Key S) where
           fault_leads answers h (own o) inside unchanged = own_leads o inside
           fault_leads answers h (passed e) inside (q, may, in_answer) = passed_leads e (All-contains (Leading (keyword_location w k x.name ∷ locations)) (answers q).errors e (h q may) in_answer)
 
-          -- where its questions are answered by errors that lead, so do its own
+          -- If the errors that answer its questions lead, so do its own.
           pub keyword_leads : KeepsLaws w.keywords m absorbed → (matches : Matching) (answers : Answers)
               → ((q : Question) → Contains (w.keywords.may_ask m (subject_in instance p)) q → Stands instance (place_below p q.below) → All (Leading (keyword_location w k x.name ∷ locations)) (answers q).errors)
               → All (Leading locations) (keyword_outcome w.keywords (at w instance k path p) x.name m (subject_in instance p) matches answers).errors
@@ -200,16 +202,16 @@ module _ {S K R : Type 0} (w : Parts S K R) (root : Key S) where
               f (All-contains (StandsInside s absorbed) fs f (laws.stands s matches answers) in_fs) (All-contains (PassesUnchanged answers (w.keywords.may_ask m s)) fs f (laws.passes s matches answers) in_fs))
               fs (All-contains_itself fs))
 
--- ---- all errors of a target, where its questions are answered by errors that lead
+-- ---- all errors of a target, if the errors that answer its questions lead
 
 module _ {S K R : Type 0} (w : Parts S K R) (absorbs : K → List Text) (laws : EachKeepsAbsorbing w.keywords absorbs) (makers : MakesAbsorbing absorbs w.table) (root : Key S) (instance : Data) where
-  -- a keyword that a maker makes keeps its laws, absorbing what its part says
+  -- A keyword that a maker makes keeps its laws, for the names that its part absorbs.
   pub keeps : (k : Key S) (xs : List (Part K)) → plan w k ≡ these xs → (x : Part K) → Contains xs x → (m : K) (requests : List Request) (absorbed : List Text) → x.form ≡ keyword m requests absorbed
       → KeepsLaws w.keywords m absorbed
   keeps k xs is_plan x in_xs m requests absorbed is_form =
       subst (KeepsLaws w.keywords m) (sym (absorbs_its w absorbs makers k xs is_plan x in_xs m requests absorbed is_form)) (laws m)
 
-  -- each error of what is answered leads, after these locations
+  -- Each error of the answer leads, after these locations.
   abbrev pub AllLead : List (Option Text) → Outcome → Type 0
   AllLead locations o = All (Leading w root instance locations) o.errors
 
@@ -271,7 +273,7 @@ module _ {S K R : Type 0} (w : Parts S K R) (absorbs : K → List Text) (laws : 
     unfolding_leads zero path k = within_leads (λ k' path' p'. accepted) (λ path' k' locations way p there. All-nil (Leading w root instance locations)) (height w k) path k
     unfolding_leads (suc n) path k = within_leads (unfold_ w instance c n) (unfolding_leads n) (height w k) path k
 
-  -- at the root no keyword is on the way
+  -- At the root no keyword is on the path.
   pub at_root : (o : Outcome) → AllLead [] o → All (PointsAt w root instance) o.errors
   at_root o h = All-weaker (Leading w root instance []) (PointsAt w root instance) (λ e. subst (PointsAt w root instance) (stamped_never e)) o.errors h
 

@@ -1,4 +1,4 @@
--- What falls with each question.
+-- The measure decreases with each question.
 use Rattle.std.proofs.Common.{◌≡◌, ℕ, zero, suc, ◌+◌, ◌*◌, ◌<◌, ◌≤◌, ◌==◌, max, Bool, true, false, cond, List, [], ◌∷◌, ◌++◌, refl, sym, subst, ◌∙◌, ap, arith, rules, true≢false, inl, inr, ⊎_elim}
 use Rattle.std.specs.Prelude.{◌||◌, ◌⊎◌, Option, Some, None, option_and_then, unwrap_or, is_some, bytes_eq}
 use Rattle.std.specs.List.{list_any}
@@ -36,7 +36,7 @@ name_falls k (Some d) n y h = let u : 0 ≡ subject_height y = ap subject_height
 none_is : {A P : Type 0} (y : A) → ◌≡◌ {A = Option A} None (Some y) → P
 none_is y h = absurd (let f : ⊥ = cc in f)
 
--- what a step leads to is lower
+-- A step leads to a lower subject.
 pub step_falls : (s : Step) (x y : Subject) → after_step s x ≡ Some y → subject_height y < subject_height x
 step_falls (to_member k) (a_value (object ms)) y h = value_falls (member_of k ms) _ y (λ d e. let r = member_depth k ms d e in omega arith) h
 step_falls (to_name k) (a_value (object ms)) y h = name_falls k (member_of k ms) _ y h
@@ -69,7 +69,7 @@ none_after (s ∷ p) x y h = go (after_step s x) (λ z e. step_falls s x z e) (�
     go None f g k = none_is y k
     go (Some z) f g k = let a = f z refl in let b = g z k in omega arith
 
--- what stands at a path below is lower
+-- A path below leads to a lower subject.
 pub path_falls : (s : Step) (p : Place) (x y : Subject) → subject_from (s ∷ p) x ≡ Some y → subject_height y < subject_height x
 path_falls s p x y h = go (after_step s x) (λ z e. step_falls s x z e) h
   where
@@ -95,7 +95,7 @@ none_below (to_member k) = refl
 none_below (to_item n) = refl
 none_below (to_name k) = refl
 
--- what stands one step below a place is lower
+-- One step below a place is a lower subject.
 pub below_falls : (instance : Data) (p : Place) (s : Step) → IsPresent (subject_in instance p) (s ∷ [])
     → subject_height (subject_in instance (p ++ s ∷ [])) < subject_height (subject_in instance p)
 below_falls instance p s h = subst (λ o. subject_height (unwrap_or o (a_value null)) < subject_height (subject_in instance p)) (sym (from_below p s (a_value instance))) (go (subject_at instance p) h)
@@ -108,7 +108,7 @@ below_falls instance p s h = subst (λ o. subject_height (unwrap_or o (a_value n
     go None e = let y = present (after_step s (a_value null)) e in none_is y.0 (sym (none_below s) ∙ y.1)
     go (Some x) e = let y = present (after_step s x) e in subst (λ o. subject_height (unwrap_or o (a_value null)) < subject_height x) (sym y.1) (step_falls s x y.0 y.1)
 
--- ---- three numbers, the first the weightiest
+-- ---- three numbers, the first with the greatest weight
 
 lower_digit : (a b m r s : ℕ) → a < b → r ≤ m → a * (m + 1) + r < b * (m + 1) + s
 lower_digit a b m r s h k =
@@ -163,7 +163,7 @@ or_first : (a b : Bool) → a ≡ true → (a || b) ≡ true
 or_first true b h = refl
 or_first false b h = absurd (true≢false (sym h))
 
--- a number that is entered is free no more
+-- A number that is entered is no longer free.
 free_entered : (n j : ℕ) (busy : List ℕ) → j < n → list_any (λ i. i == j) busy ≡ false → free n (j ∷ busy) < free n busy
 free_entered zero j busy h e = absurd (omega arith)
 free_entered (suc n) j busy h e = go (free_entered n j busy) (lt_or_eq j n h)

@@ -1,4 +1,5 @@
--- A run meets no match but those that the matcher leaves unfinished. Where it finishes every match, the first run decides.
+-- A run meets only matches that the matcher leaves unfinished. If the matcher finishes every match,
+-- the first run decides.
 use Rattle.std.proofs.Common.{◌≡◌, ℕ, zero, suc, ◌==◌, Bool, true, false, List, [], ◌∷◌, ◌++◌, refl, ap, sym, ◌∙◌, arith}
 use Rattle.std.specs.Prelude.{All, Option, Some, None, find, is_some, not}
 use Rattle.std.specs.List.{list_any}

@@ -1,4 +1,4 @@
--- What numbered nodes say under guards is a plain run's too.
+-- What numbered nodes say under guards behaves like a plain run.
 use Rattle.std.proofs.Common.{◌≡◌, ℕ, zero, suc, List, [], ◌∷◌, ◌++◌, refl, ap, sym, subst, ◌∙◌, Bool, true, false, ◌==◌, map}
 use Rattle.std.specs.Prelude.{Option, Some, None, option_map}
 use Rattle.std.specs.List.{list_any}
@@ -33,7 +33,7 @@ module _ {K R : Type 0} (keywords : Keywords K R) (matcher : Matcher) (nodes : N
   abbrev SaysWithin : ℕ → ℕ → Text → Place → List ℕ → Outcome
   SaysWithin = guarded_within yes_outcome (node_outcome keywords matcher nodes subject_of (completion_of as'))
 
-  -- the outcomes of what its edges answer
+  -- The outcomes of the answers of its edges.
   abbrev RunsAcross : ℕ → Text → Place → List ℕ → NodeEdge → Below → Outcome
   RunsAcross n path p busy e b = (across (yes_run nodes) (guarded_node keywords matcher nodes subject_of as') (RunsWithin n) path p busy e b).outcome tt
 
@@ -55,7 +55,7 @@ module _ {K R : Type 0} (keywords : Keywords K R) (matcher : Matcher) (nodes : N
   guarded_outcome zero i path p busy = refl
   guarded_outcome (suc n) i path p busy = ap (node_outcome keywords matcher nodes subject_of (completion_of as') i path p) (across_outcome n (guarded_outcome n) path p busy)
 
-  -- so they are alike as the outcomes are
+  -- So they are alike, because the outcomes are.
   runs_alike : (n : ℕ) (path : Text) (p : Place) (busy : List ℕ) → EdgesAlike (RunsAcross n path p busy)
   runs_alike n path p busy = subst EdgesAlike (sym (across_outcome n (guarded_outcome n) path p busy)) (edges_alike keywords matcher nodes subject_of (completion_of as') n path p busy)
 

@@ -1,4 +1,5 @@
--- What a validator answers of its nodes, it answers of the plain meaning, where no question returns.
+-- If no question returns, the answers of a validator about its nodes are answers about the plain
+-- meaning.
 use Rattle.std.proofs.Common.{◌≡◌, ℕ, suc, ◌+◌, [], length, subst, arith}
 use Rattle.std.specs.Prelude.{Decides}
 use Rattle.serde_json.specs.Data.{Data}

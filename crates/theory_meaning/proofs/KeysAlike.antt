@@ -1,4 +1,5 @@
--- With questions at most so deep, a key's verdict does not depend on its evaluation path, so marked children of one key are answered alike.
+-- With questions to a bounded depth, the verdict of a key does not depend on its evaluation path,
+-- so marked children of the same key have the same answers.
 use Rattle.std.proofs.Common.{◌≡◌, ℕ, zero, suc, ◌==◌, true, ◌&&◌, List, [], ◌∷◌, ◌++◌, refl, ◌∙◌, ap, ap₂}
 use Rattle.std.specs.Prelude.{Decides, Option, Some, None}
 use Rattle.std.proofs.lemmas.Bool.{eqb-true}
@@ -15,12 +16,12 @@ use Rattle.theory_definitions.proofs.Products.{in_either}
 use Rattle.theory_meaning.proofs.SameRun.{same_key_is}
 use Rattle.theory_meaning.proofs.Steps.{in_steps}
 
--- edges to one key have the same verdicts
+-- Edges to the same key have the same verdicts.
 abbrev pub KeysAlike : {S : Type 0} → (Edge S → Place → Outcome) → Type 0
 KeysAlike {S} g = (a b : Edge S) → a.key ≡ b.key → (q : Place) → (g a q).verdict ≡ (g b q).verdict
 
 module _ {S K R : Type 0} (w : Parts S K R) (instance : Data) where
-  -- so are marked children
+  -- So do marked children.
   pub keys_answered : ((a b : S) → Decides (w.resolver.same_state a b) (a ≡ b)) → (k : Key S) (name : Text) (requests : List Request) (p : Place) (g : Edge S → Place → Outcome) → KeysAlike g
       → AnsweredAlike (same_child w k name requests) (asked w instance accepted k name requests p g)
   keys_answered states k name requests p g alike i j is below = in_either (i == j) (same_edge_key w (child w k name requests i) (child w k name requests j))
@@ -58,7 +59,7 @@ module _ {S K R : Type 0} (w : Parts S K R) (instance : Data) where
           go never = refl
           go (these xs) = parts_verdict xs
 
-    -- the verdict at every depth is the same by any path
+    -- The verdict at every depth is the same with any path.
     key_by_any_path : (n : ℕ) (k : Key S) (path path' : Text) (p : Place)
         → (in_steps w instance accepted (outcome_of w instance c) n k path p).verdict ≡ (in_steps w instance accepted (outcome_of w instance c) n k path' p).verdict
     key_by_any_path zero k path path' p = refl

@@ -1,4 +1,4 @@
--- What the calls give points at keyword and value, but for the failure.
+-- The errors that the calls return point at a keyword and at a value, except the failure.
 use Rattle.std.proofs.Common.{◌≡◌, ℕ, List, [], ◌∷◌, sym, subst, ap, inl, inr}
 use Rattle.std.specs.Prelude.{All, Option, Some, None, ◌⊎◌}
 use Rattle.std.proofs.lemmas.List.Elements.{All-nil, All-cons, All-head, All-tail}

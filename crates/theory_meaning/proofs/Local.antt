@@ -1,4 +1,4 @@
--- An outcome reads its answers only where the keywords may ask.
+-- An outcome reads only the answers to questions that the keywords may ask.
 use Rattle.std.proofs.Common.{◌≡◌, zero, List, [], ◌∷◌, refl, ap, ap₂, Bool, arith}
 use Rattle.std.specs.Prelude.{All, Contains, Option, Some, None, map}
 use Rattle.std.proofs.lemmas.List.Elements.{All-contains_itself}

@@ -1,4 +1,5 @@
--- What is true of each request of a maker, and of how it ends, is true of them up to the first request that is refused.
+-- If a property holds of each request of a maker and of how it ends, it holds of them up to the
+-- first request that is refused.
 use Rattle.std.proofs.Common.{◌≡◌, Bool, true, false, cond, List, [], ◌∷◌}
 use Rattle.std.specs.Prelude.{All}
 use Rattle.std.proofs.lemmas.List.Elements.{All-cons, All-head, All-nil, All-tail}

@@ -1,4 +1,4 @@
--- Meeting what a run has met before leaves what it remembers of unfinished matches.
+-- Meeting a match again does not change what a run remembers of unfinished matches.
 use Rattle.std.proofs.Common.{◌≡◌, Bool, true, false, cond, List, [], ◌∷◌, ◌++◌, refl, subst, sym, ◌∙◌}
 use Rattle.std.specs.Prelude.{All, Option, Some, None, find, if◌then◌else◌, is_some, option_map, ◌||◌}
 use Rattle.std.proofs.lemmas.List.Elements.{All-cons, All-head, All-nil, All-tail}
@@ -94,7 +94,7 @@ same_has_met r a b s h = (
   λ l. subst (λ z. IsFound r.located z) s.0 (h.1 (s.1 ∙ l)),
 )
 
--- what holds of the mets of one list holds of the same mets of another
+-- A property of the matches in one list holds of the same matches in another list.
 pub all_same : (P : Met → Type 0) → ((a b : Met) → SameMet a b → P a → P b) → (xs ys : List Met) → SameMets xs ys → All P xs → All P ys
 all_same P along [] [] s h = All-nil P
 all_same P along (x ∷ xs) (y ∷ ys) s h = All-cons P y ys (along x y s.0 (All-head P x xs h)) (all_same P along xs ys s.1 (All-tail P x xs h))

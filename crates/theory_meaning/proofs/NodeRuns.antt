@@ -1,4 +1,5 @@
--- A run of numbered nodes reads its answers only where the keywords may ask, and so it settles as outcomes do.
+-- A run of numbered nodes reads only the answers to questions that the keywords may ask, so its
+-- result becomes final at some depth, as outcomes do.
 use Rattle.std.proofs.Common.{◌≡◌, ℕ, zero, suc, ◌==◌, Bool, true, false, List, [], ◌∷◌, ◌++◌, refl, subst, sym, ap, ap₂, ◌∙◌, arith}
 use Rattle.std.specs.Prelude.{Contains, Option, Some, None}
 use Rattle.std.specs.List.{list_any}
@@ -82,7 +83,7 @@ module _ {K R : Type 0} (keywords : Keywords K R) (matcher : Matcher) (instance 
         → node_unit keywords matcher nodes (subject_in instance) c i path p f ≡ node_unit keywords matcher nodes (subject_in instance) c i path p g
     unit_local h = plan_units (nodes.entries i) refl h
 
-  -- ---- what is met
+  -- ---- the matches that are met
 
   module _ (as' : Assumptions) (f g : NodeEdge → Below → Run) where
     form_met : (name : Text) (x : NodeForm K) → FormAlike no_run f g x → (mode : Mode)
@@ -127,7 +128,7 @@ module _ {K R : Type 0} (keywords : Keywords K R) where
       let runs = λ (as' : Assumptions). guarded_runs_settle laws matcher nodes count ranked instance as' i [] [] [] l m n a b in
       λ j. record { says = λ c. says c j; meets = λ call as'. (runs as' j).met (mode_of call as'); is_match = matcher.is_match }
 
--- ---- a run's outcome and units, whatever is in progress
+-- ---- the outcome and the units of a run, whatever is in progress
 
 module _ {X Y : Type 0} (part : X → Y) (yes : ℕ → Text → Place → X) (node : ℕ → Text → Place → (NodeEdge → Below → X) → X) (yes' : ℕ → Text → Place → Y) (node' : ℕ → Text → Place → (NodeEdge → Below → Y) → Y)
     (first : (i : ℕ) (path : Text) (p : Place) → part (yes i path p) ≡ yes' i path p) (step : (i : ℕ) (path : Text) (p : Place) (f : NodeEdge → Below → X) → part (node i path p f) ≡ node' i path p (λ e b. part (f e b))) where

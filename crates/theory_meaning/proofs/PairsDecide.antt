@@ -1,4 +1,4 @@
--- With k pairs that its runs branch on a call's cover has at most 2 ^ k members.
+-- If the runs of a call branch on k pairs, its cover has at most 2 ^ k members.
 use Rattle.std.proofs.Common.{◌≡◌, ℕ, zero, suc, List, [], ◌∷◌, ◌++◌, ◌+◌, ◌≤◌, ◌<◌, Bool, true, false, Some, None, length, refl, ap, ◌∙◌, arith, cond}
 use Rattle.std.specs.Prelude.{Contains, Option, find, option_map, ◌^◌}
 use Rattle.std.proofs.Math.Nat.{pow-succ'}
@@ -9,12 +9,12 @@ use Rattle.theory_definitions.specs.Cover.{Call, Cover, Decides, IsRun, Sense, a
 use Rattle.theory_meaning.specs.Members.{BranchesAmong}
 use Rattle.theory_meaning.proofs.CoversApart.{same_itself, unassumed}
 
--- 0 where something is assumed
+-- 0 if something is assumed, and 1 if not.
 abbrev one_if_none : Option Bool → ℕ
 one_if_none None = 1
 one_if_none (Some b) = 0
 
--- how many of these pairs are not yet assumed
+-- The number of these pairs that are not yet assumed.
 abbrev left_of : Assumptions → List Pair → ℕ
 left_of as' [] = 0
 left_of as' (a ∷ pairs) = one_if_none (assumed as' a) + left_of as' pairs

@@ -1,4 +1,4 @@
--- A plain run reads its answers only where the keywords may ask.
+-- A plain run reads only the answers to questions that the keywords may ask.
 use Rattle.std.proofs.Common.{◌≡◌, zero, List, [], ◌∷◌, refl, ap, ap₂, arith}
 use Rattle.std.specs.Prelude.{Contains, Option, Some, None}
 use Rattle.serde_json.specs.Data.{Data}
@@ -71,7 +71,7 @@ module _ {S K R : Type 0} (w : Parts S K R) (instance : Data) (reads : Reads w.k
     pub unit_local : ((edge : Edge S) (q : Place) → Asks w instance k p edge q → f edge q ≡ g edge q) → unit_of w instance c k path p f ≡ unit_of w instance c k path p g
     unit_local h = plan_units (plan w k) refl h
 
-  -- ---- what is met
+  -- ---- the matches that are met
 
   module _ (as' : Assumptions) (f g : Edge S → Place → Run) where
     form_met : (name : Text) (form : Form K) → ((edge : Edge S) (q : Place) → PartAsks w instance k p name form edge q → f edge q ≡ g edge q)

@@ -1,4 +1,4 @@
--- The plain sense of a schema is a plain run's.
+-- The plain sense of a schema behaves like a plain run.
 use Rattle.std.proofs.Common.{[], subst}
 use Rattle.theory_definitions.specs.Parts.{Parts}
 use Rattle.theory_definitions.specs.Meaning.{unfold_}

@@ -1,4 +1,5 @@
--- What is true of each keyword that a maker makes, and of each reference, is true of each part of a plan.
+-- If a property holds of each keyword that a maker makes, and of each reference, it holds of each
+-- part of a plan.
 use Rattle.std.proofs.Common.{◌≡◌, ℕ, Bool, true, false, cond, List, [], ◌∷◌, ◌++◌, refl}
 use Rattle.std.specs.Prelude.{Option, Some, None, nat_le, codes}
 use Rattle.serde_json.specs.Data.{Data, null, boolean, number, string, array, object, Members, no_members, member}

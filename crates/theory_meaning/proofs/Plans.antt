@@ -1,4 +1,5 @@
--- A plan's run under assumptions, which meets no match but those assumed, speaks for every completion that extends them.
+-- If a run of a plan under assumptions meets only matches that are assumed, it speaks for every
+-- completion that extends them.
 use Rattle.std.proofs.Common.{◌≡◌, List, [], ◌∷◌, ◌++◌, refl, ap, ap₂, sym, ◌∙◌, Bool, true, false, ◌&&◌, map}
 use Rattle.std.specs.Prelude.{None, option_map}
 use Rattle.theory_definitions.specs.Reports.{Error, Outcome, accepted}
@@ -47,7 +48,7 @@ agrees_both a b p q = (to, from)
     from : a.errors ++ b.errors ≡ [] → (a.verdict && b.verdict) ≡ true
     from e = let (x, y) = and_none a.errors b.errors e in ap₂ (λ u v. u && v) (p.1 x) (q.1 y)
 
--- ---- what a mode says settles the verdict
+-- ---- the result in a mode determines the verdict
 
 pub same_itself_in : (mode : Mode) (o : Outcome) → SameIn mode o o
 same_itself_in for_verdict o = refl
@@ -73,7 +74,7 @@ settled_verdict for_units a b p q e = e
 -- ---- an entry of a plan, and a plan
 
 module _ (as' : Assumptions) where
-  -- what the run's entry answers is `a`, what the completion's answers is `b`
+  -- The entry of the run has the outcome `a`, and that of the completion has the outcome `b`.
   pub record EntrySpeaks (l : Looked) (a b : Outcome) : Type 0 where
     pub holds : l.holds ≡ a.verdict
     pub agrees_a : Agrees a

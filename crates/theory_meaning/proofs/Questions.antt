@@ -1,4 +1,4 @@
--- What a key at a place may ask, as edges and places.
+-- The questions that a key may ask at a place, as edges and places.
 use Rattle.std.proofs.Common.{◌≡◌, zero, suc, List, [], ◌∷◌, ◌++◌, refl, ap, sym, subst, ◌∙◌, arith}
 use Rattle.std.specs.Prelude.{Contains, Option, Some, None, option_map, filter_map, flat_map}
 use Rattle.std.specs.List.{cons_option}
@@ -30,7 +30,7 @@ in_flat_map f (z ∷ zs) x y (zero, is, at_i) k = Contains-append_left (f z) _ y
 in_flat_map f (z ∷ zs) x y (suc i, is, at_i) k = Contains-append_right (f z) _ y (in_flat_map f zs x y (i, omega arith, at_i) k)
 
 module _ {S K R : Type 0} (w : Parts S K R) (instance : Data) where
-  -- the edges and places that a part may ask
+  -- The edges and places that a part may ask.
   pub data PartAsks (k : Key S) (p : Place) : Text → Form K → Edge S → Place → Type 0 where
     by_keyword : {name : Text} {m : K} {requests : List Request} {absorbed : List Text} {edge : Edge S} (q : Question)
         → Contains (w.keywords.may_ask m (subject w instance p)) q → child w k name requests q.child ≡ Some edge
@@ -51,7 +51,7 @@ module _ {S K R : Type 0} (w : Parts S K R) (instance : Data) where
       (ap (option_map (λ e. record { key = e.key; path = a.path ++ e.path; place = place_below a.place q.below })) at_edge)
   part_in a name (reference kind text) edge _ (by_reference is) = subst (λ (o : Option (Edge S)). Contains {X = Asked w instance} (elim o [ None ↦ [] | Some e ↦ record { key = e.key; path = a.path ++ e.path; place = a.place } ∷ [] ]) (record { key = edge.key; path = a.path ++ edge.path; place = a.place })) (sym is) (zero, omega arith, refl)
 
-  -- what may be asked is a question
+  -- Whatever may be asked is a question.
   pub asked_in : (a : Asked w instance) (edge : Edge S) (q : Place) → Asks a.key a.place edge q
       → Contains (questions w instance a) (record { key = edge.key; path = a.path ++ edge.path; place = q })
   asked_in a edge q h = subst (λ (o : Plan K). Contains {X = Asked w instance} (elim o [ always ↦ [] | never ↦ [] | these xs ↦ flat_map (λ x. part_questions w instance a x.name x.form) xs ]) (record { key = edge.key; path = a.path ++ edge.path; place = q })) (sym h.is_plan)
@@ -61,7 +61,7 @@ module _ {S K R : Type 0} (w : Parts S K R) (instance : Data) where
   further stays h = asks h stays
   further (asks g l) h = asks g (further l h)
 
-  -- the first question of a chain
+  -- The first question of a chain.
   pub goes_by : {a b d : Asked w instance} → LeadsTo w instance a b → Contains (questions w instance b) d
       → (next : Asked w instance) × Contains (questions w instance a) next × LeadsTo w instance next d
   goes_by {d = d} stays h = (d, h, stays)

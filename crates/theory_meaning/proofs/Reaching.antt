@@ -1,4 +1,4 @@
--- Questions come only to keys that are reached.
+-- Questions are asked only of keys that are reached.
 use Rattle.std.proofs.Common.{◌≡◌, ℕ, zero, suc, ◌||◌, Bool, true, false, cond, List, [], ◌∷◌, ◌++◌, map, refl, subst, ap, arith}
 use Rattle.std.specs.Prelude.{Contains, Option, Some, None, option_map, filter_map, flat_map, codes, nat_le}
 use Rattle.std.specs.List.{list_any, cons_option}
@@ -179,7 +179,7 @@ module _ {S K R : Type 0} (w : Parts S K R) (instance : Data) (a : Asked w insta
   plan_keys es never h = tt
   plan_keys es (these xs) h = parts_keys es xs h
 
-  -- a question leads to a key that is asked for
+  -- A question leads to a key that a maker requests.
   pub question_asked : (c : Asked w instance) → Contains (questions w instance a) c → Contains (asked_for w a.key) c.key
   question_asked c q = each_key (asked_edges w a.key) (questions w instance a) (plan_keys (asked_edges w a.key) (plan w a.key) (plan_in w a.key (schema_of w a.key))) c q
 
@@ -197,7 +197,8 @@ module _ {S K R : Type 0} (w : Parts S K R) (instance : Data) (root : Key S) whe
       go true s k f = or_left (same_target w a.target l.target) _ (both_left _ _ (both_left _ _ (both_left _ _ s)))
       go false s k f = or_right (same_target w a.target l.target) _ (f k)
 
-  -- a target that is the same as one of the keys' is the same as one of the list that has each once
+  -- A target that is the same as that of one of the keys is the same as one in the list, which
+  -- contains each target once.
   among : ((a b c : Target S) → same_target w a b ≡ true → same_target w b c ≡ true → same_target w a c ≡ true)
       → (t : Target S) (keys : List (Key S)) → list_any (λ l. same_target w t l.target) keys ≡ true → list_any (same_target w t) (targets_of w keys) ≡ true
   among through t [] e = absurd (cc e)

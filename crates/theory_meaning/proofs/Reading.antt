@@ -7,7 +7,7 @@ use Rattle.theory_definitions.specs.Keywords.{Keywords, Question, Answers, Mode,
 use Rattle.theory_definitions.specs.Matching.{Matching}
 use Rattle.theory_definitions.specs.Laws.{IsPresent, steps_below, AlwaysAsksRightly, EachKeeps}
 
--- what a keyword may ask is there, and what it says is read off those answers alone
+-- Whatever a keyword may ask is present, and its result depends only on those answers.
 pub record Reads {K R : Type 0} (keywords : Keywords K R) : Type 0 where
   pub present : (m : K) (s : Subject) → All (λ q. IsPresent s (steps_below q.below)) (keywords.may_ask m s)
   pub holds_reads : (m : K) (s : Subject) (matches : Matching) (a b : Question → Bool) → All (λ q. a q ≡ b q) (keywords.may_ask m s)

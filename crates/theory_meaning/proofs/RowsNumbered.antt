@@ -17,7 +17,7 @@ abbrev key_or : {S : Type 0} → Key S → Option (Option (Key S)) → Key S
 key_or k (Some (Some l)) = l
 key_or k _ = k
 
--- a number has one key
+-- A number has one key.
 one_key : (keys : Numbers Text) (i : ℕ) (k l : Key Text) → IsNumber keys i k → IsNumber keys i l → k ≡ l
 one_key keys i k l a b = let e : ◌≡◌ {A = Option (Option (Key Text))} (Some (Some k)) (Some (Some l)) = sym a ∙ b in ap (key_or k) e
 
@@ -33,7 +33,7 @@ second_entries : SamePlan (worked_parts [] turning_schema) turning_keys turning_
 unfolding percent_decode utf8_lossy utf8_valid_len is_utf8 chars encode
 second_entries = (record { name = refl; priority = refl; is_leaf = refl; form = (refl, refl) }, tt)
 
--- a fact about the numbers holds where it holds of both
+-- A fact about the numbers holds if it holds of both.
 number_cases : (P : ℕ → Key Text → Type 0) → P 0 turning_root → P 1 turning_child → (i : ℕ) (k : Key Text) → IsNumber turning_keys i k → P i k
 number_cases P a b zero k e = subst (P 0) (one_key turning_keys 0 turning_root k refl e) a
 number_cases P a b (suc zero) k e = subst (P 1) (one_key turning_keys 1 turning_child k refl e) b
@@ -53,7 +53,8 @@ ranked (suc j) l e (suc i, is, at_e) = absurd (omega arith)
 differ : turning_root ≡ turning_child → ⊥
 differ e = let h : length turning_root.location ≡ length turning_child.location = ap (λ k. length k.location) e in omega arith
 
--- the edges of a number that lead to one number are guarded alike: each number has one edge
+-- The edges of a number that lead to the same number are guarded alike, because each number has one
+-- edge.
 abbrev Guards : ℕ → Key Text → Type 0
 Guards i k = (a b : NodeEdge) → Contains (node_edges (turning_nodes.entries i)) a → Contains (node_edges (turning_nodes.entries i)) b → a.node ≡ b.node → a.guarded ≡ b.guarded
 

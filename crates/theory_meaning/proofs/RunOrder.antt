@@ -1,4 +1,5 @@
--- A call makes its runs one after another: what it makes are its runs, and where it decides it makes each of them.
+-- A call makes its runs one after another: each run that it makes is one of its runs, and if it
+-- decides it makes each of them.
 use Rattle.std.proofs.Common.{◌≡◌, ◌≤◌, ◌<◌, ◌+◌, ℕ, zero, suc, List, [], ◌∷◌, ◌++◌, ◌⊎◌, inl, inr, length, refl, ◌∙◌, ap, subst, arith, true, false}
 use Rattle.std.specs.Prelude.{All, Contains, None, Option, Some}
 use Rattle.std.proofs.lemmas.List.{length-append}
@@ -13,7 +14,7 @@ use Rattle.theory_meaning.proofs.CoverCounts.{Contains-cases, each_run, runs_cou
 use Rattle.theory_meaning.proofs.CoversApart.{only_one}
 
 module _ (v : Sense) (call : Call) where
-  -- ---- one run more
+  -- ---- one more run
 
   pub member_next : (n : ℕ) (as' : Assumptions) (rest : List Assumptions) → waiting_after v call n ≡ as' ∷ rest → branch_at v call as' ≡ None → waiting_after v call (suc n) ≡ rest
   member_next n as' rest waits none = ap (once_run v call) waits ∙ ap (λ o. grown_from as' o rest) none
@@ -40,7 +41,7 @@ module _ (v : Sense) (call : Call) where
   pub made_runs : (limit : ℕ) (as' : Assumptions) → IsMade v limit call as' → IsRun v call as'
   made_runs limit as' (n, few, rest, waits) = All-head (IsRun v call) as' rest (subst (All (IsRun v call)) waits (each_waits n))
 
-  -- ---- the runs of a part of a cover are made at one stretch
+  -- ---- the runs of a part of a cover are made without a break
 
   past_part : {as' : Assumptions} {ms : List Assumptions} (t : Cover v call as' ms) (n : ℕ) (rest : List Assumptions) → waiting_after v call n ≡ as' ∷ rest
       → waiting_after v call (n + length (runs_of v call t)) ≡ rest
@@ -75,7 +76,7 @@ module _ (v : Sense) (call : Call) where
   pub all_made : (limit : ℕ) (as' : Assumptions) → Decides v limit call → IsRun v call as' → IsMade v limit call as'
   all_made limit as' (ms, cover, few) run = longer _ limit as' (omega (arith, runs_count v call cover, few)) (made_in cover 0 [] refl as' (each_run v call cover run))
 
-  -- where a call decides within a limit, it fails as one does that makes more runs
+  -- If a call decides within a limit, its failure is that of a call that makes more runs.
   pub failure_within : (limit larger : ℕ) (e : Error) → Decides v limit call → IsFailure v larger call e → IsFailure v limit call e
   failure_within limit larger e decides f = record {
     first = f.first;

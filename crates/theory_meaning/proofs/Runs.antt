@@ -1,4 +1,5 @@
--- The plain run under assumptions speaks, in each mode, for every completion that extends them, where no question returns.
+-- If no question returns, the plain run under assumptions speaks, in each mode, for every
+-- completion that extends them.
 use Rattle.std.proofs.Common.{◌≡◌, ℕ, zero, suc, ◌≤◌, List, [], ◌∷◌, ◌++◌, refl, ap, sym, subst, ◌∙◌, Bool, true, false, map, arith}
 use Rattle.std.specs.Prelude.{Decides, Option, Some, None, option_map}
 use Rattle.serde_json.specs.Data.{Data}
@@ -32,7 +33,7 @@ use Rattle.theory_meaning.proofs.SameRun.{one_place, one_target, same_through}
 use Rattle.theory_meaning.proofs.Steps.{in_steps, steps_unfold}
 use Rattle.theory_meaning.proofs.KeysAlike.{KeysAlike, keys_answered, steps_alike}
 
--- one more entry of the same units
+-- One more entry with the same units.
 pub one_more_entry : (priority : ℕ) {x y : PartUnits} {xs ys : List Entry} → x ≡ y → xs ≡ ys
     → ◌≡◌ {A = List Entry} (record { priority = priority; units = x } ∷ xs) (record { priority = priority; units = y } ∷ ys)
 one_more_entry priority e es = λ i. record { priority = priority; units = e i } ∷ es i
@@ -175,7 +176,7 @@ module _ {S K R : Type 0} (w : Parts S K R) (instance : Data) (absorbs : K → L
   steps_speak zero k path p = no_run_speaks
   steps_speak (suc n) k path p = node_speaks k path p _ _ _ (λ e q. steps_speak n e.key (path ++ e.path) q) (runs_alike w instance as' n path) (steps_alike w instance c n path)
 
--- the plain run of a root speaks at every depth that is enough, where no question returns
+-- If no question returns, the plain run of a root speaks at every sufficient depth.
 module _ {S K R : Type 0} (w : Parts S K R) (each : EachKeeps w.keywords) (values : ValuesInside w) (makers : MakersAskBelow w.table) (states : (a b : S) → Decides (w.resolver.same_state a b) (a ≡ b))
     (instance : Data) (root : Key S) (none : ¬ (Return w instance (at_root w root instance))) (keys : List (Key S)) (reach : IsReach w root keys) (n : ℕ) (enough : deep_enough w keys instance ≤ n) where
   in_steps_is : {X : Type 0} (last : X) (node : Key S → Text → Place → (Edge S → Place → X) → X)

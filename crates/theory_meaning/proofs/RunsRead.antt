@@ -1,4 +1,5 @@
--- What a keyword says, gives and meets reads its answers only where it may ask.
+-- The outcome, the units and the matches of a keyword depend only on the answers to questions that
+-- it may ask.
 use Rattle.std.proofs.Common.{◌≡◌, ℕ, zero, suc, List, [], ◌∷◌, ◌++◌, refl, ap, ◌∙◌, Bool}
 use Rattle.std.specs.Prelude.{Contains}
 use Rattle.std.specs.List.{list_any}
@@ -13,7 +14,7 @@ use Rattle.theory_definitions.specs.Laws.{AlwaysAsksRightly, AsksRightly}
 use Rattle.theory_meaning.proofs.Reading.{Reads}
 use Rattle.theory_meaning.proofs.Local.{each_asked}
 
--- ---- what the turns of a keyword meet
+-- ---- the matches that the turns of a keyword meet
 
 module _ {K R : Type 0} (keywords : Keywords K R) (matcher : Matcher) (as' : Assumptions) (x : Where) (s : Subject) (same : Marked → Marked → Bool) (name : Text) (m : K) where
   abbrev one_turn : (Question → Run) → (List Marked → Reply → List Met) → List Marked → Turn → List Met

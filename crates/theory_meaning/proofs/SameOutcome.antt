@@ -1,4 +1,4 @@
--- A number's outcome is its key's, where the questions that both ask are answered alike.
+-- The outcome of a number is that of its key, if the questions that both ask have the same answers.
 use Rattle.std.proofs.Common.{◌≡◌, ℕ, zero, List, [], ◌∷◌, refl, sym, subst, ◌∙◌, ap, ap₂, arith}
 use Rattle.std.specs.Prelude.{Contains, Option, Some, None, flat_map, map}
 use Rattle.std.proofs.lemmas.List.Elements.{All-contains}
@@ -27,7 +27,7 @@ pub in_option_list : {A : Type 0} (o : Option A) (x : A) → o ≡ Some x → Co
 in_option_list o x e = subst (λ u. Contains (option_list u) x) (sym e) (zero, omega arith, refl)
 
 module _ {S K R : Type 0} (w : Parts S K R) (instance : Data) where
-  -- what may be asked is an edge
+  -- Whatever may be asked is an edge.
   pub asks_edge : (k : Key S) (p : Place) (edge : Edge S) (q : Place) → Asks w instance k p edge q → Contains (edges w k) edge
   asks_edge k p edge q h = subst (λ (o : Plan K). Contains {X = Edge S} (elim o [ always ↦ [] | never ↦ [] | these xs ↦ flat_map (λ x. part_edges w k x.name x.form) xs ]) edge) (sym h.is_plan)
       (in_flat_map (λ x. part_edges w k x.name x.form) h.xs h.part edge h.is_part (go h.part.name h.part.form q h.asks))
@@ -38,7 +38,7 @@ module _ {S K R : Type 0} (w : Parts S K R) (instance : Data) where
 
 module _ {S K R : Type 0} (w : Parts S K R) (instance : Data) (keys : Numbers S) (nodes : Nodes K) where
   module _ (reads : Reads w.keywords) (i : ℕ) (k : Key S) (stands : StandsFor w keys nodes i k) (path : Text) (p : Place) where
-    -- the same question of a part of both
+    -- The same question of a part of both.
     pub record FormsAsk (name : Text) (x : NodeForm K) (y : Form K) (e : NodeEdge) (b : Below) (edge : Edge S) : Type 0 where
       pub number : IsNumber keys e.node edge.key
       pub same_path : e.path ≡ edge.path
@@ -82,7 +82,7 @@ module _ {S K R : Type 0} (w : Parts S K R) (instance : Data) (keys : Numbers S)
           some_is : {a b : NodeEdge} → ◌≡◌ {A = Option NodeEdge} (Some a) (Some b) → a ≡ b
           some_is {a} q = ap (λ o. elim o [ Some x ↦ x | None ↦ a ]) q
 
-      -- from the parts to the whole
+      -- From the parts to the whole.
       pub whole_asks : (xs : List (NodePart K)) (ys : List (Part K)) → nodes.entries i ≡ node_these xs → plan w k ≡ these ys
           → ((e : NodeEdge) (b : Below) (edge : Edge S) → BothAsk w instance keys nodes i k p e b edge → f e b ≡ g edge (place_below p b))
           → (x : NodePart K) (y : Part K) → Contains xs x → Contains ys y

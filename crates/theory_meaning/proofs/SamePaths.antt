@@ -1,4 +1,5 @@
--- A question's run for the verdict is the same by each evaluation path, but for the paths of the sites that it meets.
+-- The run of a question for its verdict is the same with each evaluation path, except for the paths
+-- of the sites that it meets.
 use Rattle.std.proofs.Common.{◌≡◌, ℕ, zero, suc, ◌==◌, Bool, true, false, List, [], ◌∷◌, ◌++◌, refl, subst, sym, ap, ap₂}
 use Rattle.std.specs.Prelude.{Option, Some, None, if◌then◌else◌, is_some, ◌&&◌}
 use Rattle.std.specs.List.{list_any}
@@ -21,7 +22,7 @@ same_located : {A : Type 0} (b : Bool) (x y : A) → is_some (if b then Some x e
 same_located true x y = refl
 same_located false x y = refl
 
--- what follows where the verdict is yes
+-- The rest of the run, if the verdict is yes.
 same_rest : (b b' : Bool) (xs ys : List Met) → b ≡ b' → SameMets xs ys → SameMets (elim b [ true ↦ xs | false ↦ [] ]) (elim b' [ true ↦ ys | false ↦ [] ])
 same_rest b b' xs ys e h = subst (λ (t : Bool). SameMets (elim b [ true ↦ xs | false ↦ [] ]) (elim t [ true ↦ ys | false ↦ [] ])) e (at b)
   where
@@ -90,7 +91,7 @@ module _ {K R : Type 0} (keywords : Keywords K R) (matcher : Matcher) (as' : Ass
       go r' (ecma text) e rest = rest marks (truth (matcher.is_ecma text))
       go r' done e rest = tt
 
--- ---- a node's verdict, by what its edges answer
+-- ---- the verdict of a node, given the answers of its edges
 
 module _ {K R : Type 0} (keywords : Keywords K R) (matcher : Matcher) (nodes : Nodes K) (subject_of : Place → Subject) (c : Completion) (i : ℕ) (path path' : Text) (p : Place) (f g : NodeEdge → Below → Outcome)
     (verdicts : (e : NodeEdge) (b : Below) → (f e b).verdict ≡ (g e b).verdict) where
@@ -120,7 +121,7 @@ module _ {K R : Type 0} (keywords : Keywords K R) (matcher : Matcher) (nodes : N
   pub node_verdict : (node_outcome keywords matcher nodes subject_of c i path p f).verdict ≡ (node_outcome keywords matcher nodes subject_of c i path' p g).verdict
   node_verdict = plan_verdict (nodes.entries i)
 
--- ---- a node's run, by what its edges answer
+-- ---- the run of a node, given the answers of its edges
 
 module _ {K R : Type 0} (keywords : Keywords K R) (matcher : Matcher) (nodes : Nodes K) (subject_of : Place → Subject) (as' : Assumptions) (i : ℕ) (path path' : Text) (p : Place) (f g : NodeEdge → Below → Run) where
   abbrev told : (NodeEdge → Below → Run) → NodeEdge → Below → Outcome

@@ -1,4 +1,4 @@
--- A number's run is its key's, where the questions that both ask are answered by the same runs.
+-- The run of a number is that of its key, if the same runs answer the questions that both ask.
 use Rattle.std.proofs.Common.{◌≡◌, ℕ, zero, suc, ◌<◌, ◌≤◌, ◌==◌, Bool, true, false, ◌||◌, List, [], ◌∷◌, length, refl, sym, subst, ◌∙◌, ap, ap₂, arith, true≢false}
 use Rattle.std.specs.Prelude.{Contains, Option, Some, None, Decides}
 use Rattle.std.proofs.lemmas.Bool.{eqb-true}
@@ -99,15 +99,16 @@ module _ {S K R : Type 0} (w : Parts S K R) (states : (a b : S) → Decides (w.r
   key_itself : (k : Key S) → same_key w k k ≡ true
   key_itself k = both_true _ _ (both_true _ _ (both_true _ _ (target_itself w state_itself k.target) (same_text k.location)) (same_text k.base)) (same_number k.start)
 
-  -- a target that is the same as one that is the same as a third is the same as that
+  -- If a target is the same as a second one, and that is the same as a third, then the first is the
+  -- same as the third.
   pub same_through : (a b c : Target S) → same_target w a b ≡ true → same_target w b c ≡ true → same_target w a c ≡ true
   same_through a b c e f = subst (λ x. same_target w x c ≡ true) (sym (same_target_is a b e)) f
 
-  -- targets that are the same as one are the same
+  -- Targets that are the same as a third one are the same.
   pub one_target : (a b k : Target S) → same_target w a k ≡ true → same_target w b k ≡ true → same_target w a b ≡ true
   one_target a b k e f = subst (λ x. same_target w a x ≡ true) (same_target_is a k e ∙ sym (same_target_is b k f)) (target_itself w state_itself a)
 
--- two tests that pass together
+-- Two tests that pass together are equal.
 one_truth : (a b : Bool) → (a ≡ true → b ≡ true) → (b ≡ true → a ≡ true) → a ≡ b
 one_truth true b f g = sym (f refl)
 one_truth false true f g = g refl
@@ -125,7 +126,7 @@ module _ {S K R : Type 0} (w : Parts S K R) (instance : Data) (keys : Numbers S)
   abbrev IsEdge : NodeEdge → Type 0
   IsEdge e = Contains (node_edges (nodes.entries i)) e
 
-  -- two children have one number, and are guarded alike, where they have one key
+  -- Two children with the same key have the same number and are guarded alike, and conversely.
   same_children : (name : Text) (m : K) (es : Children) (m' : K) (requests : List Request) (absorbed : List Text) → SameForm w keys nodes k name (node_keyword m es) (keyword m' requests absorbed)
       → ((e : NodeEdge) → Contains (form_edges (node_keyword m es)) e → IsEdge e) → (a b : Marked) → same_edge es a b ≡ same_child w k name requests a b
   same_children name m es m' requests absorbed s there (a_reservation a) (a_reservation b) = refl
@@ -207,7 +208,7 @@ module _ {S K R : Type 0} (w : Parts S K R) (instance : Data) (keys : Numbers S)
         → node_unit w.keywords w.matcher nodes (subject w instance) c i path p f ≡ unit_of w instance c k path p g
     units_same h = plan_units (nodes.entries i) (plan w k) refl refl stands.entries h
 
-  -- ---- what is met
+  -- ---- the matches that are met
 
   module _ (as' : Assumptions) (f : NodeEdge → Below → Run) (g : Edge S → Place → Run) where
     form_met : (name : Text) (x : NodeForm K) (y : Form K) → SameForm w keys nodes k name x y → ((e : NodeEdge) → Contains (form_edges x) e → IsEdge e)
@@ -265,11 +266,12 @@ module _ {S K R : Type 0} (w : Parts S K R) (instance : Data) (keys : Numbers S)
         = λ mode. plan_meets mode (nodes.entries i) (plan w k) refl refl stands.entries h in
         λ j. record { outcome = λ t. outcome j; units = λ t. units j; met = λ mode. met mode j }
 
--- what both say, by any way to say which depth is enough
+-- What both say, for any measure of a sufficient depth.
 module _ {S K R : Type 0} (w : Parts S K R) (keys : Numbers S) (nodes : Nodes K) (laws : EachKeeps w.keywords) (values : ValuesInside w) (makers : MakersAskBelow w.table)
     (states : (a b : S) → Decides (w.resolver.same_state a b) (a ≡ b)) (numbered : AreNumbered w keys nodes) (ranked : Ranked nodes (length keys))
     (instance : Data) (i : ℕ) (k : Key S) (number : IsNumber keys i k) (none : ¬ (Return w instance (record { key = k; path = []; place = [] }))) where
-  -- a number m deep and its key n deep have one sense, and one tree of units under each completion
+  -- A number m deep and its key n deep have the same sense, and the same tree of units under each
+  -- completion.
   pub record Agree (m n : ℕ) : Type 0 where
     pub sense : guarded_sense w.keywords w.matcher nodes (subject w instance) m i ≡ plain w instance n k
     pub units : (c : Completion) → guarded_within (yes_unit nodes) (node_unit w.keywords w.matcher nodes (subject w instance) c) m i [] [] [] ≡ plain_units w instance c n k [] []
@@ -298,7 +300,7 @@ module _ {S K R : Type 0} (w : Parts S K R) (keys : Numbers S) (nodes : Nodes K)
               (record { key = k; path = []; place = [] }) none Enough on one_less m n i number low enough;
         }
 
-  -- at the depth of the plain meaning
+  -- At the depth of the plain meaning.
   pub plainly_agree : (reached : List (Key S)) → IsReach w k reached → (m n : ℕ) → left nodes (length keys) i (subject w instance []) [] < m → deep_enough w reached instance ≤ n → Agree m n
   plainly_agree reached reach m n low enough =
       let at_reached = at_targets w instance k (same_through w states) reached reach in

@@ -1,4 +1,5 @@
--- A keyword's run under assumptions, which meets no match but those assumed, takes the turns of every completion that extends them.
+-- If the run of a keyword under assumptions meets only matches that are assumed, it takes the same
+-- turns as under every completion that extends them.
 use Rattle.std.proofs.Common.{◌≡◌, ℕ, zero, suc, List, [], ◌∷◌, ◌++◌, refl, ap, sym, subst, ◌∙◌, Bool, true, false, not, cond, map}
 use Rattle.std.specs.Prelude.{Option, Some, None, find, is_some}
 use Rattle.std.specs.List.{list_any}
@@ -17,7 +18,7 @@ pub first_mapped : (f : Fault → Error) (xs : List Fault) → first_error (map 
 first_mapped f [] = refl
 first_mapped f (x ∷ xs) = refl
 
--- ---- what is met, and assumed
+-- ---- matches that are met and assumed
 
 none-front : {A : Type 0} (p : A → Bool) (xs ys : List A) → find p (xs ++ ys) ≡ None → find p xs ≡ None
 none-front p [] ys e = refl
@@ -41,7 +42,7 @@ assumed_front as' xs ys e = none-front (λ m. not (is_some (assumed as' m.pair))
 pub assumed_back : (as' : Assumptions) (xs ys : List Met) → AllAssumed as' (xs ++ ys) → AllAssumed as' ys
 assumed_back as' xs ys e = none-back (λ m. not (is_some (assumed as' m.pair))) xs ys e
 
--- the first of the list is assumed
+-- The first of the list is assumed.
 assumed_head : (as' : Assumptions) (m : Met) (ms : List Met) → AllAssumed as' (m ∷ ms) → (b : Bool) × (assumed as' m.pair ≡ Some b)
 assumed_head as' m ms e = go (assumed as' m.pair) refl e
   where
@@ -147,7 +148,7 @@ module _ {K R : Type 0} (keywords : Keywords K R) (matcher : Matcher) (as' : Ass
     valid_1 : (q : Question) → (report_of (u1 q)).valid ≡ (a1 q).verdict
     valid_1 q = sym (ap (λ u. (report_of u).valid) (u_is q)) ∙ ((speaks q).run_valid ∙ ap (λ o. o.verdict) (o_is q))
 
-    -- what stands in the answer is right for the run and for the completion
+    -- The answer is right for the run and for the completion.
     both_right : (mode : Mode) → AllAssumed as' (keyword_met keywords matcher as' x s run_of same name m mode)
         → (r : R) × IsRight keywords m s WhenAssumed a1 u1 same mode (keywords.answer r) × IsRight keywords m s WhenCompleted a2 u2 same mode (keywords.answer r)
     both_right mode e =

@@ -1,4 +1,4 @@
--- What the members of a cover answer is what every completion does.
+-- The members of a cover have the answers that every completion has.
 use Rattle.std.proofs.Common.{◌≡◌, List, [], ◌∷◌, ◌++◌, refl, ap, sym, subst, ◌∙◌, Bool, true, false, cond, ◌||◌, append_assoc, get_or, ◌⊎◌, inl, inr}
 use Rattle.std.specs.Prelude.{Option, Some, None, Contains, find, option_map, filter_map, ⊤, ◌↔◌}
 use Rattle.std.specs.List.{list_any, cons_option}
@@ -14,7 +14,7 @@ use Rattle.theory_meaning.specs.Members.{AllAssumed, SameIn, Follows, verdict_of
 use Rattle.theory_meaning.proofs.CoversApart.{only_one, covered, Faithful, extended, same_is, Some-is, unassumed}
 use Rattle.theory_meaning.proofs.Plans.{settled_verdict}
 
--- ---- the completion of a list in which no pair stands twice extends it
+-- ---- the completion of a list that contains no pair twice extends the list
 
 abbrev yes_pair : Assumed → Option Pair
 yes_pair x = cond x.outcome (Some x.pair) None
@@ -73,7 +73,7 @@ module _ (v : Sense) (call : Call) where
       go (inl k) f g = f k
       go (inr k) f g = g k
 
-  -- the last member assumes a yes everywhere
+  -- The last member assumes a yes everywhere.
   pub last_member : {as' : Assumptions} {ms : List Assumptions} → Cover v call as' ms → Extends all_match as'
       → (others : List Assumptions) × (last : Assumptions) × (ms ≡ others ++ last ∷ []) × Extends all_match last
   last_member {as'} (whole e) h = ([], as', refl, h)
@@ -89,7 +89,7 @@ module _ (v : Sense) (call : Call) where
     member_verdict m in_ms c ext = let x = members m in_ms in
         settled_verdict (mode_of call m) _ _ (follows.agrees (completion_of m)) (follows.agrees c) (follows.speaks call m c x.own ext x.ends)
 
-    -- all members accept exactly where every completion does
+    -- All members accept if and only if every completion does.
     pub all_accept_each : (all_accept v ms ≡ true) ↔ EachAccepts v
     all_accept_each = (to, from)
       where

@@ -1,4 +1,4 @@
--- What is said from some depth on is said of every sense that the nodes mean.
+-- A fact that holds from some depth on holds of every sense that the nodes mean.
 use Rattle.std.proofs.Common.{ℕ, ◌+◌, length, suc, [], subst, arith}
 use Rattle.serde_json.specs.Data.{Data}
 use Rattle.theory_definitions.specs.Matching.{Matcher}

@@ -87,7 +87,7 @@ module _ (v : Sense) where
   kept_first (keep s rest) = h.here s
   kept_first (leave s rest) = h.later s (kept_first rest)
 
-  -- the head of the shared errors is the first shared one
+  -- The head of the shared errors is the first shared error.
   pub first_is_head : {es kept : List Error} {o : Option Error} → Kept v es kept → h.FirstShared v es o → o ≡ first_error kept
   first_is_head none h.none = refl
   first_is_head (keep s rest) (h.here t) = refl
@@ -101,7 +101,7 @@ module _ (v : Sense) where
   first_listed most call [] (e ∷ es) is same = (is.0, subst (λ z. h.IsFailure v most z e) same is.1)
 
 module _ (v : Sense) (call : Call) (follows : Follows v) where
-  -- what is listed is empty exactly where every completion accepts
+  -- The list of errors is empty if and only if every completion accepts.
   pub listed_none : (most : ℕ) (es : List Error) → h.Lists v most call es → (es ≡ []) ↔ EachAccepts v
   listed_none most es (shared, is_shared, is) = go shared es is_shared is
     where
@@ -123,7 +123,7 @@ module _ (v : Sense) (call : Call) (follows : Follows v) where
     pub verdict_says : (limit : ℕ) → 2 * length ms ≤ limit + 1 → h.VerdictSays v limit call (all_accept v ms)
     verdict_says limit few = (λ d. all_accept_each v call follows ms cover, λ n. absurd (n (ms, cover, few)))
 
-    -- ---- errors, where each member's run wants all of them
+    -- ---- errors, if the run of each member collects all of them
 
     module _ (wants_all : (m : Assumptions) → Contains ms m → mode_of call m ≡ for_all) (others : List Assumptions) (last : Assumptions) (is : ms ≡ others ++ last ∷ []) where
       last_yes : Extends all_match last
@@ -141,7 +141,7 @@ module _ (v : Sense) (call : Call) (follows : Follows v) where
       last_in : Contains ms last
       last_in = subst (λ l. Contains l last) (sym is) (Contains-append_right others (last ∷ []) last (zero, omega arith, refl))
 
-      -- the errors of the last member that each other one has are the shared ones, in order
+      -- The errors of the last member that each other member has are the shared ones, in order.
       pub shared_with_is : Shared v (shared_with v others last)
       shared_with_is = subst (Shared v) (filter_same (in_each v ms) (in_each v others) (errors_of v last) in_others)
           (shared_is v call ms last cover (faithful v call follows ms cover wants_all) last_in last_yes)
@@ -157,7 +157,7 @@ module _ (v : Sense) (call : Call) (follows : Follows v) where
       some_refuse e = let (m, in_ms, nay) = refused_one (λ m. is_nil (errors_of v m)) (others ++ last ∷ []) e in
           (completion_of m, refuses_from (v.says (completion_of m)) (follows.agrees (completion_of m)) (nil_not (errors_of v m) nay))
 
-      -- one member alone shares all its errors
+      -- A single member shares all its errors.
       branches : {ns : List Assumptions} → Cover v call [] ns → ns ≡ others ++ last ∷ [] → shared_with v others last ≡ [] → none_has v (others ++ last ∷ []) ≡ false
           → (m : Met) × (branch_at v call [] ≡ Some m)
       branches (split m e s t) same kept nay = (m, e)
@@ -169,7 +169,7 @@ module _ (v : Sense) (call : Call) (follows : Follows v) where
           go (x ∷ []) same kept nay = absurd (cc same)
           go (x ∷ (y ∷ l)) same kept nay = absurd (cc same)
 
-      -- the sentence of `iter_errors`
+      -- The sentence of `iter_errors`.
       pub lists : (most : ℕ) (failure : Error) → ((m : Met) → branch_at v call [] ≡ Some m → h.IsFailure v most call failure) → h.Lists v most call (listed v others last failure)
       lists most failure fails = (shared_with v others last, shared_with_is, go (shared_with v others last) refl)
         where
@@ -182,7 +182,7 @@ module _ (v : Sense) (call : Call) (follows : Follows v) where
               by true nay = none_each nay
               by false nay = let (m, at) = branches cover is e nay in (some_refuse nay, fails m at, refl)
 
--- ---- one member alone
+-- ---- a single member
 
 pub listed_alone : (v : Sense) (last : Assumptions) (failure : Error) → listed v [] last failure ≡ errors_of v last
 listed_alone v last failure = ap (λ es. or_failure es (is_nil (errors_of v last) && true) failure) (filter_yes (errors_of v last)) ∙ go (errors_of v last)
@@ -196,7 +196,7 @@ alone {x} [] last e = (refl, same_last [] [] x last e)
 alone (y ∷ []) last e = absurd (cc e)
 alone (y ∷ (z ∷ l)) last e = absurd (cc e)
 
--- the further runs of `validate` and `evaluate` want all errors
+-- The further runs of `validate` and `evaluate` collect all errors.
 pub validate_later : WantsAllLater validate
 validate_later [] some = absurd (some refl)
 validate_later (a ∷ as') some = refl
@@ -218,7 +218,8 @@ module _ (v : Sense) (follows : Follows v) (others : List Assumptions) (last : A
       → ((m : Met) → branch_at v iter_errors [] ≡ Some m → h.IsFailure v limit iter_errors failure) → h.ErrorsSay v limit (listed v others last failure)
   errors_say limit ms cover is few fails = (λ d. lists v iter_errors follows ms cover (λ m k. refl) others last is limit failure fails, λ n. absurd (n (ms, cover, few)))
 
-  -- so of each call whose further runs want all errors, where its first run meets an unfinished match
+  -- The same of each call whose further runs collect all errors, if its first run meets an
+  -- unfinished match.
   pub later_errors_say : (limit : ℕ) (call : Call) → WantsAllLater call → (ms : List Assumptions) → Cover v call [] ms → ¬ (branch_at v call [] ≡ None) → ms ≡ others ++ last ∷ [] → 2 * length ms ≤ limit + 1
       → ((m : Met) → branch_at v call [] ≡ Some m → h.IsFailure v limit call failure) → h.ErrorsOf v limit call (listed v others last failure)
   later_errors_say limit call later _ (whole e) some is few fails = absurd (some e)
@@ -227,7 +228,7 @@ module _ (v : Sense) (follows : Follows v) (others : List Assumptions) (last : A
     λ n. absurd (n (ns ++ ys, split m e s t, few)),
   )
 
-  -- the first run alone: its first error is that of every completion
+  -- The first run alone: its first error is that of every completion.
   first_alone : (most : ℕ) → branch_at v validate [] ≡ None → (o : Option Error) × h.FirstShared v (v.says all_match).errors o × h.IsFirst v most o (first_error (errors_of v []))
   first_alone most e = go (v.says all_match).errors refl
     where
@@ -276,7 +277,7 @@ module _ (v : Sense) (follows : Follows v) (others : List Assumptions) (last : A
       let each = listed_none v evaluate follows most _ (lists v evaluate follows (ns ++ ys) (split m e s t) (split_wants_all v evaluate evaluate_later m s t) others last is most failure fails) in
       (λ e'. each.0 (nil_is _ e'), λ k. ap is_nil (each.1 k))
 
-  -- an evaluation is valid where nothing is listed
+  -- An evaluation is valid if nothing is listed.
   pub evaluate_says : (limit : ℕ) (ms : List Assumptions) → Cover v evaluate [] ms → ms ≡ others ++ last ∷ [] → 2 * length ms ≤ limit + 1
       → ((m : Met) → branch_at v evaluate [] ≡ Some m → h.IsFailure v limit evaluate failure) → h.VerdictSays v limit evaluate (is_nil (listed v others last failure))
   evaluate_says limit ms cover is few fails = (λ d. nil_members limit ms cover is fails, λ n. absurd (n (ms, cover, few)))

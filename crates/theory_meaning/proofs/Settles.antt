@@ -1,4 +1,5 @@
--- What numbered nodes say settles, since the measure falls with each question.
+-- What numbered nodes say becomes final at some depth, because the measure decreases with each
+-- question.
 use Rattle.std.proofs.Common.{◌≡◌, ℕ, zero, suc, ◌<◌, ◌==◌, Bool, true, false, List, [], ◌∷◌, refl, sym, subst, ap, ap₂, arith}
 use Rattle.std.specs.Prelude.{Contains, Option, Some, None, option_and_then, slice_get, filter_map, map}
 use Rattle.std.specs.List.{list_any, cons_option}
@@ -18,7 +19,7 @@ use Rattle.theory_meaning.proofs.Falls.{below_falls, left_below, left_entered, l
 use Rattle.theory_meaning.proofs.Local.{same_outcome, each_asked}
 use Rattle.std.proofs.lemmas.List.Elements.{All-contains}
 
--- what is picked by its number is in the list
+-- The element with a given number is in the list.
 pub picked : {A B : Type 0} (h : A → Option B) (xs : List A) (i : ℕ) (y : B) → option_and_then h (slice_get xs i) ≡ Some y → Contains (filter_map h xs) y
 picked h [] i y e = absurd (let f : ⊥ = cc in f)
 picked {B = B} h (x ∷ xs) zero y e = subst (λ (o : Option B). Contains (cons_option o (filter_map h xs)) y) (sym e) (zero, omega arith, refl)
@@ -29,7 +30,7 @@ picked {B = B} h (x ∷ xs) (suc i) y e = go (h x) (picked h xs i y e)
     go (Some u) k = later u _ y k
 
 module _ {K : Type 0} (instance : Data) (nodes : Nodes K) where
-  -- the edges and the places below that a number may ask
+  -- The edges and the places below that a number may ask.
   pub record NodeAsks (i : ℕ) (p : Place) (e : NodeEdge) (b : Below) : Type 0 where
     pub edge : Contains (node_edges (nodes.entries i)) e
     pub present : IsPresent (subject_in instance p) (steps_below b)
@@ -62,7 +63,7 @@ module _ {K : Type 0} (instance : Data) (nodes : Nodes K) where
           (λ g. let f = free_falls i p busy e d l asks g in settles m n e.node _ _ (progress_below busy d) (ranked i l e asks.edge).0 (omega arith) (omega arith))
           (λ g. let f = guarded_falls i p busy e d l asks g in settles m n e.node _ _ (e.node ∷ progress_below busy d) (ranked i l e asks.edge).0 (omega arith) (omega arith)))
 
--- ---- an outcome reads its answers only where the number may ask
+-- ---- an outcome reads only the answers to questions that the number may ask
 
 module _ {K R : Type 0} (keywords : Keywords K R) (matcher : Matcher) (instance : Data) (nodes : Nodes K) where
   module _ (reads : Reads keywords) (c : Completion) (i : ℕ) (path : Text) (p : Place) (f g : NodeEdge → Below → Outcome) where

@@ -1,4 +1,4 @@
--- The place that a pointer shows stands in an instance where the place itself does.
+-- If an instance has a value or a name at a place, it has one at the place that the pointer shows.
 use Rattle.std.proofs.Common.{◌≡◌, true, [], ◌∷◌, refl}
 use Rattle.std.specs.Prelude.{Option, Some, None, is_some, option_and_then}
 use Rattle.serde_json.specs.Data.{Data, array, boolean, null, number, object, string}
@@ -6,7 +6,7 @@ use Rattle.theory_definitions.specs.Instance.{Place, Subject, Text, a_name, a_va
 use Rattle.theory_definitions.specs.Pointer.{shown_place}
 use Rattle.theory_meaning.proofs.ErrorsLead.{Stands}
 
--- nothing lies below a name
+-- Nothing lies below a name.
 after_name : (p : Place) (k : Text) (x : Subject) → is_some (subject_from p (a_name k)) ≡ true → is_some (subject_from (shown_place p) x) ≡ true
 after_name [] k x h = refl
 after_name (to_member j ∷ p) k x h = absurd (cc h)

@@ -1,4 +1,4 @@
--- Where no question returns, a number says what unfolding says of its key.
+-- If no question returns, a number says what unfolding says of its key.
 use Rattle.std.proofs.Common.{◌≡◌, ℕ, zero, suc, ◌<◌, ◌≤◌, ◌==◌, Bool, true, false, ◌&&◌, ◌||◌, List, [], ◌∷◌, ◌++◌, length, refl, sym, subst, ◌∙◌, ap, arith, rules, true≢false, inl, inr}
 use Rattle.std.specs.Prelude.{Contains, Option, Some, None, ◌⊎◌, bytes_eq}
 use Rattle.std.specs.List.{list_any}
@@ -20,7 +20,7 @@ use Rattle.theory_meaning.proofs.Questions.{Asks, asked_in, further, goes_by}
 use Rattle.theory_definitions.proofs.SameVocabularies.{vocabularies_itself}
 use Rattle.theory_meaning.proofs.Settles.{NodeAsks, free_falls, guarded_falls}
 
--- ---- what is equal is the same
+-- ---- equal things are the same
 
 pub same_number : (n : ℕ) → (n == n) ≡ true
 same_number n = search rules
@@ -65,7 +65,7 @@ or_cases true b h = inl refl
 or_cases false b h = inr h
 
 module _ {S K R : Type 0} (w : Parts S K R) (instance : Data) (keys : Numbers S) (nodes : Nodes K) where
-  -- an edge of a number and the edge of its key, which the same question asks
+  -- An edge of a number and the edge of its key that the same question asks.
   pub record BothAsk (i : ℕ) (k : Key S) (p : Place) (e : NodeEdge) (b : Below) (edge : Edge S) : Type 0 where
     pub number : IsNumber keys e.node edge.key
     pub path : e.path ≡ edge.path
@@ -79,13 +79,14 @@ module _ {S K R : Type 0} (w : Parts S K R) (instance : Data) (keys : Numbers S)
       (same : (i : ℕ) (k : Key S) → IsNumber keys i k → (path : Text) (p : Place) (f : NodeEdge → Below → X) (g : Edge S → Place → X)
       → ((e : NodeEdge) (b : Below) (edge : Edge S) → BothAsk w instance keys nodes i k p e b edge → f e b ≡ g edge (place_below p b)) → node i path p f ≡ key k path p g)
       (root : Asked w instance) (none : ¬ (Return w instance root))
-      -- so many references are enough here: for each question on, and one less for what a reference leads to
+      -- This number of references is sufficient here: also for each further question, and one less
+      -- for the target of a reference.
       (Enough : ℕ → ℕ → List ℕ → Asked w instance → Type 0)
       (on : (n i j : ℕ) (busy busy' : List ℕ) (a c : Asked w instance) → Contains (questions w instance a) c → left nodes (length keys) j (subject w instance c.place) busy' < left nodes (length keys) i (subject w instance a.place) busy
       → Enough n i busy a → Enough n j busy' c)
       (one_less : (n i j : ℕ) (busy busy' : List ℕ) (a c : Asked w instance) → Contains (questions w instance a) c → left nodes (length keys) j (subject w instance c.place) busy' < left nodes (length keys) i (subject w instance a.place) busy
       → Enough n i busy a → (n' : ℕ) × (n ≡ suc n') × Enough n' j busy' c) where
-    -- each number in progress has been asked at this place, on the way here
+    -- Each number in progress was asked at this place, on the path to here.
     Carried : List ℕ → Asked w instance → Type 0
     Carried busy a = (j : ℕ) → list_any (λ i. i == j) busy ≡ true
         → (b : Asked w instance) × IsNumber keys j b.key × (b.place ≡ a.place) × LeadsTo w instance root b × LeadsTo w instance b a
@@ -107,7 +108,7 @@ module _ {S K R : Type 0} (w : Parts S K R) (instance : Data) (keys : Numbers S)
         go (inl e) = (c, subst (λ m. IsNumber keys m c.key) (eqb-true j n e) number, refl, way, stays)
         go (inr e) = h n e
 
-    -- a number in progress is not asked again
+    -- A number in progress is not asked again.
     not_again : (a c : Asked w instance) (busy : List ℕ) (b : Below) (j : ℕ) → c.place ≡ place_below a.place b → IsNumber keys j c.key → Contains (questions w instance a) c → Carried busy a
         → list_any (λ i. i == j) (progress_below busy b) ≡ true → ⊥
     unfolding Carried
@@ -125,7 +126,7 @@ module _ {S K R : Type 0} (w : Parts S K R) (instance : Data) (keys : Numbers S)
         })
     not_again a c busy (down s) j e number q h is = true≢false (sym is)
 
-    -- where a reference leads, with n more
+    -- The target of a reference, with n more references.
     over : ℕ → Key S → Text → Place → X
     over zero k path p = last
     over (suc n) k path p = unfolded w instance last key n k path p
@@ -160,7 +161,7 @@ module _ {S K R : Type 0} (w : Parts S K R) (instance : Data) (keys : Numbers S)
     reference_step m ih n j c busy' number way k (n', is, most) low =
         ih n' (height w c.key) j c busy' number way k most (omega arith) low ∙ sym (unfolded_is n' c.key c.path c.place) ∙ ap (λ u. over u c.key c.path c.place) (sym is)
 
-    -- one question on
+    -- One more question.
     step : (m : ℕ) → Simulates m → (n h i : ℕ) (a : Asked w instance) (busy : List ℕ) → IsNumber keys i a.key → LeadsTo w instance root a → Carried busy a
         → Enough n i busy a → height w a.key ≤ suc h → measure i a busy ≤ m → (e : NodeEdge) (b : Below) (edge : Edge S) → BothAsk w instance keys nodes i a.key a.place e b edge
         → across yes node (guarded_within yes node m) a.path a.place busy e b
@@ -190,7 +191,7 @@ module _ {S K R : Type 0} (w : Parts S K R) (instance : Data) (keys : Numbers S)
     simulates (suc m) n (suc h) i a busy number way carried most high low =
         same i a.key number a.path a.place _ _ (λ e b edge pair. step m (simulates m) n h i a busy number way carried most high (omega arith) e b edge pair)
 
-    -- with nothing in progress, at every depth that is enough
+    -- With nothing in progress, at every sufficient depth.
     pub says_unfolding : (m n i : ℕ) → IsNumber keys i root.key → left nodes (length keys) i (subject w instance root.place) [] < m → Enough n i [] root
         → guarded_within yes node m i root.path root.place [] ≡ unfolded w instance last key n root.key root.path root.place
     unfolding Simulates measure

@@ -1,4 +1,4 @@
--- The sites that a run over numbered nodes gives lie inside the instance.
+-- The sites that a run over numbered nodes reports lie inside the instance.
 use Rattle.std.proofs.Common.{◌≡◌, ℕ, zero, suc, ◌==◌, Bool, true, false, cond, List, [], ◌∷◌, ◌++◌, refl, ap, subst}
 use Rattle.std.specs.Prelude.{All, Option, Some, None, unwrap_or}
 use Rattle.std.specs.List.{list_any}
@@ -16,7 +16,7 @@ use Rattle.theory_meaning.specs.Numbered.{subject_in}
 use Rattle.theory_meaning.proofs.ErrorsLead.{Stands, stands_at, stands_below}
 
 module _ (instance : Data) where
-  -- where a site has a place, something stands there
+  -- If a site has a place, the instance has a value or a name there.
   abbrev pub SiteStands : Site → Type 0
   SiteStands site = (path : Text) (place : Place) → site.located ≡ Some (path, place) → Stands instance place
 
@@ -146,7 +146,7 @@ module _ (instance : Data) where
         (either_inside (list_any (λ j. j == e.node) (progress_below busy b)) (yes_inside e.node (path ++ e.path) (place_below p b)) (within_inside n e.node (path ++ e.path) (place_below p b) (e.node ∷ progress_below busy b) at_b))
         (within_inside n e.node (path ++ e.path) (place_below p b) (progress_below busy b) at_b))
 
-  -- each site that a run of a call gives lies inside the instance
+  -- Each site that a run of a call reports lies inside the instance.
   pub sites_inside : {K R : Type 0} (keywords : Keywords K R) → EachKeeps keywords → (matcher : Matcher) (nodes : Nodes K) (n root : ℕ) (call : Call) (as' : Assumptions)
       → All MetInside ((guarded_sense keywords matcher nodes (subject_in instance) n root).meets call as')
   sites_inside keywords each matcher nodes n root call as' = (within_inside keywords each matcher nodes as' n root [] [] [] refl).sites (mode_of call as')

@@ -1,4 +1,4 @@
--- Unfolding deeper changes nothing where no chain of questions goes through so many references.
+-- Unfolding deeper changes nothing if no chain of questions goes through that many references.
 use Rattle.std.proofs.Common.{◌≡◌, ℕ, zero, suc, ◌≤◌, refl, Bool, true, false, arith}
 use Rattle.serde_json.specs.Data.{Data}
 use Rattle.theory_definitions.specs.Instance.{Text, Place}
@@ -9,7 +9,7 @@ use Rattle.theory_definitions.specs.Meaning.{within, unfolded}
 module _ {S K R : Type 0} (w : Parts S K R) (instance : Data) {X : Type 0} (last : X) (node : Key S → Text → Place → (Edge S → Place → X) → X)
     (Asks : Key S → Place → Edge S → Place → Type 0)
     (local : (k : Key S) (path : Text) (p : Place) (f g : Edge S → Place → X) → ((edge : Edge S) (q : Place) → Asks k p edge q → f edge q ≡ g edge q) → node k path p f ≡ node k path p g) where
-  -- every chain of questions from the key at the place goes through at most n references
+  -- Every chain of questions from the key at the place goes through at most n references.
   pub data Shallow : ℕ → Key S → Place → Type 0 where
     no_reference : {k : Key S} {p : Place}
         → ((edge : Edge S) (q : Place) → Asks k p edge q → edge.is_reference ≡ true → ⊥)

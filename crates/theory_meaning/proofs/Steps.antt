@@ -1,4 +1,5 @@
--- The plain meaning, where no question returns, is that of questions at most so deep, each child asked by its key alone.
+-- If no question returns, the plain meaning is that of questions to a bounded depth, in which each
+-- child is asked by its key alone.
 use Rattle.std.proofs.Common.{◌≡◌, ℕ, zero, suc, ◌+◌, ◌*◌, ◌≤◌, Bool, true, false, List, [], ◌∷◌, ◌++◌, length, refl, sym, ◌∙◌, arith}
 use Rattle.std.specs.Prelude.{Contains}
 use Rattle.std.specs.List.{list_any}
@@ -14,7 +15,7 @@ use Rattle.theory_meaning.proofs.SameOutcome.{asks_edge}
 use Rattle.theory_meaning.proofs.Trails.{Trail, begins, goes, grid_short}
 
 module _ {S K R : Type 0} (w : Parts S K R) (instance : Data) {X : Type 0} (last : X) (node : Key S → Text → Place → (Edge S → Place → X) → X) where
-  -- with questions at most n deep, subschemas and references alike
+  -- With questions at most n deep, for subschemas and references alike.
   abbrev pub in_steps : ℕ → Key S → Text → Place → X
   in_steps zero k path p = last
   in_steps (suc n) k path p = node k path p (λ edge q. in_steps n edge.key (path ++ edge.path) q)
@@ -26,7 +27,7 @@ module _ {S K R : Type 0} (w : Parts S K R) (instance : Data) {X : Type 0} (last
       (at_places : (a : Asked w instance) → LeadsTo w instance root a → list_any (same_place a.place) (places instance) ≡ true)
       (one_target : (a b k : Target S) → same_target w a k ≡ true → same_target w b k ≡ true → same_target w a b ≡ true)
       (one_place : (a b p : Place) → same_place a p ≡ true → same_place b p ≡ true → same_place a b ≡ true) where
-    -- where a reference leads, with n more
+    -- The target of a reference, with n more references.
     over : ℕ → Key S → Text → Place → X
     over zero k path p = last
     over (suc n) k path p = unfolded w instance last node n k path p
@@ -40,7 +41,7 @@ module _ {S K R : Type 0} (w : Parts S K R) (instance : Data) {X : Type 0} (last
     by_kind true x y z f g = f refl
     by_kind false x y z f g = g refl
 
-    -- so many questions are enough for those that are left, on the way here
+    -- This number of questions is sufficient for those that are left, on the path to here.
     Enough : ℕ → List (Asked w instance) → Type 0
     Enough n seen = length targets * length (places instance) ≤ length seen + n
 
@@ -65,7 +66,8 @@ module _ {S K R : Type 0} (w : Parts S K R) (instance : Data) {X : Type 0} (last
         (λ is. reference_step m (steps m) n seen a c t on (omega arith) high)
         (λ is. let f = inside a.key edge (asks_edge w instance a.key a.place edge q asks) is in steps m n h (a ∷ seen) c (goes t on) (omega arith) (omega arith) (omega arith)))
 
-    -- so many references and so many questions give one meaning, where both are enough
+    -- A number of references and a number of questions yield the same meaning, if both are
+    -- sufficient.
     pub steps_unfold : (m n : ℕ) → length targets * length (places instance) ≤ m → length targets * length (places instance) ≤ n
         → in_steps m root.key root.path root.place ≡ unfolded w instance last node n root.key root.path root.place
     unfolding Steps Enough

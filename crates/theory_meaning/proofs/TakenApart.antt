@@ -1,4 +1,5 @@
--- Lists that grow from one by branching on matches that are not yet assumed: each completion extends exactly one of them.
+-- Lists that grow from one list by branching on matches that are not yet assumed: each completion
+-- extends exactly one of them.
 use Rattle.std.proofs.Common.{◌≡◌, ◌+◌, ◌⊎◌, ℕ, zero, suc, List, [], ◌∷◌, ◌++◌, Bool, true, false, length, refl, ap, subst, inl, inr, arith, cond, sym}
 use Rattle.std.specs.Prelude.{Contains, None, Some, find, option_map, slice_get}
 use Rattle.std.proofs.lemmas.List.Elements.{Contains-append_cases}
@@ -39,7 +40,7 @@ get_cases (y ∷ xs) ys (suc j) x e = go (get_cases xs ys j x e)
     go (inl at_j) = inl at_j
     go (inr (i, is, at_i)) = inr (i, omega arith, at_i)
 
--- ---- lists that are taken apart
+-- ---- lists that separate the completions
 
 pub data Taken : Assumptions → List Assumptions → Type 0 where
   one_list : {as' : Assumptions} → Taken as' (as' ∷ [])
@@ -97,7 +98,7 @@ one_taken {as'} c (two_sides {no = ns} {yes = ys} m e s t) h = go (completed c m
         by i only j y ext' (inl at_j) = absurd (cc (is, says_no j y at_j ext'))
         by i only j y ext' (inr (n, same, at_n)) = let it : n ≡ i = only n (y, at_n, ext') in omega arith
 
--- ---- a whole tree takes the completions apart
+-- ---- a whole tree separates the completions
 
 pub taken_tree : {T : Type 0} (as' : Assumptions) (tree : Tree T) → BranchesAreNew as' tree → waiting tree ≡ 0 → Taken as' (lists_of as' tree)
 taken_tree as' unrun new w = absurd (omega arith)
@@ -108,7 +109,8 @@ taken_tree as' (branch r f a b) new w =
 pub takes_apart : {T : Type 0} (as' : Assumptions) (tree : Tree T) → BranchesAreNew as' tree → waiting tree ≡ 0 → TakesApart as' (lists_of as' tree)
 takes_apart as' tree new w c h = one_taken c (taken_tree as' tree new w) h
 
--- ---- its branchings are on matches that are not yet assumed, where each use of the run hands back the assumptions that it got
+-- ---- its branchings are on matches that are not yet assumed, if each use of the run returns the
+-- assumptions that it received
 
 module _ {S T : Type 0} (Step : S → Remembered → Remembered → T → S → Type 0) (start : S) where
   pub reaches_end : (as' : Assumptions) (s : S) (tree : Tree T) (end : S) → Reaches Step start s → Grows Step as' s tree end → Reaches Step start end

@@ -1,4 +1,5 @@
--- The questions behind one, on a way that never returns, are fewer than the targets times the places.
+-- The questions behind one, on a path that never returns, are fewer than the targets times the
+-- places.
 use Rattle.std.proofs.Common.{◌≡◌, ℕ, ◌*◌, ◌≤◌, ◌<◌, List, [], ◌∷◌, length, map, refl, sym, subst, Bool, true, false, ◌&&◌, arith}
 use Rattle.std.specs.Prelude.{Contains, nat_eq}
 use Rattle.std.specs.List.{AllByRecursion, IsDistinct, list_any}
@@ -14,7 +15,7 @@ use Rattle.theory_meaning.proofs.Questions.{further}
 use Rattle.theory_definitions.proofs.Products.{both_left, both_right, in_either, both_true, index, index_below, met_at, product, length-product, any_product}
 
 module _ {S K R : Type 0} (w : Parts S K R) (instance : Data) (root : Asked w instance) where
-  -- the questions behind one, the latest first
+  -- The questions behind one, the latest first.
   pub data Trail : List (Asked w instance) → Asked w instance → Type 0 where
     begins : Trail [] root
     goes : {seen : List (Asked w instance)} {a b : Asked w instance} → Trail seen a → Contains (questions w instance a) b → Trail (a ∷ seen) b
@@ -28,7 +29,8 @@ module _ {S K R : Type 0} (w : Parts S K R) (instance : Data) (root : Asked w in
   trail_leads (goes t h) = further w instance (trail_leads t) h
 
   module _ (none : ¬ (Return w instance root))
-      -- a number below `bound` for each question that the root leads to, equal for two that ask one target at one place
+      -- A number below `bound` for each question that the root leads to, equal for two questions
+      -- with the same target at the same place.
       (bound : ℕ) (code : Asked w instance → ℕ)
       (below : (a : Asked w instance) → LeadsTo w instance root a → code a < bound)
       (tells : (a b : Asked w instance) → LeadsTo w instance root a → LeadsTo w instance root b → code b ≡ code a → same_question w instance a b ≡ true) where

@@ -1,4 +1,4 @@
--- The laws of `begin` and of one turn make whole runs end rightly.
+-- The laws of `begin` and of one turn imply that whole runs end rightly.
 use Rattle.std.proofs.Common.{arith, ◌≡◌, ℕ, zero, suc, ◌<◌, List, [], refl, sym, subst, ◌∙◌, ◌⊎◌, inl, inr}
 use Rattle.std.specs.Prelude.{Bool, Option, Some}
 use Rattle.std.specs.List.{list_any}
@@ -12,7 +12,7 @@ use Rattle.theory_definitions.specs.Turns.{FunctionLaws, reply_to, marks_after, 
 
 module _ {K R : Type 0} (keywords : Keywords K R) (m : K) (absorbed : List Text) (remaining : Subject → R → ℕ) (can_be : Subject → R → Type 0) (end_of : Standing R → Answer) (Fits : Standing R → Type 0)
     (laws : TurnLaws keywords m absorbed remaining can_be end_of Fits) where
-  -- a number that falls with each turn bounds the turns
+  -- A number that decreases with each turn bounds the turns.
   ends_within : (s : Subject) (n : ℕ) (r : R) (reply : Reply) → can_be s r → remaining s r < n → EndsWithin keywords m s n r reply
   ends_within s zero r reply can less = absurd (omega arith)
   ends_within s (suc n) r reply can less = go (laws.falls s r reply can) (λ next fewer. ends_within s n (keywords.turn m s r reply) next (laws.goes_on s r reply can) fewer)
@@ -104,7 +104,7 @@ module _ {K R : Type 0} (keywords : Keywords K R) (m : K) (absorbed : List Text)
         let (r, is, stands) = reaches (keywords.most_turns m s) [] (keywords.begin m s mode) no_reply within fits in
         (r, is, subst (IsRight keywords m s matches a u same mode) (sym stands) right)
 
-  -- the laws of turns give the laws of whole runs
+  -- The laws of turns imply the laws of whole runs.
   pub keeps_of_turns : FunctionLaws keywords m absorbed → KeepsLaws keywords m absorbed
   keeps_of_turns functions = record {
     ends = λ s mode. ends_within s (keywords.most_turns m s) (keywords.begin m s mode) no_reply (laws.starts s mode) (laws.bounded s mode);

@@ -1,4 +1,5 @@
--- Units of numbered nodes point at a keyword and at a value where they have errors, whether questions return or not.
+-- Units of numbered nodes that have errors point at a keyword and at a value, whether questions
+-- return or not.
 use Rattle.std.proofs.Common.{◌≡◌, ℕ, zero, suc, Bool, true, false, ◌==◌, List, [], ◌∷◌, ◌++◌, refl, sym, subst, ap, ◌∙◌, arith, map}
 use Rattle.std.specs.Prelude.{All, Contains, Option, Some, None, filter, flat_map, option_map, if◌then◌else◌, nat_le, not}
 use Rattle.std.specs.List.{list_any}
@@ -33,12 +34,12 @@ module _ (P : Report → Type 0) where
   abbrev Each : Unit_ → Type 0
   Each u = EachUnit P u
 
-  -- all units of a list
+  -- All units of a list.
   each_in : (us : List Unit_) → All Each us → EachUnitOf P (units_of us)
   each_in [] h = tt
   each_in (u ∷ us) h = (All-head Each u us h, each_in us (All-tail Each u us h))
 
-  -- what an entry has, its own unit and those that it absorbs
+  -- The units of an entry: its own, and those that it absorbs.
   abbrev EachOfPart : PartUnits → Type 0
   EachOfPart x = Each x.0 × All (λ (a : Text × Unit_). Each a.1) x.1
 
@@ -75,7 +76,7 @@ module _ (P : Report → Type 0) where
 
 -- ---- parts
 
--- a reference's edge adds its keyword's name to the evaluation path
+-- A reference's edge adds the name of its keyword to the evaluation path.
 path_named : {S K R : Type 0} (w : Parts S K R) (k : Key S) (name : Text) (kind : Reference) (text : Text) (edge : Edge S) → reference_edge w k name kind text ≡ Some edge → edge.path ≡ joined [] name
 path_named w k name kind text edge is = go (ok_of (found w k kind text)) is
   where
@@ -95,11 +96,12 @@ module _ {S K R : Type 0} (w : Parts S K R) (absorbs : K → List Text) (laws : 
   abbrev AllPoint : Unit_ → Type 0
   AllPoint u = UnitsPoint w root instance u
 
-  -- what a question answers at an evaluation path: its unit stands there, and all units in it point
+  -- The answer to a question at an evaluation path: its unit is at that path, and all units in it
+  -- point.
   abbrev Lead : Text → Unit_ → Type 0
   Lead path u = ((report_of u).evaluation_path ≡ path) × AllPoint u
 
-  -- the rest of a path, by the target's plan
+  -- The rest of a path, by the target's plan.
   abbrev RestOf : Text → Plan K → Type 0
   RestOf rest o = elim o [ always ↦ ⊥ | never ↦ rest ≡ [] | these xs ↦ (name : Text) × (steps : Place) × (Contains (flat_map (names w) xs) name) × (rest ≡ joined [] name ++ pointer_to steps) ]
 
@@ -112,7 +114,7 @@ module _ {S K R : Type 0} (w : Parts S K R) (absorbs : K → List Text) (laws : 
     abbrev at_node : Where
     at_node = node_at w.keywords w.matcher nodes (subject_in instance) i path p
 
-    -- a unit that stands at the keyword of a name, or at the target itself where that is `false`
+    -- A unit at the keyword of a name, or at the target itself if that is `false`.
     pointing : (rest : Text) → IsRest w k rest → (r : Report) → r.evaluation_path ≡ path ++ rest → r.schema_path ≡ nodes.location i ++ rest → r.instance_location ≡ pointer_to p
         → r.absolute ≡ nodes.absolute i r.schema_path → UnitPointsAt w root instance r
     pointing rest ends r at_path at_schema at_instance at_absolute = record {
@@ -133,7 +135,7 @@ module _ {S K R : Type 0} (w : Parts S K R) (absorbs : K → List Text) (laws : 
     )
 
     module _ (ys : List (Part K)) (is_plan : plan w k ≡ these ys) (y : Part K) (in_ys : Contains ys y) where
-      -- the rest that is the path of one of the part's names
+      -- The rest that is the path of one of the part's names.
       named : (name : Text) → Contains (names w y) name → IsRest w k (joined [] name)
       named name in_names = subst (RestOf (joined [] name)) (sym is_plan)
           (name, [], in_flat_map (names w) ys y name in_ys in_names, sym (append-nil (joined [] name)))
@@ -142,7 +144,7 @@ module _ {S K R : Type 0} (w : Parts S K R) (absorbs : K → List Text) (laws : 
       is_edge edge h = subst (λ (o : Plan K). Contains (elim o [ always ↦ [] | never ↦ [] | these xs ↦ flat_map (λ x. part_edges w k x.name x.form) xs ]) edge) (sym is_plan)
           (in_flat_map (λ (x : Part K). part_edges w k x.name x.form) ys y edge in_ys h)
 
-      -- the unit of a name, with units inside it that point
+      -- The unit of a name, with units inside it that point.
       unit_points : (a : Named) → Contains (names w y) a.name → All AllPoint a.children → AllPoint (keyword_unit at_node a)
       unit_points a in_names inside = (λ wrong. pointing (joined [] a.name) (named a.name in_names) _ refl refl refl refl, each_in Points a.children inside)
 
@@ -152,7 +154,7 @@ module _ {S K R : Type 0} (w : Parts S K R) (absorbs : K → List Text) (laws : 
       edge_leads (Some e) None b s at_b h = absurd s
       edge_leads (Some e) (Some edge) b s at_b h = (answers edge e b s.0 s.1 (goes edge way (is_edge edge (h edge refl))) at_b).1
 
-      -- what answers are handed on points as they do
+      -- Answers that are passed on point as they do.
       handed : (asked : Question → Unit_) (qs : List Question) → ((q : Question) → Contains qs q → AllPoint (asked q)) → (u : Unit_) → IsHandedOn asked qs u → AllPoint u
       handed asked qs each u on = subst AllPoint (sym on.2) (each on.0 on.1)
 
@@ -178,7 +180,8 @@ module _ {S K R : Type 0} (w : Parts S K R) (absorbs : K → List Text) (laws : 
                 (λ a h. unit_points a (in_names a.name h.0) (inside a.children h.1)) gives.absorbed on.absorbed),
           )
 
-      -- a reference's unit is its target's, at the reference's own path, which is the target's
+      -- The unit of a reference is that of its target, at the path of the reference, which is the
+      -- path of the target.
       reference_points : (e : NodeEdge) (u : Unit_) → e.path ≡ joined [] y.name → Lead (path ++ e.path) u → EachOfPart Points (reference_units at_node y.name u)
       reference_points e (unit r us) at_name h = (
         subst (λ (t : Text). AllPoint (unit (record r { evaluation_path = t }) us)) (h.0 ∙ ap (λ (t : Text). path ++ t) at_name) h.1,
@@ -203,7 +206,7 @@ module _ {S K R : Type 0} (w : Parts S K R) (absorbs : K → List Text) (laws : 
       part_points : (x : NodePart K) → SamePart w keys nodes k x y → EachOfPart Points (node_part_units w.keywords w.matcher nodes (subject_in instance) c i path p go x.name x.form)
       part_points x s = subst (λ (name : Text). EachOfPart Points (node_part_units w.keywords w.matcher nodes (subject_in instance) c i path p go name x.form)) (sym s.name) (form_points x.form y.form refl s.form)
 
-    -- all entries of a target
+    -- All entries of a target.
     entries_point : (all : List (Part K)) → plan w k ≡ these all → (xs : List (NodePart K)) (ys : List (Part K)) → SameParts w keys nodes k xs ys → ((y : Part K) → Contains ys y → Contains all y)
         → All (λ (x : Entry). EachOfPart Points x.units) (node_entries_of w.keywords w.matcher nodes (subject_in instance) c i path p go xs)
     entries_point all is [] ys s h = All-nil (λ (x : Entry). EachOfPart Points x.units)

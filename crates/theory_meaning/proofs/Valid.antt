@@ -1,4 +1,5 @@
--- A unit is valid exactly where its verdict is yes, and a verdict is yes exactly where there is no error.
+-- A unit is valid if and only if its verdict is yes, and a verdict is yes if and only if there is
+-- no error.
 use Rattle.std.proofs.Common.{◌≡◌, List, [], ◌∷◌, ◌++◌, refl, ap, ap₂, sym, ◌∙◌, Bool, true, false, not, cond, ◌&&◌, map}
 use Rattle.std.specs.Prelude.{Option, Some, None, filter, flat_map, nat_le, ◌↔◌}
 use Rattle.std.specs.List.{list_all}
@@ -57,7 +58,8 @@ pub and_true : (a : Bool) → (a && true) ≡ a
 and_true true = refl
 and_true false = refl
 
--- all are held exactly where those that a test picks are, and those that it leaves
+-- A property holds of all elements if and only if it holds of those that pass a test and of those
+-- that do not.
 parted : (q : Text × Unit_ → Bool) (units : List (Text × Unit_)) → (list_all held (filter q units) && list_all held (filter (λ a. not (q a)) units)) ≡ list_all held units
 parted q [] = refl
 parted q (x ∷ xs) = go (q x) (parted q xs)
@@ -67,7 +69,7 @@ parted q (x ∷ xs) = go (q x) (parted q xs)
     go true h = and_assoc (held x) _ _ ∙ ap (λ z. held x && z) h
     go false h = swapped (held x) (list_all held (filter q xs)) (list_all held (filter (λ a. not (q a)) xs)) ∙ ap (λ z. held x && z) h
 
--- an entry's own unit and those absorbed are valid exactly where its verdict is yes
+-- An entry's own unit and the absorbed ones are valid if and only if the entry's verdict is yes.
 pub record EntryValid (x : PartUnits) (o : Outcome) : Type 0 where
   pub all : (is_valid_unit x.0 && list_all held x.1) ≡ o.verdict
 
@@ -82,7 +84,7 @@ each_valid (one_more {x = x} {xs = xs} {o = o} {os = os} e es) =
     ∙ both_swapped (list_all held x.units.1) (list_all held (flat_map (λ y. y.units.1) xs)) (is_valid_unit x.units.0) (list_all is_valid_unit (map (λ y. y.units.0) xs))
     ∙ ap₂ (λ u v. u && v) e.all (each_valid es)
 
--- the units of all entries are valid exactly where each entry's verdict is yes
+-- The units of all entries are valid if and only if each entry's verdict is yes.
 pub entries_valid : {xs : List Entry} {o : Outcome} → EntriesValid xs o → list_all is_valid_unit (entry_units xs) ≡ o.verdict
 entries_valid {xs} {o} valid =
     let absorbed : List (Text × Unit_) = flat_map (λ x. x.units.1) xs in
@@ -95,7 +97,7 @@ entries_valid {xs} {o} valid =
     ∙ (ap (λ z. z && own) (ap₂ (λ a b. a && b) (list_all-map is_valid_unit (λ (a : Text × Unit_). a.1) (filter is_type absorbed)) (list_all-map is_valid_unit (λ (a : Text × Unit_). a.1) (filter (λ a. not (is_type a)) absorbed)) ∙ parted is_type absorbed)
     ∙ each_valid valid)))
 
--- what a keyword gives, as its units
+-- The result of a keyword's evaluation, as its units.
 pub given_valid : (x : Where) (name : Text) (g : Gives) → (is_valid_unit (given_units x name g).0 && list_all held (given_units x name g).1) ≡ all_valid g
 given_valid x name g = ap (λ z. g.valid && z) (list_all-map held (λ (a : Named). (a.name, keyword_unit x a)) g.absorbed)
 

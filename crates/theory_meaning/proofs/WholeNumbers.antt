@@ -1,4 +1,4 @@
--- The keywords of a number are whole where its key's schema holds no fraction.
+-- The keywords of a number are whole if the schema of its key contains no fraction.
 use Rattle.std.proofs.Common.{◌≡◌, ℕ, Bool, true, false, List, [], ◌∷◌, ap, ◌∙◌, arith}
 use Rattle.std.specs.Prelude.{All, flat_map}
 use Rattle.std.proofs.lemmas.List.Elements.{All-cons, All-append}

@@ -22,7 +22,7 @@ use Rattle.theory_meaning.specs.Shared.{EachAccepts, keep, leave, none}
 use Rattle.theory_meaning.specs.RowsWorked.{worked_parts, entrance_of, is_any_of, own_faults, root_of, tiny_matcher, words}
 use Rattle.theory_meaning.specs.Rows
 
--- so many steps deeper than n
+-- This many steps deeper than n.
 abbrev deeper : ℕ → ℕ → ℕ
 deeper zero n = n
 deeper (suc k) n = suc (deeper k n)
@@ -31,7 +31,7 @@ deeper-is : (k n : ℕ) → deeper k n ≡ k + n
 deeper-is zero n = omega arith
 deeper-is (suc k) n = let h : deeper k n ≡ k + n = deeper-is k n in omega arith
 
--- what holds of k and of all numbers deeper than k holds of all from k on
+-- If a property holds of k and of all numbers deeper than k, it holds of all from k on.
 at_least : (k : ℕ) (P : ℕ → Type 0) → P (deeper k 0) → ((m : ℕ) → P (deeper k (suc m))) → (n : ℕ) → k ≤ n → P n
 at_least k P here deep n h = subst P (let e : deeper k (n - k) ≡ k + (n - k) = deeper-is k (n - k) in omega arith) (each (n - k))
   where
@@ -56,7 +56,7 @@ number_is_no_string (suc n) h c = refl
 abbrev site : Text → Mode → Site
 site path mode = record { schema_path = path; located = elim mode [ for_verdict ↦ None | _ ↦ Some (path, []) ]; pattern = Some Rows.pattern }
 
--- the match is met at this path, by the mode in which its keyword runs
+-- The match is met at this path, in the mode in which its keyword runs.
 abbrev met_at : Text → Mode → Met
 met_at path mode = record { pair = record { pattern = Rows.pattern; subject = codes "abc" }; site = site path mode }
 
@@ -81,7 +81,7 @@ pub not_shares_no_error : Rows.NotSharesNoError
 not_shares_no_error zero = leave (λ shared. let h : false ≡ true = shared none_match in absurd (cc)) none
 not_shares_no_error (suc n) = leave (λ shared. let h : false ≡ true = shared none_match in absurd (cc)) none
 
--- the match is met below the first of `anyOf`, and where it is a no, below the second too
+-- The match is met below the first schema of `anyOf`, and, if it is a no, below the second one too.
 abbrev either_met : Mode → Met
 either_met mode = met_at (codes "/anyOf/0/pattern") mode
 
@@ -96,7 +96,7 @@ either_is_taken_apart iter_errors (suc n) = split (either_met for_verdict) refl 
 either_is_taken_apart evaluate zero = split (either_met for_units) refl (whole refl) (whole refl)
 either_is_taken_apart evaluate (suc n) = split (either_met for_units) refl (whole refl) (whole refl)
 
--- the verdict of `anyOf`, where the match counts as b
+-- The verdict of `anyOf`, if the match counts as b.
 abbrev either_holds : Bool → Bool
 either_holds b = (b && true) || ((not ((b && true) && true) && true) || false)
 

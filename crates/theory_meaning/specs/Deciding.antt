@@ -1,6 +1,6 @@
--- Laws of deciding. Whether a call decides is itself decided: its cover is grown as far as its limit allows, and by then it is
--- whole or goes on. What is decided within a limit is decided within a larger one, and within any where the first run branches on
--- no match. And where `validate` decides, its answer is none exactly where every completion accepts.
+-- Laws of deciding: whether a call decides can itself be decided, and depends on its limit, its
+-- first run and its cover. To find out, the cover is grown as far as the limit allows; by then it
+-- is whole, or it has more to grow.
 use Rattle.std.proofs.Common.{arith, ap, inl, inr, refl, subst, sym, zero, suc, ℕ, ◌*◌, ◌+◌, ◌<◌, ◌∙◌, ◌⊎◌}
 use Rattle.std.specs.Prelude.{List, None, Option, Some, [], false, length, true, ◌++◌, ◌↔◌, ◌∷◌, ◌≡◌, ◌≤◌}
 use Rattle.std.proofs.lemmas.Bool.{cases_lt}
@@ -28,13 +28,13 @@ module _ (v : Sense) (call : Call) where
       let two : b ≤ length ys = no_less t (subst (λ x. Cover v call (assuming x true as') ys) same t') in
       omega (arith, length-append ns ys)
 
-  -- a call doesn't decide where a part of its cover takes more runs than the limit
+  -- A call does not decide if a part of its cover takes more runs than the limit.
   pub undecided_past : (limit n : ℕ) → Partly v call [] n → limit + 1 < 2 * n → ¬ (Decides v limit call)
   undecided_past limit n part many (ms, cover, few) = let least : n ≤ length ms = no_less part cover in absurd (omega arith)
 
-  -- ---- a cover is grown as far as so many members
+  -- ---- a cover is grown up to a number of members
 
-  -- so many members at most, or a part with more lists
+  -- A whole cover of at most n members, or a part with more than n lists.
   abbrev Within : ℕ → Assumptions → Type 0
   Within n as' = ((ms : List Assumptions) × Cover v call as' ms × (length ms ≤ n)) ⊎ ((k : ℕ) × Partly v call as' k × (n < k))
 
@@ -47,7 +47,7 @@ module _ (v : Sense) (call : Call) where
   some_member (whole e) = omega arith
   some_member (split {no = ns} {yes = ys} m e s t) = omega (arith, length-append ns ys, some_member s)
 
-  -- what grows from the two sides of a branch
+  -- The cover that grows from the two sides of a branch.
   both : (n : ℕ) (as' : Assumptions) (m : Met) → branch_at v call as' ≡ Some m
       → Within n (assuming m false as') → Within n (assuming m true as') → Within (suc n) as'
   both n as' m e (inr (k, part, many)) side = inr (k + 1, splits m e part waits, omega arith)
@@ -66,13 +66,13 @@ module _ (v : Sense) (call : Call) where
       go None e less = inl (as' ∷ [], whole e, omega arith)
       go (Some m) e less = both n as' m e (less (assuming m false as')) (less (assuming m true as'))
 
--- half of a number, rounded down
+-- Half of a number, rounded down.
 half : (r : ℕ) → (n : ℕ) × (2 * n ≤ r) × (r < 2 * n + 2)
 half zero = (0, omega arith, omega arith)
 half (suc zero) = (0, omega arith, omega arith)
 half (suc (suc r)) = let (n, no_more, no_less) = half r in (suc n, omega arith, omega arith)
 
--- a call's cover takes no more runs than the limit, or it takes more
+-- The cover of a call takes no more runs than the limit, or it takes more.
 pub decides_or_not : (v : Sense) (limit : ℕ) (call : Call) → Decides v limit call ⊎ ¬ (Decides v limit call)
 decides_or_not v limit call = let (n, at_most, at_least) = half (limit + 1) in go n at_most at_least (grown v call n [])
   where
@@ -80,15 +80,15 @@ decides_or_not v limit call = let (n, at_most, at_least) = half (limit + 1) in g
     go n at_most at_least (inl (ms, cover, few)) = inl (ms, cover, omega arith)
     go n at_most at_least (inr (k, part, many)) = inr (undecided_past v call limit k part (omega arith))
 
--- a larger limit decides what a smaller one does
+-- A larger limit decides what a smaller one decides.
 pub larger_decides : (v : Sense) (limit larger : ℕ) (call : Call) → limit ≤ larger → Decides v limit call → Decides v larger call
 larger_decides v limit larger call less (ms, cover, few) = (ms, cover, omega arith)
 
--- where the first run branches on no match, that run decides, whatever the limit is
+-- If the first run branches on no match, that run decides, whatever the limit is.
 pub finished_decides : (v : Sense) (limit : ℕ) (call : Call) → branch_at v call [] ≡ None → 1 ≤ limit → Decides v limit call
 finished_decides v limit call none some = ([] ∷ [], whole none, omega arith)
 
--- ---- where `validate` decides, it answers none exactly where every completion accepts
+-- ---- if `validate` decides, it answers none if and only if every completion accepts
 
 pub none_where_accepted : (v : Sense) → Follows v → (limit : ℕ) (o : Option Error) → h.FirstSays v limit o → Decides v limit validate → (o ≡ None) ↔ EachAccepts v
 none_where_accepted v follows limit o says decides =

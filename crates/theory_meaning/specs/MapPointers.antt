@@ -1,4 +1,5 @@
--- The pointers of the objects and booleans of a document that compile, each by itself. (section 6 of RFC 6901)
+-- The pointers of those objects and booleans of a document that compile, each by itself. (section 6
+-- of RFC 6901)
 use Rattle.std.specs.Prelude.{Bool, Contains, Option, Some, [], false, flat_map, option_map, true, ◌∷◌, ◌≡◌}
 use Rattle.serde_json.specs.Data.{Data, boolean, object}
 use Rattle.theory_definitions.specs.Instance.{Place}
@@ -8,27 +9,31 @@ use Rattle.theory_meaning.specs.Reach.{Reached, asked_edges}
 use Rattle.theory_meaning.specs.Refusals.{Cause, Compiles, causes, undeclared}
 
 module _ {S K R : Type 0} (w : Parts S K R) where
+  -- The value is an object or a boolean.
   abbrev pub is_schema : Data → Bool
   is_schema (boolean b) = true
   is_schema (object ms) = true
   is_schema _ = false
 
-  -- the key of a place of the document: the root's own, or else a subschema of the root
+  -- The key of a place in the document: the root's own key, or that of a subschema of the root.
   abbrev pub entry_key : Key S → Place → Option (Key S)
   entry_key root [] = Some root
   entry_key root (s ∷ p) = option_map (λ edge. record edge.key { location = []; base = []; start = 0 }) (subschema w root (s ∷ p))
 
-  -- a cause stands for a subschema that is compiled by itself; as for any subschema, a vocabulary is asked for only where a reference leads
+  -- A cause holds for a subschema that is compiled by itself. As with any subschema, only
+  -- references lead to targets whose vocabularies are required.
   pub data StandsBelow (entry : Key S) : Cause → Type 0 where
     stands_in : {cause : Cause} (k : Key S) → Reached w entry k → Contains (causes w k) cause → StandsBelow entry cause
     required_in : {cause : Cause} {k : Key S} (edge : Edge S) → Reached w entry k → Contains (asked_edges w k) edge → edge.is_reference ≡ true
         → Contains (flat_map (undeclared w) edge.key.target.vocabularies) cause → StandsBelow entry cause
 
-  -- no cause stands for the entry: at the root as for the schema's build, at any other place as for a subschema
+  -- The entry compiles: no cause holds for it. The root is treated as in the build of a schema, and
+  -- any other place as a subschema.
   abbrev pub EntryCompiles : Place → Key S → Type 0
   EntryCompiles [] entry = Compiles w entry
   EntryCompiles (s ∷ p) entry = (cause : Cause) → ¬ (StandsBelow entry cause)
 
+  -- The value at this place compiles by itself.
   pub record IsCompiled (root : Key S) (path : Place) : Type 0 where
     pub key : Key S
     pub is_key : entry_key root path ≡ Some key

@@ -1,4 +1,5 @@
--- Numbers that stand for keys, what falls with each question, and that numbers say what unfolding says.
+-- Numbers that stand for keys, a measure that decreases with each question, and the laws that
+-- numbers say what unfolding says.
 use Rattle.std.specs.List.{list_any}
 use Rattle.std.specs.Prelude.{All, Bool, Contains, Decides, List, None, Option, Some, [], false, if◌then◌else◌, length, max, slice_get, suc, true, unwrap_or, zero, ℕ, ◌*◌, ◌+◌, ◌<◌, ◌==◌, ◌∷◌, ◌≡◌, ◌≤◌}
 use Rattle.serde_json.specs.Data.{Data, Members, depth, null}
@@ -22,140 +23,152 @@ use Rattle.theory_meaning.specs.Headline.{ErrorsSay, EvaluateAnswer, FirstSays, 
 
 -- ---- numbers that stand for keys
 
--- the key of each number; none for one that is reserved, and only marked
+-- The key of each number; there is none for a number that is reserved, and only marked.
 abbrev pub Numbers : Type 0 → Type 0
 Numbers S = List (Option (Key S))
 
+-- The number stands for this key.
 abbrev pub IsNumber : {S : Type 0} → Numbers S → ℕ → Key S → Type 0
 IsNumber keys i k = slice_get keys i ≡ Some (Some k)
 
 module _ {S K R : Type 0} (w : Parts S K R) (keys : Numbers S) (nodes : Nodes K) where
-  -- the edge leads to the number of the child's key, by the child's path
+  -- The edge leads to the number of the child's key, and adds the same to the evaluation path.
   abbrev pub SameEdge : Option NodeEdge → Option (Edge S) → Type 0
   SameEdge None None = Unit {0}
   SameEdge (Some e) (Some edge) = IsNumber keys e.node edge.key × (e.path ≡ edge.path)
   SameEdge None (Some edge) = ⊥
   SameEdge (Some e) None = ⊥
 
+  -- The same keyword with the same children, or the same reference.
   abbrev pub SameForm : Key S → Text → NodeForm K → Form K → Type 0
   SameForm k name (node_keyword m es) (keyword m' requests absorbed) = (m ≡ m') × ((i : ℕ) → SameEdge (node_child es i) (child w k name requests i))
   SameForm k name (node_reference e) (reference kind text) = SameEdge (Some e) (reference_edge w k name kind text)
   SameForm k name (node_keyword m es) (reference kind text) = ⊥
   SameForm k name (node_reference e) (keyword m' requests absorbed) = ⊥
 
+  -- The same entry of a plan.
   pub record SamePart (k : Key S) (x : NodePart K) (y : Part K) : Type 0 where
     pub name : x.name ≡ y.name
     pub priority : x.priority ≡ y.priority
     pub is_leaf : x.is_leaf ≡ y.is_leaf
     pub form : SameForm k y.name x.form y.form
 
+  -- The same entries in the same order.
   abbrev pub SameParts : Key S → List (NodePart K) → List (Part K) → Type 0
   SameParts k [] [] = Unit {0}
   SameParts k (x ∷ xs) (y ∷ ys) = SamePart k x y × SameParts k xs ys
   SameParts k [] (y ∷ ys) = ⊥
   SameParts k (x ∷ xs) [] = ⊥
 
+  -- The same plan.
   abbrev pub SamePlan : Key S → NodePlan K → Plan K → Type 0
   SamePlan k node_always always = Unit {0}
   SamePlan k node_never never = Unit {0}
   SamePlan k (node_these xs) (these ys) = SameParts k xs ys
   SamePlan k _ _ = ⊥
 
-  -- a number's entries are the plan of its key's target, children being the numbers of their keys
+  -- The entries of a number are the plan of its key's target, with the numbers of keys as children.
   pub record StandsFor (i : ℕ) (k : Key S) : Type 0 where
     pub entries : SamePlan k (nodes.entries i) (plan w k)
     pub location : nodes.location i ≡ k.location
     pub absolute : (location : Text) → nodes.absolute i location ≡ absolute_of w k location
     pub annotations : nodes.annotations i ≡ annotations_of w k
 
+  -- Each number stands for its key, and no key has two numbers.
   pub record AreNumbered : Type 0 where
     pub stands : (i : ℕ) (k : Key S) → IsNumber keys i k → StandsFor i k
     pub once : (i j : ℕ) (k : Key S) → IsNumber keys i k → IsNumber keys j k → i ≡ j
-    -- the edges of a number that lead to one number are guarded alike
+    -- The edges of a number that lead to the same number are all guarded, or none is.
     pub guards : (i : ℕ) (k : Key S) → IsNumber keys i k → (a b : NodeEdge) → Contains (node_edges (nodes.entries i)) a → Contains (node_edges (nodes.entries i)) b
         → a.node ≡ b.node → a.guarded ≡ b.guarded
 
--- ---- what falls with each question
+-- ---- a measure that decreases with each question
 
--- numbers below a bound that are not in progress
+-- The number of numbers below a bound that are not in progress.
 abbrev pub free : ℕ → List ℕ → ℕ
 free zero busy = 0
 free (suc n) busy = if list_any (λ i. i == n) busy then free n busy else suc (free n busy)
 
--- how many steps lie below at most
+-- A bound on how many steps lie below a subject.
 abbrev pub subject_height : Subject → ℕ
 subject_height (a_value d) = suc (depth d)
 subject_height (a_name name) = 0
 
 module _ {K : Type 0} (nodes : Nodes K) (count : ℕ) where
-  -- an edge leads to a number of the table; where nothing guards it, to one of lower rank
+  -- An edge leads to a number of the table, and an unguarded edge to one of lower rank.
   abbrev pub Ranked : Type 0
   Ranked = (i : ℕ) → i < count → (e : NodeEdge) → Contains (node_edges (nodes.entries i)) e → (e.node < count) × (e.guarded ≡ false → nodes.rank e.node < nodes.rank i)
 
+  -- The highest rank of the table.
   abbrev pub highest : ℕ → ℕ
   highest zero = 0
   highest (suc n) = max (nodes.rank n) (highest n)
 
-  -- the height of the place, the numbers not in progress there, and the rank, the first the weightiest
+  -- The measure: the height of the place, the count of numbers not in progress there, and the rank,
+  -- the first with the greatest weight.
   unfoldable pub left : ℕ → Subject → List ℕ → ℕ
   left i s busy = (subject_height s * (count + 1) + free count busy) * (highest count + 1) + nodes.rank i
 
 -- ---- laws of the parts
 
--- subschemas lie strictly inside their schema
+-- Subschemas lie strictly inside their schema.
 abbrev pub SubschemasInside : {S K R : Type 0} → Parts S K R → Type 0
 SubschemasInside {S} w = (k : Key S) (edge : Edge S) → Contains (edges w k) edge → edge.is_reference ≡ false → height w edge.key < height w k
 
--- a value that stands at a path below a place stands there in the place's value
+-- If the resolver has a value at a path below a place, then that value is at the path in the value
+-- of the place.
 abbrev pub ValuesInside : {S K R : Type 0} → Parts S K R → Type 0
 ValuesInside w = (p : SchemaPlace) (path : Place) (v : Data) → w.resolver.value (at_path p path) ≡ Some v → subject_at (schema_at w p) path ≡ Some (a_value v)
 
--- a maker asks for subschemas strictly below the object
+-- A request for a subschema is for one strictly below the object.
 abbrev pub IsBelow : Request → Type 0
 IsBelow (compile []) = ⊥
 IsBelow (compile (s ∷ path)) = Unit {0}
 IsBelow (refer text) = Unit {0}
 
+-- Every maker of the table requests only such subschemas.
 abbrev pub MakersAskBelow : {K : Type 0} → Table K → Type 0
 MakersAskBelow table = (custom : Bool) (name : Text) (whole : Members) (draft : Draft) (vocabularies : Vocabularies) (formats : Bool) (is_self : Text → Bool)
     → All IsBelow (followed is_self (table.script custom name whole draft vocabularies formats)).requests
 
 -- ---- the statements
 
--- what stands at a place of an instance; null where nothing does
+-- The value or the name at a place of an instance, or `null` if there is none.
 abbrev pub subject_in : Data → Place → Subject
 subject_in instance p = unwrap_or (subject_at instance p) (a_value null)
 
 module _ {K R : Type 0} (keywords : Keywords K R) where
-  -- a run's outcome and its units are those that its nodes have under the run's completion
+  -- The outcome and the units of a run are those that its nodes have under the run's completion.
   abbrev pub RunsSayOutcomes : Type 0
   RunsSayOutcomes = (matcher : Matcher) (nodes : Nodes K) (subject_of : Place → Subject) (as' : Assumptions) (n i : ℕ) (path : Text) (p : Place) (busy : List ℕ)
       → ((guarded_within (yes_run nodes) (guarded_node keywords matcher nodes subject_of as') n i path p busy).outcome tt ≡ guarded_within yes_outcome (node_outcome keywords matcher nodes subject_of (completion_of as')) n i path p busy)
       × ((guarded_within (yes_run nodes) (guarded_node keywords matcher nodes subject_of as') n i path p busy).units tt ≡ guarded_within (yes_unit nodes) (node_unit keywords matcher nodes subject_of (completion_of as')) n i path p busy)
 
-  -- from the measure on, every depth gives the same run, returns or none: what it says, its units, and what it meets in each mode
+  -- Every depth beyond the measure yields the same run, whether questions return or not: the same
+  -- outcome, the same units, and the same matches in each mode.
   abbrev pub GuardedRunsSettle : Type 0
   GuardedRunsSettle = EachKeeps keywords → (matcher : Matcher) (nodes : Nodes K) (count : ℕ) → Ranked nodes count → (instance : Data) (as' : Assumptions) (i : ℕ) (path : Text) (p : Place) (busy : List ℕ) → i < count
       → (m n : ℕ) → left nodes count i (subject_in instance p) busy < m → left nodes count i (subject_in instance p) busy < n
       → guarded_within (yes_run nodes) (guarded_node keywords matcher nodes (subject_in instance) as') m i path p busy ≡ guarded_within (yes_run nodes) (guarded_node keywords matcher nodes (subject_in instance) as') n i path p busy
 
-  -- and the same sense
+  -- Every depth beyond the measure yields the same sense.
   abbrev pub GuardedSenseSettles : Type 0
   GuardedSenseSettles = EachKeeps keywords → (matcher : Matcher) (nodes : Nodes K) (count : ℕ) → Ranked nodes count → (instance : Data) (i : ℕ) → i < count
       → (m n : ℕ) → left nodes count i (a_value instance) [] < m → left nodes count i (a_value instance) [] < n
       → guarded_sense keywords matcher nodes (subject_in instance) m i ≡ guarded_sense keywords matcher nodes (subject_in instance) n i
 
 module _ {S K R : Type 0} (w : Parts S K R) (instance : Data) (nodes : Nodes K) (count : ℕ) where
+  -- What a number says, with questions at most n deep.
   abbrev pub guarded_says : Completion → ℕ → ℕ → Text → Place → List ℕ → Outcome
   guarded_says c = guarded_within yes_outcome (node_outcome w.keywords w.matcher nodes (subject w instance) c)
 
-  -- from the measure on, every depth gives the same, returns or none
+  -- Every depth beyond the measure yields the same outcome, whether questions return or not.
   abbrev pub GuardedSettles : Type 0
   GuardedSettles = EachKeeps w.keywords → Ranked nodes count → (c : Completion) (i : ℕ) (path : Text) (p : Place) (busy : List ℕ) → i < count
       → (m n : ℕ) → left nodes count i (subject w instance p) busy < m → left nodes count i (subject w instance p) busy < n
       → guarded_says c m i path p busy ≡ guarded_says c n i path p busy
 
--- where no return is met, a number says what unfolding says of its key
+-- If no question returns, a number says what unfolding says of its key.
 abbrev pub NumbersSayUnfolding : {S K R : Type 0} → Parts S K R → Numbers S → Nodes K → Type 0
 NumbersSayUnfolding {S} w keys nodes = EachKeeps w.keywords → ValuesInside w → MakersAskBelow w.table → ((s : S) → w.resolver.same_state s s ≡ true) → AreNumbered w keys nodes → Ranked nodes (length keys)
     → (instance : Data) (c : Completion) (i : ℕ) (k : Key S) (path : Text) (p : Place) → IsNumber keys i k
@@ -163,14 +176,16 @@ NumbersSayUnfolding {S} w keys nodes = EachKeeps w.keywords → ValuesInside w �
     → (m n : ℕ) → left nodes (length keys) i (subject w instance p) [] < m → left nodes (length keys) i (subject w instance p) [] ≤ n
     → guarded_says w instance nodes (length keys) c m i path p [] ≡ unfold_ w instance c n k path p
 
--- and the sense of a number is that of its key: under each completion the outcome, and what each call's run meets under given assumptions
+-- The sense of a number is then that of its key: the outcome under each completion, and the matches
+-- that each call's run meets under given assumptions.
 abbrev pub NumbersMeanUnfolding : {S K R : Type 0} → Parts S K R → Numbers S → Nodes K → Type 0
 NumbersMeanUnfolding {S} w keys nodes = EachKeeps w.keywords → ValuesInside w → MakersAskBelow w.table → ((a b : S) → Decides (w.resolver.same_state a b) (a ≡ b)) → AreNumbered w keys nodes → Ranked nodes (length keys)
     → (instance : Data) (i : ℕ) (k : Key S) → IsNumber keys i k → ¬ (Return w instance (record { key = k; path = []; place = [] }))
     → (m n : ℕ) → left nodes (length keys) i (subject w instance []) [] < m → left nodes (length keys) i (subject w instance []) [] ≤ n
     → guarded_sense w.keywords w.matcher nodes (subject w instance) m i ≡ plain w instance n k
 
--- the same at the depth of the plain meaning: the targets that are reached, times the places, and one
+-- The same at the depth of the plain meaning: the number of reached targets times the number of
+-- places, plus one.
 abbrev pub NumbersMeanPlain : {S K R : Type 0} → Parts S K R → Numbers S → Nodes K → Type 0
 NumbersMeanPlain {S} w keys nodes = EachKeeps w.keywords → ValuesInside w → MakersAskBelow w.table → ((a b : S) → Decides (w.resolver.same_state a b) (a ≡ b)) → AreNumbered w keys nodes → Ranked nodes (length keys)
     → (instance : Data) (i : ℕ) (k : Key S) → IsNumber keys i k → ¬ (Return w instance (record { key = k; path = []; place = [] }))
@@ -178,7 +193,8 @@ NumbersMeanPlain {S} w keys nodes = EachKeeps w.keywords → ValuesInside w → 
     → (m n : ℕ) → left nodes (length keys) i (subject w instance []) [] < m → deep_enough w reached instance ≤ n
     → guarded_sense w.keywords w.matcher nodes (subject w instance) m i ≡ plain w instance n k
 
--- so a call that answers the headline's sentence of its nodes answers it of the plain meaning
+-- So a call whose answer is right for its nodes, as the headline says it, has the right answer for
+-- the plain meaning.
 abbrev pub GuardedIsPlain : {S K R : Type 0} → Parts S K R → Numbers S → Nodes K → Type 0
 GuardedIsPlain {S} w keys nodes = EachKeeps w.keywords → ValuesInside w → MakersAskBelow w.table → ((a b : S) → Decides (w.resolver.same_state a b) (a ≡ b)) → AreNumbered w keys nodes → Ranked nodes (length keys)
     → (instance : Data) (i : ℕ) (root : Key S) → IsNumber keys i root → (limit : ℕ)

@@ -1,5 +1,5 @@
--- Worked rows: what the definitions say of small schemas, by computation. `pattern` is a pattern whose match with "abc"
--- stays unfinished.
+-- Worked rows: what the definitions say of small schemas, by computation. `pattern` is a pattern
+-- whose match with "abc" stays unfinished.
 use Rattle.std.specs.Prelude.{Bool, List, None, Some, [], codes, false, suc, true, zero, ℕ, ◌≡◌, ◌≤◌, ◌∷◌}
 use Rattle.serde_json.specs.Data.{Data, Members, array, item, member, no_items, no_members, number, object, unsigned}
 use Rattle.theory_definitions.specs.Instance.{Text, to_member}
@@ -17,18 +17,18 @@ use Rattle.theory_definitions.specs.Guarded.{Nodes, guarded_sense, node_keyword,
 use Rattle.theory_meaning.specs.Numbered.{AreNumbered, Numbers, Ranked}
 use Rattle.theory_meaning.specs.RowsWorked.{Word, worked_parts, is_not, one_member, ref_to, root_of, text, tiny_matcher, two_members, words}
 
--- the sense of a schema's root, with references followed n deep
+-- The sense of a schema's root, with references followed n deep.
 abbrev pub sense : List Text → Data → Data → ℕ → Sense
 sense unfinished_ones schema instance n = plain (worked_parts unfinished_ones schema) instance n (root_of unfinished_ones schema)
 
--- each completion gives this outcome, with references followed as deep as is said, or deeper
+-- Each completion has this outcome, with references followed to the given depth or deeper.
 abbrev pub AlwaysSays : List Text → Data → Data → ℕ → Outcome → Type 0
 AlwaysSays unfinished_ones schema instance deep outcome = (n : ℕ) → deep ≤ n → (c : Completion) → (sense unfinished_ones schema instance n).says c ≡ outcome
 
 abbrev pub refused_by : Error → Outcome
 refused_by e = record { verdict = false; errors = e ∷ [] }
 
--- the key of a schema's root is that of the definitions
+-- The key of a schema's root is the one of the definitions.
 abbrev pub RootsAreRoots : Type 0
 RootsAreRoots = (unfinished_ones : List Text) (schema : Data) → IsRoot (worked_parts unfinished_ones schema) schema (root_of unfinished_ones schema)
 
@@ -37,14 +37,14 @@ RootsAreRoots = (unfinished_ones : List Text) (schema : Data) → IsRoot (worked
 abbrev pub string_schema : Data
 string_schema = one_member (codes "type") (text (codes "string"))
 
--- "AB" is accepted
+-- "AB" is accepted.
 abbrev pub TextIsString : Type 0
 TextIsString = AlwaysSays [] string_schema (text (codes "AB")) 0 accepted
 
 abbrev pub number_error : Error
 number_error = record { place = []; schema_path = codes "/type"; evaluation_path = codes "/type"; absolute = None; name = codes "type"; text = codes "1 is not of type \"string\"" }
 
--- 1 is refused by the error: 1 is not of type "string"
+-- 1 is refused with the error: 1 is not of type "string".
 abbrev pub NumberIsNoString : Type 0
 NumberIsNoString = AlwaysSays [] string_schema (number (unsigned 1)) 0 (refused_by number_error)
 
@@ -59,11 +59,11 @@ pattern_schema = one_member (codes "pattern") (text pattern)
 abbrev pub abc : Data
 abc = text (codes "abc")
 
--- the assumption that the match is a yes or a no
+-- The assumption that the match is a yes or a no.
 abbrev pub assuming_match : Bool → Assumptions
 assuming_match b = record { pair = record { pattern = pattern; subject = codes "abc" }; outcome = b } ∷ []
 
--- the cover of a call takes the two outcomes of the match apart
+-- The cover of a call distinguishes the two outcomes of the match.
 abbrev pub TakesApart : Data → Call → Type 0
 TakesApart schema call = (n : ℕ) → Cover (sense (pattern ∷ []) schema abc n) call [] (assuming_match false ∷ assuming_match true ∷ [])
 
@@ -71,14 +71,15 @@ TakesApart schema call = (n : ℕ) → Cover (sense (pattern ∷ []) schema abc 
 abbrev pub not_schema : Data
 not_schema = one_member (codes "not") pattern_schema
 
--- each call's cover has two members
+-- Each call's cover has two members.
 abbrev pub NotIsTakenApart : Type 0
 NotIsTakenApart = (call : Call) → TakesApart not_schema call
 
--- some completion refuses, and no error is shared
+-- Some completion refuses.
 abbrev pub NotIsRefused : Type 0
 NotIsRefused = (n : ℕ) → SomeRefuses (sense (pattern ∷ []) not_schema abc n)
 
+-- No error is shared.
 abbrev pub NotSharesNoError : Type 0
 NotSharesNoError = (n : ℕ) → Shared (sense (pattern ∷ []) not_schema abc n) []
 
@@ -86,11 +87,11 @@ NotSharesNoError = (n : ℕ) → Shared (sense (pattern ∷ []) not_schema abc n
 abbrev pub either_schema : Data
 either_schema = one_member (codes "anyOf") (array (item pattern_schema (item not_schema no_items)))
 
--- each call's cover has two members
+-- Each call's cover has two members.
 abbrev pub EitherIsTakenApart : Type 0
 EitherIsTakenApart = (call : Call) → TakesApart either_schema call
 
--- each completion accepts, without errors
+-- Each completion accepts, without errors.
 abbrev pub EitherIsAccepted : Type 0
 EitherIsAccepted = AlwaysSays (pattern ∷ []) either_schema abc 0 accepted
 
@@ -101,14 +102,15 @@ long_schema = two_members (codes "maxLength") (number (unsigned 1)) (codes "patt
 abbrev pub long_error : Error
 long_error = record { place = []; schema_path = codes "/maxLength"; evaluation_path = codes "/maxLength"; absolute = None; name = codes "maxLength"; text = codes "\"abc\" is longer than 1 character" }
 
--- the one shared error is that of `maxLength`: "abc" is longer than 1 character
+-- The only shared error is that of `maxLength`: "abc" is longer than 1 character.
 abbrev pub LongSharesOneError : Type 0
 LongSharesOneError = (n : ℕ) → Shared (sense (pattern ∷ []) long_schema abc n) (long_error ∷ [])
 
--- the verdict alone needs no branch, since `maxLength` stands before `pattern`; the list of all errors needs two
+-- The verdict alone needs no branch, because `maxLength` comes before `pattern`.
 abbrev pub LongVerdictIsWhole : Type 0
 LongVerdictIsWhole = (n : ℕ) → Cover (sense (pattern ∷ []) long_schema abc n) is_valid [] ([] ∷ [])
 
+-- The list of all errors needs two branches.
 abbrev pub LongErrorsAreTakenApart : Type 0
 LongErrorsAreTakenApart = TakesApart long_schema iter_errors
 
@@ -118,7 +120,7 @@ LongErrorsAreTakenApart = TakesApart long_schema iter_errors
 abbrev pub nested_schema : Data
 nested_schema = two_members (codes "properties") (one_member (codes "n") (ref_to (codes "#"))) (codes "required") (array (item (text (codes "v")) no_items))
 
--- {"v": 1, "n": {"v": 1, "n": {}}}, by the order of the names
+-- {"v": 1, "n": {"v": 1, "n": {}}}, in the order of the names
 abbrev pub nested : Data
 nested = two_members (codes "n") (two_members (codes "n") (object no_members) (codes "v") (number (unsigned 1))) (codes "v") (number (unsigned 1))
 
@@ -132,15 +134,15 @@ nested_error = record {
   text = codes "\"v\" is a required property";
 }
 
--- one error, at the innermost object, by a reference in a reference
+-- There is one error, at the innermost object, through a reference inside a reference.
 abbrev pub NestedIsRefused : Type 0
 NestedIsRefused = AlwaysSays [] nested_schema nested 2 (refused_by nested_error)
 
--- no chain of at most nine questions comes twice to one target at one place
+-- No chain of at most nine questions comes twice to the same target at the same place.
 abbrev pub NestedDoesNotReturn : Type 0
 NestedDoesNotReturn = returns (worked_parts [] nested_schema) nested 9 [] (record { key = root_of [] nested_schema; path = []; place = [] }) ≡ false
 
--- nine references in a row and {"type": "string"}, by a reference to the first
+-- Nine references in a row and {"type": "string"}; a further reference leads to the first of them.
 abbrev pub chain_members : Members
 chain_members = member (codes "c0") (ref_to (codes "#/$defs/c1")) (member (codes "c1") (ref_to (codes "#/$defs/c2")) (member (codes "c2") (ref_to (codes "#/$defs/c3"))
     (member (codes "c3") (ref_to (codes "#/$defs/c4")) (member (codes "c4") (ref_to (codes "#/$defs/c5")) (member (codes "c5") (ref_to (codes "#/$defs/c6")) (member (codes "c6") (ref_to (codes "#/$defs/c7"))
@@ -159,7 +161,7 @@ chain_error = record {
   text = codes "1 is not of type \"string\"";
 }
 
--- the error stands at the last of them, and its evaluation path goes through each reference
+-- The error is at the last of them, and its evaluation path goes through each reference.
 abbrev pub ChainIsRefused : Type 0
 ChainIsRefused = AlwaysSays [] chain_schema (number (unsigned 1)) 10 (refused_by chain_error)
 
@@ -177,13 +179,13 @@ embedded_error = record {
   text = codes "1 is not of type \"string\"";
 }
 
--- the absolute location counts from the embedded resource: the 8 bytes of /$defs/e lie outside it
+-- The absolute location counts from the embedded resource: the 8 bytes of /$defs/e lie outside it.
 abbrev pub EmbeddedCountsFromItsResource : Type 0
 EmbeddedCountsFromItsResource = AlwaysSays [] embedded_schema (number (unsigned 1)) 1 (refused_by embedded_error)
 
 -- ---- returns
 
--- {"$ref": "#"} has no keyword, since the reference leads to the very object that holds it
+-- {"$ref": "#"} has no keyword, because the reference leads to the very object that contains it.
 abbrev pub SelfIsNoKeyword : Type 0
 SelfIsNoKeyword = plan (worked_parts [] (ref_to (codes "#"))) (root_of [] (ref_to (codes "#"))) ≡ these []
 
@@ -194,7 +196,7 @@ turning_schema = one_member (codes "not") (ref_to (codes "#"))
 abbrev pub turning_root : Key Text
 turning_root = root_of [] turning_schema
 
--- the key of what stands in `not`
+-- The key of the schema in `not`.
 abbrev pub turning_child : Key Text
 turning_child = elim (child (worked_parts [] turning_schema) turning_root (codes "not") (compile (to_member (codes "not") ∷ []) ∷ []) 0) [ None ↦ turning_root | Some edge ↦ edge.key ]
 
@@ -205,7 +207,7 @@ abbrev pub turning_key : ℕ → Key Text
 turning_key zero = turning_root
 turning_key (suc i) = turning_child
 
--- node 0 is the root, whose `not` asks node 1, whose reference asks the root, guarded
+-- Node 0 is the root. Its `not` asks node 1, whose reference asks the root again, and is guarded.
 abbrev pub turning_nodes : Nodes Word
 turning_nodes = record {
   entries = λ i. elim i [
@@ -218,14 +220,14 @@ turning_nodes = record {
   rank = λ i. elim i [ zero ↦ 1 | suc j ↦ 0 ];
 }
 
--- a chain of questions returns
+-- A chain of questions returns.
 abbrev pub TurningReturns : Type 0
 TurningReturns = returns (worked_parts [] turning_schema) (number (unsigned 1)) 9 [] (record { key = turning_root; path = []; place = [] }) ≡ true
 
--- the nodes stand for the schema's keys
+-- The nodes stand for the keys of the schema.
 abbrev pub TurningIsNumbered : Type 0
 TurningIsNumbered = AreNumbered (worked_parts [] turning_schema) turning_keys turning_nodes × Ranked turning_nodes 2
 
--- from five questions on, the numbered nodes accept 1 under each completion
+-- From depth 5 on, the numbered nodes accept 1 under each completion.
 abbrev pub TurningIsAccepted : Type 0
 TurningIsAccepted = (n : ℕ) → 5 ≤ n → EachAccepts (guarded_sense words (tiny_matcher []) turning_nodes (subject (worked_parts [] turning_schema) (number (unsigned 1))) n 0)

@@ -1,4 +1,5 @@
--- A worked row of a fused keyword: `items` checks `type` and `minItems` too, and reports a unit for each of the three.
+-- A worked row of a fused keyword: `items` checks `type` and `minItems` too, and reports a unit for
+-- each of the three.
 use Rattle.std.specs.List.{list_all}
 use Rattle.std.specs.Prelude.{Bool, List, None, Option, Some, [], bytes_eq, codes, decimal, false, flat_map, if◌then◌else◌, is_some, map, nat_le, true, unwrap_or, ℕ, ⊤, ◌&&◌, ◌++◌, ◌+◌, ◌==◌, ◌∷◌, ◌≡◌}
 use Rattle.serde_json.specs.Data.{Data, Items, Members, array, item, member, no_items, no_members, number, object, unsigned}
@@ -18,7 +19,8 @@ use Rattle.theory_definitions.specs.Units.{plain_units}
 use Rattle.theory_meaning.specs.RowsWorked.{entrance_of, item_count, shown, text, text_of, text_or_none, tiny_matcher, tiny_resolver}
 use Rattle.theory_meaning.specs.Rows.{refused_by, string_schema}
 
--- ---- the keyword type: `type` for texts, and a keyword that is `type` for arrays, `minItems` and `items` in one
+-- ---- the keyword type: `type` for texts, and one keyword for `type` of arrays, `minItems` and
+-- `items`
 
 pub data Fused : Type 0 where
   a_text : Fused
@@ -32,7 +34,7 @@ abbrev pub items_of : Subject → Items
 items_of (a_value (array ds)) = ds
 items_of _ = no_items
 
--- the only child, asked at each item from a number on
+-- Questions to the only child at each item, from index i on.
 abbrev pub items_from : ℕ → Items → List Question
 items_from i no_items = []
 items_from i (item d ds) = record { child = 0; below = down (to_item i) } ∷ items_from (i + 1) ds
@@ -60,7 +62,7 @@ type_text name x = shown x ++ (codes " is not of type \"" ++ (name ++ codes "\""
 abbrev pub least_text : ℕ → Subject → Text
 least_text n x = shown x ++ (codes " has less than " ++ (decimal n ++ (if n == 1 then codes " item" else codes " items")))
 
--- an error at the keyword itself, or at one that it absorbs
+-- An error at the keyword itself, or at one that it absorbs.
 abbrev pub fault_at : Option Text → Described → Fault
 fault_at absorbed d = own (record { spot = record { absorbed = absorbed; path = []; below = [] }; name = d.name; text = d.text })
 
@@ -77,7 +79,8 @@ abbrev pub fused_faults : Fused → Subject → Matching → Answers → List Fa
 fused_faults a_text x m a = map (fault_at None) (text_errors x)
 fused_faults (a_list n) x m a = map (fault_at (Some (codes "type"))) (type_errors x) ++ (map (fault_at (Some (codes "minItems"))) (least_errors n x) ++ flat_map (λ q. map passed (a q).errors) (fused_questions (a_list n) x))
 
--- ---- its units: `items` has the items' units and their verdict, and the two that it absorbs have their own
+-- ---- its units: `items` has the units of the items and their verdict, and the two absorbed
+-- keywords have their own
 
 abbrev pub fused_units : Fused → Subject → Matching → (Question → Unit_) → Gives
 fused_units a_text x m u = record { valid = is_some (text_of x); children = []; annotations = None; errors = text_errors x; absorbed = [] }
@@ -91,7 +94,7 @@ fused_units (a_list n) x m u = record {
       ∷ [];
 }
 
--- ---- its runs by turns are not looked at here
+-- ---- its runs by turns are not used here
 
 abbrev pub fused_words : Keywords Fused ⊤
 fused_words = record {
@@ -107,7 +110,8 @@ fused_words = record {
   answer = λ r. record { mode = for_verdict; verdict = true; errors = []; gives = record { valid = true; children = []; annotations = None; errors = []; absorbed = [] } };
 }
 
--- ---- the table: `items` beside `minItems` and `"type": "array"` is the fused keyword, and those two make none
+-- ---- the table: `items` beside `minItems` and `"type": "array"` becomes the fused keyword, and
+-- those two become none
 
 abbrev pub least_of : Option Data → ℕ
 least_of (Some (number (unsigned n))) = n
@@ -133,7 +137,7 @@ fused_parts schema = record { resolver = fused_resolver schema; table = fused_ta
 
 -- ---- the row
 
--- {"type": "array", "minItems": 2, "items": {"type": "string"}}, by the order of the names
+-- {"type": "array", "minItems": 2, "items": {"type": "string"}}, in the order of the names
 abbrev pub fused_schema : Data
 fused_schema = object (member (codes "items") string_schema (member (codes "minItems") (number (unsigned 2)) (member (codes "type") (text (codes "array")) no_members)))
 
@@ -147,7 +151,7 @@ one_text = array (item (text (codes "a")) no_items)
 abbrev pub less_text : Text
 less_text = codes "[\"a\"] has less than 2 items"
 
--- a unit of the row: a keyword's or a schema's, at a place
+-- A unit of the row, for a keyword or a schema, at a place.
 abbrev pub row_unit : Bool → Place → Text → List Described → List Unit_ → Unit_
 row_unit valid place path errors children = unit (record { valid = valid; instance_location = pointer_to place; evaluation_path = path; schema_path = path; absolute = None; annotations = None; errors = errors }) (units_of children)
 
@@ -159,17 +163,18 @@ row_units = row_unit false [] [] [] (
     ∷ []
     )
 
--- `type` and `items` are valid, and `minItems` is not, with its text
+-- `type` and `items` are valid; `minItems` is not, and has its text.
 abbrev pub FusedHasUnits : Type 0
 FusedHasUnits = (n : ℕ) (c : Completion) → plain_units (fused_parts fused_schema) one_text c n fused_root [] [] ≡ row_units
 
 abbrev pub less_error : Error
 less_error = record { place = []; schema_path = codes "/minItems"; evaluation_path = codes "/minItems"; absolute = None; name = codes "minItems"; text = less_text }
 
--- one error, at `minItems`
+-- There is one error, at `minItems`.
 abbrev pub FusedHasOneError : Type 0
 FusedHasOneError = (n : ℕ) (c : Completion) → unfold_ (fused_parts fused_schema) one_text c n fused_root [] [] ≡ refused_by less_error
 
--- its own unit and those absorbed are valid exactly where it holds, on every instance
+-- On every instance, the keyword's own unit and the absorbed ones are valid if and only if the
+-- keyword holds.
 abbrev pub FusedKeepsUnits : Type 0
 FusedKeepsUnits = (m : Fused) (s : Subject) (matches : Matching) (u : Question → Unit_) → all_valid (fused_units m s matches u) ≡ fused_holds m s matches (λ q. (report_of (u q)).valid)

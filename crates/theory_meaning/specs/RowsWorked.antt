@@ -1,5 +1,6 @@
--- A tiny keyword type, resolver, table and matcher: enough to compute by hand what the definitions say of small schemas.
--- Texts are ASCII here, so a text is as long as its bytes.
+-- A tiny keyword type, resolver, table and matcher for the worked rows: enough to compute by hand
+-- what the definitions say of small schemas. Texts are ASCII here, so a text is as long as its
+-- bytes.
 use Rattle.std.specs.List.{ends_with, list_all, list_any}
 use Rattle.std.specs.Prelude.{Bool, Err, List, None, Ok, Option, Result, Some, [], bytes_eq, codes, decimal, false, filter, flat_map, if◌then◌else◌, is_none, is_some, length, map, nat_le, not, suc, true, unwrap_or, zero, ℕ, ◌++◌, ◌+◌, ◌==◌, ◌||◌, ◌∷◌}
 use Rattle.json.specs.Print.{quoted}
@@ -18,6 +19,8 @@ use Rattle.theory_meaning.specs.Root.{key_at}
 
 -- ---- the keyword type
 
+-- The keywords of the rows: `type`, `maxLength`, `required`, `pattern`, `properties`, `allOf`,
+-- `anyOf` and `not`.
 pub data Word : Type 0 where
   is_string : Word
   has_most : ℕ → Word
@@ -45,12 +48,12 @@ abbrev pub shown : Subject → Text
 shown (a_value d) = compact_text d
 shown (a_name t) = quoted t
 
--- so many children from a number on, asked here
+-- Questions at the keyword's own place to n children, from number i on.
 abbrev pub children_from : ℕ → ℕ → List Question
 children_from zero i = []
 children_from (suc n) i = record { child = i; below = here } ∷ children_from n (i + 1)
 
--- the children of the properties that are present, the first of them being child i
+-- Questions to the children of those properties that are present, the first of which is child i.
 abbrev pub children_at : ℕ → List Text → Members → List Question
 children_at i [] ms = []
 children_at i (k ∷ ks) ms = (if is_some (member_of k ms) then record { child = i; below = down (to_member k) } ∷ [] else []) ++ children_at (i + 1) ks ms
@@ -69,6 +72,7 @@ abbrev pub is_empty : List Text → Bool
 is_empty [] = true
 is_empty (k ∷ ks) = false
 
+-- Whether a keyword holds.
 abbrev pub word_holds : Word → Subject → Matching → (Question → Bool) → Bool
 word_holds is_string x m v = is_some (text_of x)
 word_holds (has_most n) x m v = elim (text_of x) [ None ↦ true | Some t ↦ nat_le (length t) n ]
@@ -88,7 +92,7 @@ unless b f = if b then [] else f ∷ []
 abbrev pub most_text : ℕ → Text
 most_text n = if n == 1 then codes "1 character" else decimal n ++ codes " characters"
 
--- the faults of a keyword that has errors of its own, by whether it holds
+-- The faults of a keyword that has errors of its own, depending on whether it holds.
 abbrev pub own_faults : Word → Subject → Bool → List Fault
 own_faults is_string x b = unless b (own_fault (codes "type") (shown x ++ codes " is not of type \"string\""))
 own_faults (has_most n) x b = unless b (own_fault (codes "maxLength") (shown x ++ (codes " is longer than " ++ most_text n)))
@@ -104,6 +108,7 @@ passes_on (has_properties ks) = true
 passes_on (is_all_of n) = true
 passes_on _ = false
 
+-- The faults of a keyword.
 abbrev pub word_faults : Word → Subject → Matching → Answers → List Fault
 word_faults k x m a = elim (passes_on k) [
   | true ↦ flat_map (λ q. map passed (a q).errors) (questions_of k x)
@@ -114,6 +119,7 @@ abbrev pub kept_units : Word → Subject → List Question
 kept_units (is_not schema) x = []
 kept_units k x = questions_of k x
 
+-- The result of a keyword's evaluation.
 abbrev pub word_units : Word → Subject → Matching → (Question → Unit_) → Gives
 word_units k x m u = record {
   valid = word_holds k x m (λ q. (report_of (u q)).valid);
@@ -123,7 +129,7 @@ word_units k x m u = record {
   absorbed = [];
 }
 
--- ---- its runs by turns: the first turn asks the first child, each further one the next
+-- ---- runs by turns: the first turn asks the first child, and each further turn asks the next
 
 pub data Phase : Type 0 where
   starting asking : Phase
@@ -133,13 +139,14 @@ pub record Running : Type 0 where
   pub phase : Phase
   pub left : List Question
 
+-- The mode in which a keyword asks its children.
 abbrev pub asks_in : Word → Mode → Mode
 asks_in (is_not schema) mode = for_verdict
 asks_in (is_any_of n) for_units = for_units
 asks_in (is_any_of n) mode = for_verdict
 asks_in _ mode = mode
 
--- whether a reply ends the questions
+-- A reply ends the questions.
 abbrev pub is_enough : Word → Mode → Reply → Bool
 is_enough (is_any_of n) for_units reply = false
 is_enough (is_any_of n) mode (truth b) = b
@@ -175,7 +182,7 @@ step_of k x r reply = elim r.phase [
   | asking ↦ if is_enough k r.mode reply then done else ask_first k r.mode r.left
 ]
 
--- what stands in a run's answer is read by the laws alone, and by nothing that is computed here
+-- The answer of a run is a dummy: only the laws read it, and nothing that is computed here does.
 abbrev pub words : Keywords Word Running
 words = record {
   texts = true;
@@ -208,12 +215,12 @@ abbrev pub item_paths : Text → ℕ → Items → List Place
 item_paths name i no_items = []
 item_paths name i (item d ds) = (to_member name ∷ to_item i ∷ []) ∷ item_paths name (i + 1) ds
 
--- a maker that asks for the schemas at these paths, and makes the keyword
+-- A maker that requests the schemas at these paths, and makes the keyword.
 abbrev pub gives_word : Word → List Place → Script Word
 gives_word k [] = then_end (a_keyword k [])
 gives_word k (path ∷ paths) = then_compile path (gives_word k paths)
 
--- a value of a shape that the keyword does not take
+-- A refusal: the keyword does not take values of this form.
 abbrev pub no_word : Script Word
 no_word = then_end (refused true (record { instance = null; instance_path = []; schema_path = []; evaluation_path = []; absolute = None; name = []; text = codes "shape" }))
 
@@ -228,7 +235,7 @@ word_made name (object ms) = if bytes_eq name (codes "properties") then gives_wo
     else (if bytes_eq name (codes "not") then gives_word (is_not (object ms)) ((to_member name ∷ []) ∷ []) else no_word)
 word_made name _ = no_word
 
--- a keyword of priority below 40 is a leaf
+-- A keyword whose priority is below 40 is a leaf.
 abbrev pub entry : Text → ℕ → Option Builtin
 entry name n = Some (record { name = name; priority = n; is_leaf = not (nat_le 40 n) })
 
@@ -246,7 +253,7 @@ abbrev pub segments : Text → Text → Place
 segments now [] = to_member now ∷ []
 segments now (x ∷ xs) = if x == 47 then to_member now ∷ segments [] xs else segments (now ++ x ∷ []) xs
 
--- the place that a pointer leads to, through members alone
+-- The place that a pointer leads to, through members only.
 abbrev pub steps_of : Text → Place
 steps_of [] = []
 steps_of (x ∷ xs) = segments [] xs
@@ -262,12 +269,12 @@ abbrev pub text_or_none : Option Data → Option Text
 text_or_none (Some (string t)) = Some t
 text_or_none _ = None
 
--- the identifier of a schema
+-- The identifier of a schema.
 abbrev pub id_of : Data → Option Text
 id_of (object ms) = text_or_none (member_of (codes "$id") ms)
 id_of _ = None
 
--- the URI of the innermost resource on the way down
+-- The URI of the innermost resource on a path.
 abbrev pub resource_on : Text → Option Subject → Place → Text
 resource_on base (Some (a_value d)) [] = unwrap_or (id_of d) base
 resource_on base (Some (a_value d)) (s ∷ p) = resource_on (unwrap_or (id_of d) base) (after_step s (a_value d)) p
@@ -285,7 +292,7 @@ found_at schema p = elim (value_at schema p) [
 abbrev pub has_id : Text → Data → Bool
 has_id uri d = elim (id_of d) [ Some id ↦ bytes_eq uri id | None ↦ false ]
 
--- where the resource with a URI begins, by members alone
+-- Where the resource with a URI begins, through members only.
 abbrev mutual
   pub resource_below : Text → Data → Option Place
   resource_below uri (object ms) = if has_id uri (object ms) then Some [] else resource_among uri ms
@@ -295,7 +302,7 @@ abbrev mutual
   resource_among uri no_members = None
   resource_among uri (member name d ms) = elim (resource_below uri d) [ Some p ↦ Some (to_member name ∷ p) | None ↦ resource_among uri ms ]
 
--- the subschemas that stand in `$defs` and `properties`
+-- The subschemas in `$defs` and `properties`.
 abbrev pub subschemas_in : SchemaPlace → Members → List SchemaPlace
 subschemas_in p no_members = []
 subschemas_in p (member name (object ms) rest) = (if bytes_eq name (codes "$defs") || bytes_eq name (codes "properties") then map (λ k. at_path p (to_member name ∷ to_member k ∷ [])) (names_of ms) else []) ++ subschemas_in p rest
@@ -305,7 +312,7 @@ abbrev pub object_members : Option Data → Members
 object_members (Some (object ms)) = ms
 object_members _ = no_members
 
--- a fragment stands for the base followed by it, and any other text for itself
+-- A fragment stands for the base followed by it, and any other text for itself.
 abbrev pub uri_meant : Text → Text → Text
 uri_meant base [] = base
 uri_meant base (x ∷ text) = if x == 35 then base ++ x ∷ text else x ∷ text
@@ -329,11 +336,12 @@ tiny_resolver schema = record {
   is_known_keyword = λ draft name. is_some (entry_of name) || bytes_eq name (codes "$defs") || bytes_eq name (codes "$id");
 }
 
--- a pattern in the list is unfinished; any other matches the texts that end in it
+-- A match of a pattern in the list stays unfinished. Any other pattern matches the texts that end
+-- with it.
 abbrev pub tiny_matcher : List Text → Matcher
 tiny_matcher unfinished_ones = record { is_match = λ p t. if list_any (bytes_eq p) unfinished_ones then unfinished (limit (codes "Error executing regex: Max limit for backtracking count exceeded")) else finished (ends_with (λ x y. x == y) t p); is_ecma = λ t. true }
 
--- a schema, with the patterns that stay unfinished
+-- The parts for a schema, with the list of patterns whose matches stay unfinished.
 abbrev pub worked_parts : List Text → Data → Parts Text Word Running
 worked_parts unfinished_ones schema = record { resolver = tiny_resolver schema; table = word_table; matcher = tiny_matcher unfinished_ones; keywords = words; draft = None; base = None; formats = None; declared = [] }
 
@@ -354,6 +362,6 @@ ref_to target = one_member (codes "$ref") (text target)
 abbrev pub entrance_of : Data → Entrance Text
 entrance_of schema = record { place = record { document = 0; path = [] }; state = unwrap_or (id_of schema) root_base }
 
--- the key of the schema's root
+-- The key of the schema's root.
 abbrev pub root_of : List Text → Data → Key Text
 root_of unfinished_ones schema = key_at (worked_parts unfinished_ones schema) (entrance_of schema) draft_2020_12

@@ -1,5 +1,6 @@
--- The search over unfinished matches makes one run for each list of assumptions that it finds: its runs grow a tree.
--- Nothing is known of a run but how each use of it changes the state that it holds.
+-- The search over unfinished matches makes one run for each list of assumptions that it finds, so
+-- its runs grow a tree. The only thing known of a run is how each use of it changes the state that
+-- it holds.
 use Rattle.std.specs.List.{list_all}
 use Rattle.std.specs.Prelude.{Bool, List, None, Some, [], false, length, suc, true, zero, ℕ, ◌*◌, ◌++◌, ◌+◌, ◌<◌, ◌∷◌, ◌≡◌, ◌≤◌}
 use Rattle.theory_definitions.specs.Matching.{Assumptions, Completion, Extends, assumed}
@@ -9,15 +10,18 @@ use Rattle.theory_meaning.specs.Members.{ExtendsAt}
 use Rattle.theory_meaning.specs.Searched.{Reaches}
 use Rattle.theory_definitions.specs.Unfinished.{Failure, Remembered, located_by_all, starting}
 
--- a list of assumptions: its run is still to be made; or it is a member, with its run's result; or it branches on the first match that its run met and that is not among them, once with a no and once with a yes
+-- A list of assumptions in the search. Its run is still to be made; or it is a member, with the
+-- result of its run; or it branches on the first match that its run met and did not assume, once
+-- with a no and once with a yes.
 pub data Tree (T : Type 0) : Type 0 where
   unrun : Tree T
   member : Remembered → T → Tree T
   branch : Remembered → Failure → Tree T → Tree T → Tree T
 
 module _ {S T : Type 0} (Step : S → Remembered → Remembered → T → S → Type 0) where
-  -- what grows from a list, each run being a step of the state: the list's own run, then those of its no, then those of its
-  -- yes; it branches on a match that is not among what its run hands back as assumed
+  -- The tree grows from a list, with each run as a step of the state: first the run of the list
+  -- itself, then those of its no, then those of its yes. It branches on a match that is not among
+  -- the assumptions that its run returns.
   abbrev pub Grows : Assumptions → S → Tree T → S → Type 0
   Grows as' s unrun end = s ≡ end
   Grows as' s (member r result) end = Step s (starting as') r result end × (r.unassumed ≡ None)
@@ -31,7 +35,8 @@ module _ {S T : Type 0} (Step : S → Remembered → Remembered → T → S → 
       × Grows (assuming f.met true as') s2 if_yes end
       × (assumed r.assumptions f.met.pair ≡ None)
 
-  -- what grows from a call's first run, which has been made and met a match that it did not assume
+  -- The tree grows from the first run of a call, which has been made and met a match that it did
+  -- not assume.
   abbrev pub GrowsFrom : Remembered → S → Tree T → S → Type 0
   GrowsFrom first s unrun end = ⊥
   GrowsFrom first s (member r result) end = ⊥
@@ -44,82 +49,85 @@ module _ {S T : Type 0} (Step : S → Remembered → Remembered → T → S → 
       × (assumed first.assumptions f.met.pair ≡ None)
 
 module _ {T : Type 0} where
-  -- the members' results, those that assume a no first
+  -- The results of the members; those that assume a no come first.
   abbrev pub results_of : Tree T → List T
   results_of unrun = []
   results_of (member r result) = result ∷ []
   results_of (branch r f if_no if_yes) = results_of if_no ++ results_of if_yes
 
-  -- the members' assumptions, in the same order
+  -- The assumptions of the members, in the same order.
   abbrev pub lists_of : Assumptions → Tree T → List Assumptions
   lists_of as' unrun = []
   lists_of as' (member r result) = as' ∷ []
   lists_of as' (branch r f if_no if_yes) = lists_of (assuming f.met false as') if_no ++ lists_of (assuming f.met true as') if_yes
 
-  -- how many runs were made
+  -- The number of runs that were made.
   abbrev pub runs : Tree T → ℕ
   runs unrun = 0
   runs (member r result) = 1
   runs (branch r f if_no if_yes) = 1 + (runs if_no + runs if_yes)
 
-  -- how many lists are still to be run
+  -- The number of lists that are still to be run.
   abbrev pub waiting : Tree T → ℕ
   waiting unrun = 1
   waiting (member r result) = 0
   waiting (branch r f if_no if_yes) = waiting if_no + waiting if_yes
 
-  -- how many lists are members or are still to be run
+  -- The number of lists that are members or are still to be run.
   abbrev pub ends : Tree T → ℕ
   ends unrun = 1
   ends (member r result) = 1
   ends (branch r f if_no if_yes) = ends if_no + ends if_yes
 
-  -- no list is run past one that waits: where something waits of the no of a branching, its yes waits
+  -- The search runs the lists in order: while a list waits on the no side of a branching, the yes
+  -- side is not yet run.
   abbrev pub IsInOrder : Tree T → Type 0
   IsInOrder unrun = Unit {0}
   IsInOrder (member r result) = Unit {0}
   IsInOrder (branch r f if_no if_yes) = IsInOrder if_no × IsInOrder if_yes × (0 < waiting if_no → if_yes ≡ unrun)
 
-  -- the sites that the runs remember, run by run
+  -- The sites that each run remembers.
   abbrev pub sites : Tree T → List (List Met)
   sites unrun = []
   sites (member r result) = r.located ∷ []
   sites (branch r f if_no if_yes) = r.located ∷ (sites if_no ++ sites if_yes)
 
-  -- each branching is on a match that is not yet assumed
+  -- Each branching is on a match that is not yet assumed.
   abbrev pub BranchesAreNew : Assumptions → Tree T → Type 0
   BranchesAreNew as' unrun = Unit {0}
   BranchesAreNew as' (member r result) = Unit {0}
   BranchesAreNew as' (branch r f if_no if_yes) =
       (assumed as' f.met.pair ≡ None) × BranchesAreNew (assuming f.met false as') if_no × BranchesAreNew (assuming f.met true as') if_yes
 
--- each completion that extends the list extends exactly one of these
+-- Each completion that extends the list extends exactly one of these.
 abbrev pub TakesApart : Assumptions → List Assumptions → Type 0
 TakesApart as' ms = (c : Completion) → Extends c as' → (i : ℕ) × ExtendsAt c ms i × ((j : ℕ) → ExtendsAt c ms j → j ≡ i)
 
--- each use of the run hands back the assumptions that it got
+-- Each use of the run returns the assumptions that it received.
 abbrev pub HandsBack : {S T : Type 0} → (S → Remembered → Remembered → T → S → Type 0) → S → Type 0
 HandsBack {S} {T} Step start =
     (s : S) (given r : Remembered) (result : T) (end : S) → Reaches Step start s → Step s given r result end
     → r.assumptions ≡ given.assumptions
 
--- so many uses of the run lead from one state to another, whatever they answer
+-- n uses of the run lead from one state to the other, whatever they answer.
 abbrev pub Uses : {S X Y : Type 0} → (S → X → Y → S → Type 0) → S → ℕ → S → Type 0
 Uses Use start zero end = start ≡ end
 Uses {S} {X} {Y} Use start (suc n) end = (s : S) × (given : X) × (answer : Y) × Uses Use start n s × Use s given answer end
 
--- fewer uses than a limit
+-- Fewer uses than the limit lead from one state to the other.
 abbrev pub UsesBelow : {S X Y : Type 0} → ℕ → (S → X → Y → S → Type 0) → S → S → Type 0
 UsesBelow limit Use start end = (n : ℕ) × Uses Use start n end × (n < limit)
 
+-- Every assumption is a yes.
 abbrev pub all_yes : Assumptions → Bool
 all_yes as' = list_all (λ a. a.outcome) as'
 
 module _ {S T : Type 0} (Step : S → Remembered → Remembered → T → S → Type 0) (first : Remembered) (start : S) (limit : ℕ) where
-  -- the runs that the search made in their order, the first one among them, and the failure: the first match that the first run met
-  -- and did not assume, at the first of the sites of it that has an instance path. The uses of these runs, the first one's aside, lead
-  -- to the end, one after another, and there are no others. Where each use hands back the assumptions that it got, it branches
-  -- only on matches that are not yet assumed
+  -- The runs that the search made in order, including the first one, and the failure: the first
+  -- match that the first run met and did not assume, at the first site of that match that has an
+  -- instance path. The uses of these runs, except the first one's, lead to the end state one after
+  -- another, and there are no others. If each use returns the assumptions that it received, the
+  -- search branches only on matches that are not yet assumed.
   pub record Made (end : S) (tree : Tree T) (failure : Failure) : Type 0 where
     pub unassumed : Failure
     pub is_first : first.unassumed ≡ Some unassumed
@@ -129,9 +137,10 @@ module _ {S T : Type 0} (Step : S → Remembered → Remembered → T → S → 
     pub located : failure ≡ located_by_all unassumed (sites tree)
     pub new : HandsBack Step start → BranchesAreNew first.assumptions tree
 
-  -- every run was made that the first one calls for; each is a member's or a branching's, and the last member assumes a yes
-  -- everywhere, if the first run does. Where each use hands back the assumptions that it got, each completion extends exactly
-  -- one member (of those that extend what the first run assumes, which is nothing where the call begins with it)
+  -- Every run that the first one requires was made. Each run belongs to a member or to a branching,
+  -- and the last member assumes a yes everywhere if the first run does. If each use returns the
+  -- assumptions that it received, each completion that extends the assumptions of the first run
+  -- extends exactly one member. (The first run assumes nothing if the call begins with it.)
   pub record Whole (tree : Tree T) : Type 0 where
     pub none_waits : waiting tree ≡ 0
     pub runs_are : runs tree + 1 ≡ 2 * ends tree
@@ -143,7 +152,7 @@ module _ {S T : Type 0} (Step : S → Remembered → Remembered → T → S → 
     pub last_yes : all_yes first.assumptions ≡ true → all_yes last ≡ true
     pub apart : HandsBack Step start → TakesApart first.assumptions (lists_of first.assumptions tree)
 
-  -- more runs are called for than the limit allows
+  -- More runs are required than the limit allows.
   pub record Cut (tree : Tree T) : Type 0 where
     pub some_wait : 0 < waiting tree
     pub runs_are : runs tree ≡ limit

@@ -1,6 +1,5 @@
--- A unit of an evaluation that has an error points at a keyword and at a value, as the error would by itself: its evaluation
--- path leads from the root to a target and goes on to one of the target's keywords; its place in the schema is the target's
--- location, going on alike; and its place in the instance is one that is there. (Core 2020-12, 12.3)
+-- Each unit of an evaluation that has an error points at a keyword and at a value, as the error
+-- itself would. (Core 2020-12, 12.3)
 use Rattle.std.specs.Prelude.{All, Contains, List, [], is_some, true, ℕ, ◌++◌, ◌≡◌}
 use Rattle.serde_json.specs.Data.{Data}
 use Rattle.theory_definitions.specs.Instance.{Place, Subject, Text, subject_at}
@@ -15,7 +14,7 @@ use Rattle.theory_meaning.specs.Paths.{Leads}
 use Rattle.theory_meaning.specs.ErrorsLead.{EachKeepsAbsorbing, MakesAbsorbing}
 use Rattle.theory_meaning.specs.Numbered.{AreNumbered, IsNumber, Numbers, subject_in}
 
--- what is true of a unit, and of each unit inside it
+-- The property holds of a unit, and of each unit inside it.
 abbrev mutual
   pub EachUnit : (Report → Type 0) → Unit_ → Type 0
   EachUnit P (unit r us) = P r × EachUnitOf P us
@@ -24,22 +23,25 @@ abbrev mutual
   EachUnitOf P no_units = Unit {0}
   EachUnitOf P (a_unit u us) = EachUnit P u × EachUnitOf P us
 
--- the unit is what one of these questions answers
+-- The unit is the answer to one of these questions.
 abbrev pub IsHandedOn : (Question → Unit_) → List Question → Unit_ → Type 0
 IsHandedOn answers qs u = (q : Question) × Contains qs q × (u ≡ answers q)
 
 module _ {K R : Type 0} (keywords : Keywords K R) (absorbs : K → List Text) where
-  -- the units that a keyword gives inside its own are what its questions answer; so are those inside the units that it absorbs, whose names are names that it absorbs
+  -- The units inside a keyword's own unit are answers to its questions. So are the units inside the
+  -- units that it absorbs, whose names are among those that it absorbs.
   pub record HandsUnitsOn (m : K) (s : Subject) (matches : Matching) (answers : Question → Unit_) : Type 0 where
     pub own : All (IsHandedOn answers (keywords.may_ask m s)) (keywords.units m s matches answers).children
     pub absorbed : All (λ (a : Named). Contains (absorbs m) a.name × All (IsHandedOn answers (keywords.may_ask m s)) a.children) (keywords.units m s matches answers).absorbed
 
-  -- each keyword does so
+  -- Each keyword does so.
   abbrev pub EachHandsUnitsOn : Type 0
   EachHandsUnitsOn = (m : K) (s : Subject) (matches : Matching) (answers : Question → Unit_) → HandsUnitsOn m s matches answers
 
 module _ {S K R : Type 0} (w : Parts S K R) (root : Key S) (instance : Data) where
-  -- the unit points at a keyword of a target that its evaluation path leads to, and at a value inside the instance; its absolute location is that of its place in the schema
+  -- The unit points at a keyword of a target to which its evaluation path leads, and at a value
+  -- inside the instance. Its place in the schema is the target's location with the same rest as the
+  -- evaluation path, and its absolute location is that of this place.
   pub record UnitPointsAt (r : Report) : Type 0 where
     pub key : Key S
     pub rest : Text
@@ -50,11 +52,12 @@ module _ {S K R : Type 0} (w : Parts S K R) (root : Key S) (instance : Data) whe
     pub instance_location : r.instance_location ≡ pointer_to place
     pub absolute : r.absolute ≡ absolute_of w key r.schema_path
 
-  -- so does it, and each unit inside it, where it has an error of its own
+  -- The unit and each unit inside it point so, if they have an error of their own.
   abbrev pub UnitsPoint : Unit_ → Type 0
   UnitsPoint u = EachUnit (λ r. ¬ (r.errors ≡ []) → UnitPointsAt r) u
 
--- the units of numbered nodes point so, whether questions return or not, where each keyword hands on what its questions answer
+-- The units of numbered nodes point so, whether questions return or not, if each keyword passes on
+-- the answers to its questions.
 abbrev pub NodeUnitsLead : {S K R : Type 0} → Parts S K R → (K → List Text) → Numbers S → Nodes K → Type 0
 NodeUnitsLead {S} w absorbs keys nodes = EachKeepsAbsorbing w.keywords absorbs → MakesAbsorbing absorbs w.table → EachHandsUnitsOn w.keywords absorbs → AreNumbered w keys nodes
     → (instance : Data) (c : Completion) (n i : ℕ) (root : Key S) → IsNumber keys i root

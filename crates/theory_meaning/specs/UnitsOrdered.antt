@@ -1,4 +1,4 @@
--- Units that are placed one entry after the other stand in the order of their plan.
+-- Units that are placed one entry after the other end up in the order of their plan.
 use Rattle.std.proofs.Common.{ap, ap₂, append-nil, append_assoc, refl, sym, ◌∙◌}
 use Rattle.std.proofs.lemmas.List.{map-append}
 use Rattle.std.proofs.lemmas.List.Elements.{filter-append}
@@ -8,21 +8,23 @@ use Rattle.theory_definitions.specs.Reports.{Unit_}
 use Rattle.theory_definitions.specs.Units.{Entry, entry_units, in_order, is_type}
 use Rattle.theory_definitions.specs.UnitOrder.{Placed, all_placed, comes_after, each_placed, is_any, nothing_placed, placed, with_absorbed, with_own}
 
--- the units among these that a test picks
+-- The units that pass a test.
 abbrev picked : (Text × Unit_ → Bool) → List (Text × Unit_) → List Unit_
 picked test xs = map (λ a. a.1) (filter test xs)
 
+-- The absorbed keyword is not `type`.
 abbrev is_count : Text × Unit_ → Bool
 is_count a = not (is_type a)
 
+-- The absorbed units of all entries.
 abbrev absorbed_by : List Entry → List (Text × Unit_)
 absorbed_by xs = flat_map (λ x. x.units.1) xs
 
--- what is picked of those before, and of the rest
+-- The passing units of the first part, followed by those of the rest.
 split : (test : Text × Unit_ → Bool) (before : List Unit_) (xs ys : List (Text × Unit_)) → (before ++ picked test xs) ++ picked test ys ≡ before ++ picked test (xs ++ ys)
 split test before xs ys = append_assoc before (picked test xs) (picked test ys) ∙ ap (λ us. before ++ us) (sym (ap (map (λ a. a.1)) (filter-append test xs ys) ∙ map-append (λ a. a.1) (filter test xs) (filter test ys)))
 
--- what stands after the types: nothing has come after the counts yet, or something has
+-- The units after the types, depending on whether something comes after the counts yet.
 abbrev rest : List Unit_ → List Unit_ → List Unit_ → List Entry → List Unit_
 rest before [] counts xs = before ++ in_order counts xs
 rest before (a ∷ more) counts xs = before ++ (counts ++ ((a ∷ more) ++ map (λ x. x.units.0) xs))
@@ -34,11 +36,13 @@ module _ (u : Placed) (x : Entry) (xs : List Entry) (counts : List Unit_) where
   abbrev owns : List Unit_
   owns = map (λ y. y.units.0) xs
 
-  -- the same with one entry more, where that looks inside or does not
+  -- The same units with one more entry; `inside` says whether its priority puts it after the
+  -- counts.
   abbrev with_one : Bool → List Unit_ → List Unit_ → List Unit_
   with_one inside before [] = before ++ (if inside then counts ++ (own ∷ owns) else own ∷ in_order counts xs)
   with_one inside before (a ∷ more) = before ++ (counts ++ ((a ∷ more) ++ (own ∷ owns)))
 
+  -- The placed units, and one more entry.
   abbrev after_one : Bool → List Unit_ → List Unit_ → Placed
   after_one inside before after = if inside || is_any after then record { types = u.types; before = before; counts = u.counts; after = after ++ own ∷ [] } else record { types = u.types; before = before ++ own ∷ []; counts = u.counts; after = after }
 
@@ -52,12 +56,12 @@ module _ (u : Placed) (x : Entry) (xs : List Entry) (counts : List Unit_) where
   with_one_is before [] = refl
   with_one_is before (a ∷ more) = refl
 
--- nothing more
+-- No entry is left.
 ends : (before after counts : List Unit_) → before ++ (counts ++ after) ≡ rest before after counts []
 ends before [] counts = ap (λ us. before ++ us) (append-nil counts)
 ends before (a ∷ more) counts = ap (λ us. before ++ (counts ++ (a ∷ us))) (sym (append-nil more))
 
--- the kinds that an entry keeps are those of the units placed so far
+-- An entry does not change the types and the counts placed so far.
 types_kept : (u : Placed) (priority : ℕ) (own : Unit_) → (with_own u priority own).types ≡ u.types
 types_kept u priority own = go (comes_after u priority)
   where
@@ -72,7 +76,7 @@ counts_kept u priority own = go (comes_after u priority)
     go true = refl
     go false = refl
 
--- whatever was placed before
+-- The order is right, whatever was placed before.
 placed_after : (u : Placed) (xs : List Entry) → all_placed (each_placed u xs) ≡ (u.types ++ picked is_type (absorbed_by xs)) ++ rest u.before u.after (u.counts ++ picked is_count (absorbed_by xs)) xs
 placed_after u [] = ap₂ (λ ts us. ts ++ us) (sym (append-nil u.types)) (ap (λ cs. u.before ++ (cs ++ u.after)) (sym (append-nil u.counts)) ∙ ends u.before u.after (u.counts ++ []))
 placed_after u (x ∷ xs) =

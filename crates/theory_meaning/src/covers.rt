@@ -1,4 +1,4 @@
-//! Laws of covers: what its members say is what every completion says.
+//! Laws of covers: the members of a cover say what every completion says.
 ghost use Rattle.theory_definitions.specs.Keywords.{Keywords};
 ghost use Rattle.theory_definitions.specs.Parts.{Parts};
 ghost use Rattle.theory_meaning.specs.Promises.{NodesFollow, PlainFollows, RunsSpeak, UnitsArePlain};
@@ -9,14 +9,16 @@ ghost use Rattle.theory_meaning.specs.Promises.{FinishingDecides, NodesFinishing
 ghost use Rattle.theory_meaning.specs.Promises.{MembersDiffer, MembersRun, OneMember, PairsDecide, PairsDiffer, RunsOfCover};
 ghost use Rattle.theory_meaning.specs.RunOrder.{MakesItsRuns};
 
-/// A run under assumptions speaks for every completion that extends them.
+/// A run speaks for every completion that extends its assumptions.
+///
+/// This holds if it meets only matches that are assumed.
 pub fn runs_speak<S, K, R>()
     ensures speak { (w : Parts S K R) → RunsSpeak w }
     ensures units { (w : Parts S K R) → UnitsArePlain w }
     ensures plain { (w : Parts S K R) → PlainFollows w }
 {}
 
-/// So does a run over numbered nodes, returns or none.
+/// The same of a run over numbered nodes, whether questions return or not.
 pub fn nodes_speak<K, R>()
     ensures follow { (keywords : Keywords K R) → NodesFollow keywords }
 {}
@@ -30,7 +32,7 @@ pub fn members_speak()
     ensures evaluation { EvaluationOfMembers }
 {}
 
-/// The four calls agree, and each decides or does not.
+/// The four calls agree with one another, and each of them decides or does not.
 pub fn calls_agree()
     ensures one { OneCover }
     ensures undecided { UndecidedPast }
@@ -43,8 +45,10 @@ pub fn calls_agree()
     ensures head { FirstIsHead }
 {}
 
-/// A run meets no match but those that the matcher leaves unfinished. Where it finishes every match, no run branches, and so the
-/// first run of a call decides, whatever the limit is.
+/// A run meets only matches that the matcher leaves unfinished.
+///
+/// If the matcher finishes every match, no run branches, so the first run of a call decides,
+/// whatever the limit is.
 pub fn finishing_decides<S, K, R>()
     ensures plain { (w : Parts S K R) → FinishingDecides w }
     ensures nodes { (keywords : Keywords K R) → NodesFinishingDecide keywords }
@@ -62,12 +66,16 @@ pub fn runs_are_counted()
     ensures counted { RunsOfCover }
 {}
 
-/// A call makes its runs one after another, up to its limit; one that decides makes each of them.
+/// A call makes its runs one after another, up to its limit.
+///
+/// A call that decides makes each of its runs.
 pub fn runs_are_made()
     ensures made { MakesItsRuns }
 {}
 
-/// A call's branches are on distinct pairs, so each member's completion extends it.
+/// A call branches on distinct pairs.
+///
+/// So the completion of each member of its cover extends the member.
 pub fn branches_differ()
     ensures pairs { PairsDiffer }
     ensures members { MembersRun }

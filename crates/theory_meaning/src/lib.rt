@@ -1,4 +1,6 @@
-//! What numbered nodes mean, and what is proved of it: each function states laws, and does nothing.
+//! Laws of numbered nodes and of covers.
+//!
+//! Each function states laws in its contract, and does nothing when it runs.
 #![tactic(auto)]
 
 pub mod covers;

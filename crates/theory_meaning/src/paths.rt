@@ -1,4 +1,6 @@
-//! What is proved of where errors point, for every schema and all parts: each function states one law, and does nothing.
+//! Laws of where errors point, for every schema and all parts.
+//!
+//! Each function states one law in its contract, and does nothing when it runs.
 
 ghost use Rattle.std.specs.Prelude.{List};
 ghost use Rattle.theory_meaning.specs.ErrorsLead.{ErrorsLead, FirstLeads, ListedLead, NodeErrorsLead};
@@ -9,18 +11,20 @@ ghost use Rattle.theory_definitions.specs.Parts.{Parts};
 ghost use Rattle.theory_definitions.specs.Plan.{Key};
 ghost use Rattle.serde_json.specs.Data.{Data};
 
-/// Each error of the plain meaning points at a keyword that its evaluation path leads to, and at a value inside the instance.
+/// Each error of the plain meaning points at a keyword and at a value.
+///
+/// Its evaluation path leads to the keyword, and the value is inside the instance.
 pub fn errors_lead<S, K, R>()
     ensures lead { (w : Parts S K R) (absorbs : K → List Text) → ErrorsLead w absorbs }
 {}
 
-/// So does each error of numbered nodes, whether questions return or not.
+/// The same of each error of numbered nodes, whether questions return or not.
 pub fn node_errors_lead<S, K, R>()
     ensures lead { (w : Parts S K R) (absorbs : K → List Text) (keys : Numbers S) (nodes : Nodes K)
         → NodeErrorsLead w absorbs keys nodes }
 {}
 
-/// Where they do, so does each error that a call gives, but for its failure.
+/// If they do, so does each error that a call returns, except its failure.
 pub fn given_errors_lead<S, K, R>()
     ensures listed { (w : Parts S K R) (root : Key S) (instance : Data) → ListedLead w root instance }
     ensures first { (w : Parts S K R) (root : Key S) (instance : Data) → FirstLeads w root instance }

@@ -6,10 +6,10 @@ ghost use Rattle.theory_meaning.specs.Rows.{ChainIsRefused, EmbeddedCountsFromIt
 ghost use Rattle.theory_meaning.specs.RowsFused.{FusedHasUnits, FusedHasOneError, FusedKeepsUnits};
 ghost use Rattle.theory_meaning.specs.Rows.{TurningReturns, TurningIsNumbered, TurningIsAccepted};
 
-/// The worked rows hold: each clause is one row, and it names what the definitions say of a small schema.
+/// The worked rows: each clause states the meaning of a small schema.
 ///
-/// The rows are computed from the definitions alone, over a tiny resolver, table, matcher and keyword type. The
-/// function does nothing when it runs.
+/// The rows are computed from the definitions alone, over a tiny resolver, table, matcher and
+/// keyword type. The function does nothing when it runs.
 pub fn worked_rows()
     ensures roots_are_roots { RootsAreRoots }
     ensures text_is_string { TextIsString }
