@@ -1,4 +1,4 @@
--- The answers that fit what is found; and how what is said is kept as more is found.
+-- The answers that fit what is found; and what is stated of them still holds as more is found.
 use Rattle.std.proofs.Common.{◌≡◌, ◌∙◌, ℕ, ◌++◌, ◌||◌, not, Bool, true, false, refl, sym, subst, ap, append_assoc, true≢false, inl, inr}
 use Rattle.std.specs.Prelude.{None, Option, Some}
 use Rattle.std.proofs.lemmas.Bool.{false_from_ne_true, or_left, or_right}
@@ -11,7 +11,7 @@ use Rattle.theory_fixed_points.specs.Found.{Found, Grows, accepted_now, refused,
 use Rattle.theory_fixed_points.specs.Stages.{Fits, IsStaged, PairTells, for_now}
 use Rattle.theory_fixed_points.proofs.Under.{below_begins}
 
--- ---- what is known
+-- ---- known verdicts
 
 module _ (f : Found) (i : ℕ) (p : Place) where
   pub settled_by : f.known i p ≡ Some true → settled f i p ≡ true
@@ -65,7 +65,7 @@ module _ (f : Found) (i : ℕ) (p : Place) where
 
 -- ---- answers that fit
 
--- less leans on fewer
+-- Answers that fit with provisional yeses fit without them, too.
 pub lean_less : (f : Found) (l k : Bool) (answers : EdgeAnswers) → (l ≡ true → k ≡ true) → Fits f k answers → Fits f l answers
 lean_less f l k answers less fits = record { alike = fits.alike; known = fits.known; leaning = λ is. fits.leaning (less is) }
 
@@ -82,7 +82,7 @@ module _ {K R : Type 0} (w : Solving K R) (f : Found) (staged : IsStaged w f) wh
   pub assumed_unknown : (i : ℕ) (p : Place) → f.assumed i p ≡ true → f.known i p ≡ None
   assumed_unknown i p is = staged.apart i p (now_assumed f i p is)
 
-  -- those at hand, and yes for now
+  -- The given answers, with a yes for the provisional pairs.
   abbrev pub with_now : EdgeAnswers → EdgeAnswers
   with_now answers e p = answers e p || for_now f e.node p
 
@@ -100,7 +100,7 @@ module _ {K R : Type 0} (w : Solving K R) (f : Found) (staged : IsStaged w f) wh
       no_more true = refl
       no_more false = refl
 
-  -- what is answered yes now, by pairs
+  -- The pairs that count as yes, as a set of answers, fit.
   pub accepted_fits : Fits f true (by_set (accepted_now f))
   accepted_fits = record {
     alike = λ a b p node guards. ap (λ n. accepted_now f n p) node;
@@ -119,7 +119,7 @@ module _ {K R : Type 0} (w : Solving K R) (f : Found) (staged : IsStaged w f) wh
       answered : (i : ℕ) (p : Place) (v : Bool) → f.known i p ≡ Some v → accepted_now f i p ≡ v
       answered i p v is = joined (f.busy i p) (f.assumed i p) (settled f i p) v (known_not_now i p v is) (known_value (f.known i p) v is)
 
--- ---- what is answered of a pair at once
+-- ---- pairs that are answered at once
 
 pub tells_known : (f : Found) (i : ℕ) (p : Place) (v l : Bool) → f.known i p ≡ Some v → PairTells f i p v l
 tells_known f i p v l is answers fits e node = fits.known e p v (subst (λ n. f.known n p ≡ Some v) (sym node) is)
@@ -140,7 +140,7 @@ grows_on q f g h a b = record {
   here = λ i p is. elim (b.here i p is) [ inl was ↦ a.here i p was | inr there ↦ inr there ];
 }
 
--- what is asked at a place below is asked below
+-- A step at a place below is a step below.
 pub grows_below : (q : Place) (b : Below) (f g : Found) → Grows (place_below q b) f g → Grows q f g
 grows_below q b f g a = record {
   busy = a.busy;

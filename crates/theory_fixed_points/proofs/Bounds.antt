@@ -45,7 +45,7 @@ pairs_among (n ∷ ns) ps i p known there = any_append (λ (e : ℕ × Place). i
     (λ same. or_left _ _ (row_among n i p ps same there))
     (λ later. or_right (list_any (λ (e : ℕ × Place). is_this i p e.0 e.1) (map (λ q. (n, q)) ps)) _ (pairs_among ns ps i p later there)) known)
 
--- of g numbers and p places, g * p * g at most
+-- For g numbers and p places at most g * p * g.
 pub bounded_by : (ns : List ℕ) (ps : List Place) (f : Found) (begun : ℕ) → IsCounted (pairs_of ns ps) (length ns) f begun → IsBoundedBy ns ps begun
 bounded_by [] ps f begun counted = omega (arith, counted)
 bounded_by (n ∷ ns) ps f begun counted =

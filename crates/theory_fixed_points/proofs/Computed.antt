@@ -23,14 +23,14 @@ use Rattle.theory_fixed_points.proofs.NumbersSay.{one_target_accepts, same_targe
 use Rattle.theory_fixed_points.specs.Cycles.{AllAndMatchRefuses, AnyOrMatchAccepts, TwoAcceptText, TwoRefuseNumber, root_and_match, two_schema}
 
 module _ (unfinished_ones : List Text) (schema : Data) where
-  -- the key of this place among those that a key asks for
+  -- The key at this position among those that the makers of a key request.
   abbrev next : Key Text → ℕ → Key Text
   next k i = slice_index_or (asked_for (worked_parts unfinished_ones schema) k) i k
 
   abbrev among : List (Key Text) → Target Text → Bool
   among ls t = list_any (λ (l : Key Text). same_target (worked_parts unfinished_ones schema) t l.target) ls
 
-  -- these keys, at the root place
+  -- These keys, at the root place.
   abbrev at_root : List (Key Text) → Target Text → Place → Bool
   at_root ls t p = same_place p [] && among ls t
 
@@ -49,13 +49,13 @@ module _ (unfinished_ones : List Text) (schema : Data) where
         (λ later. one_does k more each.1 later)
         is
 
-    -- the set of these keys stands by itself where each of them accepts if they all do
+    -- The set of these keys stands by itself if each of them accepts, given that they all do.
     stand : EachDoes ls → StandsByItself (worked_parts unfinished_ones schema) (root_of unfinished_ones schema) instance c (at_root ls)
     stand each k reached p is =
         let place : [] ≡ p = sym (place_is p [] (both_left _ _ is)) in
         subst (λ q. accepts_by (worked_parts unfinished_ones schema) instance c (λ l r. at_root ls l.target r) k q ≡ true) place (one_does k ls each (both_right _ _ is))
 
--- ---- two that refer to each other
+-- ---- two schemas that refer to each other
 
 abbrev two_0 : Key Text
 two_0 = root_of [] two_schema

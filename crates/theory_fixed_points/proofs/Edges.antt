@@ -1,4 +1,5 @@
--- The edges of a number lead to the numbers of keys that its key asks for, and its keywords are those of its key's plan.
+-- The edges of a number lead to the numbers of keys that its key's makers request, and its keywords
+-- are those of the plan of its key.
 use Rattle.std.proofs.Common.{◌≡◌, ℕ, zero, suc, ◌<◌, List, [], ◌∷◌, length, map, refl, sym, subst, ap, ap₂, ◌++◌, arith}
 use Rattle.std.specs.Prelude.{All, Contains, Option, Some, None, filter_map, flat_map, option_and_then, slice_get}
 use Rattle.std.specs.List.{cons_option}
@@ -22,7 +23,7 @@ use Rattle.theory_fixed_points.specs.NumbersSay.{NumbersAreMonotone}
 none : {A : Type 0} (P : A → Type 0) → All P []
 none P = λ k d h. absurd (omega (arith, h))
 
--- what holds of each that some position gives holds of all
+-- A property that holds of the result at each position holds of all results.
 all_given : {A B : Type 0} (h : A → Option B) (P : B → Type 0) (xs : List A) → ((i : ℕ) (y : B) → option_and_then h (slice_get xs i) ≡ Some y → P y) → All P (filter_map h xs)
 all_given h P [] f = none P
 all_given {A} {B} h P (x ∷ xs) f = go (h x) (f 0) (all_given h P xs (λ i. f (suc i)))
@@ -31,10 +32,10 @@ all_given {A} {B} h P (x ∷ xs) f = go (h x) (f 0) (all_given h P xs (λ i. f (
     go None g rest = rest
     go (Some y) g rest = All-cons P y _ (g y refl) rest
 
--- ---- a key asks for the keys that its children and its references lead to
+-- ---- the makers of a key request the keys that its children and its references lead to
 
 module _ {S K R : Type 0} (w : Parts S K R) (k : Key S) where
-  -- the same parts with keywords that ask one child, whatever they are: what is asked for is the same
+  -- The same parts, with keywords that all ask one child: the requested keys are the same.
   abbrev asking : ℕ → Parts S K R
   asking i = record w { keywords = record w.keywords { may_ask = λ m s. record { child = i; below = here } ∷ [] } }
 
@@ -63,7 +64,7 @@ module _ {S K R : Type 0} (w : Parts S K R) (k : Key S) where
 module _ {S K R : Type 0} (w : Parts S K R) (keys : Numbers S) (nodes : Nodes K) (k : Key S) where
   -- ---- edges
 
-  -- the edge leads to the number of a key that this one asks for
+  -- The edge leads to the number of a key that the makers of this key request.
   pub record Leads (e : NodeEdge) : Type 0 where
     pub key : Key S
     pub number : IsNumber keys e.node key

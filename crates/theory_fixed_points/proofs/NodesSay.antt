@@ -1,4 +1,4 @@
--- Where every keyword is monotone, what numbered nodes say under guards is the greatest solution.
+-- If every keyword is monotone, what numbered nodes say under guards is the greatest solution.
 use Rattle.std.proofs.Common.{◌≡◌, ℕ, zero, suc, ◌<◌, ◌==◌, Bool, true, false, ◌&&◌, ◌||◌, List, [], ◌∷◌, refl, sym, subst, ◌∙◌, ap, ap₂, arith, true≢false}
 use Rattle.std.specs.Prelude.{Contains, Option, Some, None, flat_map}
 use Rattle.std.specs.List.{list_all, list_any}
@@ -23,7 +23,7 @@ use Rattle.theory_definitions.proofs.Products.{both_left, both_right, both_true,
 use Rattle.theory_meaning.proofs.Settles.{picked, NodeAsks, free_falls, guarded_falls, settles, node_local}
 use Rattle.theory_meaning.proofs.Alike.{verdict_by_any_path}
 
--- ---- a number's verdict is read off the verdicts of what its edges answer
+-- ---- the verdict of a number depends only on the verdicts of its edges
 
 module _ {K R : Type 0} (keywords : Keywords K R) (matcher : Matcher) (nodes : Nodes K) (subject_of : Place → Subject) (c : Completion) (i : ℕ) (path : Text) (p : Place) (f : NodeEdge → Below → Outcome) where
   option_verdict : (o : Option NodeEdge) (b : Below)
@@ -49,7 +49,7 @@ module _ {K R : Type 0} (keywords : Keywords K R) (matcher : Matcher) (nodes : N
       go node_never = refl
       go (node_these xs) = parts_verdict xs
 
--- ---- a yes more among what is asked turns no yes to a no
+-- ---- another yes among the answers never changes a yes to a no
 
 or_reads : (a b : Bool) → (a ≡ true → b ≡ true) → (a || b) ≡ b
 or_reads true b h = sym (h refl)
@@ -99,9 +99,9 @@ module _ {K R : Type 0} (keywords : Keywords K R) (reads : Reads keywords) (matc
         go node_never k l is = is
         go (node_these xs) k l is = forms_more xs k l is
 
-  -- ---- a set of pairs of which each rests on others of the set
+  -- ---- a set of pairs, each of which rests on others of the set
 
-  -- the pair holds where some edges are answered yes, each of which leads to a pair of the set
+  -- The pair holds if some edges are answered yes, each of which leads to a pair of the set.
   pub record Rests (A : ℕ → Place → Type 0) (i : ℕ) (p : Place) : Type 0 where
     pub answers : NodeEdge → Below → Bool
     pub each : (e : NodeEdge) (b : Below) → NodeAsks instance nodes i p e b → answers e b ≡ true → A e.node (place_below p b)
@@ -129,7 +129,7 @@ module _ {K R : Type 0} (keywords : Keywords K R) (reads : Reads keywords) (matc
     pub word_monotone : (i : ℕ) → i < count → (m : K) → Contains (node_words (nodes.entries i)) m → IsMonotone keywords m
     word_monotone i l m is = All-contains (IsMonotone keywords) (node_words (nodes.entries i)) m (monotone i l) is
 
-    -- such pairs are accepted, whatever is in progress and however deep
+    -- Such pairs are accepted, whatever is in progress and however deep.
     pub accepted_says : (A : ℕ → Place → Type 0) → ((i : ℕ) (p : Place) → i < count → A i p → Rests A i p)
         → (n i : ℕ) (path : Text) (p : Place) (busy : List ℕ) → i < count → A i p → (Says n i path p busy).verdict ≡ true
     accepted_says A rests zero i path p busy l a = refl
@@ -142,7 +142,7 @@ module _ {K R : Type 0} (keywords : Keywords K R) (reads : Reads keywords) (matc
         (accepted_says A rests n e.node _ (place_below p b) _ (ranked i l e asks.edge).0 (r.each e b asks is)))
         r.holds
 
-    -- ---- what is said at a depth that is enough
+    -- ---- what is said at a sufficient depth
 
     abbrev pub Verdict : ℕ → Place → List ℕ → Bool
     Verdict i p busy = (Says (suc (left nodes count i (subject_in instance p) busy)) i [] p busy).verdict
@@ -152,7 +152,8 @@ module _ {K R : Type 0} (keywords : Keywords K R) (reads : Reads keywords) (matc
         ap (λ o. o.verdict) (settles instance nodes count ranked yes_outcome (node_outcome keywords matcher nodes (subject_in instance) c) (node_local keywords matcher instance nodes reads c) n (suc (left nodes count i (subject_in instance p) busy)) i path p busy l low (omega arith))
         ∙ verdict_by_any_path keywords matcher nodes (subject_in instance) c (suc (left nodes count i (subject_in instance p) busy)) i path [] p busy
 
-    -- ---- the pairs that a run with nothing in progress comes to by questions that are answered yes, and what is in progress there
+    -- ---- the pairs that a run with nothing in progress reaches by questions that are answered
+    -- yes, and what is in progress there
 
     data Trail (root : ℕ) (top : Place) : ℕ → Place → List ℕ → Type 0 where
       begins : Trail root top root top []
@@ -175,7 +176,7 @@ module _ {K R : Type 0} (keywords : Keywords K R) (reads : Reads keywords) (matc
       progress_on busy here on j is = on j is
       progress_on busy (down s) on j is = absurd (true≢false (sym is))
 
-      -- what is in progress at a place has been come to there
+      -- Whatever is in progress at a place was reached there.
       carried : {i : ℕ} {p : Place} {busy : List ℕ} → Trail root top i p busy → (j : ℕ) → list_any (λ n. n == j) busy ≡ true → OnTrail root top j p
       carried begins j is = absurd (true≢false (sym is))
       carried (enters_not {busy = busy} e b t asks free said) j is = progress_on busy b (carried t) j is
@@ -183,7 +184,7 @@ module _ {K R : Type 0} (keywords : Keywords K R) (reads : Reads keywords) (matc
           (λ same. subst (λ k. OnTrail root top k (place_below p b)) (eqb-true e.node j same) (e.node ∷ progress_below busy b, enters e b t asks free said))
           (progress_on busy b (carried t) j) is
 
-      -- so each of these pairs rests on others
+      -- So each of these pairs rests on others.
       trail_rests : Verdict root top [] ≡ true → (i : ℕ) (p : Place) → i < count → OnTrail root top i p → Rests (OnTrail root top) i p
       trail_rests is i p l on =
           let busy : List ℕ = on.0 in
@@ -197,7 +198,7 @@ module _ {K R : Type 0} (keywords : Keywords K R) (reads : Reads keywords) (matc
             holds = sym (node_verdict keywords matcher nodes (subject_in instance) c i [] p (Across n [] p busy)) ∙ trail_yes is on.1;
           }
 
-    -- what is said with no pair in progress is a solution
+    -- What is said with no pair in progress is a solution.
     pub is_solution : IsNodeSolution keywords matcher nodes (subject_in instance) c count (λ i p. Verdict i p [])
     is_solution i p l is =
         let A : ℕ → Place → Type 0 = OnTrail i p in
@@ -206,7 +207,7 @@ module _ {K R : Type 0} (keywords : Keywords K R) (reads : Reads keywords) (matc
         (λ e b asks said. accepted_says A (trail_rests i p is) (suc (left nodes count e.node (subject_in instance (place_below p b)) [])) e.node [] (place_below p b) [] (ranked i l e asks.edge).0 (r.each e b asks said))
         r.holds
 
-    -- and the pairs of every solution are accepted
+    -- The pairs of every solution are accepted.
     pub solution_says : (accepts : ℕ → Place → Bool) → IsNodeSolution keywords matcher nodes (subject_in instance) c count accepts
         → (n i : ℕ) (path : Text) (p : Place) (busy : List ℕ) → i < count → accepts i p ≡ true → (Says n i path p busy).verdict ≡ true
     solution_says accepts solves = accepted_says (λ i p. accepts i p ≡ true) (λ i p l is. record { answers = λ e b. accepts e.node (place_below p b); each = λ e b asks said. said; holds = solves i p l is })

@@ -1,4 +1,5 @@
--- So is the greatest solution of the targets of the keys that the numbers stand for.
+-- What a number says is also the greatest solution of the targets of the keys that the numbers
+-- stand for.
 use Rattle.std.proofs.Common.{◌≡◌, ℕ, zero, suc, ◌+◌, ◌<◌, Bool, true, false, ◌&&◌, ◌||◌, List, [], ◌∷◌, length, refl, sym, subst, ◌∙◌, ap, ap₂, arith, true≢false, inl, inr}
 use Rattle.std.specs.Prelude.{Contains, Decides, Option, Some, None, ◌⊎◌, ◌↔◌, option_map, slice_get}
 use Rattle.std.specs.List.{list_all}
@@ -38,13 +39,13 @@ use Rattle.theory_meaning.proofs.Simulates.{target_itself}
 use Rattle.theory_fixed_points.proofs.Edges.{Leads, edges_lead}
 use Rattle.theory_fixed_points.proofs.NodesSay.{Rests, Says, accepted_says, node_more, word_monotone, Verdict, is_solution, nodes_say_greatest}
 
--- ---- what a key accepts is what each key of its target does
+-- ---- a key accepts the same as each key with its target
 
 abbrev key_at : {S : Type 0} → Target S → Key S
 key_at t = record { target = t; location = []; base = []; start = 0 }
 
 module _ {S K R : Type 0} (w : Parts S K R) (instance : Data) (c : Completion) (accepts : Target S → Place → Bool) where
-  -- the set as one of keys
+  -- The set as one of keys.
   abbrev of_keys : Key S → Place → Bool
   of_keys l q = accepts l.target q
 
@@ -98,7 +99,7 @@ module _ {S K R : Type 0} (w : Parts S K R) (instance : Data) (c : Completion) (
   pub one_target_accepts : (k l : Key S) → k.target ≡ l.target → (p : Place) → accepts_by w instance c of_keys k p ≡ accepts_by w instance c of_keys l p
   one_target_accepts k l same p = accepts_by_target k p ∙ (ap (λ t. accepts_by w instance c of_keys (key_at t) p) same ∙ sym (accepts_by_target l p))
 
--- ---- a number holds exactly where its key accepts, by sets that agree on numbers and targets
+-- ---- a number holds if and only if its key accepts, with sets that agree on numbers and targets
 
 module _ {S K R : Type 0} (w : Parts S K R) (instance : Data) (c : Completion) (keys : Numbers S) (nodes : Nodes K) (of_numbers : ℕ → Place → Bool) (of_keys : Key S → Place → Bool)
     (agree : (i : ℕ) (k : Key S) → IsNumber keys i k → (p : Place) → of_numbers i p ≡ of_keys k p) (k : Key S) (p : Place) where
@@ -146,7 +147,7 @@ module _ {S K R : Type 0} (w : Parts S K R) (instance : Data) (c : Completion) (
 
 -- ---- a set of keys as one of numbers
 
--- what a number's key is answered, or else the number itself
+-- The answer for the key of a number, or else for the number itself.
 abbrev at_number : {S : Type 0} → (Key S → Place → Bool) → Place → Bool → Option (Option (Key S)) → Bool
 at_number accepts p other (Some (Some k)) = accepts k p
 at_number accepts p other (Some None) = other
@@ -161,7 +162,7 @@ agrees keys accepts other i k number p = ap (at_number accepts p (other i p)) nu
 
 -- ---- a set of numbers as one of targets
 
--- targets that are told to be the same are
+-- Targets that are reported to be the same are equal.
 pub same_target_is : {S K R : Type 0} (w : Parts S K R) → ((a b : S) → Decides (w.resolver.same_state a b) (a ≡ b)) → (t u : Target S) → same_target w t u ≡ true → t ≡ u
 same_target_is w states t u same = ap (λ k. k.target) (same_key_is w states (key_at t) (key_at u) (both_true _ _ (both_true _ _ (both_true _ _ same refl) refl) refl))
 
@@ -171,7 +172,7 @@ module _ {S K R : Type 0} (w : Parts S K R) (states : (a b : S) → Decides (w.r
   is_target t (Some None) = false
   is_target t None = false
 
-  -- a number that stands for a key of the target, and accepts the place
+  -- A number that stands for a key of the target, and accepts at the place.
   record Accepted (t : Target S) (p : Place) : Type 0 where
     number : ℕ
     key : Key S
@@ -179,7 +180,7 @@ module _ {S K R : Type 0} (w : Parts S K R) (states : (a b : S) → Decides (w.r
     of_target : t ≡ key.target
     said : accepts number p ≡ true
 
-  -- whether one of the first n numbers is
+  -- Whether one of the first n numbers is such a number.
   some_number : ℕ → Target S → Place → Bool
   some_number zero t p = false
   some_number (suc n) t p = (is_target t (slice_get keys n) && accepts n p) || some_number n t p
@@ -226,7 +227,7 @@ module _ {S K R : Type 0} (w : Parts S K R) (keys : Numbers S) (nodes : Nodes K)
   within : (i : ℕ) (k : Key S) → IsNumber keys i k → i < length keys
   within i k number = slice_get_within keys i (Some k) number
 
-  -- the targets whose numbers a solution accepts are a solution, of all keys
+  -- The targets whose numbers a solution accepts are a solution, for all keys.
   of_numbers_solves : (accepts : ℕ → Place → Bool) → IsNodeSolution w.keywords w.matcher nodes (subject w instance) c (length keys) accepts
       → by_keys.IsSolution w instance c (λ k. some_accepts w states keys accepts k.target)
   of_numbers_solves accepts solves k p e =
@@ -239,7 +240,8 @@ module _ {S K R : Type 0} (w : Parts S K R) (keys : Numbers S) (nodes : Nodes K)
       (λ e' b asks h. some_more w states keys accepts e'.node (place_below p b) h)
       (solves a.number p (within a.number a.key a.is_number) a.said))
 
-  -- ---- from a set of keys that stands by itself, at those keys that are of some kind, which is handed on
+  -- ---- from a set of keys that stands by itself, for those keys that are of a kind which their
+  -- children inherit
 
   module _ (Of : Key S → Type 0) (on : (k l : Key S) → Of k → Contains (asked_for w k) l → Of l) (accepts : Key S → Place → Bool)
       (solves : (k : Key S) → Of k → (p : Place) → accepts k p ≡ true → accepts_by w instance c accepts k p ≡ true) where
@@ -261,7 +263,7 @@ module _ {S K R : Type 0} (w : Parts S K R) (keys : Numbers S) (nodes : Nodes K)
           holds = holds_same w instance c keys nodes of_numbers accepts (agrees keys accepts (λ j q. false)) h.key p i entries ∙ solves h.key h.of_kind p h.said;
         }
 
-    -- the numbers of its keys say so
+    -- The numbers of its keys say so.
     held_says : (i : ℕ) (k : Key S) (p : Place) → IsNumber keys i k → Of k → accepts k p ≡ true → (n : ℕ) (path : Text) (busy : List ℕ)
         → (Says w.keywords reads w.matcher nodes instance c (length keys) ranked monotone n i path p busy).verdict ≡ true
     held_says i k p number of_kind said n path busy = accepted_says w.keywords reads w.matcher nodes instance c (length keys) ranked monotone Held held_rests n i path p busy (within i k number)
@@ -269,7 +271,7 @@ module _ {S K R : Type 0} (w : Parts S K R) (keys : Numbers S) (nodes : Nodes K)
 
   -- ---- both ways
 
-  -- what numbers say is a set of keys that stands by itself
+  -- What numbers say is a set of keys that stands by itself.
   said_by_keys : (i : ℕ) (k : Key S) (p : Place) → IsNumber keys i k → NodeAcceptsGreatest w.keywords w.matcher nodes (subject w instance) c (length keys) i p
       → (accepts : Target S → Place → Bool) × by_keys.IsSolution w instance c (λ l. accepts l.target) × (accepts k.target p ≡ true)
   said_by_keys i k p number (accepts, solves, at) =

@@ -1,4 +1,4 @@
--- A pair, and a set with one more.
+-- A pair, and a set with one more pair.
 use Rattle.std.proofs.Common.{◌≡◌, ℕ, suc, ◌≤◌, ◌++◌, ◌+◌, ◌==◌, true, [], ◌∷◌, length, refl, sym, subst, ap, ap₂, arith, rules, true≢false, length-append}
 use Rattle.std.proofs.lemmas.Bool.{and_parts, eqb-true, or_left, or_right}
 use Rattle.std.proofs.lemmas.List.{append-nil}
@@ -46,7 +46,7 @@ this_number i p j q is = eqb-true i j (and_parts (i == j) (same_place p q) is).0
 pub this_place : (i : ℕ) (p : Place) (j : ℕ) (q : Place) → is_this i p j q ≡ true → p ≡ q
 this_place i p j q is = place_equal p q (and_parts (i == j) (same_place p q) is).1
 
--- what is said of a pair is said of the one that is it
+-- A property of a pair holds of every pair that is the same.
 pub of_this : (P : ℕ → Place → Type 0) (i : ℕ) (p : Place) (j : ℕ) (q : Place) → is_this i p j q ≡ true → P i p → P j q
 of_this P i p j q is h = subst (λ x. P x q) (this_number i p j q is) (subst (P i) (this_place i p j q is) h)
 
@@ -59,7 +59,7 @@ with_others inside i p j q is = or_right (is_this i p j q) _ is
 pub with_cases : {P : Type 0} (inside : PairSet) (i : ℕ) (p : Place) (j : ℕ) (q : Place) → (is_this i p j q ≡ true → P) → (inside j q ≡ true → P) → with_pair inside i p j q ≡ true → P
 with_cases inside i p j q a b is = in_either (is_this i p j q) (inside j q) a b is
 
--- a place that begins with another and is no longer is this one
+-- A place that begins with another one and is not longer is that place.
 pub no_longer : (p r : Place) → length (p ++ r) ≤ length p → p ++ r ≡ p
 no_longer p [] h = append-nil p
 no_longer p (s ∷ r) h = let l : length (p ++ s ∷ r) ≡ length p + suc (length r) = length-append p (s ∷ r) in absurd (omega (arith, h, l))

@@ -1,4 +1,4 @@
--- How what the functions of a solver say follows from what those say that they call.
+-- How the statements of a solver's functions follow from those of the functions that they call.
 use Rattle.std.proofs.Common.{◌≡◌, ◌∙◌, ℕ, ◌<◌, ◌&&◌, ◌||◌, Bool, true, false, List, [], refl, ap, ap₂}
 use Rattle.std.specs.Prelude.{None, Option, Some}
 use Rattle.std.proofs.lemmas.Bool.{or_right}
@@ -17,18 +17,18 @@ module _ {K R : Type 0} (w : Solving K R) (f : Found) (p : Place) where
   by_cut true x y b h k = h refl
   by_cut false x y b h k = k refl
 
-  -- an edge that is answered by a pair, and one that is not
+  -- An edge that a pair answers, and one that its node answers.
   pub edge_by_pair : (e : NodeEdge) (below : Below) (b l : Bool) → w.cut e ≡ true → PairTells f e.node (place_below p below) b l → EdgeTells w p f e below b l
   edge_by_pair e below b l cut says answers fits = ap (λ c. elim c as (λ c. Bool) [ true ↦ answers e (place_below p below) | false ↦ under_by w answers e.node (place_below p below) ]) cut ∙ says answers fits e refl
 
   pub edge_by_node : (e : NodeEdge) (below : Below) (b l : Bool) → w.cut e ≡ false → Tells w f e.node (place_below p below) b l → EdgeTells w p f e below b l
   edge_by_node e below b l free says answers fits = ap (λ c. elim c as (λ c. Bool) [ true ↦ answers e (place_below p below) | false ↦ under_by w answers e.node (place_below p below) ]) free ∙ says answers fits
 
-  -- an edge that is asked one step below is asked there
+  -- An edge to one step below is asked there.
   pub edge_below : (e : NodeEdge) (s : Step) (b l : Bool) → EdgeTells w (place_below p (down s)) f e here b l → EdgeTells w p f e (down s) b l
   edge_below e s b l says answers fits = says answers fits
 
-  -- a child is its edge, and yes where there is none
+  -- A child says what its edge says, and yes if there is none.
   pub child_none : (es : Children) (q : Question) (l : Bool) → node_child es q.child ≡ None → ChildTells w p f es q true l
   child_none es q l is given consistent = ap (λ o. elim o as (λ (o : Option NodeEdge). Bool) [ None ↦ true | Some e ↦ given e q.below ]) is
 
@@ -39,11 +39,11 @@ module _ {K R : Type 0} (w : Solving K R) (f : Found) (p : Place) where
       go true says consistent = consistent.yes e q.below says
       go false says consistent = consistent.no e q.below says
 
-  -- a reference is its edge
+  -- A reference says what its edge says.
   pub form_reference : (e : NodeEdge) (b l : Bool) → EdgeTells w p f e here b l → FormTells w p f (node_reference e) b l
   form_reference e b l says = says
 
-  -- ---- entries, in their order; no more of them are asked after a no
+  -- ---- entries, in their order; after a no no more of them are asked
 
   pub parts_none : (l : Bool) → PartsTell w p f [] true l
   parts_none l answers fits = refl
@@ -64,7 +64,7 @@ module _ {K R : Type 0} (w : Solving K R) (f : Found) (p : Place) where
     pub node_says_parts : (xs : List (NodePart K)) (b k : Bool) → w.nodes.entries i ≡ node_these xs → PartsTell w p f xs b k → Tells w f i p b k
     node_says_parts xs b k is says answers fits = by_plan (node_these xs) is answers ∙ says answers fits
 
--- ---- what was said is said still
+-- ---- statements still hold later
 
 module _ {K R : Type 0} (w : Solving K R) (p q : Place) (f g : Found) (grew : Grows q f g) where
   pub form_still : (form : NodeForm K) (b l : Bool) → FormTells w p f form b l → FormTells w p g form b l
@@ -73,7 +73,7 @@ module _ {K R : Type 0} (w : Solving K R) (p q : Place) (f g : Found) (grew : Gr
   pub parts_still : (xs : List (NodePart K)) (b l : Bool) → PartsTell w p f xs b l → PartsTell w p g xs b l
   parts_still xs b l says answers fits = says answers (grows_fits q f g grew (b && l) (b && l) (λ is. is) answers fits)
 
--- ---- what edges answer that is as what was told
+-- ---- answers of edges that agree with what the edges say
 
 module _ {K R : Type 0} (w : Solving K R) (p : Place) where
   pub consistent_at : (q : Place) (f g : Found) → Grows q f g → (l k : Bool) → (l ≡ true → k ≡ true) → (given : NodeEdge → Below → Bool) → Consistent w p g k given → Consistent w p f l given
@@ -100,7 +100,7 @@ module _ {K R : Type 0} (w : Solving K R) (p : Place) where
         go true = alike a b (place_below p below) node guards
         go false = ap (λ n. under_by w answers n (place_below p below)) node
 
-    -- what edges answer by answers that fit
+    -- The edges have such answers if the given answers fit.
     pub fits_consistent : (f : Found) (l : Bool) (answers : EdgeAnswers) → Fits f l answers → Consistent w p f l (edges_by w p answers)
     fits_consistent f l answers fits = record {
       alike = edges_alike answers fits.alike;
@@ -108,7 +108,7 @@ module _ {K R : Type 0} (w : Solving K R) (p : Place) where
       no = λ e below says. says answers (lean_none f l answers fits);
     }
 
-    -- and by these, or where all is yes for now
+    -- The answers of edges by these answers, or with a yes for all provisional pairs.
     abbrev pub consistent_with : Found → EdgeAnswers → NodeEdge → Below → Bool
     consistent_with f answers e below = edges_by w p answers e below || edges_by w p (by_set (accepted_now f)) e below
 

@@ -1,4 +1,5 @@
--- With no pair in progress, a solver says what numbered nodes say under guards; where each keyword is monotone, the greatest solution.
+-- With no pair in progress, a solver says what numbered nodes say under guards, and, if each
+-- keyword is monotone, the greatest solution.
 use Rattle.std.proofs.Common.{◌≡◌, ◌∙◌, ℕ, zero, suc, ◌<◌, ◌||◌, ◌&&◌, Bool, true, false, [], refl, sym, subst, ap, arith, true≢false}
 use Rattle.std.specs.Prelude.{None, Option, Some}
 use Rattle.std.proofs.lemmas.Bool.{or_left}
@@ -33,7 +34,8 @@ module _ {K R : Type 0} (w : Solving K R) where
       never : {P : Type 0} (i : ℕ) (v : Bool) → None ≡ Some v → P
       never i v is = absurd (let f : ⊥ = cc is in f)
 
-  -- with no pair in progress nothing is assumed, so what fits before the next stage fits all that is found
+  -- With no pair in progress nothing is assumed, so answers that fit before the next stage fit all
+  -- that is found.
   idle_fits : (f : Found) (staged : IsStaged w f) → IsIdle f → (l : Bool) (answers : EdgeAnswers) → FitsStage f.known staged.stages.stage staged.stages.next l answers → Fits f true answers
   idle_fits f staged idle l answers fits = record {
     alike = fits.alike;
@@ -69,14 +71,14 @@ module _ {K R : Type 0} (w : Solving K R) where
       known j q false is = between.below j q (refused_by f j q is)
 
   module _ (solvable : IsSolvable w) (monotone : EachMonotone w) (f : Found) (staged : IsStaged w f) where
-    -- a set that stands by itself, with all that is settled
+    -- A set that stands by itself, with all pairs that have a final yes.
     with_settled : PairSet → PairSet
     with_settled inside j q = inside j q || settled f j q
 
     value : (o : Option Bool) (v : Bool) → o ≡ Some v → (let b : Bool = elim o [ None ↦ false | Some x ↦ x ] in b) ≡ v
     value o v is = ap (λ o. elim o as (λ (o : Option Bool). Bool) [ None ↦ false | Some x ↦ x ]) is
 
-    -- where none of it was refused before a stage, it is as known before that
+    -- If no pair of it was refused before a stage, it agrees with what was known before that stage.
     as_known : (inside : PairSet) (now : ℕ) → ((j : ℕ) (q : Place) → f.known j q ≡ Some false → staged.stages.stage j q < now → inside j q ≡ false)
         → (j : ℕ) (q : Place) (v : Bool) → f.known j q ≡ Some v → staged.stages.stage j q < now → with_settled inside j q ≡ v
     unfolding with_settled
@@ -98,7 +100,7 @@ module _ {K R : Type 0} (w : Solving K R) where
         go true has = absurd (fails (stands j q l has))
         go false has = refl
 
-    -- no pair that was refused before a stage holds under a set that stands by itself
+    -- No pair that was refused before a stage holds under a set that stands by itself.
     fails_before : (n i : ℕ) (p : Place) → f.known i p ≡ Some false → staged.stages.stage i p < n → FailsUnderEach w i p
     fails_before zero i p is early inside stands holds = absurd (omega (arith, early))
     fails_before (suc n) i p is early inside stands holds = true≢false (

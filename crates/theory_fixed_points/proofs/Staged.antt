@@ -1,4 +1,4 @@
--- What is told by stages is what numbered nodes say under guards.
+-- What is found by stages is what numbered nodes say under guards.
 use Rattle.std.proofs.Common.{◌≡◌, ◌∙◌, ℕ, zero, suc, ◌+◌, ◌<◌, ◌≤◌, ◌==◌, ◌++◌, ◌&&◌, ◌||◌, [], ◌∷◌, Bool, true, false, List, length, refl, sym, subst, ap, arith, append_assoc, length-append, true≢false}
 use Rattle.std.specs.Prelude.{None, Option, Some, if◌then◌else◌, nat_lt}
 use Rattle.std.specs.List.{list_any}
@@ -20,7 +20,7 @@ use Rattle.theory_fixed_points.proofs.Pairs.{place_equal, same_place-self}
 use Rattle.theory_fixed_points.proofs.Steps.{by_test, if_false, if_true}
 use Rattle.theory_fixed_points.proofs.Under.{below_begins, free_lower, holds_same, leads_inside}
 
--- a verdict by whether an edge is guarded and its pair in progress
+-- A verdict, by whether an edge is guarded and its pair in progress.
 across_is : (g met : Bool) (x y : Outcome) (v : Bool) → (g ≡ false → x.verdict ≡ v) → (g ≡ true → met ≡ true → true ≡ v) → (g ≡ true → met ≡ false → y.verdict ≡ v)
     → v ≡ (let o : Outcome = elim g [ false ↦ x | true ↦ elim met [ true ↦ accepted | false ↦ y ] ] in o.verdict)
 across_is false met x y v free there entered = sym (free refl)
@@ -34,7 +34,7 @@ module _ {K R : Type 0} (w : Solving K R) (solvable : IsSolvable w) (known : ℕ
   abbrev need : ℕ → Place → List ℕ → ℕ
   need i p busy = left w.nodes w.count i (subject_in w.instance p) busy
 
-  -- what a number says at a depth that is enough
+  -- What a number says at a sufficient depth.
   abbrev Verdict : ℕ → Place → List ℕ → Bool
   Verdict i p busy = (Says (suc (need i p busy)) i [] p busy).verdict
 
@@ -43,7 +43,7 @@ module _ {K R : Type 0} (w : Solving K R) (solvable : IsSolvable w) (known : ℕ
       ap (λ (o : Outcome). o.verdict) (settles w.instance w.nodes w.count solvable.ranked yes_outcome (node_outcome w.keywords w.matcher w.nodes (subject_in w.instance) w.completion) (node_local w.keywords w.matcher w.instance w.nodes (reads_of w.keywords solvable.laws) w.completion) n (suc (need i p busy)) i path p busy l low (omega arith))
       ∙ verdict_by_any_path w.keywords w.matcher w.nodes (subject_in w.instance) w.completion (suc (need i p busy)) i path [] p busy
 
-  -- of what is in progress at a place no pair was told no before a stage
+  -- No pair in progress at a place was refused before a stage.
   abbrev pub NoneRefused : ℕ → Place → List ℕ → Type 0
   NoneRefused now p busy = (j : ℕ) → list_any (λ n. n == j) busy ≡ true → known j p ≡ Some false → now ≤ stages.stage j p
 
@@ -52,16 +52,17 @@ module _ {K R : Type 0} (w : Solving K R) (solvable : IsSolvable w) (known : ℕ
       (λ same. let at : j ≡ k = eqb-true j k same in let stage = ap (λ (m : ℕ). stages.stage m p) at in omega (arith, stage))
       (λ others. none k others refused) there
 
-  -- a number says this where the edges are answered as known before a stage, and yes where a yes was told in it, if that is asked for
+  -- A number says this if the edges answer as known before a stage, and, if required, yes for the
+  -- pairs that got a yes in that stage.
   abbrev pub SaysAt : ℕ → Place → ℕ → Bool → Type 0
   SaysAt i p now v = (answers : EdgeAnswers) → FitsStage known stages.stage now v answers → under_by w answers i p ≡ v
 
-  -- so it says under guards, where that takes less than so much
+  -- So it says under guards, if the measure is less than this.
   abbrev Holds : ℕ → Type 0
   Holds n = (i : ℕ) (p : Place) (busy : List ℕ) (now : ℕ) (v : Bool) → i < w.count → SaysAt i p now v → NoneRefused now p busy → need i p busy < n → Verdict i p busy ≡ v
 
   module _ (n : ℕ) (deep : Holds n) (top : Place) (busy : List ℕ) (now : ℕ) (v : Bool) (none : NoneRefused now top busy) where
-    -- what is in progress at a place, where so much is at the top
+    -- The nodes in progress at a place, given those at the top.
     busy_at : Place → List ℕ
     busy_at p = if same_place top p then busy else []
 
@@ -92,7 +93,7 @@ module _ {K R : Type 0} (w : Solving K R) (solvable : IsSolvable w) (known : ℕ
         absurd (omega (arith, size, a, b)))
         (λ other. sym (if_false (same_place top (p ++ s ∷ [])) busy [] other))
 
-    -- ---- answers: as told, where that counts, and else what is said under guards
+    -- ---- answers: the verdict of a stage if that counts, and otherwise what is said under guards
 
     counts : ℕ → Place → Bool → Bool
     counts j p told = nat_lt (stages.stage j p) now || ((v && told) && (stages.stage j p == now))
@@ -109,7 +110,7 @@ module _ {K R : Type 0} (w : Solving K R) (solvable : IsSolvable w) (known : ℕ
         ap (λ o. elim o as (λ (o : Option Bool). Bool) [ None ↦ guarded e.node e.guarded p | Some told ↦ if counts e.node p told then told else guarded e.node e.guarded p ]) is
         ∙ if_true (counts e.node p told) told (guarded e.node e.guarded p) counted
 
-    -- an answer is as told, or as said under guards
+    -- An answer is the verdict of a stage, or what is said under guards.
     answer_cases : {P : Type 0} (e : NodeEdge) (p : Place) → ((told : Bool) → known e.node p ≡ Some told → counts e.node p told ≡ true → answers e p ≡ told → P) → (answers e p ≡ guarded e.node e.guarded p → P) → P
     unfolding answers
     answer_cases {P} e p f g = go (known e.node p) refl
@@ -142,7 +143,7 @@ module _ {K R : Type 0} (w : Solving K R) (solvable : IsSolvable w) (known : ℕ
         all_three true a b is at = same_test a b at
         all_three false a b is at = absurd (true≢false (sym is))
 
-    -- what counts was told in no later stage; and a no before
+    -- A verdict that counts was found in no later stage, and a no was found earlier.
     counted_stage : (j : ℕ) (p : Place) (told : Bool) → counts j p told ≡ true → stages.stage j p ≤ now
     unfolding counts
     counted_stage j p told is = in_either (nat_lt (stages.stage j p) now) ((v && told) && (stages.stage j p == now))
@@ -189,7 +190,7 @@ module _ {K R : Type 0} (w : Solving K R) (solvable : IsSolvable w) (known : ℕ
       falls_entered : list_any (λ j. j == e.node) below ≡ false → need e.node q (e.node ∷ below) < need i p (busy_at p)
       falls_entered other = guarded_falls w.instance w.nodes w.count solvable.ranked i p (busy_at p) e b l asks other
 
-      -- a pair that counts
+      -- A pair that counts.
       told_across : (told : Bool) → known e.node q ≡ Some told → counts e.node q told ≡ true → told ≡ Across
       told_across told is counted = across_is e.guarded (list_any (λ j. j == e.node) below) _ _ told
           (λ free. let falls = falls_free free in
@@ -210,7 +211,7 @@ module _ {K R : Type 0} (w : Solving K R) (solvable : IsSolvable w) (known : ℕ
               let early = counted_no e.node q counted in
               absurd (omega (arith, late, early))
 
-      -- and one that does not
+      -- A pair that does not count.
       guarded_across : guarded e.node e.guarded q ≡ Across
       unfolding guarded
       guarded_across =
@@ -247,7 +248,7 @@ module _ {K R : Type 0} (w : Solving K R) (solvable : IsSolvable w) (known : ℕ
         go true is = absurd (true≢false (sym (solvable.cuts e is) ∙ uncut))
         go false is = refl
 
-    -- what an edge answers, where what it leads to is said so one deeper
+    -- The answer of an edge, if its target says it one deeper.
     by_edge : (m k i : ℕ) (path : Text) (p : Place) (r : Place) → p ≡ top ++ r → i < w.count → need i p (busy_at p) < suc n → need i p (busy_at p) < suc k
         → (e : NodeEdge) (b : Below) → NodeAsks w.instance w.nodes i p e b
         → (w.cut e ≡ false → need e.node (place_below p b) (busy_at (place_below p b)) < need i p (busy_at p)
@@ -295,7 +296,8 @@ module _ {K R : Type 0} (w : Solving K R) (solvable : IsSolvable w) (known : ℕ
   all_hold zero i p busy now v l says none low = absurd (omega (arith, low))
   all_hold (suc n) i p busy now v l says none low = one_deeper n (all_hold n) p busy now v none i l says low
 
-  -- what rests on what was told before a stage, and on yeses of it, is what is said under guards, by any path
+  -- A verdict that rests on what was known before a stage, and on yeses of the stage, is what is
+  -- said under guards, with any path.
   pub told_guarded : (i : ℕ) (path : Text) (p : Place) (busy : List ℕ) (now : ℕ) (v : Bool) → i < w.count → SaysAt i p now v → NoneRefused now p busy → (n : ℕ) → need i p busy < n
       → (Says n i path p busy).verdict ≡ v
   told_guarded i path p busy now v l says none n low = settled n i path p busy l low ∙ all_hold (suc (need i p busy)) i p busy now v l says none (omega arith)

@@ -1,4 +1,5 @@
--- A pair is begun, refused, assumed or settled: what is found is told by stages still, it grows, and the pair says what was answered of it.
+-- A pair is begun, refused, assumed or made final: what is found is still found by stages, it
+-- grows, and the pair says the answer that it got.
 use Rattle.std.proofs.Common.{◌≡◌, ◌∙◌, ℕ, ◌+◌, ◌<◌, ◌≤◌, ◌++◌, ◌||◌, ◌&&◌, not, Bool, true, false, [], length, refl, sym, subst, ap, arith, true≢false, inl, inr}
 use Rattle.std.specs.Prelude.{None, Option, Some, if◌then◌else◌}
 use Rattle.std.proofs.lemmas.Bool.{and_parts, false_from_ne_true, or_left, or_right}
@@ -50,7 +51,7 @@ module _ {K R : Type 0} (w : Solving K R) (f : Found) (staged : IsStaged w f) (f
   was_known : (j : ℕ) (q : Place) (v : Bool) → fresh j q ≡ false → more_known j q ≡ Some v → f.known j q ≡ Some v
   was_known j q v other is = sym (if_false (fresh j q) (Some value) (f.known j q) other) ∙ is
 
-  -- what fits what is known then fits what was known before
+  -- Answers that fit what is known afterwards fit what was known before.
   known_fits : (g : Found) (l k : Bool) (answers : EdgeAnswers) → ((j : ℕ) (q : Place) (v : Bool) → g.known j q ≡ Some v → more_known j q ≡ Some v)
       → (l ≡ true → (e : NodeEdge) (q : Place) → for_now g e.node q ≡ true → answers e q ≡ true)
       → (h : Found) → ((j : ℕ) (q : Place) → h.known j q ≡ more_known j q) → Fits h k answers → Fits g l answers
@@ -77,7 +78,7 @@ module _ {K R : Type 0} (w : Solving K R) (f : Found) (staged : IsStaged w f) (f
     unfolding more_stage
     new_stage j q is = if_true (fresh j q) old.next (old.stage j q) is
 
-    -- answers that fit an old stage, and the new one
+    -- Answers that fit an old stage, and answers that fit the new one.
     at_old : (now : ℕ) (asked : Bool) (answers : EdgeAnswers) → FitsStage more_known more_stage now asked answers → FitsStage f.known old.stage now asked answers
     at_old now asked answers fits = record {
       alike = fits.alike;
@@ -149,11 +150,11 @@ module _ {K R : Type 0} (w : Solving K R) (solvable : IsSolvable w) where
     this_inside : (j : ℕ) (q : Place) → is_this i p j q ≡ true → j < w.count
     this_inside j q this = of_this (λ k r. k < w.count) i p j q this l
 
-    -- what is known and not this pair, as before
+    -- A known verdict of another pair is as before.
     others_unknown : (v : Bool) (j : ℕ) (q : Place) → is_this i p j q ≡ false → f.known j q ≡ None → (if is_this i p j q then Some v else f.known j q) ≡ None
     others_unknown v j q other is = if_false (is_this i p j q) (Some v) (f.known j q) other ∙ is
 
-    -- a pair that was in progress or assumed before is not this one, where that was neither
+    -- A pair that was in progress or assumed before is not this one, which was neither.
     not_this : (is_new : for_now old i p ≡ false) (j : ℕ) (q : Place) → for_now old j q ≡ true → is_this i p j q ≡ false
     not_this is_new j q now = false_from_ne_true (is_this i p j q) (λ this. true≢false (sym now ∙ of_this (λ k r. for_now old k r ≡ false) i p j q this is_new))
 
@@ -165,7 +166,8 @@ module _ {K R : Type 0} (w : Solving K R) (solvable : IsSolvable w) where
     still_busy : (j : ℕ) (q : Place) → old.busy j q ≡ true → f.busy j q ≡ true
     still_busy j q now = grew.busy j q ∙ with_others old.busy i p j q now
 
-    -- beside another pair in progress at its place, some are in progress still at the places of those assumed
+    -- If another pair is in progress at this place, some pair is still in progress at the place of
+    -- each assumed pair.
     placed_still : (k : ℕ) → old.busy k p ≡ true → (j : ℕ) (q : Place) → f.assumed j q ≡ true → (m : ℕ) × (old.busy m q ≡ true)
     placed_still k beside j q now =
         let other = staged.placed j q now in
@@ -201,7 +203,7 @@ module _ {K R : Type 0} (w : Solving K R) (solvable : IsSolvable w) where
       stages = more_stages w f staged (is_this i p) false this_unknown this_inside (λ j q this answers fits yes. of_this (λ m r. under_by w answers m r ≡ false) i p j q this (tells answers fits));
     }
 
-    -- ---- after a yes that leans on nothing
+    -- ---- after a yes that depends on no provisional answer
 
     abbrev pub free : Found
     free = after_yes_free old f i p
@@ -217,7 +219,7 @@ module _ {K R : Type 0} (w : Solving K R) (solvable : IsSolvable w) where
     pub free_says : (leans : Bool) → PairTells free i p true leans
     free_says leans = tells_known free i p true leans (if_true (is_this i p i p) _ _ (this_self i p))
 
-    -- where another is in progress at its place
+    -- If another pair is in progress at this place.
     pub free_sound : for_now old i p ≡ false → (k : ℕ) → old.busy k p ≡ true → Tells w f i p true false → IsStaged w free
     free_sound is_new k beside tells = record {
       apart = λ j q. in_either (old.busy j q) (f.assumed j q)
@@ -238,7 +240,7 @@ module _ {K R : Type 0} (w : Solving K R) (solvable : IsSolvable w) where
       stages = more_stages w f staged (is_this i p) true this_unknown this_inside (λ j q this answers fits yes. of_this (λ m r. under_by w answers m r ≡ true) i p j q this (tells answers fits));
     }
 
-    -- ---- after a yes that leans, beside another pair in progress at its place
+    -- ---- after a provisional yes, if another pair is in progress at this place
 
     abbrev pub assumes : Found
     assumes = after_yes old f i p
@@ -294,7 +296,7 @@ module _ {K R : Type 0} (w : Solving K R) (solvable : IsSolvable w) where
     abbrev pub since : PairSet
     since j q = f.assumed j q && not (old.assumed j q)
 
-    -- what was assumed since lies at the place
+    -- What was assumed since lies at the place.
     pub since_here : NoneDeeper p old → (j : ℕ) (q : Place) → since j q ≡ true → q ≡ p
     since_here none_deeper j q is =
         let both = and_parts (f.assumed j q) (not (old.assumed j q)) is in
@@ -327,7 +329,7 @@ module _ {K R : Type 0} (w : Solving K R) (solvable : IsSolvable w) where
     alone_says leans = tells_known alone i p true leans (if_true (new i p) _ _ (or_left _ _ (this_self i p)))
 
     module _ (none_at : NoneAt p old) (none_deeper : NoneDeeper p old) where
-      -- no pair that was in progress before lies at the place or below it
+      -- No pair that was in progress before lies at the place or below it.
       none_from : (j : ℕ) (r : Place) → old.busy j (p ++ r) ≡ true → ⊥
       none_from j r is =
           let same : p ++ r ≡ p = no_longer p r (none_deeper j (p ++ r) is) in
@@ -339,7 +341,7 @@ module _ {K R : Type 0} (w : Solving K R) (solvable : IsSolvable w) where
       new_here : (j : ℕ) (q : Place) → new j q ≡ true → q ≡ p
       new_here j q = in_either (is_this i p j q) (since j q) (λ this. sym (this_place i p j q this)) (since_here none_deeper j q)
 
-      -- what is answered yes for now at the place and below it is settled then
+      -- Whatever is provisional at the place and below it becomes final.
       now_new : (j : ℕ) (r : Place) → for_now f j (p ++ r) ≡ true → new j (p ++ r) ≡ true
       now_new j r = now_cases f j (p ++ r)
           (λ now. with_cases old.busy i p j (p ++ r)

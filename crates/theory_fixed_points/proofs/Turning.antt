@@ -1,4 +1,5 @@
--- A keyword's run for the verdict whose questions a solver answers: how it begins, goes on after each turn, and ends.
+-- The run of a keyword for the verdict, whose questions a solver answers: how it begins, continues
+-- after each turn, and ends.
 use Rattle.std.proofs.Common.{◌≡◌, ◌∙◌, ℕ, ◌&&◌, ◌||◌, Bool, true, false, List, [], refl, sym, subst, ap, true≢false}
 use Rattle.std.specs.Prelude.{None, Option, Some}
 use Rattle.theory_definitions.specs.Instance.{Place, Subject, Text}
@@ -31,7 +32,7 @@ module _ {K R : Type 0} (w : Solving K R) (p : Place) (given : Given w p) (es : 
   asked_verdict None b = refl
   asked_verdict (Some e) b = outcome_verdict (given e b)
 
-  -- the outcome of a question has the verdict that is told
+  -- The outcome of a question has the verdict of the child.
   pub answer_verdict : (q : Question) → (answers_by w p given es q).verdict ≡ child_by w p given es q
   answer_verdict q = asked_verdict (node_child es q.child) q.below
 
@@ -42,7 +43,7 @@ module _ {K R : Type 0} (w : Solving K R) (p : Place) (given : Given w p) (es : 
       go None = (λ is. refl, λ is. refl)
       go (Some e) = outcome_agrees (given e q.below)
 
-  -- marked children of one number that are guarded alike are answered alike
+  -- Marked children of the same number that are guarded alike have the same answers.
   answers_alike : (f : Found) (leans : Bool) → Consistent w p f leans given → AnsweredAlike (same_edge es) (answers_by w p given es)
   answers_alike f leans consistent = children_alike w.keywords w.matcher w.nodes (subject_in w.instance) es (λ e b. outcome_with (given e b)) alike
     where
@@ -51,7 +52,7 @@ module _ {K R : Type 0} (w : Solving K R) (p : Place) (given : Given w p) (es : 
 
 module _ {K R : Type 0} (w : Solving K R) (solvable : IsSolvable w) (p : Place) (m : K) (absorbed : List Text) (remaining : Subject → R → ℕ) (can_be : Subject → R → Type 0) (end_of : Standing R → Answer) (Fits : Standing R → Type 0)
     (laws : TurnLaws w.keywords m absorbed remaining can_be end_of Fits) (es : Children) where
-  -- ---- as it begins, with no marks
+  -- ---- at its start, with no marks
 
   pub begins_by : (f : Found) → TurnsBy w p f false m end_of Fits es [] (w.keywords.begin m (subject_here w p) for_verdict) no_reply
   begins_by f given consistent =
@@ -59,7 +60,8 @@ module _ {K R : Type 0} (w : Solving K R) (solvable : IsSolvable w) (p : Place) 
       (answers_agree w p given es) (λ q. refl) (answers_alike w p given es f false consistent) in
       record { fits = h.0; right = h.1 }
 
-  -- ---- after a turn that asks for something, where the reply is the true one by all that are as what is told then, and the marks those after it
+  -- ---- after a turn that asks for something, if the reply is the true one for all answers that
+  -- agree with the replies so far, and the marks are those after the turn
 
   pub turned_by : (f g : Found) → Grows p f g → (l k : Bool) → (l ≡ true → k ≡ true) → (marks marks' : List Marked) (r : R) (reply reply' : Reply) (t : Turn)
       → w.keywords.step m (subject_here w p) r reply ≡ t → ¬ (t ≡ done)
@@ -79,7 +81,7 @@ module _ {K R : Type 0} (w : Solving K R) (solvable : IsSolvable w) (p : Place) 
         right = subst (IsRight w.keywords m (subject_here w p) (matches_here w p) (answers_by w p given es) (units_by w p given es) (same_edge es) for_verdict) (sym k.1 ∙ ap end_of there) was.right;
       }
 
-  -- ---- as it ends: what is found is what the keyword says by all of these
+  -- ---- at its end: the answer of the run is what the keyword says with all these answers
 
   ends_by : (f : Found) (l : Bool) (marks : List Marked) (r : R) (reply : Reply) → w.keywords.step m (subject_here w p) r reply ≡ done
       → TurnsBy w p f l m end_of Fits es marks r reply → (given : Given w p) → Consistent w p f l given
@@ -89,7 +91,7 @@ module _ {K R : Type 0} (w : Solving K R) (solvable : IsSolvable w) (p : Place) 
       let k = laws.stands (stands_by w p given es marks r reply) was.fits is in
       sym (ap (λ (a : Answer). a.verdict) k ∙ was.right ∙ ap (w.keywords.holds m (subject_here w p) (matches_here w p)) (λ j q. answer_verdict w p given es q j))
 
-  -- more yeses among what edges answer are more among what a keyword is answered
+  -- More yeses among the answers of edges are more yeses among the answers to questions.
   child_more : (a b : Given w p) → ((e : NodeEdge) (d : Below) → a e d ≡ true → b e d ≡ true) → (q : Question) → child_by w p a es q ≡ true → child_by w p b es q ≡ true
   child_more a b h q = go (node_child es q.child)
     where
@@ -97,8 +99,8 @@ module _ {K R : Type 0} (w : Solving K R) (solvable : IsSolvable w) (p : Place) 
       go None is = refl
       go (Some e) is = h e q.below is
 
-  -- so it is what the keyword says, leaning on what is answered yes for now where one of the yeses did that it was told, which is so of a monotone
-  -- keyword alone: a no of it stays a no under fewer yeses
+  -- So it is what the keyword says. It is provisional if one of the yeses in the replies was, which
+  -- is allowed only for a monotone keyword: a no of it stays a no with fewer yeses.
   pub ended_by : (f : Found) → IsStaged w f → (l : Bool) → (l ≡ true → IsMonotone w.keywords m) → (marks : List Marked) (r : R) (reply : Reply) → w.keywords.step m (subject_here w p) r reply ≡ done
       → TurnsBy w p f l m end_of Fits es marks r reply
       → FormTells w p f (node_keyword m es) (w.keywords.answer (w.keywords.turn m (subject_here w p) r reply)).verdict l
@@ -131,7 +133,7 @@ module _ {K R : Type 0} (w : Solving K R) (solvable : IsSolvable w) (p : Place) 
       go false true says leans answers fits = no_less leans says answers (subst (λ v. FitsFound f (v && l) answers) says fits) ∙ sym says
       go false false says leans answers fits = by_all answers (subst (λ k. FitsFound f k answers) (sym leans) (lean_none f _ answers fits))
 
-  -- a run that is done at its first turn
+  -- A run that is done at its first turn.
   pub at_once_by : (f : Found) → IsStaged w f → (valid : Bool) → w.keywords.step m (subject_here w p) (w.keywords.begin m (subject_here w p) for_verdict) no_reply ≡ done
       → (w.keywords.answer (w.keywords.turn m (subject_here w p) (w.keywords.begin m (subject_here w p) for_verdict) no_reply)).verdict ≡ valid
       → FormTells w p f (node_keyword m es) valid false

@@ -1,4 +1,5 @@
--- A number under answers of edges: the same at every depth that is enough, by what is asked at the place and below it, and more where more are yes.
+-- A number under answers of edges: it says the same at every sufficient depth, it depends on the
+-- answers at the place and below it, and more yeses among these do not make it say less.
 use Rattle.std.proofs.Common.{◌≡◌, ◌∙◌, ℕ, zero, suc, ◌<◌, ◌++◌, Bool, true, false, [], ◌∷◌, refl, sym, subst, ap, arith, append_assoc, true≢false}
 use Rattle.std.proofs.lemmas.List.{append-nil}
 use Rattle.theory_definitions.specs.Instance.{Place}
@@ -18,12 +19,12 @@ same_bool true b f g = sym (f refl)
 same_bool false true f g = absurd (true≢false (sym (g refl)))
 same_bool false false f g = refl
 
--- the place below is one that begins with the place
+-- A place below begins with the place.
 pub below_begins : (p : Place) (b : Below) → (r : Place) × (place_below p b ≡ p ++ r)
 below_begins p here = ([], sym (append-nil p))
 below_begins p (down s) = (s ∷ [], refl)
 
--- an outcome with a verdict
+-- An outcome with a given verdict.
 verdict_alone : Bool → Outcome
 verdict_alone b = record { verdict = b; errors = [] }
 
@@ -31,14 +32,14 @@ module _ {K R : Type 0} (w : Solving K R) (solvable : IsSolvable w) where
   reads : Reads w.keywords
   reads = reads_of w.keywords solvable.laws
 
-  -- what an edge leads to is a number of the table
+  -- An edge leads to a number of the table.
   pub leads_inside : (i : ℕ) (p : Place) (e : NodeEdge) (b : Below) → i < w.count → NodeAsks w.instance w.nodes i p e b → e.node < w.count
   leads_inside i p e b l asks = (solvable.ranked i l e asks.edge).0
 
   abbrev holds : ℕ → Place → (NodeEdge → Below → Bool) → Bool
   holds = node_holds w.keywords w.matcher w.nodes (subject_in w.instance) w.completion
 
-  -- what a number says rests on what its edges answer that it may ask
+  -- What a number says depends only on the answers of edges that it may ask.
   pub holds_same : (i : ℕ) (p : Place) (f g : NodeEdge → Below → Bool)
       → ((e : NodeEdge) (b : Below) → NodeAsks w.instance w.nodes i p e b → f e b ≡ g e b) → holds i p f ≡ holds i p g
   unfolding verdict_alone
@@ -47,7 +48,7 @@ module _ {K R : Type 0} (w : Solving K R) (solvable : IsSolvable w) where
       ∙ ap (λ (o : Outcome). o.verdict) (node_local w.keywords w.matcher w.instance w.nodes reads w.completion i [] p (λ e b. verdict_alone (f e b)) (λ e b. verdict_alone (g e b)) (λ e b asks. ap verdict_alone (h e b asks)))
       ∙ node_verdict w.keywords w.matcher w.nodes (subject_in w.instance) w.completion i [] p (λ e b. verdict_alone (g e b))
 
-  -- an edge that is not answered by these is not guarded
+  -- An edge that is not cut is not guarded.
   free : (e : NodeEdge) → w.cut e ≡ false → e.guarded ≡ false
   free e is = go e.guarded refl
     where
@@ -59,7 +60,7 @@ module _ {K R : Type 0} (w : Solving K R) (solvable : IsSolvable w) where
   by_cut true x x' y y' g h = g refl
   by_cut false x x' y y' g h = h refl
 
-  -- the measure falls along such an edge
+  -- The measure decreases along such an edge.
   pub free_lower : (i : ℕ) (p : Place) (e : NodeEdge) (d : Below) → i < w.count → NodeAsks w.instance w.nodes i p e d → w.cut e ≡ false
       → left w.nodes w.count e.node (subject_in w.instance (place_below p d)) [] < left w.nodes w.count i (subject_in w.instance p) []
   free_lower i p e here l asks uncut = free_falls w.instance w.nodes w.count solvable.ranked i p [] e here l asks (free e uncut)
@@ -73,14 +74,14 @@ module _ {K R : Type 0} (w : Solving K R) (solvable : IsSolvable w) where
       let f = free_lower i p e d l asks uncut in
       settles answers m n e.node (place_below p d) (leads_inside i p e d l asks) (omega (arith, f, a)) (omega (arith, f, b))))
 
-  -- ---- what a number says under answers is what its node says over those of its edges
+  -- ---- what a number says under answers is what its node says with those of its edges
 
   pub under_is : (answers : EdgeAnswers) (i : ℕ) (p : Place) → i < w.count → under_by w answers i p ≡ holds i p (across_by w answers (under_by w answers) p)
   under_is answers i p l = holds_same i p _ _ (λ e d asks. by_cut (w.cut e) _ _ _ _ (λ cut. refl) (λ uncut.
       settles answers (left w.nodes w.count i (subject_in w.instance p) []) (suc (left w.nodes w.count e.node (subject_in w.instance (place_below p d)) [])) e.node (place_below p d)
       (leads_inside i p e d l asks) (free_lower i p e d l asks uncut) (omega arith)))
 
-  -- ---- it rests on what is answered at the place and below it
+  -- ---- it depends on the answers at the place and below it
 
   at_below : (P : Place → Type 0) (p : Place) (b : Below) → ((r : Place) → P (p ++ r)) → P (place_below p b)
   at_below P p b h = let begins = below_begins p b in subst P (sym begins.1) (h begins.0)
@@ -103,7 +104,7 @@ module _ {K R : Type 0} (w : Solving K R) (solvable : IsSolvable w) where
   pub under_same : (f g : EdgeAnswers) (i : ℕ) (p : Place) → ((r : Place) (e : NodeEdge) → f e (p ++ r) ≡ g e (p ++ r)) → under_by w f i p ≡ under_by w g i p
   under_same f g i p h = within_same f g (suc (left w.nodes w.count i (subject_in w.instance p) [])) i p h
 
-  -- ---- where each keyword is monotone, more yeses turn no yes to a no
+  -- ---- if each keyword is monotone, more yeses never change a yes to a no
 
   module _ (monotone : EachMonotone w) where
     holds_more : (i : ℕ) (p : Place) (f g : NodeEdge → Below → Bool) → i < w.count

@@ -1,4 +1,4 @@
--- Each step of a solver begins no more than what the pairs may have cost.
+-- Each step of a solver begins no more pairs than the cost of all pairs allows.
 use Rattle.std.proofs.Common.{◌≡◌, ◌∙◌, ℕ, ◌+◌, ◌*◌, ◌<◌, ◌≤◌, ◌||◌, ◌&&◌, not, Bool, true, false, [], ◌∷◌, length, refl, sym, subst, ap, ap₂, arith, true≢false}
 use Rattle.std.specs.Prelude.{None, Option, Some, if◌then◌else◌}
 use Rattle.std.specs.List.{list_any}
@@ -23,7 +23,7 @@ sum_le : (a b : ℕ → Place → ℕ) → ((j : ℕ) (q : Place) → a j q ≤ 
 sum_le a b h [] = omega arith
 sum_le a b h (e ∷ es) = omega (arith, h e.0 e.1, sum_le a b h es)
 
--- a pair that is among them counts
+-- A pair that is among them counts.
 among_counts : (most i : ℕ) (p : Place) (all : Pairs) → IsAmong all i p → most ≤ sum_over (λ j q. if is_this i p j q then most else 0) all
 among_counts most i p [] is = absurd (true≢false (sym is))
 among_counts most i p (e ∷ es) is = in_either (is_this i p e.0 e.1) (list_any (λ e. is_this i p e.0 e.1) es)
@@ -54,7 +54,7 @@ weight_most most None b h = omega (arith, h, one_at_most b)
 weight_most most (Some true) b h = h
 weight_most most (Some false) b h = omega arith
 
--- so many may be begun at most
+-- So at most this many pairs are begun.
 pub bounded : (all : Pairs) (most : ℕ) (f : Found) (begun : ℕ) → 1 ≤ most → IsCounted all most f begun → IsBounded all most begun
 bounded all most f begun some counted = omega (arith, counted, all_most most (weight most f) (λ j q. weight_most most (f.known j q) (f.busy j q || f.assumed j q) some) all)
 
@@ -84,7 +84,7 @@ entered_counts all most f i p begun among unseen idle free counted = omega (arit
         omega (arith, none, more))
 
 module _ {K R : Type 0} (w : Solving K R) (solvable : IsSolvable w) (old f : Found) (i : ℕ) (p : Place) (l : i < w.count) (before : IsStaged w old) (sound : IsStaged w f) (grew : Grows p (entered old i p) f) (all : Pairs) (most begun : ℕ) where
-  -- what is answered yes and was neither assumed since nor is the pair was so before
+  -- A pair that counts as yes, was not assumed since and is not this pair counted as yes before.
   was_so : (j : ℕ) (q : Place) → is_this i p j q ≡ false → (f.assumed j q && not (old.assumed j q)) ≡ false → (f.busy j q || f.assumed j q) ≡ true → (old.busy j q || old.assumed j q) ≡ true
   was_so j q other earlier = in_either (f.busy j q) (f.assumed j q)
       (λ now. with_cases old.busy i p j q (λ this. absurd (true≢false (sym this ∙ other))) (λ was. or_left (old.busy j q) _ was) (sym (grew.busy j q) ∙ now))
@@ -139,7 +139,7 @@ module _ {K R : Type 0} (w : Solving K R) (solvable : IsSolvable w) (old f : Fou
           let more = weight_more most (f.known j q) (f.busy j q || f.assumed j q) (old.busy j q || old.assumed j q) (was_so j q other earlier) in
           omega (arith, now, more))
 
-  -- ---- after a no: what was assumed since is dropped, at this place alone
+  -- ---- after a no: what was assumed since is dropped, only at this place
 
   pub refused_counts : IsAmong all i p → AtMostAt all most → NoneDeeper p old → IsCounted all most f begun → IsCounted all most (after_no old f i p) begun
   refused_counts among few none_deeper counted = omega (

@@ -20,16 +20,16 @@ use Rattle.theory_meaning.proofs.SameRun.{place_is}
 use Rattle.theory_fixed_points.specs.Rows.{AllAcceptsText, AllComesBack, AllRefusesNumber, AnyAcceptsNumber, AnyComesBack, IsAccepted, all_schema, any_schema}
 use Rattle.theory_fixed_points.proofs.NumbersSay.{one_target_accepts, same_target_is}
 
--- the key of the first subschema of a keyword
+-- The key of the first subschema of a keyword.
 abbrev first_of : Data → Text → Key Text
 first_of schema name = elim (child (worked_parts [] schema) (root_of [] schema) name (compile (to_member name ∷ to_item 0 ∷ []) ∷ []) 0) [ None ↦ root_of [] schema | Some edge ↦ edge.key ]
 
 module _ (schema : Data) (other : Key Text) where
-  -- the root and another key, at the root place
+  -- The root and another key, at the root place.
   abbrev both_at_root : Target Text → Place → Bool
   both_at_root t p = same_place p [] && (same_target (worked_parts [] schema) t (root_of [] schema).target || same_target (worked_parts [] schema) t other.target)
 
-  -- that they accept stands by itself where each of them accepts if both do
+  -- The set of these two pairs stands by itself if each accepts, given that both do.
   both_accept : (instance : Data) → ((c : Completion) → accepts_by (worked_parts [] schema) instance c (λ l q. both_at_root l.target q) (root_of [] schema) [] ≡ true)
       → ((c : Completion) → accepts_by (worked_parts [] schema) instance c (λ l q. both_at_root l.target q) other [] ≡ true)
       → both_at_root (root_of [] schema).target [] ≡ true → IsAccepted schema instance

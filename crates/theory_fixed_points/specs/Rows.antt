@@ -1,5 +1,5 @@
--- Worked rows: what the greatest solutions of small schemas accept, by computation, where a chain of questions returns and the
--- plain meaning says nothing.
+-- Worked rows: what the greatest solutions of small schemas accept if a chain of questions returns,
+-- so that the plain meaning says nothing; by computation.
 use Rattle.std.specs.Prelude.{[], codes, true, ◌≡◌}
 use Rattle.serde_json.specs.Data.{Data, array, item, no_items, number, unsigned}
 use Rattle.theory_definitions.specs.Matching.{Completion}
@@ -8,15 +8,15 @@ use Rattle.theory_meaning.specs.Rows.{string_schema}
 use Rattle.theory_meaning.specs.RowsWorked.{worked_parts, one_member, ref_to, root_of, text, two_members}
 use Rattle.theory_fixed_points.specs.Solutions.{AcceptsEach, AcceptsGreatest}
 
--- the greatest solution of each completion accepts the instance
+-- The greatest solution of each completion accepts the instance.
 abbrev pub IsAccepted : Data → Data → Type 0
 IsAccepted schema instance = AcceptsEach (worked_parts [] schema) (root_of [] schema) instance
 
--- that of none does
+-- The greatest solution of no completion accepts the instance.
 abbrev pub IsRefused : Data → Data → Type 0
 IsRefused schema instance = (c : Completion) → ¬ (AcceptsGreatest (worked_parts [] schema) (root_of [] schema) instance c (root_of [] schema) [])
 
--- a chain of questions comes twice to one target at one place
+-- A chain of questions comes twice to the same target at the same place.
 abbrev pub ComesBack : Data → Data → Type 0
 ComesBack schema instance = returns (worked_parts [] schema) instance 9 [] (record { key = root_of [] schema; path = []; place = [] }) ≡ true
 
@@ -28,10 +28,11 @@ one = number (unsigned 1)
 abbrev pub any_schema : Data
 any_schema = one_member (codes "anyOf") (array (item (ref_to (codes "#")) (item string_schema no_items)))
 
+-- A chain of questions returns.
 abbrev pub AnyComesBack : Type 0
 AnyComesBack = ComesBack any_schema one
 
--- 1 is accepted: that the root accepts it stands by itself
+-- 1 is accepted: the set that only says that the root accepts it stands by itself.
 abbrev pub AnyAcceptsNumber : Type 0
 AnyAcceptsNumber = IsAccepted any_schema one
 
@@ -40,12 +41,14 @@ AnyAcceptsNumber = IsAccepted any_schema one
 abbrev pub all_schema : Data
 all_schema = two_members (codes "allOf") (array (item (ref_to (codes "#")) no_items)) (codes "type") (text (codes "string"))
 
+-- A chain of questions returns.
 abbrev pub AllComesBack : Type 0
 AllComesBack = ComesBack all_schema (text (codes "a"))
 
--- 1 is refused, and "a" accepted
+-- 1 is refused.
 abbrev pub AllRefusesNumber : Type 0
 AllRefusesNumber = IsRefused all_schema one
 
+-- "a" is accepted.
 abbrev pub AllAcceptsText : Type 0
 AllAcceptsText = IsAccepted all_schema (text (codes "a"))

@@ -1,5 +1,5 @@
--- What a solver says at the end, with no pair in progress: what numbered nodes say under guards, and where keywords are monotone the greatest
--- solution.
+-- What a solver says at the end, with no pair in progress: it is what numbered nodes say under
+-- guards, and, if keywords are monotone, the greatest solution.
 use Rattle.std.specs.Prelude.{Bool, None, [], false, true, ℕ, ◌<◌, ◌↔◌, ◌≡◌}
 use Rattle.theory_definitions.specs.Instance.{Place, Text}
 use Rattle.theory_definitions.specs.Guarded.{guarded_within, node_outcome, yes_outcome}
@@ -9,34 +9,36 @@ use Rattle.theory_fixed_points.specs.Under.{EachMonotone, Solving, IsSolvable}
 use Rattle.theory_fixed_points.specs.Found.{Found, IsSound, SaysUnder}
 use Rattle.theory_fixed_points.specs.Stages.{IsStaged, Tells}
 
--- nothing is found yet
+-- Nothing is found yet.
 abbrev pub nothing_found : Found
 nothing_found = record { busy = λ i p. false; assumed = λ i p. false; known = λ i p. None }
 
--- no pair is in progress
+-- No pair is in progress.
 abbrev pub IsIdle : Found → Type 0
 IsIdle f = (i : ℕ) (p : Place) → f.busy i p ≡ false
 
 module _ {K R : Type 0} (w : Solving K R) where
-  -- what is said of a number with no pair in progress
+  -- What the solver says of a number, with no pair in progress.
   abbrev pub SolverSays : ℕ → Place → Bool → Type 0
   SolverSays i p b = (f : Found) × IsStaged w f × IsIdle f × Tells w f i p b true
 
-  -- is what the nodes say under guards, at every depth that is enough, by any path
+  -- It is what the nodes say under guards, at every sufficient depth and with any path.
   abbrev pub SolverSaysGuarded : Type 0
   SolverSaysGuarded = IsSolvable w → (i : ℕ) (p : Place) (b : Bool) → i < w.count → SolverSays i p b
       → (path : Text) (n : ℕ) → left w.nodes w.count i (subject_in w.instance p) [] < n
       → (guarded_within yes_outcome (node_outcome w.keywords w.matcher w.nodes (subject_in w.instance) w.completion) n i path p []).verdict ≡ b
 
-  -- and where each keyword is monotone a yes exactly where the greatest solution has the pair
+  -- If each keyword is monotone, it is a yes if and only if the greatest solution contains the
+  -- pair.
   abbrev pub SolverSaysGreatest : Type 0
   SolverSaysGreatest = IsSolvable w → EachMonotone w → (i : ℕ) (p : Place) (b : Bool) → i < w.count → SolverSays i p b
       → (b ≡ true) ↔ NodeAcceptsGreatest w.keywords w.matcher w.nodes (subject_in w.instance) w.completion w.count i p
 
-  -- what is told by stages is sound where each keyword is monotone
+  -- If each keyword is monotone, what is found by stages is sound.
   abbrev pub StagedIsSound : Type 0
   StagedIsSound = IsSolvable w → EachMonotone w → (f : Found) → IsStaged w f → IsSound w f
 
-  -- and a number says what it tells under each set that has all pairs which are answered yes now, and none that was refused
+  -- What a number says, it says under each set that contains all pairs that count as yes, and none
+  -- that was refused.
   abbrev pub TellsUnderSets : Type 0
   TellsUnderSets = (f : Found) (i : ℕ) (p : Place) (b : Bool) → Tells w f i p b true → SaysUnder w f i p b

@@ -1,4 +1,5 @@
--- What a number says at a place where some edges are answered by a set of pairs, and the others by what they lead to.
+-- What a number says at a place if a set of pairs answers some of the edges, and the nodes that
+-- they lead to answer the others.
 use Rattle.std.specs.Prelude.{Bool, [], false, suc, true, zero, ℕ, ◌<◌, ◌≡◌}
 use Rattle.serde_json.specs.Data.{Data}
 use Rattle.theory_definitions.specs.Instance.{Place}
@@ -10,11 +11,12 @@ use Rattle.theory_definitions.specs.Guarded.{NodeEdge, Nodes}
 use Rattle.theory_meaning.specs.Numbered.{Ranked, left, subject_in}
 use Rattle.theory_fixed_points.specs.NodesSay.{AreMonotone, node_holds}
 
--- pairs of a number and a place
+-- A set of pairs of a number and a place.
 abbrev pub PairSet : Type 0
 PairSet = ℕ → Place → Bool
 
--- what is solved: numbered nodes and how many there are, of an instance, under a completion, and which edges are answered by a set
+-- A problem to solve: numbered nodes and their count, an instance, a completion, and which edges
+-- are cut, that is, answered by a set of pairs.
 pub record Solving (K R : Type 0) : Type 0 where
   pub keywords : Keywords K R
   pub matcher : Matcher
@@ -24,53 +26,54 @@ pub record Solving (K R : Type 0) : Type 0 where
   pub completion : Completion
   pub cut : NodeEdge → Bool
 
--- each keyword keeps its laws, unguarded edges fall in rank, and every guarded edge is answered by a set; so are both or neither of two edges
--- to one number that are guarded alike
+-- Each keyword keeps its laws, unguarded edges lead to a lower rank, and every guarded edge is cut.
+-- Of two edges to the same number that are guarded alike, both are cut or neither is.
 pub record IsSolvable {K R : Type 0} (w : Solving K R) : Type 0 where
   pub laws : EachKeeps w.keywords
   pub ranked : Ranked w.nodes w.count
   pub cuts : (e : NodeEdge) → e.guarded ≡ true → w.cut e ≡ true
   pub alike : (a b : NodeEdge) → a.node ≡ b.node → a.guarded ≡ b.guarded → w.cut a ≡ w.cut b
 
--- each keyword is monotone
+-- Each keyword is monotone.
 abbrev pub EachMonotone : {K R : Type 0} → Solving K R → Type 0
 EachMonotone w = AreMonotone w.keywords w.nodes w.count
 
--- what edges answer that are not answered by what their numbers say: by the edge, and the place that it leads to
+-- The answers of the edges that are cut, by the edge and the place to which it leads.
 abbrev pub EdgeAnswers : Type 0
 EdgeAnswers = NodeEdge → Place → Bool
 
--- edges to one number that are guarded alike are answered alike
+-- Edges to the same number that are guarded alike have the same answers.
 abbrev pub AreAlike : EdgeAnswers → Type 0
 AreAlike answers = (a b : NodeEdge) (p : Place) → a.node ≡ b.node → a.guarded ≡ b.guarded → answers a p ≡ answers b p
 
--- a set answers each edge by the pair that it leads to
+-- A set answers each edge by the pair to which the edge leads.
 abbrev pub by_set : PairSet → EdgeAnswers
 by_set inside e p = inside e.node p
 
 module _ {K R : Type 0} (w : Solving K R) where
-  -- what an edge answers: by these answers, or by what another says of its number
+  -- The answer of an edge: one of these if the edge is cut, and otherwise what its number says.
   abbrev pub across_by : EdgeAnswers → PairSet → Place → NodeEdge → Below → Bool
   across_by answers go p e b = elim (w.cut e) [ true ↦ answers e (place_below p b) | false ↦ go e.node (place_below p b) ]
 
-  -- with at most n edges in a row that are not answered by these
+  -- What a number says, with at most n edges in a row that are not cut.
   abbrev pub by_within : EdgeAnswers → ℕ → PairSet
   by_within answers zero i p = true
   by_within answers (suc n) i p = node_holds w.keywords w.matcher w.nodes (subject_in w.instance) w.completion i p (across_by answers (by_within answers n) p)
 
-  -- at a depth that is enough
+  -- What a number says at a sufficient depth.
   abbrev pub under_by : EdgeAnswers → PairSet
   under_by answers i p = by_within answers (suc (left w.nodes w.count i (subject_in w.instance p) [])) i p
 
-  -- ---- the same by a set of pairs
+  -- ---- the same with a set of pairs
 
+  -- What a number says if this set answers the edges that are cut.
   abbrev pub under : PairSet → PairSet
   under inside = under_by (by_set inside)
 
-  -- a set stands by itself: each pair of it holds under it
+  -- A set stands by itself if each pair of the set holds under the set.
   abbrev pub Stands : PairSet → Type 0
   Stands inside = (i : ℕ) (p : Place) → i < w.count → inside i p ≡ true → under inside i p ≡ true
 
-  -- the pair holds under no set that stands by itself
+  -- The pair holds under no set that stands by itself.
   abbrev pub FailsUnderEach : ℕ → Place → Type 0
   FailsUnderEach i p = (inside : PairSet) → Stands inside → under inside i p ≡ true → ⊥

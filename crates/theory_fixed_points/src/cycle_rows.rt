@@ -1,10 +1,10 @@
-//! What the greatest solutions of small schemas accept.
+//! Worked rows: greatest solutions of small schemas whose references return.
 ghost use Rattle.theory_fixed_points.specs.Cycles.{AllAndMatchRefuses, AnyOrMatchAccepts, TwoAcceptText, TwoRefuseNumber};
 
-/// The worked rows hold: each clause is one row.
+/// The worked rows: each clause states what a greatest solution accepts.
 ///
-/// The rows are computed from the definitions alone, over a tiny resolver, table, matcher and keyword type. The
-/// function does nothing when it runs.
+/// The rows are computed from the definitions alone, over a tiny resolver, table, matcher and
+/// keyword type. The function does nothing when it runs.
 pub fn worked_rows()
     ensures two_refuse_number { TwoRefuseNumber }
     ensures two_accept_text { TwoAcceptText }

@@ -1,6 +1,9 @@
-//! Where every keyword is monotone, what numbered nodes say under guards is the greatest solution: the largest set of pairs of a
-//! target and a place that stands by itself. What a solver finds by stages is what they say, monotone or not. Each function states laws,
-//! and does nothing.
+//! Laws of greatest solutions and of solvers.
+//!
+//! If every keyword is monotone, what numbered nodes say under guards is the greatest solution: the
+//! largest set of pairs of a target and a place that stands by itself. What a solver finds by
+//! stages is what the nodes say, whether keywords are monotone or not. Each function states laws in
+//! its contract, and does nothing when it runs.
 #![tactic(auto)]
 
 pub mod cycle_rows;
