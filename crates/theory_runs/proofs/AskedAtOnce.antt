@@ -1,4 +1,5 @@
--- A keyword that tells at once what it asks, in each reading: how it begins, goes on after each answer, and ends; and that it meets no match.
+-- A keyword that asks its questions up front, in each reading: how it begins, continues after each
+-- answer, and ends; and that it meets no match.
 use Rattle.std.proofs.Common.{◌≡◌, ◌∙◌, ◌<◌, ◌≤◌, not, Bool, List, [], ◌∷◌, ℕ, sym, subst, ap}
 use Rattle.serde_json.specs.Data.{Data}
 use Rattle.theory_definitions.specs.Instance.{Text}
@@ -24,23 +25,23 @@ use Rattle.theory_runs.proofs.Finishing.{child_meets_none, form_meets_none}
 use Rattle.theory_runs.proofs.Verdicts.{keyword_replies}
 
 module _ {K R : Type 0} (g : Setting K R) (q : Asked) (c : Context) (i : ℕ) (m : K) (es : Children) where
-  -- in each reading in which the subject stands at the place, at a depth that is enough
+  -- In each reading in which the subject is at the place, at a sufficient depth.
   abbrev InEach : (Reading → Type 0) → Type 0
   InEach fact = (x : Reading) → Reads g.is_whole g.nodes g.count (settled_by g q c) q.place q.subject x → left g.nodes g.count i q.subject (busy g q c) ≤ x.depth → fact x
 
   abbrev accepts_in : Reading → Question → Bool
   accepts_in x k = (child_says g.words g.nodes x q.path q.place (busy g q c) es k).verdict
 
-  -- the keyword says what the answers of those questions say that are left
+  -- The result of the keyword is determined by the answers to the remaining questions.
   abbrev pub SaysByTheRest : Bool → List Question → Type 0
   SaysByTheRest all rest = InEach (λ x. (g.words x.texts).holds m q.subject (matching x.matcher x.completion) (accepts_in x) ≡ answers_say all (accepts_in x) rest)
 
-  -- what is remembered of matches has stayed the same
+  -- What is remembered of matches is unchanged.
   abbrev pub MeetsNothing : Context → Type 0
   MeetsNothing c' = (texts : Bool) (root : Data) (depth : ℕ) → Reads g.is_whole g.nodes g.count (settled_by g q c) q.place q.subject (reading (settled_by g q c) texts root depth) → left g.nodes g.count i q.subject (busy g q c) ≤ depth
       → c.remembered ≡ c'.remembered
 
-  -- ---- what is met
+  -- ---- the matches that are met
 
   module _ (finishes : FinishesEach g.matcher) where
     pub meets_on : (c1 c2 : Context) → Keeps c c1 → MeetsNothing c1 → (k : Question) → MeetsChild g q c1 c2 i es k → MeetsNothing c2
@@ -53,7 +54,7 @@ module _ {K R : Type 0} (g : Setting K R) (q : Asked) (c : Context) (i : ℕ) (m
     met_none c' name nothing texts root depth reads l =
         meets_same g.matcher c.remembered c'.remembered [] _ (sym (form_meets_none g.matcher finishes (g.words texts) g.nodes (subject_in root) c.remembered.assumptions depth i q.path q.place (busy g q c) name (node_keyword m es) q.mode)) (nothing texts root depth reads l)
 
-  -- ---- it begins, and what a match says
+  -- ---- how it begins, and what a match says
 
   module _ (known : i < g.count) (form : HasForm g.nodes i (node_keyword m es)) where
     tells_in : InEach (λ x. Tells x.texts (g.is_whole m) q.subject)
@@ -78,19 +79,19 @@ module _ {K R : Type 0} (g : Setting K R) (q : Asked) (c : Context) (i : ℕ) (m
         let here = (moved (λ es' as'. ChildReplies g.words g.is_whole g.nodes g.count (settling g.matcher as') q.mode q.path q.place (busy_at q.place es') q.subject i es k (told.Truth b)) keeps.in_progress keeps.assumptions says) x reads l in
         sym (ap accepts (subst (λ mode. reply_of x.texts (told.Truth b) ≡ reply_by mode (child_says g.words g.nodes x q.path q.place (busy g q c) es k)) wanted here.same))
 
-    -- where it is as it has to be
+    -- If the answer is the required one, the run continues.
     pub question_goes_on : (c1 : Context) → Keeps c c1 → (all : Bool) (k : Question) (rest : List Question) → SaysByTheRest all (k ∷ rest) → (b : Bool) → ChildSays g q c1 i es k (told.Truth b) → b ≡ all → SaysByTheRest all rest
     question_goes_on c1 keeps all k rest so_far b says is x reads l =
         so_far x reads l ∙ first_as_it_has_to (accepts_in x) k rest all (answered c1 keeps k b says x reads l ∙ is)
 
-    -- and where it is not
+    -- If it is not, the run ends.
     pub question_ends : (c1 : Context) → Keeps c c1 → (all : Bool) (k : Question) (rest : List Question) → SaysByTheRest all (k ∷ rest) → (b : Bool) → ChildSays g q c1 i es k (told.Truth b) → b ≡ not all
         → (name : Text) → FormSays g q c i name (node_keyword m es) (told.Truth b)
     question_ends c1 keeps all k rest so_far b says is name =
         keyword_replies q.mode wanted g.words g.is_whole g.nodes g.count (settled_by g q c) q.path q.place (busy g q c) q.subject i name m es b (λ x reads l.
         is ∙ sym (so_far x reads l ∙ first_otherwise (accepts_in x) k rest all (answered c1 keeps k b says x reads l ∙ is)))
 
-    -- once none is left
+    -- If no question is left, the run ends.
     pub questions_end : (all : Bool) → SaysByTheRest all [] → (name : Text) → FormSays g q c i name (node_keyword m es) (told.Truth all)
     questions_end all so_far name =
         keyword_replies q.mode wanted g.words g.is_whole g.nodes g.count (settled_by g q c) q.path q.place (busy g q c) q.subject i name m es all (λ x reads l.

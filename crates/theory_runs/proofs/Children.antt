@@ -1,4 +1,5 @@
--- A keyword's child one step below, where errors are wanted: what its edge may be asked there, and what is replied by what the edge replies.
+-- A keyword's child one step below, if errors are wanted: what its edge may be asked there, and the
+-- reply of the child, given that of the edge.
 use Rattle.std.proofs.Common.{◌≡◌, ◌∙◌, ◌≤◌, ◌++◌, ◌∷◌, ℕ, Bool, List, Result, Some, [], ap, subst, sym}
 use Rattle.theory_definitions.specs.Guarded.{Children, NodeEdge, node_child}
 use Rattle.theory_definitions.specs.Instance.{Place, Step, Subject, after_step}
@@ -24,7 +25,7 @@ use Rattle.theory_runs.proofs.RightVerdicts.{laid_below}
 
 module _ {K R : Type 0} (g : Setting K R) (q : Asking) (i : ℕ) (es : Children) (k : ChildQuestion) (e : NodeEdge) (step : Step) (inner : Subject) (lower : Place) (c : Context)
     (may : MayRun g q c i) (has : HasChildren g.nodes i es) (child : node_child es k.child ≡ Some e) (after : after_step step q.subject ≡ Some inner) (lies : lower ≡ q.place ++ step ∷ []) where
-  -- what is asked there
+  -- The question there.
   abbrev pub there : Asking
   there = record q { subject = inner; place = lower }
 
@@ -49,7 +50,7 @@ module _ {K R : Type 0} (g : Setting K R) (q : Asking) (i : ℕ) (es : Children)
         goes_on = (layout, laid_below layout q.place q.subject inner step lower laid lies after, right);
       }
 
-  -- at a place below it is asked down the step
+  -- At a place below, the child is asked one step down.
   module _ (below : k.below ≡ down step) where
     pub says_below : (r : code.Reply) → EdgeSays g there c e r → ChildSays g q c i es k r
     says_below r says = child_below g.words g.is_whole g.nodes g.count (settled_by g q c) q.mode q.path q.place (busy g q c) q.subject i es k r e step lower inner child below lies after falls
@@ -88,7 +89,7 @@ module _ {K R : Type 0} (g : Setting K R) (q : Asking) (i : ℕ) (es : Children)
       stays = if_ok_mono result _ _ (λ r stays. stays_there c' stays) h.stays;
     }
 
--- ---- and here
+-- ---- and at the keyword's own place
 
 module _ {K R : Type 0} (g : Setting K R) (q : Asking) (i : ℕ) (es : Children) (k : ChildQuestion) (e : NodeEdge) (c : Context) (may : MayRun g q c i) (has : HasChildren g.nodes i es) (child : node_child es k.child ≡ Some e) where
   pub needs_here : edge_needs g.nodes g.count e q.subject (busy g q c) ≤ left g.nodes g.count i q.subject (busy g q c)

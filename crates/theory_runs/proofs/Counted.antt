@@ -1,4 +1,5 @@
--- A node is counted, and then its plan is asked: nothing has changed but how many nodes may be asked.
+-- A node is counted before its plan is asked: only the number of nodes that may still be asked has
+-- changed.
 use Rattle.std.proofs.Common.{◌≡◌, ℕ, Bool, Result, subst, sym}
 use Rattle.schema_run_context.specs.Progress.{Context, places_in}
 use Rattle.schema_run_context.specs.Works.{Asks}

@@ -1,5 +1,6 @@
--- Where the matcher finishes every match, no run meets any, so that a verdict may be asked for before errors are, and what is met stays the
--- same; and where the verdict is yes there are no errors.
+-- If the matcher finishes every match, no run meets an unfinished one. So a verdict may be asked
+-- for before errors are, without a change in what is met, and if the verdict is yes there are no
+-- errors.
 use Rattle.std.proofs.Common.{◌≡◌, ◌∙◌, ◌==◌, ◌∷◌, ◌++◌, ℕ, zero, suc, Bool, true, false, List, [], refl, sym, ap}
 use Rattle.std.specs.Prelude.{None, Option, Some, ◌↔◌}
 use Rattle.std.specs.List.{list_any}
@@ -139,12 +140,12 @@ module _ (matcher : Matcher) (finishes : FinishesEach matcher) where
     within_meets zero i path p taken = yes_meets i path p
     within_meets (suc n) i path p taken = node_meets i path p _ (λ e b. across_meets _ (within_meets n) path p taken e b)
 
-    -- across an edge, with questions at most so deep
+    -- Across an edge, with questions of a bounded depth.
     pub edge_meets_none : (n : ℕ) (path : Text) (p : Place) (taken : List ℕ) (e : NodeEdge) (mode : Mode)
         → (across (yes_run nodes) (guarded_node keywords matcher nodes subject_of as') (guarded_within (yes_run nodes) (guarded_node keywords matcher nodes subject_of as') n) path p taken e here).met mode ≡ []
     edge_meets_none n path p taken e mode = (across_meets _ (within_meets n) path p taken e here).none mode
 
-    -- of a keyword's child, and of a form
+    -- Of a keyword's child, and of a keyword or reference.
     pub child_meets_none : (n : ℕ) (path : Text) (p : Place) (taken : List ℕ) (es : Children) (k : Question) (mode : Mode)
         → (node_asked keywords matcher nodes subject_of no_run es (across (yes_run nodes) (guarded_node keywords matcher nodes subject_of as') (guarded_within (yes_run nodes) (guarded_node keywords matcher nodes subject_of as') n) path p taken) k).met mode ≡ []
     child_meets_none n path p taken es k mode = (child_meets 0 path p _ (λ e b. across_meets _ (within_meets n) path p taken e b) (node_child es k.child) k.below).none mode
@@ -153,27 +154,27 @@ module _ (matcher : Matcher) (finishes : FinishesEach matcher) where
         → node_part_met keywords matcher nodes subject_of as' i path p (across (yes_run nodes) (guarded_node keywords matcher nodes subject_of as') (guarded_within (yes_run nodes) (guarded_node keywords matcher nodes subject_of as') n) path p taken) name form mode ≡ []
     form_meets_none n i path p taken name form mode = form_meets i path p _ (λ e b. across_meets _ (within_meets n) path p taken e b) name form mode
 
--- ---- an edge that is asked for its verdict first
+-- ---- an edge that is first asked for its verdict
 
 module _ {K R : Type 0} (g : Setting K R) (q : Asking) (e : NodeEdge) where
   abbrev verdict_first : Asking
   verdict_first = record q { mode = for_verdict }
 
   module _ (finishes : FinishesEach g.matcher) where
-    -- what is met for the verdict is what is met where errors are wanted
+    -- The run for the verdict meets the same matches as the run for errors.
     pub verdict_meets : (c c' : Context) → MeetsEdge g verdict_first c c' e → MeetsEdge g q c c' e
     verdict_meets c c' met texts root depth reads l =
         let none = edge_meets_none g.matcher finishes (g.words texts) g.nodes (subject_in root) c.remembered.assumptions depth q.path q.place (busy g q c) e in
         meets_same g.matcher c.remembered c'.remembered _ _ (none for_verdict ∙ sym (none q.mode)) (met texts root depth reads l)
 
-    -- and after it nothing else is met than without it
+    -- After it the run for errors meets the same matches as without it.
     pub meets_after : (c c1 c2 : Context) → Keeps c c1 → MeetsEdge g verdict_first c c1 e → MeetsEdge g q c1 c2 e → MeetsEdge g q c c2 e
     meets_after c c1 c2 keeps first second texts root depth reads l =
         let none = edge_meets_none g.matcher finishes (g.words texts) g.nodes (subject_in root) c.remembered.assumptions depth q.path q.place (busy g q c) e in
         let more = moved (λ es as'. EdgeMeets g.words g.is_whole g.nodes g.count (settling g.matcher as') q.mode q.path q.place (busy_at q.place es) q.subject c1.remembered c2.remembered e) keeps.in_progress keeps.assumptions second texts root depth reads l in
         meets_append g.matcher [] _ c.remembered c1.remembered c2.remembered (meets_same g.matcher c.remembered c1.remembered _ _ (none for_verdict) (first texts root depth reads l)) more
 
-  -- a yes has no errors
+  -- A yes has no errors.
   module _ (agree : (texts : Bool) (m : K) (s : Subject) (c : Completion) (matcher : Matcher) (a : Answers) → ((k : Question) → Agrees (a k)) → ((g.words texts).holds m s (matching matcher c) (λ k. (a k).verdict) ≡ true) ↔ ((g.words texts).faults m s (matching matcher c) a ≡ [])) where
     pub edge_accepts : (c : Context) (b : Bool) (r : code.Reply) → b ≡ true → EdgeSays g verdict_first c e (told.Truth b) → ((texts : Bool) → reply_of texts r ≡ reply_by q.mode accepted) → errors_in r ≡ [] → EdgeSays g q c e r
     edge_accepts c b r is says accepts_it no_errors x reads l =

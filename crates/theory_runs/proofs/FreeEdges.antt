@@ -1,4 +1,4 @@
--- What is met across an edge that nothing guards: what its node meets.
+-- The matches that are met across an unguarded edge are those of its node.
 use Rattle.std.proofs.Common.{◌≡◌, ◌==◌, ◌∷◌, ◌++◌, false, suc, ap, arith, subst, sym}
 use Rattle.std.specs.List.{list_any}
 use Rattle.theory_definitions.specs.Guarded.{NodeEdge, yes_run}

@@ -24,18 +24,18 @@ use Rattle.theory_runs.proofs.NodeMeets.{meets_entered}
 use Rattle.schema_run_steps.proofs.NodeRuns.{edge_entered}
 use Rattle.schema_run_context.proofs.Pairs.{busy-pushed, snoc_first}
 
--- nothing has changed, so nothing but the work
+-- If nothing has changed, then nothing except the work has.
 but_for_work : (c c' : Context) → c' ≡ c → c' ≡ record c { work = c'.work }
 but_for_work c c' e = subst (λ (z : Context). z ≡ record c { work = z.work }) (sym e) refl
 
 module _ {K R : Type 0} (g : Setting K R) (layout : Layout) where
-  -- nothing that matters has changed
+  -- Nothing that matters has changed.
   pub right_same : (c c' : Context) → c'.remembered ≡ c.remembered → c'.verdicts ≡ c.verdicts → RemembersRightly g layout c → RemembersRightly g layout c'
   right_same c c' e f h =
       subst (λ vs. AreRight g.words g.is_whole g.nodes g.count g.matcher c'.remembered.assumptions c'.remembered layout vs) (sym f)
       (subst (λ r. AreRight g.words g.is_whole g.nodes g.count g.matcher r.assumptions r layout c.verdicts) (sym e) h)
 
-  -- a match was asked for
+  -- A match was requested.
   pub right_matched : (c c' : Context) (m : Met) (answer : Match) → g.matcher.is_match m.pair.pattern m.pair.subject ≡ answer → c'.verdicts ≡ c.verdicts
       → c'.remembered ≡ after_match c.remembered m answer → RemembersRightly g layout c → RemembersRightly g layout c'
   right_matched c c' m answer is f e h =
@@ -46,7 +46,7 @@ module _ {K R : Type 0} (g : Setting K R) (layout : Layout) where
       subst (λ vs. AreRight g.words g.is_whole g.nodes g.count g.matcher c'.remembered.assumptions c'.remembered layout vs) (sym f)
       (subst (λ r. AreRight g.words g.is_whole g.nodes g.count g.matcher r.assumptions r layout c.verdicts) (sym e) met')
 
--- ---- the entries of a node whose one entry is the one at work
+-- ---- the entries of a node with only one entry, the one at work
 
 pub alone_remembers : {A B K : Type 0} (q : Asking) (f : A → B) (g : B → NodePart K) (xs : List A) (i : ℕ) (x : A) → i < length xs → x ≡ get_or xs i x → (c before after : Context) (r : code.Reply)
     → (i ≡ 0 → before ≡ c) → FormRemembers q before after (g (f x)).form r → PartsRemember q c after (map g (map f xs)) r
@@ -58,20 +58,20 @@ alone_remembers {A = A} q f g (a ∷ []) zero x l is c before after r first h = 
     let is_y : g (f a) ≡ y = cc in
     h' e (ap (λ (z : A). (g (f z)).form) is ∙ ap (λ z. z.form) is_y ∙ form)
 
--- once all entries are done, one was the only one, or there is none
+-- After all entries are done: there was only one, or there is none.
 pub ended_remembers : {A B K : Type 0} (q : Asking) (f : A → B) (g : B → NodePart K) (xs : List A) (i : ℕ) → length xs ≤ i → (c after : Context) (r : code.Reply)
     → (0 < i → PartsRemember q c after (map g (map f xs)) r) → PartsRemember q c after (map g (map f xs)) r
 ended_remembers q f g [] i l c after r h = λ y only. absurd (let z : ⊥ = cc in z)
 ended_remembers q f g (a ∷ xs) i l c after r h = h (omega (arith, l))
 
--- a reference
+-- A reference.
 pub reference_remembers : {K : Type 0} (q : Asking) (c after : Context) (e : NodeEdge) (form : NodeForm K) (r : code.Reply) → form ≡ node_reference e → EdgeRemembers q c after e r → FormRemembers q c after form r
 reference_remembers {K = K} q c after e form r is h = λ e' is'. subst (λ z. EdgeRemembers q c after z r) (reference_same e e' (sym is ∙ is')) h
   where
     reference_same : (a b : NodeEdge) → ◌≡◌ {A = NodeForm K} (node_reference a) (node_reference b) → a ≡ b
     reference_same a b h = cc
 
--- a node, by its plan
+-- A node, by its plan.
 pub planned_remembers : {K : Type 0} (q : Asking) (c after : Context) (nodes : Nodes K) (i : ℕ) (xs : List (NodePart K)) (r : code.Reply) → nodes.entries i ≡ node_these xs → PartsRemember q c after xs r → NodeRemembers q c after nodes i r
 planned_remembers {K = K} q c after nodes i xs r plan h = λ ys is.
     let same : xs ≡ ys = parts_same xs ys (sym plan ∙ is) in
@@ -83,7 +83,7 @@ planned_remembers {K = K} q c after nodes i xs r plan h = λ ys is.
 -- ---- a guarded edge whose pair is not in progress
 
 module _ {K R : Type 0} (g : Setting K R) (q : Asking) (e : NodeEdge) (c : Context) (guarded : e.guarded ≡ true) (free : list_any (λ i. i == e.node) (busy_at q.place c.in_progress) ≡ false) where
-  -- the question that goes across it
+  -- The question that is asked across it.
   abbrev pub asked_across : Asking
   asked_across = record { subject = q.subject; place = q.place; path = q.path ++ e.path; mode = q.mode }
 
@@ -102,7 +102,7 @@ module _ {K R : Type 0} (g : Setting K R) (q : Asking) (e : NodeEdge) (c : Conte
   pub pairs_back : (c1 c5 : Context) → c1.in_progress ≡ c.in_progress ++ (e.node, q.place) ∷ [] → c1.in_progress ≡ c5.in_progress ++ (e.node, q.place) ∷ [] → c5.in_progress ≡ c.in_progress
   pairs_back c1 c5 pairs left = (snoc_first c5.in_progress c.in_progress (e.node, q.place) (e.node, q.place) (sym left ∙ pairs)).0
 
-  -- ---- what is computed once the pair is entered
+  -- ---- what is computed after the pair is entered
 
   module _ (c2 : Context) (pairs : c2.in_progress ≡ c.in_progress ++ (e.node, q.place) ∷ []) (met : c2.remembered ≡ c.remembered) where
     said_here : (r : code.Reply) → NodeSays g asked_across c2 e.node r → Here (e.node ∷ busy_at q.place c.in_progress) q.mode r
@@ -128,7 +128,7 @@ module _ {K R : Type 0} (g : Setting K R) (q : Asking) (e : NodeEdge) (c : Conte
   -- ---- for the verdict
 
   module _ (wanted : q.mode ≡ for_verdict) where
-    -- one that is read
+    -- A verdict that is read.
 
     module _ (c1 c5 : Context) (v : Bool) (pairs : c1.in_progress ≡ c.in_progress ++ (e.node, q.place) ∷ []) (read : c1.verdicts ≡ c.verdicts) (found : read_verdict e.node q.place c1 ≡ Some v) where
       pub read_now : read_verdict e.node q.place c ≡ Some v
@@ -167,7 +167,7 @@ module _ {K R : Type 0} (g : Setting K R) (q : Asking) (e : NodeEdge) (c : Conte
         kept = λ none may. absurd (cc (sym none ∙ read_now));
       }
 
-    -- one that is computed, and kept where it may be
+    -- A verdict that is computed, and kept if it may be.
 
     module _ (c1 c2 c3 c4 c5 : Context) (mark : ℕ) (v : Bool) (pairs : c2.in_progress ≡ c.in_progress ++ (e.node, q.place) ∷ []) (met : c2.remembered ≡ c.remembered)
         (says : NodeSays g asked_across c2 e.node (told.Truth v)) (meets : MeetsNode g asked_across c2 c3 e.node) (keeps : Keeps c2 c3) (asks : (texts : Bool) → EachAsksVerdicts (g.words texts))
@@ -175,7 +175,7 @@ module _ {K R : Type 0} (g : Setting K R) (q : Asking) (e : NodeEdge) (c : Conte
       pairs3 : c3.in_progress ≡ c.in_progress ++ (e.node, q.place) ∷ []
       pairs3 = keeps.in_progress ∙ pairs
 
-      -- what is kept is right
+      -- The kept verdict is right.
       kept_right : MayKeep e.node q.place q.subject mark c3 → IsRightVerdict g.words g.is_whole g.nodes g.count g.matcher c3.remembered.assumptions c3.remembered e.node q.place q.subject v
       kept_right may =
           let none = alone_now c3 pairs3 may.alone in

@@ -1,4 +1,5 @@
--- Which unfinished matches a keyword's run has met between two turns, and which are left to meet.
+-- Which unfinished matches a keyword's run has met between two turns, and which it has still to
+-- meet.
 use Rattle.std.proofs.Common.{◌≡◌, ◌∙◌, ℕ, zero, suc, ◌<◌, Bool, List, [], ◌∷◌, ◌++◌, refl, sym, ap, subst, arith, append_assoc, append-nil}
 use Rattle.std.specs.List.{list_any}
 use Rattle.theory_definitions.specs.Instance.{Subject, Text}
@@ -15,7 +16,7 @@ module _ {K R : Type 0} (keywords : Keywords K R) (matcher : Matcher) (as' : Ass
   abbrev MetIn : ℕ → List Marked → R → Reply → List Met
   MetIn n marks r reply = turns keywords matcher as' x s run_of same name m n marks r reply
 
-  -- what has been met, and with what is left to meet that is all
+  -- The matches that were met, together with those still to meet, are all matches.
   abbrev pub MeetsSoFar : Remembered → List Marked → R → Reply → Type 0
   MeetsSoFar now marks r reply = (n : ℕ) × (remaining r < n) × (before : List Met) × MeetsEach matcher old before now × (before ++ MetIn n marks r reply ≡ total)
 
@@ -37,11 +38,11 @@ module _ {K R : Type 0} (keywords : Keywords K R) (matcher : Matcher) (as' : Ass
   one_more n marks r r' reply t is e = ap (one_turn (λ l next. MetIn n l (keywords.turn m s r reply) next) marks) e
       ∙ ap (λ u. one_turn (λ l next. MetIn n l u next) marks t) is
 
-  -- what is met from there on, by the marks and the reply
+  -- The matches that are met from here on, depending on the marks and the reply.
   moves : (n : ℕ) (r : R) (marks marks' : List Marked) (reply reply' : Reply) → marks' ≡ marks → reply' ≡ reply → MetIn n marks r reply ≡ MetIn n marks' r reply'
   moves n r marks marks' reply reply' held told = ap (λ l. MetIn n l r reply) (sym held) ∙ ap (MetIn n marks' r) (sym told)
 
-  -- a turn that meets some, and leaves what it doesn't
+  -- A turn that meets some of them, and leaves the others.
   onward : (now new : Remembered) (marks marks' : List Marked) (r r' : R) (reply reply' : Reply) (t : Turn) (ms : List Met) → keywords.turn m s r reply ≡ r' → keywords.step m s r reply ≡ t → remaining r' < remaining r
       → ((n : ℕ) → one_turn (λ l next. MetIn n l r' next) marks t ≡ ms ++ MetIn n marks' r' reply') → MeetsEach matcher now ms new → MeetsSoFar now marks r reply → MeetsSoFar new marks' r' reply'
   onward now new marks marks' r r' reply reply' t ms is e falls splits met (zero, l, before, h, all) = absurd (omega arith)
@@ -57,7 +58,7 @@ module _ {K R : Type 0} (keywords : Keywords K R) (matcher : Matcher) (as' : Ass
       → reply' ≡ reply_in w (run_of q) → MeetsEach matcher now ((run_of q).met w) new → MeetsSoFar now marks r reply → MeetsSoFar new marks' r' reply'
   meets_asked now new marks marks' r r' reply reply' q w kept is e falls told met h = onward now new marks marks' r r' reply reply' (ask q w) ((run_of q).met w) is e falls (λ n. ap (λ u. (run_of q).met w ++ u) (moves n r' marks marks' _ reply' kept told)) met h
 
-  -- what is met at a match, and what the turns after it meet
+  -- The matches that are met at a requested match, and in the turns after it.
   at_match : (a : Pair) (point : MatchPoint) (rest : Reply → List Met) (o : Match) → List Met
   at_match a point rest o = elim o [ finished b ↦ rest (truth b) | unfinished reason ↦ record { pair = a; site = site_at x name point } ∷ rest (truth (completed (completion_of as') a)) ]
 
@@ -95,7 +96,7 @@ module _ {K R : Type 0} (keywords : Keywords K R) (matcher : Matcher) (as' : Ass
       → MeetsSoFar keywords matcher as' x s run_of same name m remaining old (keyword_met keywords matcher as' x s run_of same name m mode) old marks r no_reply
   meets_begun mode marks r none e l = (keywords.most_turns m s, subst (λ u. remaining u < keywords.most_turns m s) e l, [], refl, ap (λ l. turns keywords matcher as' x s run_of same name m (keywords.most_turns m s) l r no_reply) none ∙ ap (λ u. turns keywords matcher as' x s run_of same name m (keywords.most_turns m s) [] u no_reply) (sym e))
 
-  -- a run that is done at its first turn meets none
+  -- A run that is done at its first turn meets no match.
   pub meets_at_once : (valid : Bool) → EndsAtOnce keywords m s valid → remaining (keywords.begin m s for_verdict) < keywords.most_turns m s → MeetsEach matcher old (keyword_met keywords matcher as' x s run_of same name m for_verdict) old
   meets_at_once valid ends l =
       let r = keywords.begin m s for_verdict in

@@ -1,7 +1,7 @@
--- What the proofs of both cycles of a run need of measures and of visits.
+-- Lemmas about measures and visits, for the proofs of both cycles of a run.
 use Rattle.std.proofs.Common.{◌≡◌, ◌+◌, ◌*◌, ◌<◌, ◌≤◌, ℕ, suc, arith}
 
--- ---- a call's measure falls
+-- ---- the measure of a call decreases
 
 pub lower_same : (a b t i d : ℕ) → a ≡ b → 20 * b + (i + suc d) ≡ t → 20 * a + i < t
 lower_same a b t i d l e = omega (arith, l, e)
@@ -24,7 +24,7 @@ lower_shared a b t n e = omega (arith, n, e)
 pub no_deeper : (depth : ℕ) → depth ≤ depth
 no_deeper depth = omega arith
 
--- ---- visits never become fewer
+-- ---- visits never decrease
 
 pub as_many : (a b : ℕ) → b ≡ a → a ≤ b
 as_many a b e = omega (arith, e)

@@ -1,4 +1,5 @@
--- Which unfinished matches each step of a node's run meets: edges, children, references, entries and leaves.
+-- Which unfinished matches each step of a node's run meets: edges, children, references, entries
+-- and leaves.
 use Rattle.std.proofs.Common.{◌≡◌, ◌∙◌, ℕ, zero, suc, ◌<◌, ◌≤◌, ◌==◌, ◌&&◌, Bool, true, false, List, [], ◌∷◌, ◌++◌, cond, not, refl, sym, ap, subst, arith, append_assoc, append-nil, true≢false}
 use Rattle.std.specs.Prelude.{Option, Some, None, is_some, ◌↔◌, option_and_then}
 use Rattle.std.specs.List.{list_any}
@@ -69,7 +70,7 @@ module _ {K R : Type 0} (words : Bool → Keywords K R) (is_whole : K → Bool) 
   -- ---- plans
 
   module _ (mode : Mode) (path : Text) (p : Place) (busy : List ℕ) (s : Subject) (i : ℕ) (old new : Remembered) where
-    -- a node at a depth meets what its plan meets one less deep
+    -- A node at a depth meets what its plan meets at a depth of one less.
     abbrev PlanMeets : NodePlan K → Type 0
     PlanMeets plan = (texts : Bool) (root : Data) (depth : ℕ) → Reads is_whole nodes count w p s (reading w texts root depth) → left nodes count i s busy ≤ depth
         → MeetsEach w.matcher old (elim plan [ node_always ↦ [] | node_never ↦ [] | node_these xs ↦ plan_met mode (parts_looked words nodes w texts root depth i path p busy xs) ]) new
@@ -89,7 +90,7 @@ module _ {K R : Type 0} (words : Bool → Keywords K R) (is_whole : K → Bool) 
 
 -- ---- entries
 
--- whether no more entries are asked after one
+-- Whether no further entries are asked after this one.
 abbrev pub stops : Mode → Bool → Bool
 stops for_verdict holds = not holds
 stops for_first holds = not holds
@@ -123,7 +124,8 @@ plan_split for_all l ls = by l.is_leaf l.holds
     by true false = sym (append_assoc (l.met for_verdict) (l.met for_all) (plan_met for_all ls))
     by false b = refl
 
--- a leaf's verdict alone where that is yes, and what else is wanted where it is no
+-- A leaf meets the matches of its verdict alone if that is yes, and also those of the mode if it is
+-- no.
 pub leaf_yes : (mode : Mode) (l : Looked) → l.is_leaf ≡ true → ¬ (mode ≡ for_verdict) → ¬ (mode ≡ for_units) → l.holds ≡ true → l.met for_verdict ≡ entry_met mode l
 leaf_yes for_units l leaf other less said = absurd (less refl)
 leaf_yes for_verdict l leaf other less said = refl
@@ -170,16 +172,16 @@ no_leaf for_all l e = by l.is_leaf e
     by true h = absurd (true≢false h)
     by false h = refl
 
--- an entry that is no leaf, and any entry whose verdict alone is wanted, or its units
+-- An entry that is not a leaf, and any entry if only its verdict or its units are wanted.
 pub other_entry : (mode : Mode) (l : Looked) → (¬ (mode ≡ for_verdict) → ¬ (mode ≡ for_units) → l.is_leaf ≡ false) → l.met mode ≡ entry_met mode l
 other_entry for_units l h = refl
 other_entry for_verdict l h = refl
 other_entry for_first l h = no_leaf for_first l (h (λ e. cc e) (λ e. cc e))
 other_entry for_all l h = no_leaf for_all l (h (λ e. cc e) (λ e. cc e))
 
--- ---- what is settled
+-- ---- when replies are final
 
--- an entry that says no settles the replies of a mode that stops there
+-- In a mode that stops at a no, an entry that says no makes the reply final.
 pub stops_is : (mode : Mode) (o o' : Outcome) → Agrees o' → refuses (reply_by mode o) ≡ false → refuses (reply_by mode (both o o')) ≡ stops mode o'.verdict
 stops_is for_verdict o o' agrees h = by o.verdict o'.verdict h
   where
@@ -223,7 +225,7 @@ module _ (matcher : Matcher) (mode : Mode) (l : Looked) (ls : List Looked) (left
 pub end_met : (matcher : Matcher) (mode : Mode) (ls : List Looked) (all : List Met) (old now : Remembered) → ls ≡ [] → (before : List Met) × MeetsEach matcher old before now × (before ++ plan_met mode ls ≡ all) → MeetsEach matcher old all now
 end_met matcher mode ls all old now e (before, h, is) = meets_same matcher old now before all (sym (append-nil before) ∙ ap (λ (z : List Looked). before ++ plan_met mode z) (sym e) ∙ is) h
 
--- ---- a run's outcome
+-- ---- the outcome of a run
 
 module _ {K R : Type 0} (words : Bool → Keywords K R) (nodes : Nodes K) (w : Settling) (texts : Bool) (root : Data) (depth : ℕ) where
   edge_is : (path : Text) (p : Place) (busy : List ℕ) (e : NodeEdge) (b : Below) → (edge_run words nodes w texts root depth path p busy e b).outcome tt ≡ edge_says words nodes (reading w texts root depth) path p busy e b
@@ -249,7 +251,7 @@ module _ {K R : Type 0} (words : Bool → Keywords K R) (nodes : Nodes K) (w : S
       by for_all h = refl
       by for_units h = absurd (h refl)
 
-  -- whether an entry is the last one that is asked is read off the replies
+  -- The replies show whether an entry is the last one that is asked.
   pub stops_at : (mode : Mode) (i : ℕ) (path : Text) (p : Place) (busy : List ℕ) (part : NodePart K) (found more r : code.Reply) (o : Outcome) (b : Bool)
       → Agrees (form_says words nodes (reading w texts root depth) i path p busy part.name part.form)
       → Replies (reading w texts root depth) mode found o → Replies (reading w texts root depth) mode more (form_says words nodes (reading w texts root depth) i path p busy part.name part.form)
@@ -259,7 +261,7 @@ module _ {K R : Type 0} (words : Bool → Keywords K R) (nodes : Nodes K) (w : S
       let o' : Outcome = form_says words nodes (reading w texts root depth) i path p busy part.name part.form in
       ap (stops mode) (holds_is i path p busy part.name part.form) ∙ sym (stops_is mode o o' agrees (ap refuses (sym f.same) ∙ unsettled)) ∙ ap refuses (sym (joins texts mode o o' f.same h.same)) ∙ is
 
-  -- and whether a leaf holds
+  -- They also show whether a leaf holds.
   pub leaf_holds : (i : ℕ) (path : Text) (p : Place) (busy : List ℕ) (part : NodePart K) (verdict : code.Reply) (b : Bool)
       → Replies (reading w texts root depth) for_verdict verdict (form_says words nodes (reading w texts root depth) i path p busy part.name part.form) → accepts (reply_of texts verdict) ≡ b
       → (part_looked words nodes w texts root depth i path p busy part).holds ≡ b

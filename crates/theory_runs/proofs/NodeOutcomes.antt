@@ -1,4 +1,4 @@
--- A run's outcome is the one that its nodes have under its completion.
+-- The outcome of a run is the one of its nodes under the run's completion.
 use Rattle.std.proofs.Common.{◌≡◌, ◌∙◌, ℕ, zero, suc, ◌==◌, Bool, true, false, List, ◌++◌, refl, sym, ap}
 use Rattle.std.specs.List.{list_any}
 use Rattle.theory_definitions.specs.Instance.{Place, Subject, Text}

@@ -1,4 +1,5 @@
--- What each step of a node's evaluation gives: edges, children, references, keywords, entries and plans.
+-- The units of each step of a node's evaluation: edges, children, references, keywords, entries and
+-- plans.
 use Rattle.std.proofs.Common.{◌≡◌, ◌∙◌, ℕ, zero, suc, ◌<◌, ◌≤◌, ◌==◌, Bool, true, false, List, [], ◌∷◌, ◌++◌, map, refl, sym, ap, subst, arith}
 use Rattle.std.specs.Prelude.{Option, Some, None, option_and_then}
 use Rattle.std.specs.List.{list_all, list_any}
@@ -41,18 +42,18 @@ module _ {K R : Type 0} (g : Setting K R) (q : Asking) (c : Context) where
     abbrev is_busy : Bool
     is_busy = list_any (λ i. i == e.node) (busy g q c)
 
-    -- a pair in progress has an empty unit
+    -- A pair in progress has an empty unit.
     pub gives_busy : e.guarded ≡ true → is_busy ≡ true → ((texts : Bool) → unit_of texts u ≡ yes_unit g.nodes e.node (q.path ++ e.path) q.place) → EdgeGives g q c e u
     gives_busy guarded t is x reads l = is x.texts ∙ sym (busy_case e.guarded is_busy (deep_unit g.words g.nodes x e.node (q.path ++ e.path) q.place (busy g q c)) (deep_unit g.words g.nodes x e.node (q.path ++ e.path) q.place (e.node ∷ busy g q c)) (yes_unit g.nodes e.node (q.path ++ e.path) q.place) guarded t)
 
-    -- an edge that nothing guards leads on
+    -- An unguarded edge has the unit of its node.
     pub gives_free : e.guarded ≡ false → (q' : Asking) → q' ≡ record q { path = q.path ++ e.path } → NodeGives g q' c e.node u → EdgeGives g q c e u
     gives_free free q' is h x reads l =
         let needs : edge_needs g.nodes g.count e q.subject (busy g q c) ≡ suc (left g.nodes g.count e.node q.subject (busy g q c)) = free_case e.guarded is_busy _ (suc (left g.nodes g.count e.node q.subject (e.node ∷ busy g q c))) 0 free in
         let there : NodeGives g (record q { path = q.path ++ e.path }) c e.node u = subst (λ z. NodeGives g z c e.node u) is h in
         there x reads (omega (arith, needs, l)) ∙ sym (free_case e.guarded is_busy (deep_unit g.words g.nodes x e.node (q.path ++ e.path) q.place (busy g q c)) (deep_unit g.words g.nodes x e.node (q.path ++ e.path) q.place (e.node ∷ busy g q c)) (yes_unit g.nodes e.node (q.path ++ e.path) q.place) free)
 
-    -- a pair that is entered
+    -- A pair that is entered.
     pub gives_entered : e.guarded ≡ true → is_busy ≡ false → (q' : Asking) (c' : Context) → q' ≡ record q { path = q.path ++ e.path } → busy g (record q { path = q.path ++ e.path }) c' ≡ e.node ∷ busy g q c → c'.remembered ≡ c.remembered
         → NodeGives g q' c' e.node u → EdgeGives g q c e u
     gives_entered guarded t q' c' is entered met h x reads l =
@@ -64,7 +65,7 @@ module _ {K R : Type 0} (g : Setting K R) (q : Asking) (c : Context) where
         ∙ ap (deep_unit g.words g.nodes x e.node (q.path ++ e.path) q.place) entered
         ∙ sym (entered_case e.guarded is_busy (deep_unit g.words g.nodes x e.node (q.path ++ e.path) q.place (busy g q c)) (deep_unit g.words g.nodes x e.node (q.path ++ e.path) q.place (e.node ∷ busy g q c)) (yes_unit g.nodes e.node (q.path ++ e.path) q.place) guarded t)
 
-    -- and meets what its node meets
+    -- It meets the matches that its node meets.
     pub entered_meets : e.guarded ≡ true → is_busy ≡ false → (q' : Asking) (c' c3 : Context) → q' ≡ record q { path = q.path ++ e.path } → busy g (record q { path = q.path ++ e.path }) c' ≡ e.node ∷ busy g q c → c'.remembered ≡ c.remembered
         → MeetsNode g q' c' c3 e.node → MeetsEdge g q c c3 e
     entered_meets guarded t q' c' c3 is entered met h =
@@ -97,7 +98,7 @@ module _ {K R : Type 0} (g : Setting K R) (q : Asking) (c : Context) where
         let at_place = ap (edge_unit g.words g.nodes x q.path q.place (busy g q c) e) b in
         answer ∙ moved ∙ sym (child ∙ at_place)
 
-  -- ---- what is right where units are wanted
+  -- ---- what is right if units are wanted
 
   pub finds_units : (i : ℕ) (es : Children) (m : K) (a : code_answer.Answer) → q.mode ≡ for_units → FindsRightly g q c i es m a → FindsUnits g q c i es m a
   finds_units i es m a wanted right x reads l =
@@ -129,7 +130,7 @@ module _ {K R : Type 0} (g : Setting K R) (q : Asking) (c : Context) where
     abbrev there : Reading → Where
     there x = node_at (g.words x.texts) x.matcher g.nodes (subject_in x.root) i q.path q.place
 
-    -- a node at a depth gives what its plan gives one less deep
+    -- A node at a depth has the units of its plan at a depth of one less.
     abbrev PlanGives : NodePlan K → Type 0
     PlanGives plan = (x : Reading) → Reads g.is_whole g.nodes g.count (settled_by g q c) q.place q.subject x → left g.nodes g.count i q.subject (busy g q c) ≤ x.depth
         → unit_of x.texts u ≡ elim plan [ node_always ↦ true_unit (there x) | node_never ↦ false_unit (g.words x.texts).texts (there x) (subject_in x.root q.place) | node_these xs ↦ plan_unit (there x) (g.nodes.annotations i) (parts_units g.words g.nodes x i q.path q.place (busy g q c) xs) ]

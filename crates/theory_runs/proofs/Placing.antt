@@ -1,5 +1,5 @@
--- The subject stands at the question's place in the context's instance, and the place carries its own number, from one step to the
--- next; and the pair of a guarded question, when it is entered.
+-- From one step to the next, the subject is at the question's place in the context's instance, and
+-- the place carries its own number; also the pair of a guarded question when it is entered.
 use Rattle.std.proofs.Common.{◌≡◌, ◌∙◌, ◌⊎◌, ◌++◌, ◌∷◌, ◌==◌, ℕ, Bool, false, true, [], ap, inl, inr, refl, subst, sym}
 use Rattle.std.specs.Prelude.{None, Option, Some, option_and_then, unwrap_or}
 use Rattle.std.proofs.lemmas.Option.{none-some}
@@ -16,19 +16,19 @@ use Rattle.schema_run_steps.specs.EvaluationPlaces.{CarriesItsNumber}
 use Rattle.schema_run_steps.specs.declared.evaluation_place.EvaluationPlace.{EvaluationPlace}
 use Rattle.theory_runs.specs.RunStates.{Keeps, MayRun, Setting, StaysRight}
 
--- one step below
+-- One step below.
 pub stands_below : (root : Data) (p : Place) (s t : Subject) (step : Step) (lower : Place) → subject_at root p ≡ Some s → lower ≡ p ++ step ∷ [] → after_step step s ≡ Some t → subject_at root lower ≡ Some t
 stands_below root p s t step lower h e a =
     ap (subject_at root) e ∙ from_below p step (a_value root) ∙ ap (option_and_then (after_step step)) h ∙ a
 
--- over a context of the same instance
+-- In another context with the same instance.
 pub stands_on : (v w : Value) (q : Asking) → w ≡ v → IsAskedOf (view v) q → IsAskedOf (view w) q
 stands_on v w q e = subst (λ (u : Value). IsAskedOf (view u) q) (sym e)
 
 pub carries_on : (v w : Value) (p : EvaluationPlace) → w ≡ v → CarriesItsNumber (root_places v) p → CarriesItsNumber (root_places w) p
 carries_on v w p e = subst (λ (u : Value). CarriesItsNumber (root_places u) p) (sym e)
 
--- nor does one run after another change what each of them keeps
+-- Two runs, one after the other, do not change what each of them keeps.
 pub keeps_on : (a b c : Context) → Keeps a b → Keeps b c → Keeps a c
 keeps_on a b c h k = record {
   root = k.root ∙ h.root;
@@ -37,7 +37,7 @@ keeps_on a b c h k = record {
   marking = k.marking ∙ h.marking;
 }
 
--- what might be asked before a run may be asked after it
+-- Whatever might be asked before a run may be asked after it.
 pub may_on : {K R : Type 0} (g : Setting K R) (q : Asking) (c c' : Context) (i : ℕ) → Keeps c c' → StaysRight g q c c' → MayRun g q c i → MayRun g q c' i
 may_on g q c c' i keeps stays may =
     let (layout, laid, right) = may.goes_on in
@@ -50,11 +50,11 @@ may_on g q c c' i keeps stays may =
       goes_on = (layout, laid, stays layout laid right);
     }
 
--- there, at a place that is the same
+-- At a place that is the same.
 pub stands_at : (v w : Value) (q : Asking) (p : Place) → w ≡ v → p ≡ q.place → IsAskedOf (view v) q → subject_at (view w) p ≡ Some q.subject
 stands_at v w q p e there h = ap (subject_at (view w)) there ∙ stands_on v w q e h
 
--- a pair is in progress, or not, by its node and its place
+-- A pair is in progress, or not, depending on its node and its place.
 pub pair_busy : (n m : ℕ) (p q : Place) (c d : Context) (b r : Bool) → m ≡ n → q ≡ p → d ≡ c → b ≡ list_any (λ i. i == m) (busy_at q d.in_progress) → b ≡ r → list_any (λ i. i == n) (busy_at p c.in_progress) ≡ r
 pair_busy n m p q c d b r node place same found is =
     ap (λ (k : ℕ). list_any (λ i. i == k) (busy_at p c.in_progress)) (sym node)
@@ -62,18 +62,18 @@ pair_busy n m p q c d b r node place same found is =
     ∙ ap (λ (z : Context). list_any (λ i. i == m) (busy_at q z.in_progress)) (sym same)
     ∙ sym found ∙ is
 
--- and it goes last once it is entered
+-- An entered pair is the last one.
 pub pair_entered : (n m : ℕ) (p q : Place) (c d : Context) (new : Pairs) → m ≡ n → q ≡ p → d ≡ c → new ≡ d.in_progress ++ (m, q) ∷ [] → new ≡ c.in_progress ++ (n, p) ∷ []
 pair_entered n m p q c d new node place same entered =
     entered ∙ ap (λ (z : Context). z.in_progress ++ (m, q) ∷ []) same ∙ ap (λ (k : ℕ). c.in_progress ++ (k, q) ∷ []) node
     ∙ ap (λ (z : Place). c.in_progress ++ (n, z) ∷ []) place
 
--- the verdict that is known of a pair is yes where it is in progress, and the one that is remembered elsewhere
+-- The known verdict of a pair is yes if the pair is in progress, and the remembered one otherwise.
 known : (b : Bool) (read : Option Bool) (v : Bool) → (b ≡ true → Some v ≡ Some true) → (b ≡ false → Some v ≡ read) → ((b ≡ true) × (v ≡ true)) ⊎ ((b ≡ false) × (read ≡ Some v))
 known true read v busy free = inl (refl, ap (λ o. unwrap_or o v) (busy refl))
 known false read v busy free = inr (refl, sym (free refl))
 
--- of which none is known, it is not in progress, and none is remembered
+-- If no verdict of a pair is known, the pair is not in progress and no verdict of it is remembered.
 unknown : (b : Bool) (read : Option Bool) → (b ≡ true → None ≡ Some true) → (b ≡ false → None ≡ read) → (b ≡ false) × (read ≡ None)
 unknown true read busy free = absurd (none-some true (busy refl))
 unknown false read busy free = (refl, sym (free refl))

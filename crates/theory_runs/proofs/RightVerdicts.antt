@@ -1,4 +1,5 @@
--- Verdicts that a run remembers: they stay right, to read one is to run again, and one that was computed may be kept.
+-- Verdicts that a run remembers: they stay right, reading one is the same as running again, and one
+-- that was computed may be kept.
 use Rattle.std.proofs.Common.{◌≡◌, ◌∙◌, ℕ, zero, suc, ◌+◌, ◌≤◌, ◌==◌, ◌&&◌, ◌||◌, Bool, true, false, List, [], ◌∷◌, ◌++◌, refl, sym, ap, subst, arith, rules, inl, inr, ⊎_elim, true≢false}
 use Rattle.std.specs.Prelude.{◌⊎◌, All, Option, Some, None, if◌then◌else◌, option_and_then, option_map, unwrap_or}
 use Rattle.std.specs.List.{list_all, list_any}
@@ -30,30 +31,30 @@ use Rattle.theory_runs.proofs.MeetsAgain.{known_by_path, known_stays, met_again,
 use Rattle.schema_run_steps.proofs.NodeRuns.{stands_in}
 use Rattle.schema_run_context.proofs.Pairs.{busy-pushed, place_equal, same_place-self}
 
--- ---- what stands at each place
+-- ---- the subject at each place
 
 none_below : (step : Step) (t : Subject) → after_step step (a_value null) ≡ Some t → ⊥
 none_below (to_member k) t e = cc e
 none_below (to_item n) t e = cc e
 none_below (to_name k) t e = cc e
 
--- what a step leads to, from what stands somewhere or from nothing
+-- What a step leads to, from a subject or from nothing.
 one_step : (o : Option Subject) (step : Step) (t : Subject) → after_step step (unwrap_or o (a_value null)) ≡ Some t → unwrap_or (option_and_then (after_step step) o) (a_value null) ≡ t
 one_step (Some x) step t e = ap (λ o. unwrap_or o (a_value null)) e
 one_step None step t e = absurd (none_below step t e)
 
--- a root value lays out what stands in it
+-- A root value lays out its subjects.
 pub root_lays_out : (root : Data) (p : Place) (s : Subject) → subject_at root p ≡ Some s → LaysOut (subject_in root) p s
 root_lays_out root p s e = record {
   here = stands_in root p s e;
   below = λ q step t a. ap (λ o. unwrap_or o (a_value null)) (from_below q step (a_value root)) ∙ one_step (subject_at root q) step t a;
 }
 
--- one step below
+-- One step below.
 pub laid_below : (layout : Layout) (p : Place) (s t : Subject) (step : Step) (lower : Place) → LaysOut layout p s → lower ≡ p ++ step ∷ [] → after_step step s ≡ Some t → LaysOut layout lower t
 laid_below layout p s t step lower h d a = record { here = ap layout d ∙ h.below p step t (ap (after_step step) h.here ∙ a); below = h.below }
 
--- the steps from a place to one below it
+-- The steps from a place to one below it.
 abbrev pub steps_from : Place → Place → Option Place
 steps_from [] q = Some q
 steps_from (s ∷ p) [] = None
@@ -80,7 +81,7 @@ steps_further (s ∷ p) (t ∷ q) steps r e = go (same_step s t) (steps_further 
     go true further e = further e
     go false further e = absurd (cc e)
 
--- what stands below a place where a subject stands
+-- The subjects below a place with a given subject.
 abbrev pub layout_from : Place → Subject → Layout
 layout_from p s q = unwrap_or (option_and_then (λ steps. subject_from steps s) (steps_from p q)) (a_value null)
 
@@ -97,7 +98,7 @@ lays_out_from p s = record {
         ap (λ o. unwrap_or (option_and_then (λ steps. subject_from steps s) o) (a_value null)) (steps_further p q steps (step ∷ []) e)
         ∙ ap (λ o. unwrap_or o (a_value null)) (from_below steps step s) ∙ one_step (subject_from steps s) step t a
 
--- ---- alone at a place
+-- ---- a pair that is alone at a place
 
 all_others : (n : ℕ) (xs : List ℕ) → list_all (λ j. j == n) xs ≡ true → list_any (λ j. j == n) xs ≡ false → xs ≡ []
 all_others n [] h k = refl
@@ -107,14 +108,14 @@ all_others n (x ∷ xs) h k = go (x == n) h k
     go true h k = absurd (true≢false k)
     go false h k = absurd (true≢false (sym h))
 
--- a pair that is entered is alone exactly where it would be before
+-- An entered pair is alone if and only if it would have been before.
 pub alone_entered : (n : ℕ) (p : Place) (es : Pairs) → is_alone n p (es ++ (n, p) ∷ []) ≡ is_alone n p es
 alone_entered n p es = ap (list_all (λ j. j == n)) (busy-pushed p n es) ∙ ap (λ b. b && list_all (λ j. j == n) (busy_at p es)) (same_number n)
   where
     same_number : (n : ℕ) → (n == n) ≡ true
     same_number n = search rules
 
--- where it was not in progress and no other is, nothing is
+-- If it was not in progress and no other pair is, none is in progress at the place.
 pub alone_is_none : (n : ℕ) (p : Place) (es : Pairs) → is_alone n p es ≡ true → list_any (λ j. j == n) (busy_at p es) ≡ false → busy_at p es ≡ []
 alone_is_none n p es h k = all_others n (busy_at p es) h k
 
@@ -127,13 +128,13 @@ read_alone n p c v = go (is_alone n p c.in_progress)
     go true e = (refl, e)
     go false e = absurd (cc e)
 
--- it is read alike once the pair is entered
+-- The same verdict is read after the pair is entered.
 pub read_entered : (n : ℕ) (p : Place) (c c' : Context) → c'.in_progress ≡ c.in_progress ++ (n, p) ∷ [] → c'.verdicts ≡ c.verdicts → read_verdict n p c' ≡ read_verdict n p c
 read_entered n p c c' e f =
     ap (λ b. if b then verdict_of n p c'.verdicts else None) (ap (is_alone n p) e ∙ alone_entered n p c.in_progress)
     ∙ ap (λ vs. if is_alone n p c.in_progress then verdict_of n p vs else None) f
 
--- ---- whether one may be kept
+-- ---- whether a verdict may be kept
 
 within_or_not : (a b : ℕ) → (a ≤ b) ⊎ ¬ (a ≤ b)
 within_or_not zero b = inl (omega arith)
@@ -154,7 +155,7 @@ module _ {K R : Type 0} (words : Bool → Keywords K R) (is_whole : K → Bool) 
   pub none_right : (as' : Assumptions) (r : Remembered) (layout : Layout) (vs : Verdicts) → vs ≡ [] → AreRight words is_whole nodes count matcher as' r layout vs
   none_right as' r layout vs e i p v h = absurd (cc (sym (ap (verdict_of i p) e) ∙ h))
 
-  -- they stay so, whatever else is met
+  -- They stay right, whatever other matches are met.
   pub right_met : (as' : Assumptions) (r r' : Remembered) (layout : Layout) (vs : Verdicts) (ms : List Met) → MeetsEach matcher r ms r'
       → AreRight words is_whole nodes count matcher as' r layout vs → AreRight words is_whole nodes count matcher as' r' layout vs
   right_met as' r r' layout vs ms e h i p v is =
@@ -166,7 +167,7 @@ module _ {K R : Type 0} (words : Bool → Keywords K R) (is_whole : K → Bool) 
   right_after_match as' r layout vs m (finished b) e h = h
   right_after_match as' r layout vs m (unfinished reason) e h = right_met as' r _ layout vs (m ∷ []) (reason, e, refl) h
 
-  -- ---- one that is read
+  -- ---- a verdict that is read
 
   module _ (as' : Assumptions) (r : Remembered) (i : ℕ) (p : Place) (s : Subject) (v : Bool) (h : IsRightVerdict words is_whole nodes count matcher as' r i p s v) (path : Text) where
     abbrev w : Settling
@@ -182,7 +183,7 @@ module _ {K R : Type 0} (words : Bool → Keywords K R) (is_whole : K → Bool) 
     pub read_meets : NodeMeets words is_whole nodes count w for_verdict path p (i ∷ []) s r r i
     read_meets texts root depth reads l = met_again matcher r _ (h.known texts root depth reads l path)
 
-  -- ---- one that was computed
+  -- ---- a verdict that was computed
 
   pub computed_right : ((texts : Bool) → EachAsksVerdicts (words texts)) → (as' : Assumptions) (r r' : Remembered) (i : ℕ) (p : Place) (s : Subject) (path : Text) (reply : code.Reply) (v : Bool)
       → ((texts : Bool) → accepts (reply_of texts reply) ≡ v)
@@ -198,7 +199,7 @@ module _ {K R : Type 0} (words : Bool → Keywords K R) (is_whole : K → Bool) 
         known_by_path matcher r' _ _ same.met (met_is_known matcher r r' _ (meets texts root depth reads l));
   }
 
-  -- what is kept beside the others is right, where they are
+  -- A verdict that is kept beside the others is right if they are.
   pub right_kept : (as' : Assumptions) (r : Remembered) (layout : Layout) (old new : Verdicts) (i : ℕ) (p : Place) (v : Bool) → Remembers i p v old new
       → IsRightVerdict words is_whole nodes count matcher as' r i p (layout p) v
       → AreRight words is_whole nodes count matcher as' r layout old → AreRight words is_whole nodes count matcher as' r layout new

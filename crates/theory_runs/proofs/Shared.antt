@@ -1,5 +1,5 @@
--- A number from which no guarded edge is reached says and meets the same whatever is in progress at its place, so that what it said there once
--- may be read again.
+-- A number from which no guarded edge is reached says and meets the same whatever is in progress at
+-- its place, so a verdict that it said there may be read again.
 use Rattle.std.proofs.Common.{◌≡◌, ◌∙◌, ◌+◌, ◌<◌, ◌==◌, ◌∷◌, ℕ, zero, suc, Bool, true, false, List, [], refl, sym, ap, subst, arith, true≢false}
 use Rattle.std.specs.Prelude.{Contains, Option, Some}
 use Rattle.std.specs.List.{list_any}
@@ -33,7 +33,7 @@ use Rattle.theory_runs.specs.RunStates.{GoesOn, Keeps, MeetsNode, NodeSays, Sett
 use Rattle.theory_runs.specs.Visits.{EdgeTakes, FormTakes, NodeCounts, PlanTakes, TakesAcross, more_visits}
 use Rattle.theory_runs.proofs.RightVerdicts.{computed_right, read_meets, read_replies, right_kept}
 
--- the edges of each number
+-- The edges of each number.
 abbrev pub edges_of : {K : Type 0} → Nodes K → ℕ → List NodeEdge
 edges_of nodes j = node_edges (nodes.entries j)
 
@@ -58,7 +58,7 @@ module _ {K : Type 0} (instance : Data) (nodes : Nodes K) (closed : ℕ → Bool
 
 module _ {K R : Type 0} (words : Bool → Keywords K R) (laws : (texts : Bool) → EachKeeps (words texts)) (is_whole : K → Bool) (nodes : Nodes K) (count : ℕ) (ranked : Ranked nodes count)
     (w : Settling) (mode : Mode) (path : Text) (p : Place) (s : Subject) (i : ℕ) (known : i < count) (free : ReachesNoGuard (edges_of nodes) i) where
-  -- a depth that is enough, whichever of two lists is in progress
+  -- A sufficient depth, whichever of two lists is in progress.
   enough : (d : ℕ) (root : Data) (busy : List ℕ) → subject_in root p ≡ s → left nodes count i s busy < d → left nodes count i (subject_in root p) busy < d
   enough d root busy there low = subst (λ (t : Subject). left nodes count i t busy < d) (sym there) low
 
@@ -144,7 +144,7 @@ module _ {K R : Type 0} (g : Setting K R) (laws : (texts : Bool) → EachKeeps (
         (subst (λ (m : Mode). Meets (i ∷ []) m c.remembered c'.remembered) (sym wanted) (subst (Meets (i ∷ []) for_verdict c.remembered) (sym met)
         (read_meets g.words g.is_whole g.nodes g.count g.matcher c.remembered.assumptions c.remembered i q.place q.subject v its_right q.path)))
 
-  -- its node was run, and what it said is remembered
+  -- The node was run, and its verdict is remembered.
   module _ (c2 c3 : Context) (v : Bool) (says : NodeSays g q c i (told.Truth v)) (meets : MeetsNode g q c c2 i) (keeps : Keeps c c2) (stays : StaysRight g q c c2)
       (asks : (texts : Bool) → EachAsksVerdicts (g.words texts)) (kept : Remembers i q.place v c2.verdicts c3.verdicts) (met : c3.remembered ≡ c2.remembered) where
     its_kept : IsRightVerdict g.words g.is_whole g.nodes g.count g.matcher c2.remembered.assumptions c2.remembered i q.place q.subject v

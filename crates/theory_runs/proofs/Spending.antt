@@ -14,7 +14,7 @@ spends_on a b c h k =
 pub spends_same : (a b : Budget) → b ≡ a → Spends a b
 spends_same a b e = subst (Spends a) (sym e) (spends_none a)
 
--- from equals to equals
+-- From equals to equals.
 pub spends_between : (a b c d : Budget) → b ≡ a → d ≡ c → Spends b c → Spends a d
 spends_between a b c d e f h = subst (λ (z : Budget). Spends z d) e (subst (Spends b) (sym f) h)
 

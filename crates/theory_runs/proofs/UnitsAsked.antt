@@ -1,4 +1,5 @@
--- A child's unit beside what the child says: its verdict is the same, and a run that asks for units replies it.
+-- The unit of a child and its outcome: they have the same verdict, and a run that asks for units
+-- replies with the unit.
 use Rattle.std.proofs.Common.{◌≡◌, ℕ, zero, suc, ◌==◌, Bool, true, false, List, ◌++◌, refl, sym, ap}
 use Rattle.std.specs.Prelude.{Option, Some, None}
 use Rattle.std.specs.List.{list_any}
@@ -31,7 +32,7 @@ answer_is keywords m s matches answers units same for_first q = refl
 answer_is keywords m s matches answers units same for_all q = refl
 answer_is keywords m s matches answers units same for_units q = refl
 
--- ---- a unit is valid exactly where the verdict is yes
+-- ---- a unit is valid if and only if the verdict is yes
 
 module _ {K R : Type 0} (words : Bool → Keywords K R) (absorbed : K → List Text) (laws : (texts : Bool) (m : K) → KeepsLaws (words texts) m (absorbed m)) (nodes : Nodes K) (x : Reading) where
   across_valid : (go : ℕ → Text → Place → List ℕ → Unit_) (go' : ℕ → Text → Place → List ℕ → Outcome) → ((i : ℕ) (path : Text) (p : Place) (busy : List ℕ) → (report_of (go i path p busy)).valid ≡ (go' i path p busy).verdict)
@@ -62,7 +63,7 @@ module _ {K R : Type 0} (words : Bool → Keywords K R) (absorbed : K → List T
       by None = refl
       by (Some e) = across_valid (deep_unit words nodes x) (deep words nodes x) (deep_valid x.depth) path p busy e q.below
 
--- ---- a run's units are those that its nodes have
+-- ---- the units of a run are those of its nodes
 
 module _ {K R : Type 0} (words : Bool → Keywords K R) (nodes : Nodes K) (w : Settling) (texts : Bool) (root : Data) (depth : ℕ) where
   edge_units : (path : Text) (p : Place) (busy : List ℕ) (e : NodeEdge) (b : Below) → (edge_run words nodes w texts root depth path p busy e b).units tt ≡ edge_unit words nodes (reading w texts root depth) path p busy e b
@@ -84,7 +85,7 @@ module _ {K R : Type 0} (words : Bool → Keywords K R) (nodes : Nodes K) (w : S
       by None = refl
       by (Some e) = edge_units path p busy e q.below
 
-  -- a run's reply is what a child says, or its unit
+  -- The reply of a run is the child's outcome, or its unit.
   pub told_is : (mode : Mode) (path : Text) (p : Place) (busy : List ℕ) (es : Children) (q : Question)
       → reply_with mode (child_says words nodes (reading w texts root depth) path p busy es q) (child_unit words nodes (reading w texts root depth) path p busy es q) ≡ reply_in mode (child_run words nodes w texts root depth path p busy es q)
   told_is for_verdict path p busy es q = child_replies words nodes w texts root depth for_verdict (λ e. cc e) path p busy es q

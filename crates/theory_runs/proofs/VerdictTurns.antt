@@ -1,4 +1,5 @@
--- The turns of a keyword's run for its verdict: it asks for verdicts, whatever is replied.
+-- The turns of a keyword's run for its verdict: it asks only for verdicts, whatever the replies
+-- are.
 use Rattle.std.proofs.Common.{◌≡◌, ◌∙◌, ℕ, zero, suc, ◌<◌, Bool, List, sym, ap, subst, arith}
 use Rattle.theory_definitions.specs.Instance.{Subject, Text}
 use Rattle.theory_definitions.specs.Keywords.{Answer, Keywords, Mode, Question, Reply, Turn, ask, done, for_verdict, no_reply, truth}
@@ -35,13 +36,13 @@ module _ {K R : Type 0} (keywords : Keywords K R) (m : K) (absorbed : List Text)
       go zero low asks = absurd (omega (arith, low))
       go (suc n) low asks = subst AsksVerdict step asks.0
 
-  -- with a reply that is what the turn is told
+  -- With a reply that equals the one of the turn.
   pub turned_by : (r r' : R) (reply reply' : Reply) → reply ≡ reply' → keywords.turn m s r reply ≡ r' → keywords.turn m s r reply' ≡ r'
   turned_by r r' reply reply' is turned = ap (keywords.turn m s r) (sym is) ∙ turned
 
   pub stepped_by : (r : R) (reply reply' : Reply) (t : Turn) → reply ≡ reply' → keywords.step m s r reply ≡ t → keywords.step m s r reply' ≡ t
   stepped_by r reply reply' t is stepped = ap (keywords.step m s r) (sym is) ∙ stepped
 
--- a verdict that is asked for, as the reply of its mode
+-- A verdict that is asked for, as the reply of its mode.
 pub verdict_told : (mode wanted : Mode) (b : Bool) (o : Outcome) (u : Unit_) → mode ≡ for_verdict → wanted ≡ for_verdict → truth b ≡ reply_by mode o → truth b ≡ reply_with wanted o u
 verdict_told mode wanted b o u is asked says = subst (λ z. truth b ≡ reply_with z o u) (sym asked) (subst (λ z. truth b ≡ reply_by z o) is says)

@@ -1,4 +1,4 @@
--- What a reply that is a verdict says, where the verdict is what is wanted.
+-- What a reply that is a verdict says, if the verdict is wanted.
 use Rattle.std.proofs.Common.{◌≡◌, ◌∙◌, ◌≤◌, ◌&&◌, ℕ, Bool, true, List, refl, sym, ap, subst}
 use Rattle.std.proofs.lemmas.List.Elements.{All-nil}
 use Rattle.std.specs.Prelude.{Option}
@@ -16,14 +16,14 @@ use Rattle.schema_run_steps.specs.ReplyModes.{Joins, Stamps, reply_by}
 use Rattle.schema_run_steps.specs.NodeRuns.{FormReplies, Reading, Reads, Replies, child_says}
 use Rattle.schema_run_steps.proofs.NodeRuns.{stands_in}
 
--- a yes changes no verdict that it is joined with
+-- A yes does not change a verdict that it is joined with.
 pub joins_verdict : (b texts : Bool) → Joins (reply_of texts (told.Truth true)) (reply_of texts (told.Truth b)) (reply_of texts (told.Truth b))
 joins_verdict b texts for_verdict o o' e e' = let yes : true ≡ o.verdict = cc in e' ∙ ap (λ v. truth (v && o'.verdict)) yes
 joins_verdict b texts for_first o o' e e' = absurd (cc e)
 joins_verdict b texts for_all o o' e e' = absurd (cc e)
 joins_verdict b texts for_units o o' e e' = absurd (cc e)
 
--- there is nothing to stamp
+-- A verdict has no errors to stamp.
 pub stamps_verdict : (location : Option Text) (b texts : Bool) → Stamps location (reply_of texts (told.Truth b)) (reply_of texts (told.Truth b))
 stamps_verdict location b texts for_verdict o e = e
 stamps_verdict location b texts for_first o e = absurd (cc e)
@@ -31,7 +31,7 @@ stamps_verdict location b texts for_all o e = absurd (cc e)
 stamps_verdict location b texts for_units o e = absurd (cc e)
 
 module _ (mode : Mode) (wanted : mode ≡ for_verdict) where
-  -- it says what an outcome of that verdict does
+  -- It says the same as an outcome with that verdict.
   verdict_says : (b : Bool) (o : Outcome) → b ≡ o.verdict → truth b ≡ reply_by mode o
   verdict_says b o h = subst (λ m. truth b ≡ reply_by m o) (sym wanted) (ap truth h)
 
@@ -41,7 +41,7 @@ module _ (mode : Mode) (wanted : mode ≡ for_verdict) where
   pub verdict_replies : (x : Reading) (b : Bool) (o : Outcome) → b ≡ o.verdict → Replies x mode (told.Truth b) o
   verdict_replies x b o h = record { same = verdict_says b o h; borrows = All-nil (BorrowsItsPlace x.root) }
 
-  -- a keyword whose verdict is whether it holds
+  -- A keyword whose verdict is whether it holds.
   pub keyword_replies : {K R : Type 0} (words : Bool → Keywords K R) (is_whole : K → Bool) (nodes : Nodes K) (count : ℕ) (w : Settling) (path : Text) (p : Place) (busy : List ℕ) (s : Subject) (i : ℕ) (name : Text) (m : K) (es : Children) (b : Bool)
       → ((x : Reading) → Reads is_whole nodes count w p s x → left nodes count i s busy ≤ x.depth → b ≡ (words x.texts).holds m s (matching x.matcher x.completion) (λ q. (child_says words nodes x path p busy es q).verdict))
       → FormReplies words is_whole nodes count w mode path p busy s i name (node_keyword m es) (told.Truth b)

@@ -12,7 +12,7 @@ use Rattle.theory_runs.specs.Visits.{EachLeadsNowhere, EdgeCounts, EdgeTakes, Fo
 module _ {K : Type 0} (nodes : Nodes K) (q : Asking) where
   -- ---- forms and plans
 
-  -- none is counted where none is taken
+  -- No visit is counted if none is made.
   none_more : (c c' : Context) (n : ℕ) → c'.visits ≡ c.visits → n ≡ 0 → c'.visits ≡ more_visits n c.visits
   none_more c c' n same none = same ∙ ap (λ k. more_visits k c.visits) (sym none)
 

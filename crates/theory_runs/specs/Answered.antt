@@ -1,4 +1,4 @@
--- What the functions of a run for the verdict are asked, and what they are answered: one record for each.
+-- What the functions of a run for the verdict are asked, and what they return: one record for each.
 use Rattle.std.specs.Prelude.{◌≡◌, ◌≤◌, ℕ, Bool, IfOk, List, Option, Result, map, option_map, true}
 use Rattle.theory_definitions.specs.Instance.{Text}
 use Rattle.theory_definitions.specs.Guarded.{Children, NodeEdge, NodeForm, NodePart, node_edges}
@@ -30,12 +30,13 @@ use Rattle.theory_runs.specs.RunStates.{ChildSays, EdgeRemembers, EdgeSays, Form
 use Rattle.theory_runs.specs.UnitStates.{ChildGives, EdgeGives, FindsRightly, FormGives, NodeGives, PartsGive}
 use Rattle.theory_runs.specs.Visits.{EdgeCounts, FormCounts, LeadsNowhere, NodeCounts, PartsCount}
 
--- what a run is made with, by all that a keyword's type and a matcher's say of themselves
+-- What a run is made with, according to the declarations of a keyword type and a matcher.
 abbrev pub setting_by : {C R K M : Type 0} → keyword.Ghosts C R K → matcher.Ghosts M → Engine C M → Setting K (R × Answer)
 setting_by k m e = setting k.words k.is_whole k.shape m.matching e
 
--- what is asked: a number, which may have to reach no guarded edge; its plan, once the number is counted; entries of one, the form of an
--- entry, a keyword's child; and what an edge leads to, which may have to be guarded
+-- What is asked: a number, which may have to reach no guarded edge; its plan, after the number is
+-- counted; some of its entries; the keyword or reference of an entry; a child of a keyword; or the
+-- target of an edge, which may have to be guarded.
 pub data Wanted (K : Type 0) : Type 0 where
   a_node a_plan a_shared : ℕ → Wanted K
   some_parts : ℕ → List (NodePart K) → Wanted K
@@ -44,7 +45,7 @@ pub data Wanted (K : Type 0) : Type 0 where
   a_child : ℕ → Children → ChildQuestion → Wanted K
   an_edge a_guarded : NodeEdge → Wanted K
 
--- the number that it is asked of
+-- The number that is asked.
 abbrev pub number_in : {K : Type 0} → Wanted K → ℕ
 number_in (a_node i) = i
 number_in (a_plan i) = i
@@ -57,7 +58,8 @@ number_in (an_edge e) = e.node
 number_in (a_guarded e) = e.node
 
 module _ {K R : Type 0} (g : Setting K R) (q : Asking) where
-  -- it stands in the table, and a child's place in the subject
+  -- The number, entry or child belongs to the table, and the place of a child exists in the
+  -- subject.
   abbrev pub StandsIn : Wanted K → Type 0
   StandsIn (a_node i) = Unit {0}
   StandsIn (a_plan i) = Unit {0}
@@ -70,6 +72,7 @@ module _ {K R : Type 0} (g : Setting K R) (q : Asking) where
   StandsIn (a_guarded e) = e.guarded ≡ true
 
   module _ (c c' : Context) where
+    -- The visits are counted.
     abbrev pub counts_of : Wanted K → Type 0
     counts_of (a_node i) = NodeCounts g.nodes q c c' i
     counts_of (a_plan i) = NodeCounts g.nodes q c c' i
@@ -81,6 +84,7 @@ module _ {K R : Type 0} (g : Setting K R) (q : Asking) where
     counts_of (an_edge e) = EdgeCounts g.nodes q c c' e
     counts_of (a_guarded e) = EdgeCounts g.nodes q c c' e
 
+    -- The verdict is what is said of the thing that is asked.
     abbrev pub says_of : Wanted K → Bool → Type 0
     says_of (a_node i) b = NodeSays g q c i (told.Truth b)
     says_of (a_plan i) b = NodeSays g q c i (told.Truth b)
@@ -92,6 +96,7 @@ module _ {K R : Type 0} (g : Setting K R) (q : Asking) where
     says_of (an_edge e) b = EdgeSays g q c e (told.Truth b)
     says_of (a_guarded e) b = EdgeSays g q c e (told.Truth b)
 
+    -- The matches that it meets are remembered.
     abbrev pub meets_of : Wanted K → Type 0
     meets_of (a_node i) = MeetsNode g q c c' i
     meets_of (a_plan i) = MeetsNode g q c c' i
@@ -103,6 +108,7 @@ module _ {K R : Type 0} (g : Setting K R) (q : Asking) where
     meets_of (an_edge e) = MeetsEdge g q c c' e
     meets_of (a_guarded e) = MeetsEdge g q c c' e
 
+    -- The verdicts that it computes are remembered.
     abbrev pub remembers_of : Wanted K → Bool → Type 0
     remembers_of (a_node i) b = NodeRemembers q c c' g.nodes i (told.Truth b)
     remembers_of (a_plan i) b = NodeRemembers q c c' g.nodes i (told.Truth b)
@@ -114,19 +120,20 @@ module _ {K R : Type 0} (g : Setting K R) (q : Asking) where
     remembers_of (an_edge e) b = EdgeRemembers q c c' e (told.Truth b)
     remembers_of (a_guarded e) b = EdgeRemembers q c c' e (told.Truth b)
 
-    -- a number is counted, and no more nodes may be asked after the others than before
+    -- A number is counted, and after anything else no more nodes may be asked than before.
     abbrev pub works_of : Wanted K → Type 0
     works_of (a_node i) = Asks c.work c'.work
     works_of _ = Spends c.work c'.work
 
--- it may be asked for its verdict
+-- The condition for asking something for its verdict.
 pub record IsAsked {K R : Type 0} (g : Setting K R) (q : Question) (a : Wanted K) (c : Context) : Type 0 where
   pub may : MayRun g (asking q) c (number_in a)
   pub carries : CarriesItsNumber (places_in c) q.place.now
   pub verdict : mode_of q.mode ≡ for_verdict
   pub stands : StandsIn g (asking q) a
 
--- what a result leaves, counts, says, meets, remembers and lets be asked
+-- What holds after a successful result: what stays the same, the visits, what the result says, the
+-- matches that were met, the verdicts that are remembered, and how many nodes may still be asked.
 pub record Answered {K R T E : Type 0} (g : Setting K R) (q : Asking) (c c' : Context) (result : Result T E) (Counts : Type 0) (Says : T → Type 0) (Meets : Type 0) (Remembers : T → Type 0) (Works : Type 0) : Type 0 where
   pub keeps : IfOk result (λ _. Keeps c c')
   pub counts : IfOk result (λ _. c.visits ≤ c'.visits)
@@ -137,11 +144,11 @@ pub record Answered {K R T E : Type 0} (g : Setting K R) (q : Asking) (c c' : Co
   pub remembers : IfOk result Remembers
   pub works : IfOk result (λ _. Works)
 
--- what was asked is answered
+-- The question is answered.
 abbrev pub Answers : {K R E : Type 0} → Setting K R → Question → Wanted K → Context → Context → Result Bool E → Type 0
 Answers g q a c c' result = Answered g (asking q) c c' result (counts_of g (asking q) c c' a) (says_of g (asking q) c c' a) (meets_of g (asking q) c c' a) (remembers_of g (asking q) c c' a) (works_of g (asking q) c c' a)
 
--- what turns leave, which leave marks: the keyword's answer is found
+-- What holds after the turns of a keyword, which leave marks: the keyword's answer is found.
 pub record Turned {K R T E : Type 0} (g : Setting K (R × Answer)) (q : Asking) (c c' : Context) (result : Result T E) (i : ℕ) (name : Text) (form : NodeForm K) (es : Children) (m : K) (answer : code_answer.Answer) : Type 0 where
   pub root : IfOk result (λ _. c'.root ≡ c.root)
   pub kept : IfOk result (λ _. c'.in_progress ≡ c.in_progress)
@@ -153,11 +160,13 @@ pub record Turned {K R T E : Type 0} (g : Setting K (R × Answer)) (q : Asking) 
   pub stays : IfOk result (λ _. StaysRight g q c c')
   pub works : IfOk result (λ _. Spends c.work c'.work)
 
+-- The turns of a keyword, from the values of the program.
 abbrev pub Turns : {C R K T E : Type 0} → (C → K) → Setting K (R × Answer) → Question → ℕ → NamedKeyword C → Context → Context → Result T E → code_answer.Answer → Type 0
 Turns shape g q i k c c' result answer = Turned g (asking q) c c' result i k.name.now (form_at_work shape k) (map (option_map edge_of) k.children.now) (shape k.keyword.now) answer
 
--- ---- where errors or units are wanted
+-- ---- runs for errors or units
 
+-- What holds after a successful reply.
 pub record Replied {K R T E : Type 0} (g : Setting K R) (q : Asking) (c c' : Context) (result : Result T E) (Says : T → Type 0) (Meets Works : Type 0) : Type 0 where
   pub keeps : IfOk result (λ _. Keeps c c')
   pub counts : IfOk result (λ _. c.visits ≤ c'.visits)
@@ -166,7 +175,7 @@ pub record Replied {K R T E : Type 0} (g : Setting K R) (q : Asking) (c c' : Con
   pub stays : IfOk result (λ _. StaysRight g q c c')
   pub works : IfOk result (λ _. Works)
 
--- a child that leads nowhere makes no visit
+-- The same, and a child that leads nowhere makes no visit.
 pub record RepliedQuietly {K R T E : Type 0} (g : Setting K R) (q : Asking) (c c' : Context) (result : Result T E) (es : Children) (Says : T → Type 0) (Meets : Type 0) : Type 0 where
   pub keeps : IfOk result (λ _. Keeps c c')
   pub counts : IfOk result (λ _. c.visits ≤ c'.visits)
@@ -177,59 +186,76 @@ pub record RepliedQuietly {K R T E : Type 0} (g : Setting K R) (q : Asking) (c c
   pub works : IfOk result (λ _. Spends c.work c'.work)
 
 module _ {K R E : Type 0} (g : Setting K R) (q : Question) where
+  -- The reply of a number.
   abbrev pub NodeReplied : ℕ → Context → Context → Result code.Reply E → Type 0
   NodeReplied i c c' result = Replied g (asking q) c c' result (NodeSays g (asking q) c i) (MeetsNode g (asking q) c c' i) (Asks c.work c'.work)
 
-  -- its plan's, once it is counted
+  -- The reply of a number's plan, after the number is counted.
   abbrev pub PlanReplied : ℕ → Context → Context → Result code.Reply E → Type 0
   PlanReplied i c c' result = Replied g (asking q) c c' result (NodeSays g (asking q) c i) (MeetsNode g (asking q) c c' i) (Spends c.work c'.work)
 
+  -- The reply of several entries together.
   abbrev pub PartsReplied : ℕ → List (NodePart K) → Context → Context → Result code.Reply E → Type 0
   PartsReplied i xs c c' result = Replied g (asking q) c c' result (PartsSay g (asking q) c i xs) (MeetsParts g (asking q) c c' i xs) (Spends c.work c'.work)
 
+  -- The reply of an entry.
   abbrev pub EntryReplied : ℕ → NodePart K → Context → Context → Result code.Reply E → Type 0
   EntryReplied i x c c' result = Replied g (asking q) c c' result (FormSays g (asking q) c i x.name x.form) (MeetsEntry g (asking q) c c' i x) (Spends c.work c'.work)
 
+  -- The reply of a keyword or a reference.
   abbrev pub FormReplied : ℕ → Text → NodeForm K → Context → Context → Result code.Reply E → Type 0
   FormReplied i name form c c' result = Replied g (asking q) c c' result (FormSays g (asking q) c i name form) (MeetsForm g (asking q) c c' i name form) (Spends c.work c'.work)
 
+  -- The reply of a child of a keyword.
   abbrev pub ChildReplied : ℕ → Children → ChildQuestion → Context → Context → Result code.Reply E → Type 0
   ChildReplied i es k c c' result = RepliedQuietly g (asking q) c c' result es (ChildSays g (asking q) c i es k) (MeetsChild g (asking q) c c' i es k)
 
+  -- The reply of an edge.
   abbrev pub EdgeReplied : NodeEdge → Context → Context → Result code.Reply E → Type 0
   EdgeReplied e c c' result = Replied g (asking q) c c' result (EdgeSays g (asking q) c e) (MeetsEdge g (asking q) c c' e) (Spends c.work c'.work)
 
+  -- The unit of a number.
   abbrev pub NodeGiven : ℕ → Context → Context → Result EvaluationNode E → Type 0
   NodeGiven i c c' result = Replied g (asking q) c c' result (NodeGives g (asking q) c i) (MeetsNode g (asking q) c c' i) (Asks c.work c'.work)
 
+  -- The unit of a number's plan, after the number is counted.
   abbrev pub PlanGiven : ℕ → Context → Context → Result EvaluationNode E → Type 0
   PlanGiven i c c' result = Replied g (asking q) c c' result (NodeGives g (asking q) c i) (MeetsNode g (asking q) c c' i) (Spends c.work c'.work)
 
+  -- The units of several entries.
   abbrev pub PartsGiven : ℕ → List (NodePart K) → Context → Context → Result (List EvaluationNode) E → Type 0
   PartsGiven i xs c c' result = Replied g (asking q) c c' result (PartsGive g (asking q) c i xs) (MeetsParts g (asking q) c c' i xs) (Spends c.work c'.work)
 
+  -- The units of a keyword or a reference.
   abbrev pub FormGiven : ℕ → Text → NodeForm K → Context → Context → Result EntryUnits E → Type 0
   FormGiven i name form c c' result = Replied g (asking q) c c' result (FormGives g (asking q) c i name form) (MeetsForm g (asking q) c c' i name form) (Spends c.work c'.work)
 
+  -- The unit of a child of a keyword.
   abbrev pub ChildGiven : ℕ → Children → ChildQuestion → Context → Context → Result EvaluationNode E → Type 0
   ChildGiven i es k c c' result = RepliedQuietly g (asking q) c c' result es (ChildGives g (asking q) c i es k) (MeetsChild g (asking q) c c' i es k)
 
+  -- The unit of an edge.
   abbrev pub EdgeGiven : NodeEdge → Context → Context → Result EvaluationNode E → Type 0
   EdgeGiven e c c' result = Replied g (asking q) c c' result (EdgeGives g (asking q) c e) (MeetsEdge g (asking q) c c' e) (Spends c.work c'.work)
 
--- ---- what is asked, by the values of the program
+-- ---- what is asked, from the values of the program
 
+-- Some entries of a number.
 abbrev pub the_entries : {C K : Type 0} → (C → K) → ℕ → List (Entry C) → Wanted K
 the_entries shape i es = some_parts i (map (shaped_part shape) (map entry_of es))
 
+-- The keyword or the reference of an entry.
 abbrev pub the_entry : {C K : Type 0} → (C → K) → ℕ → Entry C → Wanted K
 the_entry shape i e = a_form i e.name (shaped_form shape (form_of e.form))
 
+-- A keyword at work.
 abbrev pub the_keyword : {C K : Type 0} → (C → K) → ℕ → NamedKeyword C → Wanted K
 the_keyword shape i k = a_form i k.name.now (form_at_work shape k)
 
+-- A question to a child of a keyword.
 abbrev pub the_question : {K : Type 0} → ℕ → List (Option Edge) → ChildQuestion → Wanted K
 the_question i es k = a_child i (map (option_map edge_of) es) k
 
+-- A question to the child with this number, at the keyword's place or below it.
 abbrev pub the_child : {K : Type 0} → ℕ → List (Option Edge) → ℕ → Below → Wanted K
 the_child i es n below = the_question i es (record { child = n; below = below })

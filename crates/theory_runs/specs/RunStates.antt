@@ -1,4 +1,5 @@
--- What a run is made with and does not change; and what each of its functions answers, over this and what is asked.
+-- What a run is made with and does not change, and what each of its functions returns, depending on
+-- this and on the question.
 use Rattle.std.specs.List.{list_any}
 use Rattle.std.specs.Prelude.{◌≡◌, ◌<◌, ◌≤◌, ◌==◌, ◌∷◌, [], ℕ, Bool, All, List, None, Some, false, length, true}
 use Rattle.serde_json.specs.Data.{Data}
@@ -26,7 +27,8 @@ use Rattle.schema_traits.specs.declared.keyword.Answer as code_answer
 use Rattle.schema_traits.specs.declared.keyword.Reply as code
 use Rattle.schema_run_steps.specs.declared.question.Engine.{Engine}
 
--- what a run is made with: the keywords as they are read, the numbered nodes and how many there are, and the matcher
+-- What a run is made with: the keywords as they are read, the numbered nodes and their count, and
+-- the matcher.
 pub record Setting (K R : Type 0) : Type 0 where
   pub words : Bool → Keywords K R
   pub is_whole : K → Bool
@@ -34,6 +36,7 @@ pub record Setting (K R : Type 0) : Type 0 where
   pub count : ℕ
   pub matcher : Matcher
 
+-- The setting of a table of nodes, in which each keyword is replaced by its meaning.
 abbrev pub setting_over : {K R C : Type 0} → (Bool → Keywords K R) → (K → Bool) → (C → K) → List (NodeEntry C) → Matcher → Setting K R
 setting_over words is_whole shape ns matcher = record {
   words = words;
@@ -43,27 +46,29 @@ setting_over words is_whole shape ns matcher = record {
   matcher = matcher;
 }
 
+-- The setting of an engine.
 abbrev pub setting : {K R C M : Type 0} → (Bool → Keywords K R) → (K → Bool) → (C → K) → (M → Matcher) → Engine C M → Setting K R
 setting words is_whole shape matching e = setting_over words is_whole shape e.nodes.now (matching e.matcher.now)
 
--- the instance, the pairs in progress, what is assumed, and the marks of the keyword's run that is at work are as before
+-- The run leaves these as they were: the instance, the pairs in progress, the assumptions, and the
+-- marks of the keyword at work.
 pub record Keeps (old new : Context) : Type 0 where
   pub root : new.root ≡ old.root
   pub in_progress : new.in_progress ≡ old.in_progress
   pub assumptions : new.remembered.assumptions ≡ old.remembered.assumptions
   pub marking : new.marking ≡ old.marking
 
--- the verdicts that the run remembers are right of what stands at each place
+-- The remembered verdicts are right for the subject at each place.
 abbrev pub RemembersRightly : {K R : Type 0} → Setting K R → Layout → Context → Type 0
 RemembersRightly g layout c = AreRight g.words g.is_whole g.nodes g.count g.matcher c.remembered.assumptions c.remembered layout c.verdicts
 
--- the question is asked of what stands at its place
+-- The layout has the question's subject at its place.
 abbrev pub IsLaidOut : Layout → Asking → Type 0
 IsLaidOut layout q = LaysOut layout q.place q.subject
 
--- a number of the table may be asked: the table is ranked, no pair in progress lies deeper, units are not what is wanted, the subject
--- stands at the place in the context's instance, and the verdicts that are remembered are right of what stands at each place, the
--- question's among them
+-- The condition for asking a number: it belongs to the table, the table is ranked, no pair in
+-- progress is deeper, units are not wanted, the subject is at its place in the context's instance,
+-- and the remembered verdicts are right for a layout that has the subject at its place.
 pub record MayRun {K R : Type 0} (g : Setting K R) (q : Asking) (c : Context) (i : ℕ) : Type 0 where
   pub known : i < g.count
   pub ranked : Ranked g.nodes g.count
@@ -72,91 +77,108 @@ pub record MayRun {K R : Type 0} (g : Setting K R) (q : Asking) (c : Context) (i
   pub stands : IsAskedOf (view c.root) q
   pub goes_on : (layout : Layout) × IsLaidOut layout q × RemembersRightly g layout c
 
--- and they stay right, whatever more of them are remembered
+-- The remembered verdicts stay right, however many are added.
 abbrev pub StaysRight : {K R : Type 0} → Setting K R → Asking → Context → Context → Type 0
 StaysRight g q c c' = (layout : Layout) → IsLaidOut layout q → RemembersRightly g layout c → RemembersRightly g layout c'
 
 module _ {K R : Type 0} (g : Setting K R) (q : Asking) (c : Context) where
-  -- how the run's matches are settled
+  -- How unfinished matches come out in this run.
   abbrev pub settled_by : Settling
   settled_by = settling g.matcher c.remembered.assumptions
 
-  -- the nodes in progress at the place
+  -- The nodes in progress at the place.
   abbrev pub busy : List ℕ
   busy = busy_at q.place c.in_progress
 
-  -- ---- what is replied
+  -- ---- the replies
 
+  -- The reply is that of this node.
   abbrev pub NodeSays : ℕ → code.Reply → Type 0
   NodeSays = NodeReplies g.words g.is_whole g.nodes g.count settled_by q.mode q.path q.place busy q.subject
 
+  -- The reply is that of these entries together.
   abbrev pub PartsSay : ℕ → List (NodePart K) → code.Reply → Type 0
   PartsSay = PartsReply g.words g.is_whole g.nodes g.count settled_by q.mode q.path q.place busy q.subject
 
+  -- The reply is that of this keyword or reference.
   abbrev pub FormSays : ℕ → Text → NodeForm K → code.Reply → Type 0
   FormSays = FormReplies g.words g.is_whole g.nodes g.count settled_by q.mode q.path q.place busy q.subject
 
+  -- The reply is that of this child of a keyword.
   abbrev pub ChildSays : ℕ → Children → ChildQuestion → code.Reply → Type 0
   ChildSays = ChildReplies g.words g.is_whole g.nodes g.count settled_by q.mode q.path q.place busy q.subject
 
+  -- The reply is that of this edge.
   abbrev pub EdgeSays : NodeEdge → code.Reply → Type 0
   EdgeSays = EdgeReplies g.words g.is_whole g.nodes g.count settled_by q.mode q.path q.place busy q.subject
 
   -- ---- what a whole run of a node says and meets
 
-  -- the run in a reading, with questions of a depth
+  -- The run in a reading, with questions of a bounded depth.
   abbrev pub whole_run : Bool → Data → ℕ → ℕ → Run
   whole_run texts root n i = guarded_within (yes_run g.nodes) (guarded_node (g.words texts) g.matcher g.nodes (subject_in root) c.remembered.assumptions) n i q.path q.place busy
 
-  -- a fact about it in every reading, where nothing is assumed twice, at every depth that is enough
+  -- A fact about this run, in every reading and at every sufficient depth, if no match is assumed
+  -- with two outcomes.
   abbrev pub OfWholeRun : ℕ → (Bool → Run → Type 0) → Type 0
   OfWholeRun i fact = (root : Data) (texts : Bool) → IsAskedOf root q → TellsAll texts root g.is_whole g.nodes g.count
       → Extends (completion_of c.remembered.assumptions) c.remembered.assumptions → (n : ℕ) → left g.nodes g.count i q.subject busy < n → fact texts (whole_run texts root n i)
 
+  -- The reply is that of the whole run.
   abbrev pub RunReplies : ℕ → code.Reply → Type 0
   RunReplies i r = OfWholeRun i (λ texts run. reply_of texts r ≡ reply_in q.mode run)
 
-  -- ---- what is remembered after it
+  -- ---- what is remembered afterwards
 
   module _ (c' : Context) where
+    -- The matches of a node are remembered.
     abbrev pub MeetsNode : ℕ → Type 0
     MeetsNode = NodeMeets g.words g.is_whole g.nodes g.count settled_by q.mode q.path q.place busy q.subject c.remembered c'.remembered
 
+    -- The matches of several entries in order are remembered.
     abbrev pub MeetsParts : ℕ → List (NodePart K) → Type 0
     MeetsParts = PartsMeet g.words g.is_whole g.nodes g.count settled_by q.mode q.path q.place busy q.subject c.remembered c'.remembered
 
+    -- The matches of an entry are remembered.
     abbrev pub MeetsEntry : ℕ → NodePart K → Type 0
     MeetsEntry = EntryMeets g.words g.is_whole g.nodes g.count settled_by q.mode q.path q.place busy q.subject c.remembered c'.remembered
 
+    -- The matches of a keyword or a reference are remembered.
     abbrev pub MeetsForm : ℕ → Text → NodeForm K → Type 0
     MeetsForm = FormMeets g.words g.is_whole g.nodes g.count settled_by q.mode q.path q.place busy q.subject c.remembered c'.remembered
 
+    -- The matches of a child of a keyword are remembered.
     abbrev pub MeetsChild : ℕ → Children → ChildQuestion → Type 0
     MeetsChild = ChildMeets g.words g.is_whole g.nodes g.count settled_by q.mode q.path q.place busy q.subject c.remembered c'.remembered
 
+    -- The matches of an edge are remembered.
     abbrev pub MeetsEdge : NodeEdge → Type 0
     MeetsEdge = EdgeMeets g.words g.is_whole g.nodes g.count settled_by q.mode q.path q.place busy q.subject c.remembered c'.remembered
 
+    -- The matches of the whole run are remembered.
     abbrev pub RunMeets : ℕ → Type 0
     RunMeets i = OfWholeRun i (λ texts run. MeetsEach g.matcher c.remembered (run.met q.mode) c'.remembered)
 
--- after a run they are right of what stands in each root value in which its question's subject stands at the place
+-- After a run the remembered verdicts are right for the values of each root value in which the
+-- question's subject is at its place.
 abbrev pub RunRemembers : {K R : Type 0} → Setting K R → Asking → Context → Type 0
 RunRemembers g q c' = (root : Data) → IsAskedOf root q → RemembersRightly g (subject_in root) c'
 
--- what a run goes on with: its verdicts are right of what stands at each place
+-- The condition for continuing a run: its verdicts are right for the subject at each place.
 abbrev pub GoesOn : {K R : Type 0} → Setting K R → Asking → Context → Type 0
 GoesOn g q c = (layout : Layout) × IsLaidOut layout q × RemembersRightly g layout c
 
--- a context whose verdicts and visits are forgotten, as a run begins; of its rows those of the pairs in progress are left
+-- A context without verdicts and visits, as at the start of a run. Of its rows only those of the
+-- pairs in progress are left.
 abbrev pub forgotten : Context → Context
 forgotten c = record c { verdicts = []; visits = 0; kept = []; words = guard_words c }
 
--- ---- a verdict that is read, and one that is kept
+-- ---- verdicts that are read, and verdicts that are kept
 
--- where a guarded edge is asked across for the verdict, and its pair is not in progress: the reply is a verdict, the one that is
--- read, and nothing changes but for how many nodes may be asked; where none is read, the visit is counted, and the verdict is kept
--- wherever it may be
+-- What happens if a guarded edge is asked for the verdict while its pair is not in progress. The
+-- reply is a verdict. If a remembered verdict can be read, the reply is that one, and only the
+-- number of nodes that may still be asked changes. Otherwise the visit is counted, and the verdict
+-- is kept if it may be.
 pub record ReadsOrKeeps (q : Asking) (c c' : Context) (i : ℕ) (r : code.Reply) : Type 0 where
   pub verdict : Bool
   pub told : (texts : Bool) → reply_of texts r ≡ truth verdict
@@ -165,32 +187,38 @@ pub record ReadsOrKeeps (q : Asking) (c c' : Context) (i : ℕ) (r : code.Reply)
   pub kept : read_verdict i q.place c ≡ None → MayKeep i q.place q.subject c.visits c' → verdict_of i q.place c'.verdicts ≡ Some verdict
 
 module _ (q : Asking) (c c' : Context) where
+  -- A guarded edge that is asked for the verdict, and whose pair is not in progress, reads its
+  -- verdict or keeps it.
   abbrev pub EdgeRemembers : NodeEdge → code.Reply → Type 0
   EdgeRemembers e r = q.mode ≡ for_verdict → e.guarded ≡ true → list_any (λ i. i == e.node) (busy_at q.place c.in_progress) ≡ false → ReadsOrKeeps q c c' e.node r
 
-  -- a reference does so
+  -- A reference does so.
   abbrev pub FormRemembers : {K : Type 0} → NodeForm K → code.Reply → Type 0
   FormRemembers form r = (e : NodeEdge) → form ≡ node_reference e → EdgeRemembers e r
 
-  -- and a node whose one entry it is
+  -- So does the only entry of a node.
   abbrev pub PartsRemember : {K : Type 0} → List (NodePart K) → code.Reply → Type 0
   PartsRemember {K} xs r = (x : NodePart K) → xs ≡ x ∷ [] → FormRemembers x.form r
 
+  -- So does a node whose plan has only one entry.
   abbrev pub NodeRemembers : {K : Type 0} → Nodes K → ℕ → code.Reply → Type 0
   NodeRemembers {K} nodes i r = (xs : List (NodePart K)) → nodes.entries i ≡ node_these xs → PartsRemember xs r
 
--- a keyword's run has begun, and its answer is fresh
+-- A keyword's run has begun, with a fresh answer.
 abbrev pub HasBegun : {K R : Type 0} → Setting K (R × Answer) → Asking → K → R → code_answer.Answer → Type 0
 HasBegun g q m run a = (texts : Bool) → (g.words texts).begin m q.subject q.mode ≡ (run, answer_of texts a)
 
--- ---- errors borrow what stands at their places, in every root value in which the subject stands at the place
+-- ---- errors borrow the values at their places, in every root value in which the subject is at its
+-- place
 
+-- The errors that a keyword passes on borrow their values from this root value.
 abbrev pub PassesItsOwn : Asking → code_answer.Answer → Type 0
 PassesItsOwn q a = (root : Data) → IsAskedOf root q → All (PassesBorrowed root) (faults_in a)
 
+-- The errors of a reply borrow the values at their places from this root value.
 abbrev pub RunBorrows : Asking → code.Reply → Type 0
 RunBorrows q r = (root : Data) → IsAskedOf root q → All (BorrowsItsPlace root) (errors_in r)
 
--- the reply is of the mode
+-- The reply has the form that belongs to the mode.
 abbrev pub RunSpeaks : Asking → code.Reply → Type 0
 RunSpeaks q r = (root : Data) → IsAskedOf root q → (o : Outcome) × (reply_of false r ≡ reply_by q.mode o)

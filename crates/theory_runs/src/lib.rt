@@ -1,2 +1,5 @@
-//! What the run of a numbered node does, told of its steps alone: definitions and lemmas that the runs stand on, no code.
+//! Definitions and lemmas about the run of a numbered node.
+//!
+//! They describe a run by its steps alone. This crate has no code; the crates with the runs build
+//! on it.
 #![tactic(auto)]
