@@ -1,4 +1,4 @@
--- Names that ascend: those of an object do, and clones do as what they are of.
+-- Names in ascending order: those of an object ascend, and so do those of a clone.
 use Rattle.std.proofs.Common.{◌≡◌, ◌∙◌, ◌+◌, ◌<◌, ◌∷◌, [], Less, List, String, ap, bytes_eq, cond, drop, false, get_or, length, map, refl, string_bytes, subst, sym, true, ℕ}
 use Rattle.std.proofs.Math.ListN.{get_or-map}
 use Rattle.std.proofs.lemmas.List.{at_drop_more, length-map}
@@ -23,7 +23,7 @@ unfolding IsStrictlySortedBy
 texts_ascend [] h = tt
 texts_ascend (k ∷ ks) h = (below_all k ks h.0, texts_ascend ks h.1)
 
--- names whose bytes are seen so
+-- names whose bytes are read by this function
 module _ {A : Type 0} (bytes : A → Text) where
   pub cloned_alike : (xs ys : List A) → AllZip (λ x y. bytes y ≡ bytes x) xs ys → map bytes ys ≡ map bytes xs
   cloned_alike [] [] h = refl
@@ -31,7 +31,7 @@ module _ {A : Type 0} (bytes : A → Text) where
   cloned_alike (x ∷ xs) [] h = absurd h
   cloned_alike (x ∷ xs) (y ∷ ys) h = ap (λ k. k ∷ map bytes ys) h.0 ∙ ap (λ ks. bytes x ∷ ks) (cloned_alike xs ys h.1)
 
--- ---- the place of a name
+-- ---- the index of a name
 
 module _ {A : Type 0} (bytes : A → Text) (k : Text) (xs : List A) (p : ℕ) (x : A) (below : p < length xs) (is : x ≡ get_or xs p x) where
   at_place : place_from k p (drop p (map bytes xs)) ≡ place_from k p (bytes x ∷ drop (p + 1) (map bytes xs))

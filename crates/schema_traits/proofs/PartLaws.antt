@@ -1,4 +1,4 @@
--- The laws of the parts, as the definitions have them.
+-- The laws of the traits, in terms of the definitions.
 use Rattle.std.proofs.Common.{◌≡◌, Bool, true, false, cond, List, [], ◌∷◌, sym, subst, ap, ◌∙◌, arith}
 use Rattle.std.specs.Prelude.{All, Option, Some, unwrap_or}
 use Rattle.std.proofs.lemmas.List.Elements.{All-cons}
@@ -28,7 +28,7 @@ module _ {K : Type 0} (absorbed : K → List Text) (is_whole : K → Bool) (obje
   either P true x y p q = p
   either P false x y p q = q
 
-  -- a maker asks for what lies strictly below the object
+  -- a maker requests only what lies strictly below the object
   pub asks_below : (s : Script K) → MakesRightly absorbed is_whole object s → All IsBelow (followed is_self s).requests
   asks_below (then_compile path s) h = All-cons IsBelow (compile path) _ (below_compile path h.0) (asks_below s h.1)
   asks_below (then_refer text s skipped) h = All-cons IsBelow (refer text) _ tt
@@ -52,7 +52,7 @@ module _ {K : Type 0} (absorbed : K → List Text) (is_whole : K → Bool) (obje
   makes_whole (then_reserve purpose s) h k names e f = makes_whole s h k names e f
   makes_whole (then_end m) h k names e f = made_whole m k names h e f
 
-  -- and hands on the names that it absorbs
+  -- and comes with the names that it absorbs
   made_absorbed : (m : Made K) (k : K) (names : List Text) → IsMade absorbed is_whole object m → m ≡ a_keyword k names → names ≡ absorbed k
   made_absorbed (a_keyword k' names') k names h e = let same : k' ≡ k = cc in let list : names' ≡ names = cc in sym list ∙ h.0 ∙ ap absorbed same
   made_absorbed nothing k names h e = absurd (let g : ⊥ = cc in g)

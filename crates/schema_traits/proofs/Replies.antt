@@ -1,4 +1,4 @@
--- Lists of errors made one by one, and what is said of a result that is there.
+-- Lists of errors that are made one by one, and facts about a result that is there.
 use Rattle.std.proofs.Common.{◌≡◌, zero, suc, List, [], ◌∷◌, ◌++◌, map, refl, sym, ◌∙◌, ap, arith, IfOk, Ok, Err, Result}
 use Rattle.std.specs.Prelude.{All, Option, Some, None, option_and_then}
 use Rattle.serde_json.specs.Data.{Data}
@@ -13,7 +13,7 @@ pub if_ok_both : {T E : Type 0} (r : Result T E) (P Q Z : T → Type 0) → ((x 
 if_ok_both (Ok x) P Q Z f h k = f x h k
 if_ok_both (Err e) P Q Z f h k = tt
 
--- one element more, made from the first that is left
+-- one more element, made from the first of those that are left
 pub made_more : {A B B' C : Type 0} (f : A → C) (g : B' → C) (h : B → B') (done now : List A) (x : A) (y : B) (left old : List B) (all : List C)
     → now ≡ done ++ x ∷ [] → old ≡ y ∷ left → f x ≡ g (h y) → map f done ++ map g (map h old) ≡ all → map f now ++ map g (map h left) ≡ all
 made_more {A = A} {B = B} {C = C} f g h done now x y left old all n o e q = ap (λ xs. map f xs ++ map g (map h left)) n ∙ go done all (ap (λ ys. map f done ++ map g (map h ys)) (sym o) ∙ q)
@@ -35,7 +35,7 @@ all_first P x xs h = h 0 x (omega arith)
 pub all_rest : {A : Type 0} (P : A → Type 0) (x : A) (xs : List A) → All P (x ∷ xs) → All P xs
 all_rest P x xs h = λ i d l. h (suc i) d (omega arith)
 
--- what stands at a place below
+-- the subject at a path that consists of two
 pub from_append : (p q : Place) (x : Subject) → subject_from (p ++ q) x ≡ option_and_then (subject_from q) (subject_from p x)
 from_append [] q x = refl
 from_append (t ∷ p) q x = go (after_step t x) (from_append p q)

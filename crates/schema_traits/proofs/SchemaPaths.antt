@@ -1,4 +1,4 @@
--- Paths: what differs in length differs, and the first steps of a list.
+-- Paths of different lengths differ; the first steps of a list.
 use Rattle.std.proofs.Common.{◌≡◌, ℕ, zero, suc, ◌≤◌, ◌-◌, ◌&&◌, Bool, true, false, List, [], ◌∷◌, length, map, take, drop, refl, sym, ◌∙◌, ap, true≢false, arith, length-drop}
 use Rattle.theory_definitions.specs.Instance.{Place, same_place}
 

@@ -1,5 +1,5 @@
--- What a keyword tells at once that its run for the verdict asks of an instance, and how its verdict follows from the answers and from
--- matches.
+-- The questions that a keyword declares up front for its run for the verdict, and how the verdict
+-- follows from the answers and from matches.
 use Rattle.std.specs.List.{list_all, list_any}
 use Rattle.std.specs.Prelude.{Bool, List, [], false, is_some, length, map, min, not, string_bytes, suc, true, zero, ℕ, ◌&&◌, ◌+◌, ◌-◌, ◌||◌, ◌∷◌, ◌≡◌}
 use Rattle.serde_json.specs.Data.{array, object}
@@ -10,7 +10,8 @@ use Rattle.theory_definitions.specs.Matching.{Matching}
 use Rattle.schema_traits.specs.declared.asking.Asking.{Asking}
 use Rattle.schema_traits.specs.declared.asking.Asking.TheVariants as asking
 
--- the question of a child at the keyword's own place, at an item, and at a member; of the first child at a name
+-- the question of a child at the keyword's own place, at an item and at a member, and of the first
+-- child at a name
 abbrev pub child_here : ℕ → Question
 child_here i = record { child = i; below = here }
 
@@ -23,17 +24,18 @@ child_below i k = record { child = i; below = down (to_member k) }
 abbrev pub first_at_name : Text → Question
 first_at_name k = record { child = 0; below = down (to_name k) }
 
--- so many numbers, from one on
+-- the given count of consecutive numbers, starting at i
 abbrev pub numbers_from : ℕ → ℕ → List ℕ
 numbers_from i zero = []
 numbers_from i (suc n) = i ∷ numbers_from (i + 1) n
 
--- each child accepts the member that has its name, where there is one
+-- each child accepts the member with its name, if there is one
 abbrev pub all_at_names : (Question → Bool) → Subject → ℕ → List Text → Bool
 all_at_names accepts s i [] = true
 all_at_names accepts s i (k ∷ ks) = (not (is_some (after_step (to_member k) s)) || accepts (child_below i k)) && all_at_names accepts s (i + 1) ks
 
--- what the answers of a subject's questions, and matches, say; where turns say it, nothing is said here
+-- the verdict by the answers to the questions about a subject, and by matches; it says nothing if
+-- turns decide the verdict
 abbrev pub asked_holds : Asking → Subject → Matching → (Question → Bool) → Bool
 asked_holds asking.ByTurns s matching accepts = true
 asked_holds (asking.Each n) s matching accepts = list_all accepts (map child_here (numbers_from 0 n))
@@ -44,12 +46,12 @@ asked_holds (asking.Members names ms) s matching accepts = all_at_names accepts 
 asked_holds (asking.Names ms) s matching accepts = list_all (λ e. accepts (first_at_name (string_bytes e.0))) ms.now.entries
 asked_holds (asking.Match pattern text) s matching accepts = matching.matches pattern.now text.now
 
--- whether more is said than that turns say it
+-- whether the questions are declared up front, and not left to turns
 abbrev pub tells_at_once : Asking → Bool
 tells_at_once asking.ByTurns = false
 tells_at_once a = true
 
--- the items and the members that it holds are the subject's own
+-- the items and the members that it holds are those of the subject
 abbrev pub AreOwn : Asking → Subject → Type 0
 AreOwn (asking.Items before items) s = s ≡ a_value (array (items_view items.now))
 AreOwn (asking.Listed n items) s = s ≡ a_value (array (items_view items.now))
@@ -57,7 +59,7 @@ AreOwn (asking.Members names ms) s = s ≡ a_value (object (members_view ms.now.
 AreOwn (asking.Names ms) s = s ≡ a_value (object (members_view ms.now.entries))
 AreOwn a s = Unit {0}
 
--- the keyword holds exactly where the answers and the matches say so
+-- the keyword accepts exactly if the answers and the matches say so
 pub record HoldsAsTold {K R : Type 0} (keywords : Keywords K R) (m : K) (s : Subject) (a : Asking) : Type 0 where
   pub own : AreOwn a s
   pub says : tells_at_once a ≡ true → (matching : Matching) (accepts : Question → Bool) → keywords.holds m s matching accepts ≡ asked_holds a s matching accepts

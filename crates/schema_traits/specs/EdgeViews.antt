@@ -1,4 +1,4 @@
--- The code's edges as data.
+-- The edges of the code as edges of the definitions.
 use Rattle.theory_definitions.specs.Guarded as spec
 use Rattle.schema_traits.specs.declared.numbers.Edge.{Edge}
 

@@ -1,4 +1,4 @@
--- What becomes of the faults of a keyword at a place.
+-- What becomes of a keyword's faults at a place.
 use Rattle.std.specs.Prelude.{List, [], ◌∷◌, Some, None, All, map}
 use Rattle.serde_json.specs.Data.{Data}
 use Rattle.theory_definitions.specs.Instance.{Subject, Text}
@@ -25,7 +25,7 @@ errors_in (reply.First (Some e)) = e.value ∷ []
 errors_in (reply.All es) = es.items
 errors_in (reply.Unit u) = []
 
--- the reply that an answer gives in a mode, to a keyword of this name at work there
+-- the reply that an answer becomes in a mode, for a keyword of this name that runs at this place
 abbrev pub answer_reply : spec.Mode → Where → Text → spec.Answer → spec.Reply
 answer_reply spec.for_verdict w name a = spec.truth a.verdict
 answer_reply spec.for_first w name a = spec.first_of_it (first_error (map (fault_error w name) a.errors))
@@ -45,12 +45,13 @@ abbrev pub PassesBorrowed : Data → Fault → Type 0
 PassesBorrowed d (fault.Own e) = Unit {0}
 PassesBorrowed d (fault.Passed e) = BorrowsItsPlace d e
 
--- and what is the keyword's own lies inside the instance
+-- an error of the keyword's own lies inside the instance, and an error that is passed on borrows
+-- its place
 abbrev pub LiesInside : Data → Subject → Fault → Type 0
 LiesInside d s (fault.Own e) = IsPresent s (map step_of e.below.items)
 LiesInside d s (fault.Passed e) = BorrowsItsPlace d e
 
--- where errors are wanted
+-- this holds of each fault of an answer in the modes that find errors
 abbrev pub FaultsLieInside : spec.Mode → Data → Subject → Answer → Type 0
 FaultsLieInside spec.for_first d s a = All (LiesInside d s) (faults_in a)
 FaultsLieInside spec.for_all d s a = All (LiesInside d s) (faults_in a)

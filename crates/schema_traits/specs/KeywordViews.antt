@@ -1,4 +1,4 @@
--- What passes between the engine and a keyword, as the definitions have it.
+-- What the engine and a keyword exchange, in terms of the definitions.
 use Rattle.std.specs.Prelude.{◌≡◌, List, [], ◌∷◌, ◌++◌, Bool, true, false, Option, Some, None, string_bytes, map, option_map}
 use Rattle.theory_definitions.specs.Instance.{Subject, Text, to_member, to_item, to_name}
 use Rattle.schema_reports.specs.InstanceTexts.{subject_has_float}
@@ -47,11 +47,11 @@ marked_of (marked.Reservation n) = spec.a_reservation n
 abbrev pub spot_of : Spot → spec.Spot
 spot_of s = record { absorbed = option_map string_bytes s.absorbed; path = string_bytes s.path; below = map step_of s.below.items }
 
--- there, or one step below
+-- a spot, or the spot one step below it
 abbrev pub spot_below : spec.Spot → spec.Below → spec.Spot
 spot_below s b = record s { below = s.below ++ steps_below b }
 
--- a match of this pattern is asked for at the keyword
+-- the point of a match that is requested at the keyword, with this pattern
 abbrev pub keyword_point : Text → Bool → spec.MatchPoint
 keyword_point pattern located = record {
   spot = record { absorbed = None; path = []; below = [] };
@@ -59,7 +59,7 @@ keyword_point pattern located = record {
   pattern = Some pattern;
 }
 
--- a match is asked for at a spot, or one step below it
+-- the point of a match that is requested at a spot, or one step below it
 abbrev pub spot_point : Bool → Spot → Below → spec.MatchPoint
 spot_point located spot below = record {
   spot = spot_below (spot_of spot) (below_of below);
@@ -67,12 +67,12 @@ spot_point located spot below = record {
   pattern = option_map string_bytes spot.pattern;
 }
 
--- where a match of this pattern is asked for
+-- the point of a match with this pattern
 abbrev pub point_of : Text → MatchPoint → spec.MatchPoint
 point_of pattern (point.AtKeyword located) = keyword_point pattern located
 point_of pattern (point.AtSpot located spot below) = spot_point located spot.now below
 
--- a match that a keyword asks for at a spot, of this subject
+-- the turn that requests a match of this subject at a spot
 abbrev pub spot_match : SpotMatch → Text → Below → spec.Turn
 spot_match m subject below = spec.match_text (record { pattern = string_bytes m.pattern; subject = subject }) (spot_point m.located m.spot below)
 
@@ -114,11 +114,11 @@ abbrev pub option_list : {A : Type 0} → Option A → List A
 option_list None = []
 option_list (Some a) = a ∷ []
 
--- an answer of a mode with these errors, which accepts where there are none
+-- an answer of a mode with these errors; it accepts if there are none
 abbrev pub with_errors : spec.Mode → List spec.Fault → spec.Answer
 with_errors m fs = record { mode = m; verdict = is_nil fs; errors = fs; gives = record no_gives { valid = is_nil fs } }
 
--- in an evaluation the verdict is that of the keyword's own unit and of each that it absorbs
+-- in an evaluation the verdict is that of the keyword's own unit and of each unit that it absorbs
 abbrev pub with_gives : spec.Gives → spec.Answer
 with_gives g = record { mode = spec.for_units; verdict = spec.all_valid g; errors = []; gives = g }
 
@@ -129,11 +129,11 @@ answer_of texts (answer.First f) = with_errors spec.for_first (option_list (opti
 answer_of texts (answer.All fs) = with_errors spec.for_all (map (fault_of texts) fs.items)
 answer_of texts (answer.Evaluation b) = with_gives (gives_with texts b.value.own b.value.absorbed.items)
 
--- how an answer of a mode begins
+-- the answer with which a run of a mode begins
 abbrev pub fresh : spec.Mode → spec.Answer
 fresh m = with_errors m []
 
--- texts are spoken of only where neither the keyword nor the instance holds a fraction
+-- texts are covered only if neither the keyword nor the instance holds a fraction
 pub record Tells (texts is_whole : Bool) (s : Subject) : Type 0 where
   pub keyword : texts ≡ true → is_whole ≡ true
   pub instance : texts ≡ true → subject_has_float s ≡ false

@@ -1,4 +1,4 @@
--- How a maker's turns follow its script.
+-- How the turns of a maker follow its script.
 use Rattle.std.specs.Prelude.{◌≡◌, ℕ, suc, List, [], ◌∷◌, Bool, true, false, None, Some, is_some, map, string_bytes}
 use Rattle.serde_json.specs.Data.{Members}
 use Rattle.serde_json.specs.Written.{members_have_float}
@@ -27,7 +27,7 @@ abbrev pub purpose_of : PendingKind → spec.Purpose
 purpose_of kind.Properties = spec.for_properties
 purpose_of kind.Items = spec.for_items
 
--- what a maker is told: of numbers that are pending or reserved, only that it got one
+-- what a maker receives; of a number that is pending or reserved, it learns only that it got one
 pub data Told : Type 0 where
   nothing_yet : Told
   the_number : ℕ → Told
@@ -44,10 +44,14 @@ maker_reply_of (reply.Pending None) = none_pending
 maker_reply_of (reply.Pending (Some p)) = one_pending
 maker_reply_of (reply.Reserved p) = a_reserved
 
--- what a maker waits for: its first turn; or the answer to its request of a number, to go on with a script where it gets
--- the number and with another where the reference is skipped; or, after so many of these requests, the number that is
--- pending, to go on with a script where there is none and with another where there is one; or the number that is reserved;
--- or it has ended
+-- what a maker waits for:
+-- - its first turn;
+-- - the answer to its request with this number: it goes on with the first script if it gets the
+--   number of a node, and with the second if the reference is skipped;
+-- - the pending number, after this many numbered requests: it goes on with the first script if
+--   there is none, and with the second if there is one;
+-- - the reserved number, after this many numbered requests;
+-- - nothing: it has ended
 pub data Waiting (K : Type 0) : Type 0 where
   begun : spec.Script K → Waiting K
   waits : ℕ → spec.Script K → spec.Script K → Waiting K
@@ -55,8 +59,8 @@ pub data Waiting (K : Type 0) : Type 0 where
   wants_reserved : ℕ → spec.Script K → Waiting K
   ended : Waiting K
 
--- a step is the first of a script whose next request has this number, and what is waited for after it; a refusal's text is
--- the script's where the script tells it
+-- a step is the first of a script whose next request has this number, and w is what the maker waits
+-- for after it; the text of a refusal is the script's, if the script covers it
 abbrev pub IsStepOf : {C K : Type 0} → (C → K) → ℕ → spec.Script K → MakerStep C → Waiting K → Type 0
 IsStepOf shape n (spec.then_compile path s) (Compile p) w = (p ≡ path) × (w ≡ waits n s s)
 IsStepOf shape n (spec.then_refer text s skipped) (Refer t) w = (string_bytes t ≡ text) × (w ≡ waits n s skipped)
@@ -67,7 +71,7 @@ IsStepOf shape n (spec.then_end spec.nothing) Nothing w = Unit {0}
 IsStepOf shape n (spec.then_end (spec.refused told error)) (Refuse e) w = told_error told (owned_error_of e) ≡ told_error told error
 IsStepOf shape n _ _ w = ⊥
 
--- a turn whose reply is the one that is due
+-- a turn whose reply is the one that the maker waits for; of any other turn nothing is said
 abbrev pub TakesTurn : {C K : Type 0} → (C → K) → Waiting K → Told → MakerStep C → Waiting K → Type 0
 TakesTurn shape (begun s) nothing_yet step w = IsStepOf shape 0 s step w
 TakesTurn shape (waits n s skipped) (the_number m) step w = m ≡ n → IsStepOf shape (suc n) s step w
@@ -77,7 +81,7 @@ TakesTurn shape (wants_pending n free held) one_pending step w = IsStepOf shape 
 TakesTurn shape (wants_reserved n s) a_reserved step w = IsStepOf shape n s step w
 TakesTurn shape _ _ step w = Unit {0}
 
--- a path strictly below an object
+-- a path that is not empty leads strictly below an object
 abbrev pub IsStrictlyBelow : Place → Type 0
 IsStrictlyBelow [] = ⊥
 IsStrictlyBelow (s ∷ path) = Unit {0}
@@ -87,18 +91,20 @@ abbrev pub AreMembers : Members → List Text → Type 0
 AreMembers object [] = Unit {0}
 AreMembers object (name ∷ names) = (is_some (member_of name object) ≡ true) × AreMembers object names
 
--- a keyword is handed on with the names that it absorbs, which the object has, and is whole where the object holds no
--- fraction; a refusal tells its text there
+-- a keyword comes with the names that it absorbs, all of them members of the object, and is whole
+-- if the object holds no fraction; the text of a refusal is covered if the object holds no fraction
 abbrev pub IsMade : {K : Type 0} → (K → List Text) → (K → Bool) → Members → spec.Made K → Type 0
 IsMade absorbed is_whole object (spec.a_keyword m names) = (names ≡ absorbed m) × (members_have_float object ≡ false → is_whole m ≡ true) × AreMembers object names
 IsMade absorbed is_whole object spec.nothing = Unit {0}
 IsMade absorbed is_whole object (spec.refused told e) = members_have_float object ≡ false → told ≡ true
 
--- whether a number is pending or none, the same subschemas and references are asked for, and the maker ends alike
+-- whether or not a number is pending, the maker requests the same subschemas and references, and
+-- ends alike
 abbrev pub PendingChangesNothing : {K : Type 0} → spec.Script K → spec.Script K → Type 0
 PendingChangesNothing free held = (is_self : Text → Bool) → spec.followed is_self free ≡ spec.followed is_self held
 
--- a script asks for what lies strictly below the object, and ends rightly
+-- a script requests only what lies strictly below the object, and each of its ends is as `IsMade`
+-- says
 abbrev pub MakesRightly : {K : Type 0} → (K → List Text) → (K → Bool) → Members → spec.Script K → Type 0
 MakesRightly absorbed is_whole object (spec.then_compile path s) = IsStrictlyBelow path × MakesRightly absorbed is_whole object s
 MakesRightly absorbed is_whole object (spec.then_refer text s skipped) = MakesRightly absorbed is_whole object s × MakesRightly absorbed is_whole object skipped

@@ -1,4 +1,4 @@
--- What the code's resolver answers, as the definitions have it.
+-- What the code's resolver answers, in terms of the definitions.
 use Rattle.std.specs.List.{AllByRecursion}
 use Rattle.std.specs.Prelude.{◌≡◌, ◌∷◌, ℕ, Option, Some, Result, Err, false, option_map, string_bytes, suc, unwrap_or, zero}
 use Rattle.std.proofs.Common.{Bor}
@@ -19,16 +19,16 @@ use Rattle.schema_traits.specs.declared.resolver.LookupError.TheVariants.{Refuse
 abbrev pub place_of : SchemaPlace → spec.SchemaPlace
 place_of p = record { document = p.document; path = p.path }
 
--- this was read there, or nothing
+-- this is the value that the resolver has at the place, or nothing if it has none
 abbrev pub IsReadAt : {S : Type 0} → Resolver S → SchemaPlace → Option (Bor Value) → Type 0
 IsReadAt r place o = option_map (λ v. view v.now) o ≡ r.value (place_of place)
 
--- a subschema's place, and what stands there
+-- the place of a subschema, and the value at that place
 pub record Placed : Type 0 where
   pub place : spec.SchemaPlace
   pub value : Option Data
 
--- a place, with what the resolver has there
+-- a place, with the value that the resolver has there
 abbrev pub placed_in : {S : Type 0} → Resolver S → spec.SchemaPlace → Placed
 placed_in r p = record { place = p; value = r.value p }
 
@@ -41,29 +41,31 @@ entrance_of point e = record { place = place_of e.1; state = point e.0 }
 abbrev pub found_of : {S P : Type 0} → (S → P) → Target S → Found P
 found_of point t = record { place = place_of t.place; state = point t.state; draft = draft_of t.draft }
 
--- a refusal has the text that the definitions give it; want of memory says nothing
+-- a refusal has the text of the definitions; of a lack of memory nothing is said
 abbrev pub Refuses : {A : Type 0} → Result A Text → LookupError → Type 0
 Refuses r (Refused t) = r ≡ Err (string_bytes t)
 Refuses r OutOfMemory = Unit {0}
 
--- a refusal over a value: its text is the one that the definitions give it where the value holds no fraction
+-- a refusal of a value has the text of the definitions if the value holds no fraction
 abbrev pub RefusesValue : {A : Type 0} → Data → Result A Text → LookupError → Type 0
 RefusesValue value r (Refused t) = (text : Text) × (r ≡ Err text) × (has_float value ≡ false → string_bytes t ≡ text)
 RefusesValue value r OutOfMemory = Unit {0}
 
--- what stands at a path below a place stands there inside the place's value
+-- if the resolver has a value at a path below a place, then it has a value at the place, and the
+-- first is found inside it at that path
 abbrev pub IsInside : {S : Type 0} → Resolver S → Type 0
 IsInside r = (p : spec.SchemaPlace) (path : Place) (inner : Data) → r.value (spec.at_path p path) ≡ Some inner → (outer : Data) × (r.value p ≡ Some outer) × (subject_at outer path ≡ Some (a_value inner))
 
--- a value stands at the second place, which lies below the first
+-- the resolver has a value at the second place, which lies strictly below the first
 abbrev pub StandsBelow : {S : Type 0} → Resolver S → spec.SchemaPlace → spec.SchemaPlace → Type 0
 StandsBelow r outer inner = (step : Step) × (path : Place) × (there : Data) × (inner ≡ spec.at_path outer (step ∷ path)) × (r.value inner ≡ Some there)
 
--- a subschema stands below its schema
+-- every subschema has a value, and lies strictly below its schema
 abbrev pub SubschemasStandBelow : {S : Type 0} → Resolver S → Type 0
 SubschemasStandBelow r = (draft : spec.Draft) (p : spec.SchemaPlace) → AllByRecursion (StandsBelow r p) (r.subresources_of draft p)
 
--- the subschemas below a place, so many levels down, are read in this draft, as the schema is: none of them changes it
+-- the subschemas within this many levels below a place are read in the draft of the schema: none of
+-- them changes it
 abbrev pub KeepsDraft : {S : Type 0} → Resolver S → ℕ → spec.Draft → spec.SchemaPlace → Type 0
 KeepsDraft r zero draft p = Unit {0}
 KeepsDraft r (suc n) draft p = AllByRecursion (λ q. (r.detect draft (unwrap_or (r.value q) null) ≡ draft) × KeepsDraft r n draft q) (r.subresources_of draft p)

@@ -1,4 +1,4 @@
--- The steps of a path, by how they are kept.
+-- The steps of a path, by how they are stored.
 use Rattle.std.specs.Prelude.{List, [], map, ◌∷◌}
 use Rattle.theory_definitions.specs.Instance.{Step}
 use Rattle.schema_traits.specs.SchemaViews.{schema_step_of}

@@ -1,4 +1,4 @@
--- The steps of a schema's path, as the definitions have them.
+-- The steps of a schema's path, in terms of the definitions.
 use Rattle.std.specs.Rc.{rc_str_bytes}
 use Rattle.theory_definitions.specs.Instance.{Step, to_member, to_item}
 use Rattle.schema_traits.specs.declared.schema_place.SchemaStep.{SchemaStep}

@@ -1,4 +1,4 @@
-//! Names that ascend, as those of an object's members do.
+//! Names in ascending order, like those of an object's members.
 ghost use Rattle.std.specs.Prelude.{◌≡◌, drop, map, string_bytes};
 ghost use Rattle.std.specs.Rc.{rc_str_bytes};
 ghost use Rattle.schema_traits.specs.Showing.{Yields};
@@ -14,7 +14,9 @@ use std::alloc::{AllocError, Global};
 use std::marker::Model;
 use std::rc::RcStr;
 
-/// Names that ascend by their bytes, no two of them equal, each shared with whoever holds it too. Contracts see the list of the names.
+/// Distinct names in ascending order of their bytes.
+///
+/// Each name is shared with its other owners. Contracts see the list of the names.
 #[derive(Drop)]
 pub struct AscendingNames {
     names: Vec<RcStr>,
@@ -36,7 +38,7 @@ impl Model for AscendingNames {
 }
 
 impl AscendingNames {
-    /// Returns the names of an object's members. Fails only if memory cannot be allocated.
+    /// Returns the names of an object's members.
     pub fn of_members(
         alloc: Global,
         members: &Map<String, Value>,
@@ -50,15 +52,18 @@ impl AscendingNames {
         Ok(AscendingNames { names })
     }
 
-    /// Returns the names as a slice. It allocates nothing.
+    /// Returns the names as a slice.
     pub fn as_slice(&self) -> &[RcStr]
         ensures names { map rc_str_bytes result.now ≡ self.now }
     {
         self.names.as_slice()
     }
 
-    /// Returns the first place at or after another one where a name stands that is not below this one, and whether it is this one; where
-    /// there is none, the place behind the last. It allocates nothing.
+    /// Looks a name up, from an index on.
+    ///
+    /// Returns the index of the first name at or after `from` that is not below `name`, and whether
+    /// that name is `name` itself. If there is none, the index is the one after the last. Allocates
+    /// nothing.
     #[inline(always)]
     pub fn place_from(&self, from: usize, name: &str) -> (usize, bool)
         ensures place { (result.0, result.1) ≡ place_from name.now from (drop from self.now) }
@@ -83,7 +88,7 @@ impl AscendingNames {
 impl Clone for AscendingNames {
     ghost is_clone = { λ names copy. copy ≡ names };
 
-    /// Returns the same names once more. Fails only if memory cannot be allocated.
+    /// Returns a copy, which shares the names.
     fn clone(&self) -> Result<AscendingNames, AllocError> {
         let names = self.names.clone()?;
         Ok(AscendingNames { names })

@@ -1,25 +1,34 @@
-//! What a keyword's run for the verdict asks of an instance, told at once, where its verdict follows from the answers alone.
+//! What a keyword asks of an instance, declared up front.
+//!
+//! A keyword can say this if the verdict of its run follows from the answers alone.
 use crate::ascending::AscendingNames;
 use serde_json::{Map, Value};
 
-/// What a keyword's run for the verdict asks of an instance, and how its verdict follows. What is asked is borrowed from the keyword and
-/// from the instance, so nothing is looked up again.
+/// The questions of a keyword's run for the verdict.
+///
+/// Each variant says how the verdict follows from the answers.
+/// The questions are borrowed from the keyword and from the instance, so nothing is looked up
+/// again.
 #[derive(Clone, Copy)]
 pub enum Asking<'s, 'i> {
-    /// What its turns ask, which say the verdict.
+    /// The keyword's turns ask, and decide the verdict.
     ByTurns,
-    /// Each of so many children, at the keyword's own place: all have to accept.
+    /// This many children, at the keyword's own place: all must accept.
     Each(usize),
-    /// The same: one of them has to accept.
+    /// This many children, at the keyword's own place: one must accept.
     One(usize),
-    /// The first child, at each item from this one on: all have to be accepted.
+    /// The first child, at each item from this index on: all must be accepted.
     Items(usize, &'i [Value]),
-    /// Each of so many children at the item of its number, where there is one: all have to be accepted.
+    /// Each of this many children, at the item with its index: all must be accepted.
+    ///
+    /// Children without such an item are not asked.
     Listed(usize, &'i [Value]),
-    /// Each child at the member that has its name, where there is one: all have to be accepted.
+    /// Each child, at the member with its name: all must be accepted.
+    ///
+    /// Children without such a member are not asked.
     Members(&'s AscendingNames, &'i Map<String, Value>),
-    /// The first child, at the name of each member: all have to be accepted.
+    /// The first child, at the name of each member: all must be accepted.
     Names(&'i Map<String, Value>),
-    /// Whether the pattern matches a text, as it has to.
+    /// A pattern, which must match a text.
     Match(&'s str, &'i str),
 }

@@ -3,7 +3,9 @@ ghost use Rattle.std.specs.Prelude.{◌≡◌};
 
 use crate::keyword::Validate;
 
-/// A keyword that can be cloned. A clone has its source's shape, so it answers equally.
+/// A keyword that can be cloned.
+///
+/// A clone has the shape of its source, so it answers alike.
 pub trait CloneKeyword: Validate + Clone {
     ghost cloned: { (m n : Self) → Self.is_clone m n → Self.shape n ≡ Self.shape m };
 }

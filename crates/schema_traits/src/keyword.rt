@@ -1,4 +1,4 @@
-//! The keyword type, which puts questions to the engine by turns.
+//! The keyword trait, whose runs ask the engine questions by turns.
 ghost use Rattle.std.specs.Prelude.{◌≡◌, ℕ, All, Bool, List, IfOk, IfSome, true, OnOk};
 ghost use Rattle.serde_json.specs.Data.{Data};
 ghost use Rattle.theory_definitions.specs.Instance.{Text, Subject};
@@ -24,7 +24,7 @@ use schema_reports::location::OutOfMemory;
 use schema_reports::reports::ValidationError;
 use std::alloc::Global;
 
-/// What is wanted of a run.
+/// What a run is to find.
 #[derive(Clone, Copy, PartialEq, Eq)]
 pub enum Mode {
     Verdict,
@@ -42,16 +42,21 @@ pub enum Below<'s> {
     NameOf(&'s str),
 }
 
-/// What a run marks: a child, by the number of the maker's request, or a number that was pending or that the maker reserved,
-/// by its place among those that the maker got. Two places are two, whichever numbers stand there.
+/// What a run marks.
+///
+/// A child is named by the number of the maker's request. A number that was pending, or that the
+/// maker reserved, is named by its position among those that the maker got. Two positions count as
+/// different, whichever numbers they hold.
 #[derive(Clone, Copy)]
 pub enum Marked {
     Child(usize),
     Reservation(usize),
 }
 
-/// Where a match of a keyword is that is not asked for at the keyword itself: a path from it on, or from one that it absorbs,
-/// and steps below its place. `pattern` is the schema's own.
+/// The location of a match other than the keyword's own.
+///
+/// `path` leads on from the keyword, or from the keyword `absorbed` that it absorbs; `below` holds
+/// the steps below its place. `pattern` is the pattern as the schema has it.
 #[derive(Drop)]
 pub struct Spot<'s> {
     pub absorbed: Option<String>,
@@ -60,8 +65,10 @@ pub struct Spot<'s> {
     pub pattern: Option<String>,
 }
 
-/// A match that a keyword asks for at a spot of its own: its pattern as it was compiled, and whether evaluation path and place are
-/// shown. The keyword owns it, and a step borrows it.
+/// A match that a keyword requests at a spot of its own.
+///
+/// `pattern` is the compiled pattern. `located` says whether evaluation path and place are shown.
+/// The keyword owns this value, and a step borrows it.
 #[derive(Drop)]
 pub struct SpotMatch<'s> {
     pub spot: Spot<'s>,
@@ -69,31 +76,58 @@ pub struct SpotMatch<'s> {
     pub located: bool,
 }
 
-/// Where a match is asked for: at the keyword itself, for a pattern that is the schema's own, or at a spot of the keyword's and
-/// there or one step below, by a name of the keyword's or of the instance's. The truth value says that evaluation path and place
-/// are shown.
+/// Where a match is requested. The engine makes it of a step.
+///
+/// The Boolean says whether evaluation path and place are shown.
 #[derive(Clone, Copy)]
 pub enum MatchPoint<'s> {
+    /// At the keyword itself, for a pattern as the schema has it.
+    ///
+    /// Comes from `Step::Match`, so today from `pattern`, `patternProperties` and
+    /// `additionalProperties`.
     AtKeyword(bool),
+    /// At a spot of the keyword's, or one step below it.
+    ///
+    /// The name of the step is one of the keyword's or of the instance's. Comes from
+    /// `Step::MatchAt`, which no keyword of the standard makes.
     AtSpot(bool, &'s Spot<'s>, Below<'s>),
 }
 
-/// What a turn asks for. A child is named by the number of the request that the keyword's maker made. A match is asked for at the
-/// keyword itself, of a compiled pattern and a subject, with a truth value which says that evaluation path and place are shown; or
-/// at a spot of the keyword's, of a subject, there or one step below.
+/// What a turn requests from the engine.
 #[derive(Clone, Copy)]
 pub enum Step<'s> {
+    /// Asks a child, named by the number of the request that the keyword's maker made.
+    ///
+    /// Made by every keyword that applies subschemas, such as `allOf`, `items` and `contains`.
     Ask(usize, Below<'s>, Mode),
+    /// Requests a match of a compiled pattern and a subject, at the keyword itself.
+    ///
+    /// The Boolean says whether evaluation path and place are shown. Made by `pattern`,
+    /// `patternProperties` and `additionalProperties`.
     Match(&'s str, &'s str, bool),
+    /// Requests a match of a subject at a spot of the keyword's, or one step below it.
+    ///
+    /// No keyword of the standard makes it, only tests and keywords of one's own.
     MatchAt(&'s SpotMatch<'s>, &'s str, Below<'s>),
+    /// Marks a child or a reserved number.
+    ///
+    /// No keyword of the standard makes it, only tests and keywords of one's own.
     Mark(Marked),
+    /// Takes the last mark away.
+    ///
+    /// No keyword of the standard makes it, only tests and keywords of one's own.
     Unmark,
+    /// Requests whether a text is a pattern of ECMA-262.
+    ///
+    /// No keyword of the standard makes it, only keywords of one's own.
     Ecma(&'s str),
+    /// Ends the run. Every run makes it.
     Done,
 }
 
-/// What the next turn is told: nothing, or what was asked for. An error or a unit alone is in a box, so that a reply is a few
-/// words long whatever its mode.
+/// What the next turn receives: nothing, or the answer to its request.
+///
+/// A single error or unit is boxed, so that a reply is a few words long in every mode.
 #[derive(Drop)]
 pub enum Reply<'i> {
     Nothing,
@@ -113,23 +147,28 @@ pub struct OwnError<'i> {
     pub text: String,
 }
 
-/// An error of the keyword's own, or one of a child, which keeps its paths, its instance and its text.
+/// An error of the keyword's own, or one of a child.
+///
+/// A child's error keeps its paths, its instance and its text.
 #[derive(Drop)]
 pub enum Fault<'i> {
     Own(OwnError<'i>),
     Passed(ValidationError<'i>),
 }
 
-/// What an evaluation has found so far: what the keyword's own unit has, and what those have of the keywords that it absorbs, in
-/// their order.
+/// What an evaluation has found so far.
+///
+/// `own` belongs to the keyword's own unit, and `absorbed` to the units of the keywords that it
+/// absorbs, in their order.
 #[derive(Drop)]
 pub struct Found {
     pub own: EvaluationResult,
     pub absorbed: Vec<AbsorbedResult>,
 }
 
-/// What a run has found so far, by its mode. An error or an evaluation alone is in a box, so that an answer is a few words long
-/// whatever its mode.
+/// What a run has found so far, by its mode.
+///
+/// A single error or evaluation is boxed, so that an answer is a few words long in every mode.
 #[derive(Drop)]
 pub enum Answer<'i> {
     Verdict(bool),
@@ -139,8 +178,11 @@ pub enum Answer<'i> {
 }
 
 impl<'i> Answer<'i> {
-    /// Returns what the keyword's own unit has by this answer, and what those have of the keywords that it absorbs. An answer of
-    /// another mode has its verdict alone. Fails only if memory cannot be allocated, which an evaluation asks for none of.
+    /// Returns the evaluation that this answer stands for.
+    ///
+    /// It has what is said of the keyword's own unit and of the units of the keywords that it
+    /// absorbs. An answer of a mode other than evaluation yields its verdict alone. An answer of an
+    /// evaluation needs no memory.
     pub fn into_evaluation(self, alloc: Global) -> Result<Box<Found>, OutOfMemory>
         ensures gives { IfOk result (λ found. (texts : Bool)
             → gives_with texts found.value.own found.value.absorbed.items ≡ (answer_of texts self.entry).gives) }
@@ -161,8 +203,10 @@ impl<'i> Answer<'i> {
     }
 }
 
-/// A keyword. What it may ask, when it holds and which faults it finds are functions of what is known of it apart from
-/// its representation, its shape. `texts` says whether texts of errors are spoken of.
+/// A keyword.
+///
+/// Its questions, its verdicts and its faults are functions of its *shape*: what is known of it
+/// apart from its representation. `texts` says whether the texts of errors are covered.
 pub trait Validate: Drop {
     type Run: Drop;
 
@@ -173,27 +217,32 @@ pub trait Validate: Drop {
     ghost shape: { Self → Self.Shape };
 
     ghost absorbed: { Self.Shape → List Text };
-    // whether no text of it holds a fraction of the schema
+    // Whether none of its texts holds a fraction of the schema.
     ghost is_whole: { Self.Shape → Bool };
 
-    // whether it says of itself that it is monotone
+    // Whether it declares that it is monotone.
     ghost says_monotone: { Self.Shape → Bool };
 
     ghost remaining: { Self.Shape → Subject → (Self.Run × spec.Answer) → ℕ };
 
-    // which states a run on an instance can be in, with the answer so far, whatever was replied
+    // The states, with the answer so far, that a run on an instance can be in, whatever was
+    // replied.
     ghost can_be: { Bool → Self.Shape → Subject → (Self.Run × spec.Answer) → Type 0 };
 
     ghost ends: { Bool → Self.Shape → Standing (Self.Run × spec.Answer) → spec.Answer };
 
     ghost fits: { Bool → Self.Shape → Standing (Self.Run × spec.Answer) → Type 0 };
 
-    /// Begins a run. The answer begins as accepted, with no errors, and is of the run's mode.
+    /// Begins a run.
+    ///
+    /// Its answer is of the run's mode, and starts as accepted, with no errors.
     fn begin(&self, alloc: Global, instance: Instance, mode: Mode) -> Result<Self::Run, OutOfMemory>
         ensures begins { IfOk result (λ run. (texts : Bool)
             → (words texts).begin (shape self.now) (subject_of instance.entry) (mode_of mode) ≡ (run, fresh (mode_of mode))) };
 
-    /// Takes a turn, with what the turn before asked for. An error that it passes on borrows its place as the reply's did.
+    /// Takes a turn, given the reply to the previous turn's request.
+    ///
+    /// An error that the keyword passes on borrows its place as the error in the reply did.
     fn turn<'s, 'i: 's>(
         &'s self,
         alloc: Global,
@@ -211,8 +260,9 @@ pub trait Validate: Drop {
         ensures borrows { OnOk result ((root : Data) → All (BorrowsItsPlace root) (errors_in reply.entry)
             → All (PassesBorrowed root) (faults_in answer.old) → All (PassesBorrowed root) (faults_in answer.new)) };
 
-    /// Returns whether the keyword holds of the instance, where its run for the verdict asks nothing. `None` leaves it to a run, and is
-    /// always right. It allocates nothing.
+    /// Returns the verdict, if the run for the verdict asks nothing.
+    ///
+    /// `None` leaves the verdict to a run, and is always right. Allocates nothing.
     fn is_valid_at_once(&self, instance: Instance<'_>) -> Option<bool>
         ensures at_once { IfSome result (λ valid. (texts : Bool) → Tells texts (is_whole (shape self.now)) (subject_of instance.entry)
             → EndsAtOnce (words texts) (shape self.now) (subject_of instance.entry) valid) }
@@ -221,8 +271,10 @@ pub trait Validate: Drop {
         None
     }
 
-    /// Returns what the run for the verdict asks of the instance, where the verdict follows from the answers alone. `ByTurns` leaves it to
-    /// a run, and is always right. It allocates nothing.
+    /// Returns the questions of the run for the verdict, if it can declare them.
+    ///
+    /// It can if the verdict follows from the answers alone. `ByTurns` leaves the verdict to a
+    /// run, and is always right. Allocates nothing.
     fn asking<'s, 'i>(&'s self, instance: Instance<'i>) -> Asking<'s, 'i>
         ensures asks { (texts : Bool) → Tells texts (is_whole (shape self.now)) (subject_of instance.entry)
             → HoldsAsTold (words texts) (shape self.now) (subject_of instance.entry) result }
@@ -231,8 +283,11 @@ pub trait Validate: Drop {
         Asking::ByTurns
     }
 
-    /// Returns whether the keyword says of itself that it is monotone: a yes more among the verdicts of its questions never turns
-    /// its own from yes to no. `false` says nothing, and is always right. It allocates nothing.
+    /// Returns whether the keyword declares that it is monotone.
+    ///
+    /// A keyword is monotone if turning the verdict of one of its questions from `false` to `true`
+    /// never turns its own from `true` to `false`. `false` declares nothing, and is always right.
+    /// Allocates nothing.
     fn monotone(&self) -> bool
         ensures says { result ≡ says_monotone (shape self.now) };
 
@@ -244,12 +299,13 @@ pub trait Validate: Drop {
         → TurnLaws (words texts) m (absorbed m) (remaining m) (can_be texts m) (ends texts m) (fits texts m) };
 
     ghost function_laws: { (texts : Bool) (m : Self.Shape) → FunctionLaws (words texts) m (absorbed m) };
-    // a keyword that says that it is monotone is
+    // A keyword that declares that it is monotone is monotone.
     ghost grows: { (texts : Bool) (m : Self.Shape) → says_monotone m ≡ true → IsMonotone (words texts) m };
-    // the units inside its own, and inside those of the keywords that it absorbs, are what its questions answer
+    // The units inside its own unit, and inside those of the keywords that it absorbs, are answers
+    // to its questions.
     ghost hands_units_on: { (texts : Bool) → EachHandsUnitsOn (words texts) absorbed };
-    // units are asked for by evaluations alone
+    // Only evaluations request units.
     ghost asks_no_units: { (texts : Bool) → AsksNoUnits (words texts) };
-    // a run for the verdict asks for verdicts, whatever is replied
+    // A run for the verdict requests verdicts only, whatever is replied.
     ghost asks_verdicts: { (texts : Bool) → EachAsksVerdicts (words texts) };
 }

@@ -1,4 +1,6 @@
-//! The traits of the parts that are handed in: keywords, their table, a resolver, a matcher and meta validators.
+//! The traits that the engine's parts implement.
+//!
+//! There is one each for keywords, keyword tables, resolvers, matchers and meta validators.
 #![tactic(auto)]
 
 pub mod ascending;

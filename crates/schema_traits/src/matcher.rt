@@ -1,4 +1,4 @@
-//! The matcher, which says whether a text matches a pattern.
+//! The matcher, which decides whether a text matches a pattern.
 ghost use Rattle.std.specs.Prelude.{◌≡◌, Bool, false, true};
 ghost use Rattle.schema_traits.specs.Showing.{Shows, Yields};
 ghost use Rattle.theory_definitions.specs.Matching as spec;
@@ -9,24 +9,30 @@ use schema_reports::location::OutOfMemory;
 use std::alloc::Global;
 use unfinished_matches::site::Match;
 
-/// A regular expression engine. Memory aside, both calls are functions of their arguments; a clone answers equally.
+/// A regular expression engine.
+///
+/// Unless they run out of memory, `is_match` and `is_valid_ecma_regex` are functions of their
+/// arguments. A clone answers alike.
 pub trait Matcher: Clone + Drop {
     ghost matching: { Self → spec.Matcher };
 
-    /// What it says of itself when it is asked whether it finishes every match. `false` where it is not given.
+    /// What `finishes` returns. `false` unless the matcher defines it.
     ghost finishing: { Self → Bool } = { λ _. false };
 
-    /// Whether the subject matches the pattern.
+    /// Returns whether the subject matches the pattern.
     fn is_match(&self, alloc: Global, pattern: &str, subject: &str) -> Result<Match, OutOfMemory>
         ensures matches { Shows match_of result ((matching self.now).is_match pattern.now subject.now) };
 
-    /// Whether the text is a pattern of ECMA-262.
+    /// Returns whether the text is a pattern of ECMA-262.
     fn is_valid_ecma_regex(&self, alloc: Global, pattern: &str) -> Result<bool, OutOfMemory>
         ensures valid { Yields result ((matching self.now).is_ecma pattern.now) };
 
-    /// Returns whether it finishes every match, as an engine that never goes back does. `false` says nothing, and is always right.
-    /// Where it says so, a solver may find verdicts, and the calls that give errors ask for the verdict first, which costs less where
-    /// an instance is valid. A matcher that may return `true` gives `finishing`. It allocates nothing.
+    /// Returns whether the matcher finishes every match.
+    ///
+    /// An engine without backtracking does. `false` promises nothing, and is always right. If it
+    /// returns `true`, a solver may find verdicts, and the calls that report errors find the
+    /// verdict first, which costs less for a valid instance. A matcher that may return `true`
+    /// defines `finishing`. Allocates nothing.
     fn finishes(&self) -> bool
         ensures finishes { result ≡ true → FinishesEach (matching self.now) }
         ensures says { result ≡ finishing self.now };

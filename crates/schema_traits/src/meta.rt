@@ -1,4 +1,4 @@
-//! The meta validators, which check schemas against the meta-schemas of their drafts.
+//! The meta validators, which check schemas against their meta-schemas.
 ghost use Rattle.std.specs.Prelude.{◌≡◌, Bool, Option, IfOk, IfSome, option_map, true, false};
 ghost use Rattle.serde_json.specs.Data.{Data};
 ghost use Rattle.serde_json.specs.Written.{has_float};
@@ -14,12 +14,16 @@ use schema_reports::reports::ValidationError;
 use serde_json::Value;
 use std::alloc::Global;
 
-/// A check of schemas, a function of its arguments. The texts of its errors are compared where the schema holds no fraction.
+/// A check of schemas against the meta-schemas of their drafts.
+///
+/// Its result is a function of its arguments. The contract covers the texts of its errors if the
+/// schema holds no fraction.
 pub trait MetaValidators {
     ghost checked: { Self → Bool → drafts.Draft → Data → Option Error };
 
-    /// Returns the error of a schema that its draft's meta-schema refuses, or `None` if it is accepted. The error's instance is
-    /// what stands at its place in the schema. Fails only if memory cannot be allocated.
+    /// Returns the error of a schema, or `None` if its draft's meta-schema accepts it.
+    ///
+    /// The error's instance is the value at its place in the schema.
     fn check<'v>(
         &self,
         alloc: Global,

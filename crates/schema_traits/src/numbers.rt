@@ -6,11 +6,15 @@ use schema_reports::location::Location;
 #[derive(Clone, Copy, PartialEq, Eq)]
 pub struct SchemaNode(pub usize);
 
-/// A number that a maker reserved, counted apart from those of nodes. It is marked by runs, and never asked.
+/// A number that a maker reserved, counted separately from those of nodes.
+///
+/// Runs mark it, and never ask it.
 #[derive(Clone, Copy, PartialEq, Eq)]
 pub struct PendingSchemaNode(pub usize);
 
-/// An edge to a node: what the use adds to the evaluation path, and whether it is guarded, as one is that was made while its
+/// An edge to a node.
+///
+/// `path` is what the edge adds to the evaluation path. An edge is guarded if it was made while its
 /// target was in progress.
 #[derive(Drop)]
 pub struct Edge {

@@ -1,4 +1,4 @@
-//! The resolver, which answers what references and identifiers lead to.
+//! The resolver, which finds the targets of references and identifiers.
 ghost use Rattle.std.specs.Prelude.{◌≡◌, ◌↔◌, ℕ, false, true, Some, Ok, IfOk, MatchResult};
 ghost use Rattle.std.specs.Prelude.{is_some, map, option_map, string_bytes};
 ghost use Rattle.serde_json.specs.Data.{object};
@@ -17,7 +17,7 @@ use serde_json::{Map, Value};
 use std::alloc::{AllocError, AllocFailed, Global};
 use std::hash::Hash;
 
-/// Where a reference leads: a place in a schema, the state to go on in, and the draft there.
+/// The target of a reference: a place in a schema, with its state and draft.
 #[derive(Drop)]
 pub struct Target<S> {
     pub place: SchemaPlace,
@@ -25,14 +25,14 @@ pub struct Target<S> {
     pub draft: Draft,
 }
 
-/// A subschema's place, and the value that stands there.
+/// The place of a subschema, and the value at that place.
 #[derive(Drop)]
 pub struct PlacedSchema<'v> {
     pub place: SchemaPlace,
     pub value: Option<&'v Value>,
 }
 
-/// A refusal with a text of the resolver's own, or memory that could not be allocated.
+/// A refusal with a text of the resolver's own, or a lack of memory.
 #[derive(Drop)]
 pub enum LookupError {
     Refused(String),
@@ -59,8 +59,10 @@ impl<T: Drop> From<AllocFailed<T>> for LookupError {
     }
 }
 
-/// Everything that the engine asks about documents. Each answer is a function of the arguments; what a state is apart
-/// from its representation is its point, and equal states have one point.
+/// Everything that the engine asks about documents.
+///
+/// Each answer is a function of the arguments. What is known of a state apart from its
+/// representation is its *point*; equal states have the same point.
 pub trait Resolver {
     type State: Clone + Eq + Hash + Drop;
 
@@ -70,11 +72,11 @@ pub trait Resolver {
 
     ghost resolving: { Self → spec.Resolver Self.Point };
 
-    /// Whether there is a document under the URI, a fragment left aside.
+    /// Returns whether there is a document with this URI. The fragment is ignored.
     fn contains_resource(&self, uri: &str) -> bool
         ensures found { result ≡ is_some ((resolving self.now).root uri.now) };
 
-    /// The state and the place where that document begins.
+    /// Returns the state and the place at which the document with this URI begins.
     fn root(
         &self,
         alloc: Global,
@@ -82,12 +84,14 @@ pub trait Resolver {
     ) -> Result<Option<(Self::State, SchemaPlace)>, OutOfMemory>
         ensures root { Shows (option_map (entrance_of point)) result ((resolving self.now).root uri.now) };
 
-    /// The value at a place.
+    /// Returns the value at a place.
     fn value(&self, place: &SchemaPlace) -> Option<&Value>
         ensures value { IsReadAt (resolving self.now) place.now result };
 
-    /// The value at a place that lies at a path below a schema's own, where the schema is an object with these members. It is
-    /// asked for each subschema: a resolver that finds the value from the members gives its own body.
+    /// Returns the value at a place that lies at `_path` below a schema.
+    ///
+    /// The schema is an object with these members. The engine calls this for each subschema: a
+    /// resolver that can find the value from the members overrides it.
     fn value_below<'v>(
         &'v self,
         _members: &'v Map<String, Value>,
@@ -101,7 +105,7 @@ pub trait Resolver {
         self.value(place)
     }
 
-    /// Where a reference leads; `dynamic` says that it is a `$dynamicRef`.
+    /// Returns the target of a reference. `dynamic` says that it is a `$dynamicRef`.
     fn lookup(
         &self,
         alloc: Global,
@@ -111,7 +115,7 @@ pub trait Resolver {
     ) -> Result<Target<Self::State>, LookupError>
         ensures leads { Agrees (found_of point) result ((resolving self.now).lookup (point state.now) reference.now dynamic) };
 
-    /// Where a `$recursiveRef` leads.
+    /// Returns the target of a `$recursiveRef`.
     fn lookup_recursive_ref(
         &self,
         alloc: Global,
@@ -119,7 +123,7 @@ pub trait Resolver {
     ) -> Result<Target<Self::State>, LookupError>
         ensures leads { Agrees (found_of point) result ((resolving self.now).lookup_recursive (point state.now)) };
 
-    /// The state inside a subschema.
+    /// Returns the state inside a subschema.
     fn in_subresource(
         &self,
         alloc: Global,
@@ -130,8 +134,10 @@ pub trait Resolver {
         ensures inside { Agrees point result
             ((resolving self.now).in_subresource (point state.now) (draft_of draft) (place_of place.now)) };
 
-    /// The state inside a subschema, whose value was read at its place. It is asked for each subschema: a resolver that finds
-    /// the state from the value gives its own body.
+    /// Returns the state inside a subschema whose value was read at its place.
+    ///
+    /// The engine calls this for each subschema: a resolver that can find the state from the value
+    /// overrides it.
     fn in_subresource_read(
         &self,
         alloc: Global,
@@ -146,7 +152,9 @@ pub trait Resolver {
         self.in_subresource(alloc, state, draft, place)
     }
 
-    /// The URI that a reference stands for. Its fragment tells where in its resource the target is looked for.
+    /// Returns the URI that a reference stands for.
+    ///
+    /// Its fragment says where in its resource the target is looked up.
     fn resolve_uri(
         &self,
         alloc: Global,
@@ -155,16 +163,19 @@ pub trait Resolver {
     ) -> Result<String, LookupError>
         ensures uri { Agrees string_bytes result ((resolving self.now).resolve_uri (point state.now) reference.now) };
 
-    /// The base URI.
+    /// Returns the base URI.
     fn base_uri<'s>(&self, state: &'s Self::State) -> &'s str
         ensures uri { result.now ≡ (resolving self.now).base_uri (point state.now) };
 
-    /// Where the state's resource begins: the schema with the identifier that the state is read under, or the document's root.
-    /// Locations inside a reference's target count from there, where the target lies in it.
+    /// Returns the place at which the state's resource begins.
+    ///
+    /// This is the schema with the identifier under which the state is read, or the document's
+    /// root. Locations inside the target of a reference count from this place if the target lies
+    /// below it.
     fn resource_root(&self, alloc: Global, state: &Self::State) -> Result<SchemaPlace, OutOfMemory>
         ensures root { Shows place_of result ((resolving self.now).resource_root (point state.now)) };
 
-    /// The vocabularies that are in force at a place.
+    /// Returns the vocabularies in force at a place.
     fn find_vocabularies(
         &self,
         alloc: Global,
@@ -175,12 +186,15 @@ pub trait Resolver {
         ensures vocabularies { Yields result
             ((resolving self.now).find_vocabularies (point state.now) (draft_of draft) (place_of place.now)) };
 
-    /// The draft of a value inside a schema of this draft.
+    /// Returns the draft of a value inside a schema of this draft.
     fn detect(&self, draft: Draft, value: &Value) -> Draft
         ensures draft { draft_of result ≡ (resolving self.now).detect (draft_of draft) (view value.now) };
 
-    /// Whether a subschema below the schema at a place, whose value was read there, may be read in another draft than this one. It is
-    /// asked before a schema is checked: a resolver that can tell that none is gives its own body, and spares a walk through them.
+    /// Returns whether some subschema below a place may be read in another draft.
+    ///
+    /// The schema's value was read at that place. The engine asks before it checks a schema: a
+    /// resolver that can rule this out overrides the method, and spares a walk through the
+    /// subschemas.
     fn may_change_draft(&self, _draft: Draft, _place: &SchemaPlace, _value: Option<&Value>) -> bool
         ensures keeps { IsReadAt (resolving self.now) _place.now _value.entry →
             result ≡ false → (n : ℕ) → KeepsDraft (resolving self.now) n (draft_of _draft) (place_of _place.now) }
@@ -188,16 +202,18 @@ pub trait Resolver {
         true
     }
 
-    /// The draft that a root asks for. Where the root holds a fraction, a refusal may have any text.
+    /// Returns the draft that a root declares.
+    ///
+    /// If the root holds a fraction, a refusal may have any text.
     fn draft_for(&self, alloc: Global, value: &Value) -> Result<Draft, LookupError>
         ensures draft { MatchResult result (λ d. (resolving self.now).draft_for (view value.now) ≡ Ok (draft_of d))
             (RefusesValue (view value.now) ((resolving self.now).draft_for (view value.now))) };
 
-    /// The identifier of a schema.
+    /// Returns the identifier of a schema.
     fn id<'v>(&self, draft: Draft, value: &'v Value) -> Option<&'v str>
         ensures id { option_map (λ t. t.now) result ≡ (resolving self.now).id (draft_of draft) (view value.now) };
 
-    /// The subschemas of the schema at a place, in order.
+    /// Returns the subschemas of the schema at a place, in order.
     fn subresources_of(
         &self,
         alloc: Global,
@@ -207,8 +223,10 @@ pub trait Resolver {
         ensures places { IfOk result (λ ps. map place_of ps.items
             ≡ (resolving self.now).subresources_of (draft_of draft) (place_of place.now)) };
 
-    /// The subschemas of the schema at a place, whose value was read there, in order, each with the value at its place. It is
-    /// asked for each schema that is checked: a resolver that finds the subschemas in the value gives its own body.
+    /// Returns the subschemas of the schema at a place, in order, with their values.
+    ///
+    /// The schema's value was read at that place. The engine calls this for each schema that it
+    /// checks: a resolver that can find the subschemas in the value overrides it.
     fn subschemas_read<'v>(
         &'v self,
         alloc: Global,
@@ -232,7 +250,7 @@ pub trait Resolver {
         Ok(placed)
     }
 
-    /// Whether the draft knows a keyword of this name.
+    /// Returns whether the draft knows a keyword of this name.
     fn is_known_keyword(&self, draft: Draft, name: &str) -> bool
         ensures known { result ≡ (resolving self.now).is_known_keyword (draft_of draft) name.now };
 

@@ -16,14 +16,15 @@ use std::marker::Model;
 use std::rc::RcStr;
 use std::slice;
 
-/// A step from a value of a schema to one inside it. A member's name is shared by all places below it, so that a clone costs no memory.
+/// A step from a value of a schema to a value inside it.
+///
+/// All places below a member share its name, so that a clone costs no memory.
 #[derive(Drop)]
 pub enum SchemaStep {
     Member(RcStr),
     Item(usize),
 }
 
-// Whether both are one step.
 fn same_schema_step(a: &SchemaStep, b: &SchemaStep) -> bool
     ensures same { result ≡ same_step (schema_step_of a.now) (schema_step_of b.now) }
 {
@@ -34,7 +35,6 @@ fn same_schema_step(a: &SchemaStep, b: &SchemaStep) -> bool
     }
 }
 
-// Whether both are the same steps in the same order.
 fn same_schema_steps(a: &[SchemaStep], b: &[SchemaStep]) -> bool
     ensures same { result ≡ same_place (map schema_step_of a.now) (map schema_step_of b.now) }
 {
@@ -52,7 +52,7 @@ fn same_schema_steps(a: &[SchemaStep], b: &[SchemaStep]) -> bool
 impl Clone for SchemaStep {
     ghost is_clone = { λ s copy. schema_step_of copy ≡ schema_step_of s };
 
-    /// Returns a clone of the step. Fails only if memory cannot be allocated.
+    /// Returns a copy of the step, which shares the name.
     fn clone(&self) -> Result<SchemaStep, AllocError> {
         match self {
             SchemaStep::Member(name) => Ok(SchemaStep::Member(name.clone()?)),
@@ -61,7 +61,6 @@ impl Clone for SchemaStep {
     }
 }
 
-// Adds copies of steps.
 fn push_copies(steps: &mut Vec<SchemaStep>, more: &[SchemaStep]) -> Result<(), OutOfMemory>
     ensures added { OnOk result (map schema_step_of steps.new.items ≡ map schema_step_of steps.old.items ++ map schema_step_of more.now) }
 {
@@ -71,7 +70,6 @@ fn push_copies(steps: &mut Vec<SchemaStep>, more: &[SchemaStep]) -> Result<(), O
     Ok(())
 }
 
-// Copies of steps, and one more behind them.
 fn with_one_more(
     alloc: Global,
     steps: &[SchemaStep],
@@ -85,7 +83,6 @@ fn with_one_more(
     Ok(all)
 }
 
-// The first steps, or all where there are no more.
 #[tactic(auto, using(crate::proofs::SchemaPaths::map_take, crate::proofs::SchemaPaths::map_take_all))]
 fn first_steps<'s>(steps: &'s [SchemaStep], count: usize) -> &'s [SchemaStep]
     ensures first { map schema_step_of result.now ≡ take count (map schema_step_of steps.now) }
@@ -97,7 +94,6 @@ fn first_steps<'s>(steps: &'s [SchemaStep], count: usize) -> &'s [SchemaStep]
     }
 }
 
-// What is left after the first steps.
 #[tactic(auto, using(crate::proofs::SchemaPaths::map_later, crate::proofs::SchemaPaths::map_drop_all))]
 fn later_steps<'s>(steps: &'s [SchemaStep], count: usize) -> &'s [SchemaStep]
     ensures later { map schema_step_of result.now ≡ drop count (map schema_step_of steps.now) }
@@ -119,7 +115,8 @@ fn push_schema_step(pointer: &mut Location, step: &SchemaStep) -> Result<(), Out
     }
 }
 
-// How many bytes the pointer of some steps takes, where no name has an escape; an index takes no more than it is given.
+// Returns the length in bytes of the pointer of these steps, if no name needs an escape. An index
+// counts as its longest form.
 fn pointer_room(steps: &[SchemaStep]) -> usize {
     let mut bytes = 0usize;
     for step in steps {
@@ -132,7 +129,7 @@ fn pointer_room(steps: &[SchemaStep]) -> usize {
     bytes
 }
 
-// Appends the pointer of some steps to another one. On `Err` a part of it may have been written.
+// Appends the pointer of these steps. On `Err` a part of it may have been written.
 fn push_pointer_of(pointer: &mut Location, steps: &[SchemaStep]) -> Result<(), OutOfMemory>
     ensures pushed { OnOk result (pointer.new ≡ pointer.old ++ pointer_to (map schema_step_of steps.now)) }
 {
@@ -142,7 +139,7 @@ fn push_pointer_of(pointer: &mut Location, steps: &[SchemaStep]) -> Result<(), O
     Ok(())
 }
 
-// Steps: none, one or two, which take no memory of their own, or more.
+// The steps of a path. Up to two are held inline.
 #[derive(Drop)]
 enum Steps {
     Root,
@@ -151,7 +148,9 @@ enum Steps {
     Many(Vec<SchemaStep>),
 }
 
-/// A path in a document. One of at most two steps takes no memory. Contracts see its steps.
+/// A path in a document. Contracts see its steps.
+///
+/// A path of at most two steps needs no memory of its own.
 #[derive(Drop)]
 pub struct SchemaPath {
     alloc: Global,
@@ -179,7 +178,7 @@ impl SchemaPath {
         }
     }
 
-    /// Returns the path of the document's root, with room for so many steps. Fails only if memory cannot be allocated.
+    /// Returns the path of the document's root, with capacity for this many steps.
     pub fn with_capacity(alloc: Global, steps: usize) -> Result<SchemaPath, OutOfMemory>
         ensures root { Yields result [] }
     {
@@ -192,7 +191,7 @@ impl SchemaPath {
         })
     }
 
-    /// Returns the steps, from the document's root on.
+    /// Returns the steps, starting at the document's root.
     pub fn steps(&self) -> &[SchemaStep]
         ensures steps { map schema_step_of result.now ≡ self.now }
     {
@@ -221,7 +220,7 @@ impl SchemaPath {
         Ok(())
     }
 
-    // Adds copies of steps. On `Err` a part of them may have been added.
+    // On `Err` some of the steps may have been added.
     fn push_steps(&mut self, more: &[SchemaStep]) -> Result<(), OutOfMemory>
         ensures added { OnOk result (self.new ≡ self.old ++ map schema_step_of more.now) }
     {
@@ -241,14 +240,14 @@ impl SchemaPath {
         self.steps().len()
     }
 
-    /// Returns `true` if the other path begins with this one.
+    /// Returns whether the other path begins with this one.
     pub fn is_prefix_of(&self, other: &SchemaPath) -> bool
         ensures prefix { result ≡ same_place self.now (take (length self.now) other.now) }
     {
         same_schema_steps(self.steps(), first_steps(other.steps(), self.steps().len()))
     }
 
-    /// Returns the first `count` steps, or all if there are fewer. Fails only if memory cannot be allocated.
+    /// Returns the first `count` steps, or all if there are fewer.
     pub fn first(&self, alloc: Global, count: usize) -> Result<SchemaPath, OutOfMemory>
         ensures first { Yields result (take count self.now) }
     {
@@ -258,7 +257,7 @@ impl SchemaPath {
         Ok(path)
     }
 
-    /// Returns what is left after the first `count` steps. Fails only if memory cannot be allocated.
+    /// Returns the steps after the first `count`.
     pub fn after(&self, alloc: Global, count: usize) -> Result<SchemaPath, OutOfMemory>
         ensures rest { Yields result (drop count self.now) }
     {
@@ -268,7 +267,7 @@ impl SchemaPath {
         Ok(path)
     }
 
-    /// Returns the same path, with room for so many steps more. Fails only if memory cannot be allocated.
+    /// Returns a copy of the path, with capacity for `more` further steps.
     pub fn with_room(&self, alloc: Global, more: usize) -> Result<SchemaPath, OutOfMemory>
         ensures same { Yields result self.now }
     {
@@ -278,7 +277,7 @@ impl SchemaPath {
         Ok(path)
     }
 
-    /// Returns the path followed by another. Fails only if memory cannot be allocated.
+    /// Returns this path followed by another.
     pub fn append(&self, alloc: Global, rest: &SchemaPath) -> Result<SchemaPath, OutOfMemory>
         ensures appended { Yields result (self.now ++ rest.now) }
     {
@@ -289,7 +288,7 @@ impl SchemaPath {
         Ok(path)
     }
 
-    /// Returns the JSON Pointer of the path. Fails only if memory cannot be allocated.
+    /// Returns the JSON Pointer of the path.
     pub fn pointer(&self, alloc: Global) -> Result<Location, OutOfMemory>
         ensures pointer { Yields result (pointer_to self.now) }
     {
@@ -305,7 +304,7 @@ impl PartialEq for SchemaPath {
 
     ghost laws = { partial_equiv_from_equiv places_equiv };
 
-    /// Returns `true` if both paths consist of the same steps.
+    /// Returns whether both paths consist of the same steps.
     fn eq(&self, other: &SchemaPath) -> bool {
         same_schema_steps(self.steps(), other.steps())
     }
@@ -318,7 +317,7 @@ impl Eq for SchemaPath {
 impl Clone for SchemaPath {
     ghost is_clone = { λ p copy. copy ≡ p };
 
-    /// Returns a clone of the path. Fails only if memory cannot be allocated.
+    /// Returns a copy of the path.
     fn clone(&self) -> Result<SchemaPath, AllocError> {
         let mut path = SchemaPath::with_capacity(self.alloc, self.len())?;
         path.push_steps(self.steps())?;
@@ -326,7 +325,7 @@ impl Clone for SchemaPath {
     }
 }
 
-/// A document's number and a path in it.
+/// The number of a document, and a path in it.
 #[derive(Drop)]
 pub struct SchemaPlace {
     pub document: usize,
@@ -334,7 +333,7 @@ pub struct SchemaPlace {
 }
 
 impl SchemaPlace {
-    /// Returns the place at a path below. Fails only if memory cannot be allocated.
+    /// Returns the place at a path below this one.
     pub fn below(&self, alloc: Global, path: &SchemaPath) -> Result<SchemaPlace, OutOfMemory>
         ensures below { Shows place_of result (at_path (place_of self.now) path.now) }
     {
@@ -350,7 +349,7 @@ impl PartialEq for SchemaPlace {
 
     ghost laws = { partial_equiv_from_equiv (on_equiv place_of schema_places_equiv) };
 
-    /// Returns `true` if both are the same path in the same document.
+    /// Returns whether both places are the same path in the same document.
     fn eq(&self, other: &SchemaPlace) -> bool {
         self.document == other.document && self.path == other.path
     }
@@ -363,7 +362,7 @@ impl Eq for SchemaPlace {
 impl Clone for SchemaPlace {
     ghost is_clone = { λ p copy. place_of copy ≡ place_of p };
 
-    /// Returns a clone of the place. Fails only if memory cannot be allocated.
+    /// Returns a copy of the place.
     fn clone(&self) -> Result<SchemaPlace, AllocError> {
         Ok(SchemaPlace {
             document: self.document,

@@ -1,4 +1,4 @@
-//! The keyword table, which makes keywords by turns.
+//! The keyword table, whose makers make keywords by turns.
 ghost use Rattle.std.specs.Prelude.{◌≡◌, ◌<◌, Bool, IfOk};
 ghost use Rattle.schema_traits.specs.Showing.{Shows};
 ghost use Rattle.serde_json.specs.View.{members_view};
@@ -18,7 +18,7 @@ use schema_reports::reports::OwnedError;
 use serde_json::{Map, Value};
 use std::alloc::Global;
 
-/// What a maker makes: a keyword of the table's own, or a built-in one, by its name.
+/// What a maker makes, by name: a keyword of the table's own, or a built-in one.
 #[derive(Clone, Copy)]
 pub enum KeywordOrigin<'s> {
     Own(&'s str),
@@ -32,38 +32,63 @@ pub enum PendingKind {
     Items,
 }
 
-/// What the next turn of a maker is told: nothing at first; the number of its request, by which its keyword asks the
-/// child; that the reference leads to the very object and is skipped; the number that is pending, if one is; or the number
-/// that was reserved. Of requests, subschemas and references alone are counted.
+/// What the next turn of a maker receives.
+///
+/// Among requests, only those of subschemas and references are numbered.
 #[derive(Clone, Copy)]
 pub enum MakerReply {
+    /// Nothing: this is the first turn.
     Begun,
+    /// The number of its request, by which its keyword asks the child.
     Child(usize),
+    /// The reference leads to the very object, and is skipped.
     Skipped,
+    /// The number that is pending, if there is one.
     Pending(Option<PendingSchemaNode>),
+    /// The number that was reserved.
     Reserved(PendingSchemaNode),
 }
 
-/// What a maker asks for, or how it ends: with a keyword and the names of those that it absorbs, with nothing, or with a
-/// refusal.
+/// What a maker requests, or how it ends.
 #[derive(Drop)]
 pub enum MakerStep<K> {
-    /// The value at a path strictly below the object is compiled.
+    /// Requests that the value at a path strictly below the object is compiled.
+    ///
+    /// Made by every keyword with subschemas.
     Compile(SchemaPath),
-    /// The text is compiled as a reference at the keyword's location.
+    /// Requests that the text is compiled as a reference at the keyword's location.
+    ///
+    /// No keyword of this repository makes it; it is for tables of one's own. The compiler itself
+    /// compiles `$ref`.
     Refer(String),
-    /// The number is told that was reserved last for this and the object, by a maker that has not ended.
+    /// Requests the number that is pending for this purpose and this object.
+    ///
+    /// That is the one reserved last, by a maker that has not ended. No keyword of the standard
+    /// makes it, only tests and tables of one's own.
     Pending(PendingKind),
-    /// The next number is reserved, until the maker ends: for a node of its keyword alone, or of no entry. Such a number is
-    /// only ever marked.
+    /// Reserves the next number until the maker ends.
+    ///
+    /// The number is for a node of its keyword alone, or of no entry, and is only ever marked. No
+    /// keyword of the standard makes it, only tests and tables of one's own.
     Reserve(PendingKind),
+    /// Ends with a keyword, and with the names of the keywords that it absorbs.
+    ///
+    /// Made for every keyword. No keyword of the standard absorbs others.
     Keyword(K, Vec<String>),
+    /// Ends without a keyword.
+    ///
+    /// Made for keywords that say nothing, such as `format` if formats are not checked.
     Nothing,
+    /// Ends with a refusal of the schema.
+    ///
+    /// Made for keywords whose value the standard does not allow, such as `minimum` with a text.
     Refuse(OwnedError),
 }
 
-/// The table. What a maker does is a script, in which no node number occurs. Whether a number is pending or none, a maker
-/// asks for the same subschemas and references, and ends alike.
+/// The table of keywords.
+///
+/// What a maker does is a script, which mentions no node numbers. Whether or not a number is
+/// pending, a maker requests the same subschemas and references, and ends alike.
 pub trait KeywordTable<K: Validate> {
     type Maker: Drop;
 
@@ -73,11 +98,13 @@ pub trait KeywordTable<K: Validate> {
 
     ghost waiting: { Self.Maker → Waiting K.Shape };
 
-    /// Whether keywords of this name are the table's own.
+    /// Returns whether keywords of this name are the table's own.
     fn owns(&self, name: &str) -> bool
         ensures owned { result ≡ owned self.now name.now };
 
-    /// Starts the maker of one member of an object. `formats` says whether formats are checked by default.
+    /// Starts the maker of one member of an object.
+    ///
+    /// `formats` says whether formats are checked by default.
     fn begin(
         &self,
         alloc: Global,
@@ -90,7 +117,7 @@ pub trait KeywordTable<K: Validate> {
         ensures begins { Shows waiting result (begun (script self.now (is_own origin.entry) (name_of origin.entry)
             (members_view object.now.entries) (draft_of draft) vocabularies.now formats)) };
 
-    /// Takes a turn.
+    /// Takes a turn, given the reply to the previous turn's request.
     fn turn(
         &self,
         alloc: Global,
