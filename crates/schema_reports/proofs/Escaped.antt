@@ -53,7 +53,7 @@ escaped_end cs n h = at_drop_all (λ xs. escaped (encodes xs)) cs n h
 pub spelled : (bs : List ℕ) → IsUtf8 bs → encodes (chars bs) ≡ bs
 spelled bs u = ap (λ x. encodes (chars x)) (sym u.1.1) ∙ ap encodes (chars-encodes u.0 u.1.0) ∙ u.1.1
 
--- one byte more that stands for itself
+-- one more byte that needs no escape
 pub bare_more : (b : Bool) (xs : List ℕ) (i : ℕ) → i < length xs → (b ≡ true → escaped (take i xs) ≡ take i xs)
     → (b && (not (eqb (get_or xs i 0) 126) && not (eqb (get_or xs i 0) 47))) ≡ true → escaped (take (i + 1) xs) ≡ take (i + 1) xs
 bare_more false xs i below before h = cc

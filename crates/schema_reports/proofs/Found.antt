@@ -1,4 +1,4 @@
--- What a step leads to, by the lookups of `serde_json`.
+-- Where a step leads, by the lookups of `serde_json`.
 use Rattle.std.proofs.Common.{ℕ, zero, suc, ◌≡◌, ◌∙◌, true, cond, List, Option, Some, None, option_map, ap, sym, refl, Ordering, Less, Equal, Greater}
 use Rattle.std.specs.Ordering.{nat_cmp, is_eq, match_ordering}
 use Rattle.std.specs.Cmp.Lexicographic.{slice_cmp}
@@ -15,7 +15,7 @@ by_order Less d a b e = e
 by_order Equal d a b e = refl
 by_order Greater d a b e = e
 
--- the first of the name is the one that is found
+-- the first member of that name is the one that is found
 pub member_of-get_member : (k : Text) (ms : Members) → member_of k ms ≡ get_member k ms
 member_of-get_member k no_members = refl
 member_of-get_member k (member l d ms) =

@@ -1,4 +1,4 @@
--- Places: what differs in length differs, one step more, and the pointer step by step.
+-- Places of different lengths differ; one more step; the pointer, step by step.
 use Rattle.std.proofs.Common.{◌≡◌, ◌&&◌, Bool, true, false, [], ◌∷◌, length, refl, sym, ap, true≢false}
 use Rattle.std.proofs.Common.{suc}
 use Rattle.theory_definitions.specs.Instance.{Place, same_place}

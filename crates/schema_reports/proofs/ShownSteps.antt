@@ -1,4 +1,4 @@
--- Steps that are shown, as the code keeps them.
+-- The steps that are shown, as the code holds them.
 use Rattle.std.proofs.Common.{◌≡◌, true, List, [], ◌∷◌, refl, Bool, map, ap}
 use Rattle.std.specs.Prelude.{cond, false, filter}
 

@@ -1,4 +1,5 @@
--- What an evaluation gives, and what its makers and its two changes make of it.
+-- The result of an evaluation in terms of the definitions, and what its constructors and its two
+-- changes do.
 use Rattle.std.specs.List.{list_all}
 use Rattle.std.specs.Prelude.{Bool, List, None, Some, [], ◌++◌, ◌∷◌, false, map, option_map, string_bytes, true}
 use Rattle.serde_json.specs.Data.{Data}
@@ -26,26 +27,26 @@ gives_of texts (result.Invalid errors annotations children) = record {
   absorbed = [];
 }
 
--- what an absorbed one gives, by its keyword's name
+-- the result of an absorbed keyword, by its name
 abbrev pub named_of : Bool → AbsorbedResult → Named
 named_of texts a = let g = gives_of texts a.result in
     record { name = string_bytes a.keyword; valid = g.valid; children = g.children; annotations = g.annotations; errors = g.errors }
 
--- with what the keywords give that it absorbs
+-- a result, with those of the keywords that it absorbs
 abbrev pub gives_with : Bool → EvaluationResult → List AbsorbedResult → Gives
 gives_with texts r absorbed = record (gives_of texts r) { absorbed = map (named_of texts) absorbed }
 
--- these units alone: valid exactly if each of them is
+-- a result of these units alone, valid exactly if each of them is
 abbrev pub of_units : List Unit_ → Gives
 of_units us = record { valid = list_all (λ u. (report_of u).valid) us; children = us; annotations = None; errors = []; absorbed = [] }
 
--- these errors alone
+-- an invalid result of these errors alone
 abbrev pub refusing : List Described → Gives
 refusing ds = record { valid = false; children = []; annotations = None; errors = ds; absorbed = [] }
 
 abbrev pub annotated : Data → Gives → Gives
 annotated a g = record g { annotations = Some a }
 
--- one error more
+-- a result with one more error
 abbrev pub errored : Described → Gives → Gives
 errored d g = record g { valid = false; errors = g.errors ++ d ∷ [] }

@@ -1,4 +1,4 @@
--- The code's instances and steps, as the definitions have them.
+-- The code's instances and steps, in terms of the definitions.
 use Rattle.serde_json.specs.View.{view}
 use Rattle.theory_definitions.specs.Instance.{Subject, a_value, a_name, Step, to_member, to_item, to_name}
 use Rattle.schema_reports.specs.declared.instance.Instance.{Instance}

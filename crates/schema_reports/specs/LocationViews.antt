@@ -1,4 +1,4 @@
--- The segments that the code joins to a location. (section 3 of RFC 6901)
+-- The segments that the code adds to a location. (section 3 of RFC 6901)
 use Rattle.std.specs.Prelude.{◌∷◌, ℕ, decimal}
 use Rattle.theory_definitions.specs.Instance.{Text}
 use Rattle.theory_definitions.specs.Pointer.{escaped}

@@ -1,4 +1,4 @@
--- An error apart from any run: it holds its instance, where a name is held as a text.
+-- An error on its own, which owns its instance; a name is held as a string.
 use Rattle.std.specs.Prelude.{◌++◌}
 use Rattle.serde_json.specs.Data.{Data, string}
 use Rattle.theory_definitions.specs.Instance.{Subject, Text, a_name, a_value}
@@ -19,6 +19,6 @@ owned s e = record {
   text = e.text;
 }
 
--- as seen from above: the location stands before the instance path
+-- an error of a part, as an error of the whole: the location comes before the instance path
 abbrev pub prefixed : Text → OwnedError → OwnedError
 prefixed location e = record e { instance_path = location ++ e.instance_path }

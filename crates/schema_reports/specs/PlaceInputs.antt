@@ -1,5 +1,5 @@
--- What hashing a place feeds: each step in turn, as the number of its kind and then its name or its index. Places that are the same
--- feed the same.
+-- What a place feeds to a hasher: for each step the number of its kind, then its name or its index.
+-- Places that are the same feed the same.
 use Rattle.std.specs.Prelude.{ℕ, ◌≡◌, ◌++◌, ◌∷◌, [], List, true}
 use Rattle.std.specs.Hash as fed
 use Rattle.std.proofs.Common.{ap}

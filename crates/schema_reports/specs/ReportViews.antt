@@ -1,4 +1,5 @@
--- The code's errors, as the definitions have them. Where texts are not spoken of, each counts as empty.
+-- The code's errors, in terms of the definitions. If texts are not covered, each text counts as
+-- empty.
 use Rattle.std.specs.Prelude.{◌≡◌, [], Bool, Option, Some, String, string_bytes, option_map, if◌then◌else◌}
 use Rattle.serde_json.specs.Data.{Data}
 use Rattle.theory_definitions.specs.Instance.{Place, Text, subject_at}
@@ -24,11 +25,11 @@ error_of texts e = record {
   text = spoken texts (string_bytes e.text);
 }
 
--- where a schema is at work, with the absolute location of its own location alone
+-- where a schema is evaluated, if its own location has this absolute location
 abbrev pub where_of : Place → Text → Text → Option (String Global) → Where
 where_of place location path absolute = record { place = place; path = path; location = location; absolute = λ _. option_map string_bytes absolute }
 
--- the instance that it borrows is what stands at its place
+-- the borrowed instance is the one found at the error's place
 abbrev pub BorrowsItsPlace : Data → ValidationError → Type 0
 BorrowsItsPlace d e = subject_at d e.place ≡ Some (subject_of e.instance)
 

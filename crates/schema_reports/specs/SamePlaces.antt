@@ -1,4 +1,5 @@
--- Being the same is an equivalence of places, since places that are the same are equal; and of places in schemas.
+-- Sameness is an equivalence relation on places, since places that are the same are equal; likewise
+-- on places in schemas.
 use Rattle.std.proofs.Common.{◌≡◌, ◌∙◌, ◌&&◌, Bool, ap, ap₂, refl, rules, sym, true, false, true≢false, [], ◌∷◌}
 use Rattle.std.proofs.lemmas.Bool.{eqb-true}
 use Rattle.std.proofs.lemmas.Slice.Eq.{bytes_eq-Decides}

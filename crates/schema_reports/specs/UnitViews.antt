@@ -1,4 +1,5 @@
--- The code's units, as the definitions have them. Where texts are not spoken of, each counts as empty.
+-- The code's units, in terms of the definitions. If texts are not covered, each text counts as
+-- empty.
 use Rattle.std.specs.Prelude.{Bool, map, option_map, string_bytes}
 use Rattle.serde_json.specs.View.{view}
 use Rattle.theory_definitions.specs.Reports.{Described, Report, Unit_, unit, units_of}
@@ -23,7 +24,7 @@ report_in texts r = record {
   errors = map (described_of texts) r.errors.items;
 }
 
--- one level of a unit, whose children are turned already
+-- one level of a unit, whose children are translated already
 abbrev pub unit_step : Bool → EvaluationNode-F Unit_ → Unit_
 unit_step texts n = unit (report_in texts n.report) (units_of n.children.items)
 

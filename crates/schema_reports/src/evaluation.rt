@@ -1,4 +1,7 @@
-//! Evaluations: what each place of a schema says of a place of an instance, unit by unit. (Core 2020-12, 12.4)
+//! Evaluations: what a schema says of an instance, unit by unit.
+//!
+//! See Core 2020-12, 12.4. There is a unit for each place of the schema and place of the instance
+//! that were evaluated together.
 ghost use Rattle.std.specs.Prelude.{◌≡◌, [], ◌++◌, ◌∷◌, Bool, OnErr, map, OnOk};
 ghost use Rattle.schema_reports.specs.Showing.{Yields};
 ghost use Rattle.std.specs.List.{list_all};
@@ -10,7 +13,7 @@ use crate::shared_location::SharedLocation;
 use std::alloc::Global;
 use std::marker::Model;
 
-/// What a keyword says of an instance beside its verdict: any value.
+/// What a keyword says of an instance apart from its verdict: any JSON value.
 pub type Annotations = serde_json::Value;
 
 /// An error of a unit: the name of its keyword, and its text.
@@ -20,9 +23,12 @@ pub struct ErrorDescription {
     pub text: String,
 }
 
-/// What a unit says of itself: its verdict; the way through the schemas that led to it; its URI, `None` if its schema resource
-/// has no identifier; its place in the schema; the instance's place; its annotations; and the errors of its own.
-/// Each location is a JSON Pointer (RFC 6901).
+/// What a unit says of itself.
+///
+/// `evaluation_path` is the path through the schemas that led to the unit. `schema_location` is its
+/// place in its schema, and `absolute_keyword_location` its URI, which is `None` if its schema
+/// resource has no identifier. `instance_location` is the instance's place. `errors` holds its own
+/// errors only. Each location is a JSON Pointer (RFC 6901).
 #[derive(Drop)]
 pub struct UnitReport {
     pub valid: bool,
@@ -34,14 +40,14 @@ pub struct UnitReport {
     pub errors: Vec<ErrorDescription>,
 }
 
-/// A unit of an evaluation: what it says of itself, and the units inside it, in their order.
+/// A unit: what it says of itself, and the units inside it, in order.
 #[derive(Drop)]
 pub struct EvaluationNode {
     pub report: UnitReport,
     pub children: Vec<EvaluationNode>,
 }
 
-/// The units inside a unit, in their order. Contracts see a list.
+/// The units inside a unit, in order. Contracts see a list.
 #[derive(Drop)]
 pub struct ChildList {
     nodes: Vec<EvaluationNode>,
@@ -61,7 +67,7 @@ impl Model for ChildList {
 }
 
 impl ChildList {
-    /// Returns a list with no units.
+    /// Returns an empty list.
     pub fn new(alloc: Global) -> ChildList
         ensures empty { result ≡ [] }
     {
@@ -70,7 +76,7 @@ impl ChildList {
         }
     }
 
-    /// Returns a list with the one unit. Fails only if memory cannot be allocated.
+    /// Returns a list with one unit.
     pub fn of(alloc: Global, node: EvaluationNode) -> Result<ChildList, OutOfMemory>
         ensures one { Yields result (node ∷ []) }
     {
@@ -79,14 +85,14 @@ impl ChildList {
         Ok(list)
     }
 
-    /// Returns a list with these units, in their order.
+    /// Returns a list of these units, in this order.
     pub fn from_nodes(nodes: Vec<EvaluationNode>) -> ChildList
         ensures nodes { result ≡ nodes.items }
     {
         ChildList { nodes }
     }
 
-    /// Adds a unit at the end. Fails only if memory cannot be allocated, and then the list is as it was.
+    /// Adds a unit at the end. On `Err` the list is unchanged.
     pub fn push(&mut self, node: EvaluationNode) -> Result<(), OutOfMemory>
         ensures pushed { OnOk result (self.new ≡ self.old ++ node ∷ []) }
         ensures unchanged { OnErr result (self.new ≡ self.old) }
@@ -95,7 +101,7 @@ impl ChildList {
         Ok(())
     }
 
-    /// Returns whether each unit of the list is valid.
+    /// Returns whether every unit of the list is valid.
     pub fn all_valid(&self) -> bool
         ensures verdict { (texts : Bool) → result ≡ list_all (λ u. (report_of u).valid) (map (unit_of texts) self.now) }
     {
@@ -107,7 +113,7 @@ impl ChildList {
         true
     }
 
-    /// Returns the units, in their order.
+    /// Returns the units, in order.
     pub fn into_nodes(self) -> Vec<EvaluationNode>
         ensures nodes { result.items ≡ self }
     {

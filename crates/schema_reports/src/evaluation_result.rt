@@ -1,4 +1,6 @@
-//! What the evaluation of a keyword gives: a verdict, annotations, errors, and the units inside it. (Core 2020-12, 12.4)
+//! The result of a keyword's evaluation. (Core 2020-12, 12.4)
+//!
+//! It has a verdict, annotations, errors, and the units inside.
 ghost use Rattle.std.specs.Prelude.{◌≡◌, [], ◌∷◌, Bool, IfOk, OnErr, map, true, false, OnOk};
 ghost use Rattle.serde_json.specs.View.{view};
 ghost use Rattle.schema_reports.specs.UnitViews.{described_of, unit_of};
@@ -10,22 +12,23 @@ use crate::location::OutOfMemory;
 use std::alloc::Global;
 use std::mem;
 
-/// What an evaluation gives: annotations, where there are any, and the units inside; and errors, where it is invalid. The
-/// annotations of an invalid one are reported as dropped.
+/// The result of an evaluation, with annotations, units and, if invalid, errors.
+///
+/// The annotations of an invalid result are reported as dropped.
 #[derive(Drop)]
 pub enum EvaluationResult {
     Valid(Option<Annotations>, ChildList),
     Invalid(Vec<ErrorDescription>, Option<Annotations>, ChildList),
 }
 
-/// What the evaluation of a keyword gives that another keyword absorbs, by the absorbed one's name.
+/// The result of a keyword that another one absorbs, with its name.
 #[derive(Drop)]
 pub struct AbsorbedResult {
     pub keyword: String,
     pub result: EvaluationResult,
 }
 
-/// Returns whether a keyword's own evaluation and each one that it absorbs is valid.
+/// Returns whether a keyword's own result and all absorbed ones are valid.
 pub fn accepts(own: &EvaluationResult, absorbed: &[AbsorbedResult]) -> bool
     ensures verdict { (texts : Bool) → result ≡ all_valid (gives_with texts own.now absorbed.now) }
 {
@@ -41,7 +44,7 @@ pub fn accepts(own: &EvaluationResult, absorbed: &[AbsorbedResult]) -> bool
 }
 
 impl EvaluationResult {
-    /// Returns whether it is valid.
+    /// Returns whether the result is valid.
     pub fn is_valid(&self) -> bool
         ensures verdict { (texts : Bool) → result ≡ (gives_of texts self.now).valid }
     {
@@ -51,21 +54,21 @@ impl EvaluationResult {
         }
     }
 
-    /// Returns a valid one, with nothing in it.
+    /// Returns a valid result without annotations or units.
     pub fn valid_empty(alloc: Global) -> EvaluationResult
         ensures empty { (texts : Bool) → gives_of texts result ≡ of_units [] }
     {
         EvaluationResult::Valid(None, ChildList::new(alloc))
     }
 
-    /// Returns an invalid one with these errors, and nothing else in it.
+    /// Returns an invalid result with these errors, without annotations or units.
     pub fn invalid_empty(alloc: Global, errors: Vec<ErrorDescription>) -> EvaluationResult
         ensures errors { (texts : Bool) → gives_of texts result ≡ refusing (map (described_of texts) errors.items) }
     {
         EvaluationResult::Invalid(errors, None, ChildList::new(alloc))
     }
 
-    /// Returns one with these units inside, which is valid exactly if each of them is.
+    /// Returns a result with these units, which is valid exactly if each of them is.
     pub fn from_children(alloc: Global, children: ChildList) -> EvaluationResult
         ensures children { (texts : Bool) → gives_of texts result ≡ of_units (map (unit_of texts) children) }
     {
@@ -76,7 +79,7 @@ impl EvaluationResult {
         }
     }
 
-    /// Returns one with the one unit inside, which is valid exactly if that is. Fails only if memory cannot be allocated.
+    /// Returns a result with one unit, which is valid exactly if the unit is.
     pub fn from_node(alloc: Global, node: EvaluationNode) -> Result<EvaluationResult, OutOfMemory>
         ensures child { IfOk result (λ r. (texts : Bool) → gives_of texts r ≡ of_units (unit_of texts node ∷ [])) }
     {
@@ -84,7 +87,7 @@ impl EvaluationResult {
         Ok(EvaluationResult::from_children(alloc, children))
     }
 
-    /// Sets the annotations, of a valid one and of an invalid one.
+    /// Sets the annotations, whether the result is valid or not.
     pub fn annotate(&mut self, new_annotations: Annotations)
         ensures annotated { (texts : Bool) → gives_of texts self.new ≡ annotated (view new_annotations) (gives_of texts self.old) }
     {
@@ -94,8 +97,9 @@ impl EvaluationResult {
         }
     }
 
-    /// Adds an error. A valid one becomes invalid, and keeps its units and annotations. Fails only if memory cannot be allocated,
-    /// and then it is as it was.
+    /// Adds an error, which makes the result invalid.
+    ///
+    /// The result keeps its units and annotations. On `Err` it is unchanged.
     pub fn mark_errored(
         &mut self,
         alloc: Global,

@@ -23,15 +23,18 @@ use std::alloc::{AllocError, Global};
 use std::hash::{Hash, Hasher};
 use std::marker::Model;
 
-/// What is validated: a value, or the name of a member, which is validated as a string.
+/// What is validated: a value, or the name of a member.
+///
+/// A name is validated as a string.
 #[derive(Clone, Copy)]
 pub enum Instance<'i> {
     Value(&'i Value),
     Name(&'i str),
 }
 
-/// A step from a place to one below it: to a member, to an item, or to the name of a member. Names are borrowed from the
-/// instance.
+/// A step from a place to one below it: to a member, an item, or a member's name.
+///
+/// Names are borrowed from the instance.
 #[derive(Clone, Copy)]
 pub enum InstanceStep<'i> {
     Member(&'i str),
@@ -54,8 +57,10 @@ fn named_member<'i>(value: &'i Value, name: &str) -> Option<(&'i str, &'i Value)
 }
 
 impl<'i> Instance<'i> {
-    /// Returns the member with this name and the step to it, which borrows the object's own copy of the name. Returns `None` if
-    /// the instance is not an object or has no such member.
+    /// Returns the member with this name, and the step to it.
+    ///
+    /// The step borrows the object's own copy of the name. Returns `None` if the instance is not an
+    /// object or has no such member.
     pub fn member(self, name: &str) -> Option<(Instance<'i>, InstanceStep<'i>)>
         ensures member { option_map (λ r. subject_of r.0) result ≡ after_step (to_member name.now) (subject_of self.entry) }
         ensures step { IfSome result (λ r. step_of r.1 ≡ to_member name.now) }
@@ -69,7 +74,9 @@ impl<'i> Instance<'i> {
         }
     }
 
-    /// Returns the item at this index and the step to it. Returns `None` if the instance is not an array or is too short.
+    /// Returns the item at this index, and the step to it.
+    ///
+    /// Returns `None` if the instance is not an array or is too short.
     pub fn item(self, index: usize) -> Option<(Instance<'i>, InstanceStep<'i>)>
         ensures item { option_map (λ r. subject_of r.0) result ≡ after_step (to_item index) (subject_of self.entry) }
         ensures step { IfSome result (λ r. step_of r.1 ≡ to_item index) }
@@ -83,8 +90,10 @@ impl<'i> Instance<'i> {
         }
     }
 
-    /// Returns the name of a member as an instance and the step to it, both borrowed from the object. Returns `None` if the
-    /// instance is not an object or has no such member.
+    /// Returns the name of a member as an instance, and the step to it.
+    ///
+    /// Both borrow from the object. Returns `None` if the instance is not an object or has no such
+    /// member.
     pub fn name_of(self, name: &str) -> Option<(Instance<'i>, InstanceStep<'i>)>
         ensures name { option_map (λ r. subject_of r.0) result ≡ after_step (to_name name.now) (subject_of self.entry) }
         ensures step { IfSome result (λ r. step_of r.1 ≡ to_name name.now) }
@@ -98,8 +107,9 @@ impl<'i> Instance<'i> {
         }
     }
 
-    /// Returns the instance as compact JSON; a name is quoted. The digits of floats are not promised. Fails only if memory
-    /// cannot be allocated.
+    /// Returns the instance as compact JSON. A name is quoted.
+    ///
+    /// The contract does not cover the digits of floats.
     pub fn text(self, alloc: Global) -> Result<String, OutOfMemory>
         ensures text { IfOk result (λ s. subject_has_float (subject_of self.entry) ≡ false
             → string_bytes s ≡ subject_text (subject_of self.entry)) }
@@ -110,7 +120,7 @@ impl<'i> Instance<'i> {
         }
     }
 
-    /// Returns the instance as an owned value; a name becomes a string. Fails only if memory cannot be allocated.
+    /// Returns the instance as an owned value. A name becomes a string.
     pub fn to_value(self, alloc: Global) -> Result<Value, OutOfMemory>
         ensures value { Shows view result (value_of (subject_of self.entry)) }
     {
@@ -121,7 +131,6 @@ impl<'i> Instance<'i> {
     }
 }
 
-// The text of a name.
 fn quoted_text(alloc: Global, name: &str) -> Result<String, OutOfMemory>
     ensures text { Shows string_bytes result (quoted name.now) }
 {
@@ -129,7 +138,9 @@ fn quoted_text(alloc: Global, name: &str) -> Result<String, OutOfMemory>
     value.to_string(alloc)
 }
 
-/// A place in an instance: the steps from the root down. Contracts see the list of steps.
+/// A place in an instance: the steps from the root down.
+///
+/// Contracts see the list of steps.
 #[derive(Drop)]
 pub struct Place<'i> {
     steps: Vec<InstanceStep<'i>>,
@@ -151,7 +162,7 @@ impl<'i> Model for Place<'i> {
     ghost view = { λ p. map step_of p.steps.items };
 }
 
-/// Returns `true` if both are the same kind of step with the same name or index.
+/// Returns whether both steps are of the same kind, with the same name or index.
 pub fn same_step(a: InstanceStep<'_>, b: InstanceStep<'_>) -> bool
     ensures same { result ≡ same_step (step_of a.entry) (step_of b.entry) }
 {
@@ -163,7 +174,6 @@ pub fn same_step(a: InstanceStep<'_>, b: InstanceStep<'_>) -> bool
     }
 }
 
-// Whether both are the same steps in the same order.
 fn same_steps(a: &[InstanceStep<'_>], b: &[InstanceStep<'_>]) -> bool
     ensures same { result ≡ same_place (map step_of a.now) (map step_of b.now) }
 {
@@ -178,7 +188,7 @@ fn same_steps(a: &[InstanceStep<'_>], b: &[InstanceStep<'_>]) -> bool
     true
 }
 
-/// Adds one step to a pointer. A step to a name adds nothing. Fails only if memory cannot be allocated.
+/// Appends one step to a pointer. A step to a name adds nothing.
 pub fn push_step(pointer: &mut Location, step: InstanceStep<'_>) -> Result<(), OutOfMemory>
     ensures pushed { OnOk result (pointer.new ≡ pointer.old ++ step_text (step_of step.entry)) }
 {
@@ -189,7 +199,7 @@ pub fn push_step(pointer: &mut Location, step: InstanceStep<'_>) -> Result<(), O
     }
 }
 
-// Whether a pointer shows the step: a step to a name is not shown.
+// Returns whether a pointer shows the step. It does not show a step to a name.
 fn is_shown(step: InstanceStep<'_>) -> bool
     ensures shown { result ≡ is_shown (step_of step.entry) }
 {
@@ -201,7 +211,7 @@ fn is_shown(step: InstanceStep<'_>) -> bool
 }
 
 impl<'i> Place<'i> {
-    /// Returns the place of the root: no steps. It allocates nothing.
+    /// Returns the place of the root, which has no steps. Allocates nothing.
     pub fn root(alloc: Global) -> Place<'i>
         ensures root { result ≡ [] }
     {
@@ -217,14 +227,14 @@ impl<'i> Place<'i> {
         self.steps.len()
     }
 
-    /// Returns the steps from the root to the place. It allocates nothing.
+    /// Returns the steps from the root to the place. Allocates nothing.
     pub fn as_steps(&self) -> &[InstanceStep<'i>]
         ensures steps { map step_of result.now ≡ self.now }
     {
         self.steps.as_slice()
     }
 
-    /// Returns the place one step below this one. Fails only if memory cannot be allocated.
+    /// Returns the place one step below this one.
     pub fn below(&self, step: InstanceStep<'i>) -> Result<Place<'i>, OutOfMemory>
         ensures below { Yields result (self.now ++ step_of step.entry ∷ []) }
     {
@@ -233,7 +243,7 @@ impl<'i> Place<'i> {
         Ok(place)
     }
 
-    /// Returns the same place, with room for so many steps more. Fails only if memory cannot be allocated.
+    /// Returns a copy of the place, with capacity for `more` further steps.
     pub fn with_room(&self, more: usize) -> Result<Place<'i>, OutOfMemory>
         ensures same { Yields result self.now }
     {
@@ -243,7 +253,7 @@ impl<'i> Place<'i> {
         Ok(Place { steps })
     }
 
-    /// Goes one step further down. Fails only if memory cannot be allocated, and then the place is as it was.
+    /// Goes one step further down. On `Err` the place is unchanged.
     pub fn push(&mut self, step: InstanceStep<'i>) -> Result<(), OutOfMemory>
         ensures pushed { OnOk result (self.new ≡ self.old ++ step_of step.entry ∷ []) }
         ensures unchanged { OnErr result (self.new ≡ self.old) }
@@ -252,8 +262,9 @@ impl<'i> Place<'i> {
         Ok(())
     }
 
-    /// Returns the JSON Pointer of the place. The place of a name has the pointer of its object. Fails only if memory cannot be
-    /// allocated.
+    /// Returns the JSON Pointer of the place.
+    ///
+    /// The place of a name has the pointer of its object.
     pub fn pointer(&self, alloc: Global) -> Result<Location, OutOfMemory>
         ensures pointer { Yields result (pointer_to self.now) }
     {
@@ -262,7 +273,7 @@ impl<'i> Place<'i> {
         Ok(location)
     }
 
-    /// Appends the JSON Pointer of the place to a pointer. Fails only if memory cannot be allocated.
+    /// Appends the JSON Pointer of the place to a pointer.
     pub fn push_pointer(&self, pointer: &mut Location) -> Result<(), OutOfMemory>
         ensures pushed { OnOk result (pointer.new ≡ pointer.old ++ pointer_to self.now) }
     {
@@ -274,7 +285,9 @@ impl<'i> Place<'i> {
 }
 
 impl<'i> Place<'i> {
-    /// Returns the place that the pointer of this one leads to: from the name of a member, that is the object's.
+    /// Returns the place that the pointer of this one leads to.
+    ///
+    /// For the name of a member this is the place of the object.
     pub fn shown(self) -> Place<'i>
         ensures shown { result ≡ shown_place self.entry }
     {
@@ -290,7 +303,7 @@ impl<'i> PartialEq for Place<'i> {
 
     ghost laws = { partial_equiv_from_equiv places_equiv };
 
-    /// Returns `true` if both consist of the same steps.
+    /// Returns whether both places consist of the same steps.
     fn eq(&self, other: &Place<'i>) -> bool {
         same_steps(self.steps.as_slice(), other.steps.as_slice())
     }
@@ -300,7 +313,7 @@ impl<'i> Eq for Place<'i> {
     ghost laws = { places_equiv };
 }
 
-// Feeds a step: the number of its kind, and then its name or its index.
+// Feeds the number of the step's kind, and then its name or index.
 fn hash_step<H: Hasher>(step: InstanceStep<'_>, state: &mut H)
     ensures fed { state.new ≡ fold H.write state.old (step_input (step_of step.entry)) }
 {
@@ -336,7 +349,7 @@ impl<'i> Hash for Place<'i> {
 impl<'i> Clone for Place<'i> {
     ghost is_clone = { λ p copy. copy ≡ p };
 
-    /// Returns a clone of the place. Fails only if memory cannot be allocated.
+    /// Returns a copy of the place.
     fn clone(&self) -> Result<Place<'i>, AllocError> {
         let steps = Vec::from_slice(*self.steps.allocator(), self.steps.as_slice())?;
         Ok(Place { steps })

@@ -1,4 +1,4 @@
-//! Pointer texts (RFC 6901).
+//! JSON Pointers as text (RFC 6901).
 ghost use Rattle.std.specs.Prelude.{◌≡◌, ℕ, List, [], ◌++◌, bytes_eq, string_bytes, decimal, true, OnOk};
 ghost use Rattle.schema_reports.specs.Showing.{Adds, Yields};
 ghost use Rattle.std.specs.Cmp.{partial_equiv_from_equiv};
@@ -10,7 +10,9 @@ ghost use Rattle.schema_reports.specs.LocationViews.{segment_text, segment_of};
 use std::alloc::{AllocError, Global};
 use std::marker::Model;
 
-/// Memory could not be allocated. A function returns it only if the allocator refused to grow something.
+/// A lack of memory.
+///
+/// A function returns it only if the allocator refused a request.
 pub type OutOfMemory = AllocError;
 
 /// One segment of a pointer: the name of a member, or the index of an item.
@@ -34,7 +36,7 @@ impl Model for Location {
     ghost view = { λ l. string_bytes l.text };
 }
 
-// One character, escaped.
+// Appends one character, escaped.
 fn push_escaped_char(text: &mut String, c: char) -> Result<(), OutOfMemory>
     ensures escaped { Adds result text.old text.new (escaped (encode_utf8 c)) }
 {
@@ -47,7 +49,7 @@ fn push_escaped_char(text: &mut String, c: char) -> Result<(), OutOfMemory>
     }
 }
 
-// Whether a name stands for itself in a pointer. No byte ends the walk, so that many bytes are looked at in one step.
+// Returns whether a name needs no escapes. The loop has no early exit, so that it is vectorized.
 fn is_bare(name: &[u8]) -> bool
     ensures bare { result ≡ true → escaped name.now ≡ name.now }
 {
@@ -58,11 +60,11 @@ fn is_bare(name: &[u8]) -> bool
     bare
 }
 
-// A name, with `~` as `~0` and `/` as `~1`.
+// Appends a name, with `~` as `~0` and `/` as `~1`.
 fn push_escaped(text: &mut String, name: &str) -> Result<(), OutOfMemory>
     ensures escaped { Adds result text.old text.new (escaped name.now) }
 {
-    // (a single character is added sooner than it is looked at)
+    // (for a single character the test costs more than it saves)
     if name.len() > 1 && is_bare(name.as_bytes()) {
         return text.push_str(name);
     }
@@ -72,14 +74,14 @@ fn push_escaped(text: &mut String, name: &str) -> Result<(), OutOfMemory>
     Ok(())
 }
 
-// An index in decimal.
+// Appends an index in decimal.
 fn push_decimal(text: &mut String, index: usize) -> Result<(), OutOfMemory>
     ensures decimal { Adds result text.old text.new (decimal index) }
 {
     write!(text, "{index}")
 }
 
-// How many bytes a segment takes at least, with the `/` before it; an index takes no more than so many.
+// Returns the least number of bytes of a segment with its `/`. An index counts as its longest form.
 fn room_for(segment: LocationSegment<'_>) -> usize {
     match segment {
         LocationSegment::Property(name) => name.len().saturating_add(1),
@@ -88,7 +90,7 @@ fn room_for(segment: LocationSegment<'_>) -> usize {
 }
 
 impl Location {
-    /// Returns the pointer of the root, which is empty. It allocates nothing.
+    /// Returns the pointer of the root, which is empty. Allocates nothing.
     pub fn new(alloc: Global) -> Location
         ensures empty { result ≡ [] }
     {
@@ -97,8 +99,9 @@ impl Location {
         }
     }
 
-    /// Returns the pointer with this text, which must already be escaped: it is taken as it is. Fails only if memory cannot be
-    /// allocated.
+    /// Returns the pointer with this text, which must be escaped already.
+    ///
+    /// The text is taken as it is.
     pub fn from_escaped(alloc: Global, text: &str) -> Result<Location, OutOfMemory>
         ensures same { Yields result text.now }
     {
@@ -107,7 +110,7 @@ impl Location {
         })
     }
 
-    /// Returns the pointer of the root, with room for a text of so many bytes. Fails only if memory cannot be allocated.
+    /// Returns the pointer of the root, with capacity for a text of this many bytes.
     pub fn with_capacity(alloc: Global, bytes: usize) -> Result<Location, OutOfMemory>
         ensures empty { Yields result [] }
     {
@@ -123,8 +126,10 @@ impl Location {
         self.text.as_str()
     }
 
-    /// Returns the pointer with one more segment: `/` and the name with `~` as `~0` and `/` as `~1`, or `/` and the index in
-    /// decimal. Fails only if memory cannot be allocated.
+    /// Returns the pointer with one more segment.
+    ///
+    /// The segment is `/` and the name, with `~` as `~0` and `/` as `~1`, or `/` and the index in
+    /// decimal.
     pub fn join(&self, segment: LocationSegment<'_>) -> Result<Location, OutOfMemory>
         ensures joined { Yields result (self.now ++ segment_text (segment_of segment.entry)) }
     {
@@ -133,7 +138,7 @@ impl Location {
         Ok(location)
     }
 
-    // A copy with room for so many bytes more.
+    // Returns a copy with capacity for `more` further bytes.
     fn with_room(&self, more: usize) -> Result<Location, OutOfMemory>
         ensures same { Yields result self.now }
     {
@@ -143,7 +148,9 @@ impl Location {
         Ok(Location { text })
     }
 
-    /// Appends one segment in place, as `join` writes it. On `Err` a part of the segment may have been written.
+    /// Appends one segment in place, as `join` writes it.
+    ///
+    /// On `Err` a part of the segment may have been written.
     pub fn push(&mut self, segment: LocationSegment<'_>) -> Result<(), OutOfMemory>
         ensures pushed { OnOk result (self.new ≡ self.old ++ segment_text (segment_of segment.entry)) }
     {
@@ -154,14 +161,16 @@ impl Location {
         }
     }
 
-    /// Appends a text in place, which must already be escaped: it is taken as it is. Fails only if memory cannot be allocated.
+    /// Appends a text in place, which must be escaped already.
+    ///
+    /// The text is taken as it is.
     pub fn push_escaped(&mut self, text: &str) -> Result<(), OutOfMemory>
         ensures pushed { OnOk result (self.new ≡ self.old ++ text.now) }
     {
         self.text.push_str(text)
     }
 
-    /// Returns the pointer followed by another one. Fails only if memory cannot be allocated.
+    /// Returns the pointer followed by another one.
     pub fn append(&self, rest: &Location) -> Result<Location, OutOfMemory>
         ensures appended { Yields result (self.now ++ rest.now) }
     {
@@ -176,7 +185,7 @@ impl PartialEq for Location {
 
     ghost laws = { partial_equiv_from_equiv nat_list_eq_equiv };
 
-    /// Returns `true` if both pointers have the same text.
+    /// Returns whether both pointers have the same text.
     fn eq(&self, other: &Location) -> bool {
         self.text == other.text
     }
@@ -189,7 +198,7 @@ impl Eq for Location {
 impl Clone for Location {
     ghost is_clone = { λ l copy. copy ≡ l };
 
-    /// Returns a clone of the pointer. Fails only if memory cannot be allocated.
+    /// Returns a copy of the pointer.
     fn clone(&self) -> Result<Location, AllocError> {
         Ok(Location {
             text: self.text.clone()?,

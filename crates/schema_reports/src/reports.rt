@@ -1,4 +1,4 @@
-//! Errors: where the instance and the schema disagree.
+//! Errors: the places where an instance violates its schema.
 ghost use Rattle.std.specs.Prelude.{◌≡◌, List, Bool, true, false, IfOk, IfSome, length, Some, string_bytes};
 ghost use Rattle.schema_reports.specs.Showing.{Shows, Yields};
 ghost use Rattle.std.specs.Iterator.{UpTo, YieldsFirst, at_most, item_count};
@@ -17,9 +17,12 @@ use std::fmt;
 use std::marker::Model;
 use std::vec::IntoIter;
 
-/// An error: an instance that a keyword refuses. The instance is borrowed, and `place` says where it is in the whole one.
-/// `schema_path` points at the keyword in its schema; `evaluation_path` is the way that led to it, through references too.
-/// `absolute_keyword_location` is the keyword's URI, `None` if its schema resource has no identifier.
+/// An error: an instance that a keyword refuses.
+///
+/// The instance is borrowed, and `place` is its place in the whole instance. `schema_path` points
+/// at the keyword in its schema, and `evaluation_path` is the path that led to it, including
+/// references. `absolute_keyword_location` is the keyword's URI, or `None` if its schema resource
+/// has no identifier.
 #[derive(Drop)]
 pub struct ValidationError<'i> {
     pub instance: Instance<'i>,
@@ -59,7 +62,7 @@ impl fmt::Display for OwnedError {
     }
 }
 
-// The text of the schema `false`, which shows the instance, with no digits promised for a float.
+// The text of the schema `false`, which shows the instance. The digits of floats are not covered.
 fn false_text(alloc: Global, instance: Instance<'_>) -> Result<String, OutOfMemory>
     ensures text { IfOk result (λ t. subject_has_float (subject_of instance.entry) ≡ false
         → string_bytes t ≡ false_text true (subject_of instance.entry)) }
@@ -71,8 +74,9 @@ fn false_text(alloc: Global, instance: Instance<'_>) -> Result<String, OutOfMemo
 }
 
 impl<'i> ValidationError<'i> {
-    /// Returns the error of the schema `false`, which refuses every instance. Its text shows the instance; the digits of floats
-    /// are not promised. Fails only if memory cannot be allocated.
+    /// Returns the error of the schema `false`, which refuses every instance.
+    ///
+    /// Its text shows the instance. The contract does not cover the digits of floats.
     pub fn false_schema(
         alloc: Global,
         instance: Instance<'i>,
@@ -99,21 +103,23 @@ impl<'i> ValidationError<'i> {
         })
     }
 
-    /// Returns the JSON Pointer of the instance. Fails only if memory cannot be allocated.
+    /// Returns the JSON Pointer of the instance.
     pub fn instance_path(&self, alloc: Global) -> Result<Location, OutOfMemory>
         ensures pointer { Yields result (pointer_to self.now.place) }
     {
         self.place.pointer(alloc)
     }
 
-    /// Returns the name that the keyword gave the error: `falseSchema` for the schema `false`.
+    /// Returns the name of the keyword that reported the error.
+    ///
+    /// It is `falseSchema` for the schema `false`.
     pub fn keyword(&self) -> &str
         ensures name { result.now ≡ string_bytes self.now.keyword }
     {
         self.keyword.as_str()
     }
 
-    /// Returns the error with an owned copy of its instance; a name becomes a string. Fails only if memory cannot be allocated.
+    /// Returns the error with an owned copy of its instance. A name becomes a string.
     pub fn to_owned(&self, alloc: Global) -> Result<OwnedError, OutOfMemory>
         ensures owned { Shows owned_error_of result (owned (subject_of self.now.instance) (error_of true self.now)) }
     {
@@ -130,8 +136,9 @@ impl<'i> ValidationError<'i> {
 }
 
 impl OwnedError {
-    /// Puts a location before the instance path, as for an error that is seen from above; nothing else changes. Fails only if
-    /// memory cannot be allocated.
+    /// Puts a location before the instance path. Nothing else changes.
+    ///
+    /// Use it for an error in a part of a larger instance.
     pub fn with_instance_path_prefix(self, location: &Location) -> Result<OwnedError, OutOfMemory>
         ensures prefixed { Shows owned_error_of result (prefixed location.now (owned_error_of self)) }
     {
@@ -143,7 +150,7 @@ impl OwnedError {
     }
 }
 
-/// An iterator over errors, in their order. Contracts see the errors that are left.
+/// An iterator over errors, in order. Contracts see the errors that are left.
 #[derive(Drop)]
 pub struct ErrorIterator<'i> {
     errors: IntoIter<ValidationError<'i>>,
@@ -166,7 +173,7 @@ impl<'i> Model for ErrorIterator<'i> {
 }
 
 impl<'i> ErrorIterator<'i> {
-    /// Returns an iterator over these errors, in their order.
+    /// Returns an iterator over these errors, in this order.
     pub fn new(errors: Vec<ValidationError<'i>>) -> ErrorIterator<'i>
         ensures errors { result ≡ errors.entry.items }
     {

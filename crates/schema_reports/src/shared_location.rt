@@ -1,4 +1,4 @@
-//! Pointer texts that several owners share.
+//! JSON Pointers that several owners share.
 ghost use Rattle.std.specs.Prelude.{◌≡◌, [], ◌∷◌, true};
 ghost use Rattle.schema_reports.specs.Showing.{Yields};
 ghost use Rattle.json.specs.Print.{escape, escape_byte};
@@ -8,7 +8,7 @@ use std::alloc::{AllocError, Global};
 use std::marker::Model;
 use std::rc::Rc;
 
-// Whether a byte stands for itself between quotes: it is no quote, no backslash and no control character.
+// Returns whether a byte needs no escape between quotes: no quote, backslash or control character.
 #[tactic(auto, using(crate::proofs::PlainBytes::plain_byte))]
 fn is_plain_byte(byte: u8) -> bool
     ensures plain { result ≡ true → escape_byte byte ≡ byte ∷ [] }
@@ -16,11 +16,11 @@ fn is_plain_byte(byte: u8) -> bool
     byte >= 0x20 && byte != b'"' && byte != b'\\'
 }
 
-/// Returns whether a text stands for itself between the quotes of a JSON string (RFC 8259, 7).
+/// Returns whether a text needs no escapes in a JSON string (RFC 8259, 7).
 pub fn is_plain(text: &[u8]) -> bool
     ensures plain { result ≡ true → escape text.now ≡ text.now }
 {
-    // (no byte ends the walk, so that many bytes are looked at in one step)
+    // (the loop has no early exit, so that it is vectorized)
     let mut plain = true;
     for byte in text {
         plain &= is_plain_byte(*byte);
@@ -28,7 +28,7 @@ pub fn is_plain(text: &[u8]) -> bool
     plain
 }
 
-// A pointer, and whether its text stands for itself between quotes, which is looked at once.
+// A pointer, and whether its text needs no escapes between quotes. This is determined only once.
 #[derive(Drop)]
 struct MarkedLocation {
     location: Location,
@@ -67,7 +67,9 @@ impl MarkedLocation {
     }
 }
 
-/// A JSON Pointer that several owners share: a clone takes no memory. Contracts see its bytes.
+/// A JSON Pointer that several owners share. Contracts see its bytes.
+///
+/// A clone needs no memory.
 #[derive(Drop)]
 pub struct SharedLocation {
     shared: Rc<MarkedLocation>,
@@ -82,7 +84,7 @@ impl Model for SharedLocation {
 }
 
 impl SharedLocation {
-    /// Returns the pointer, to be shared. Fails only if memory cannot be allocated.
+    /// Turns a pointer into a shared one.
     pub fn new(alloc: Global, location: Location) -> Result<SharedLocation, OutOfMemory>
         ensures same { Yields result location }
     {
@@ -91,7 +93,7 @@ impl SharedLocation {
         })
     }
 
-    /// Returns the pointer of the root, which is empty. Fails only if memory cannot be allocated.
+    /// Returns the pointer of the root, which is empty.
     pub fn root(alloc: Global) -> Result<SharedLocation, OutOfMemory>
         ensures empty { Yields result [] }
     {
@@ -105,7 +107,9 @@ impl SharedLocation {
         self.shared.as_ref().as_str()
     }
 
-    /// Returns `true` only where the pointer stands for itself between the quotes of a JSON string (RFC 8259, 7).
+    /// Returns `true` only if the pointer needs no escapes in a JSON string.
+    ///
+    /// See RFC 8259, 7.
     pub fn is_plain(&self) -> bool
         ensures plain { result ≡ true → escape self.now ≡ self.now }
     {
@@ -116,7 +120,7 @@ impl SharedLocation {
 impl Clone for SharedLocation {
     ghost is_clone = { λ l copy. copy ≡ l };
 
-    /// Returns the pointer once more. It takes no memory.
+    /// Returns another owner of the same pointer. Needs no memory.
     fn clone(&self) -> Result<SharedLocation, AllocError> {
         Ok(SharedLocation {
             shared: self.shared.clone()?,

@@ -1,4 +1,4 @@
-//! A text that contracts see as its bytes.
+//! Strings that contracts see as their bytes.
 ghost use Rattle.std.specs.Prelude.{◌≡◌, bytes_eq, string_bytes};
 ghost use Rattle.schema_reports.specs.Showing.{Yields};
 
@@ -21,7 +21,7 @@ impl Model for Text {
 }
 
 impl Text {
-    /// Returns an owned copy of the string slice. Fails only if memory cannot be allocated.
+    /// Returns an owned copy of the string slice.
     pub fn new(alloc: Global, text: &str) -> Result<Text, OutOfMemory>
         ensures same { Yields result text.now }
     {
@@ -43,7 +43,7 @@ impl Text {
         self.string
     }
 
-    /// Returns `true` if the two strings are equal.
+    /// Returns whether the string is equal to `text`.
     pub fn is(&self, text: &str) -> bool
         ensures same { result ≡ bytes_eq text.now self.now }
     {
@@ -54,7 +54,7 @@ impl Text {
 impl Clone for Text {
     ghost is_clone = { λ t copy. copy ≡ t };
 
-    /// Returns a clone of the string. Fails only if memory cannot be allocated.
+    /// Returns a copy of the string.
     fn clone(&self) -> Result<Text, AllocError> {
         let string = self.string.clone()?;
         Ok(Text { string })

@@ -1,11 +1,11 @@
-//! What stands at a place.
+//! The instance at a place.
 ghost use Rattle.std.specs.Prelude.{◌≡◌, map, option_map};
 ghost use Rattle.theory_definitions.specs.Instance.{after_step, subject_from};
 ghost use Rattle.schema_reports.specs.InstanceViews.{step_of, subject_of};
 
 use super::{Instance, InstanceStep, Place};
 
-// What a step leads to.
+// The instance one step below.
 fn after<'i>(instance: Instance<'i>, step: InstanceStep<'_>) -> Option<Instance<'i>>
     ensures after { option_map subject_of result ≡ after_step (step_of step.entry) (subject_of instance.entry) }
 {
@@ -20,7 +20,6 @@ fn after<'i>(instance: Instance<'i>, step: InstanceStep<'_>) -> Option<Instance<
     }
 }
 
-// What stands where the steps lead to.
 fn at_steps<'i>(instance: Instance<'i>, steps: &[InstanceStep<'_>]) -> Option<Instance<'i>>
     ensures at { option_map subject_of result ≡ subject_from (map step_of steps.now) (subject_of instance.entry) }
 {
@@ -35,7 +34,7 @@ fn at_steps<'i>(instance: Instance<'i>, steps: &[InstanceStep<'_>]) -> Option<In
 }
 
 impl<'i> Instance<'i> {
-    /// Returns what is at this place of the instance, or `None` if the instance has no such place.
+    /// Returns the instance at this place, or `None` if there is no such place.
     pub fn at(self, place: &Place<'_>) -> Option<Instance<'i>>
         ensures at { option_map subject_of result ≡ subject_from place.now (subject_of self.entry) }
     {
