@@ -1,4 +1,5 @@
--- What answers say of questions, by the first of them; and that a keyword says what the answers of its questions say.
+-- The verdict by the answers to questions, starting with the first; and that a keyword's verdict is
+-- the one by the answers to its questions.
 use Rattle.std.proofs.Common.{◌≡◌, ◌∙◌, ◌||◌, ◌&&◌, not, Bool, true, false, List, [], ◌∷◌, refl, sym, ap, true≢false}
 use Rattle.std.proofs.Math.Bool.{beq}
 use Rattle.std.specs.Prelude.{IfSome, None, Option, Some, is_some, option_and_then}
@@ -43,7 +44,7 @@ likewise true false is = absurd (true≢false is)
 likewise false true is = absurd (true≢false is)
 likewise false false is = refl
 
--- what is asked stands there
+-- a question is asked at a place that exists
 pub present_there : (s : Subject) (a : AskedQuestion) → StandsThere s a → IsPresent s (steps_below (question_in a).below)
 present_there s a = go a.below
   where
@@ -51,12 +52,12 @@ present_there s a = go a.below
     go None there = refl
     go (Some r) there = ap (λ o. is_some (option_and_then (subject_from []) o)) there
 
--- what puts questions tells more than that turns say it
+-- an asking that has questions is declared up front
 pub puts_tell : (a : Asking) → puts_questions a ≡ true → tells_at_once a ≡ true
 puts_tell asking.ByTurns puts = absurd (true≢false (sym puts))
 puts_tell a puts = refl
 
--- what an asking says that puts questions, their answers say
+-- if an asking has questions, then its verdict is the one by their answers
 pub says_by_questions : {K R : Type 0} (words : Bool → Keywords K R) (is_whole : K → Bool) (s : Subject) (m : K) (a : Asking) → ((texts : Bool) → Tells texts (is_whole m) s → HoldsAsTold (words texts) m s a) → puts_questions a ≡ true
     → (all : Bool) → all ≡ asks_for_all a → (left : List Question) → left ≡ questions_of a s → SaysByQuestions words is_whole s m all left
 says_by_questions words is_whole s m a asks puts all is left same texts tells matching accepts =

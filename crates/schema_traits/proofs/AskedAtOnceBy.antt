@@ -1,4 +1,4 @@
--- What an asking's answers say, by its questions.
+-- The verdict of an asking, by its questions.
 use Rattle.std.proofs.Common.{[], ap, cond, false, is_some, length, min, not, refl, string_bytes, sym, true, ℕ, Bool, List, ◌&&◌, ◌+◌, ◌-◌, ◌||◌, ◌∷◌, ◌≡◌}
 use Rattle.std.proofs.lemmas.List.Folds.{list_all-map}
 use Rattle.std.specs.List.{list_all, list_any}
@@ -19,7 +19,7 @@ names_alike accepts s i (k ∷ ks) =
     ] in
     go (is_some (after_step (to_member k) s))
 
--- where all have to accept, it holds exactly where each of its questions is accepted
+-- if all must accept, then the verdict is that each question is accepted
 pub asked_all : (a : Asking) (s : Subject) (matching : Matching) (accepts : Question → Bool) → puts_questions a ≡ true → asks_for_all a ≡ true
     → asked_holds a s matching accepts ≡ list_all accepts (questions_of a s)
 asked_all asking.ByTurns s matching accepts puts all = cc
@@ -31,7 +31,7 @@ asked_all (asking.Members names ms) s matching accepts puts all = names_alike ac
 asked_all (asking.Names ms) s matching accepts puts all = sym (list_all-map accepts (λ e. first_at_name (string_bytes e.0)) ms.now.entries)
 asked_all (asking.Match pattern text) s matching accepts puts all = cc
 
--- where one has to accept, it holds exactly where one of its questions is accepted
+-- if one must accept, then the verdict is that one question is accepted
 pub asked_one : (a : Asking) (s : Subject) (matching : Matching) (accepts : Question → Bool) → asks_for_all a ≡ false
     → asked_holds a s matching accepts ≡ list_any accepts (questions_of a s)
 asked_one asking.ByTurns s matching accepts one = cc

@@ -1,9 +1,10 @@
--- What a turn of a walk says, by what it asked first.
+-- What a call of `next` says, by the question that it returns.
 use Rattle.std.proofs.Common.{IfSome, MatchOption, None, Option, Some, [], ap, subst, sym, ◌∙◌, ◌∷◌, ◌≡◌}
 use Rattle.schema_traits.specs.declared.asked.AskedQuestion.{AskedQuestion}
 use Rattle.schema_traits.specs.Questions.{AsksFirst, QuestionsLeft, StandsThere, question_in}
 
--- what it says of the questions that were left, of what was asked and of those that are left after it
+-- what it says of the questions that were left, of the one that it returns, and of those that are
+-- left afterwards
 abbrev pub Says : QuestionsLeft → Option AskedQuestion → QuestionsLeft → Type 0
 Says q asked now =
     MatchOption asked (q.left ≡ []) (λ a. q.left ≡ question_in a ∷ now.left)
@@ -11,7 +12,7 @@ Says q asked now =
     × (q.left ≡ [] → now.left ≡ [])
     × (now.subject ≡ q.subject)
 
--- what was asked first is what is asked, and what it left is left
+-- the question that it returns is the first, and the others are left
 pub says_first : (before q now : QuestionsLeft) (asked : Option AskedQuestion) → before ≡ q → now.subject ≡ before.subject → AsksFirst before.subject before.left asked now.left → Says q asked now
 says_first before q now None is same h = (sym (ap (λ r. r.left) is) ∙ h.0, tt, λ _. h.1, same ∙ ap (λ r. r.subject) is)
 says_first before q now (Some a) is same h =

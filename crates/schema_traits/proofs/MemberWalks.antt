@@ -1,4 +1,4 @@
--- A walk through names and members that both ascend.
+-- An iteration over names and members that both ascend.
 use Rattle.std.proofs.Common.{◌⊎◌, inl, inr, option_and_then, Option, suc, zero, [], Equal, Greater, Less, List, None, Ordering, Some, String, ap, bytes_eq, cond, drop, false, is_some, length, refl, string_bytes, subst, sym, true, Bool, ℕ, ◌+◌, ◌<◌, ◌≤◌, ◌∙◌, ◌∷◌, ◌≡◌}
 use Rattle.std.proofs.lemmas.Bool.{cases_lt}
 use Rattle.std.proofs.lemmas.List.{drop-drop, drop_all}
@@ -37,7 +37,7 @@ less_is Less h = refl
 less_is Equal h = cc
 less_is Greater h = cc
 
--- a name that is neither another nor above it is below it
+-- a name that is neither equal to another nor above it is below it
 behind : (k name : Text) → bytes_eq name k ≡ false → is_lt (order k name) ≡ false → order name k ≡ Less
 behind k name differs unless =
     let go : (o : Ordering) → is_eq o ≡ false → is_lt (ordering_reverse o) ≡ false → o ≡ Less = elim [
@@ -50,12 +50,12 @@ behind k name differs unless =
 drop_tail : (all : List Text) (i : ℕ) (name : Text) (names : List Text) → drop i all ≡ name ∷ names → drop (i + 1) all ≡ names
 drop_tail all i name names is = sym (drop-drop 1 i all) ∙ ap (drop 1) is
 
--- ---- what members have of a name
+-- ---- the members with a name
 
 abbrev IsBelowAll : Text → Entries → Type 0
 IsBelowAll l members = AllByRecursion (λ k. order l (string_bytes k) ≡ Less) (keys_of members)
 
--- a name below all of them is none of theirs
+-- a name below all of theirs is none of theirs
 absent : (l : Text) (members : Entries) → IsBelowAll l members → member_of l (members_view members) ≡ None
 absent l [] h = refl
 absent l (e ∷ es) h = ap (λ b. cond b (Some (view e.1)) (member_of l (members_view es))) (less_differs l (string_bytes e.0) h.0) ∙ absent l es h.1
@@ -64,7 +64,7 @@ below_more : (l k : Text) (members : Entries) → order l k ≡ Less → IsBelow
 below_more l k [] h below = tt
 below_more l k (e ∷ es) h below = (nat_list_cmp_total.trans l k (string_bytes e.0) h below.0, below_more l k es h below.1)
 
--- what stands at a name of these members
+-- the subject at a name of these members
 abbrev among : Text → Entries → Option Subject
 among l members = after_step (to_member l) (a_value (object (members_view members)))
 
@@ -79,20 +79,20 @@ module _ (e : String Global × Value) (es : Entries) (ascend : IsStrictlySortedB
   all_above : (ks : List (String Global)) (more : Entries) → ks ≡ keys_of more → AllByRecursion (λ k. string_cmp e.0 k ≡ Less) ks → IsBelowAll first more
   all_above ks more is h = subst (λ ls. AllByRecursion (λ k. string_cmp e.0 k ≡ Less) ls) is h
 
-  -- below the first member's name, nothing stands
+  -- below the first member's name there is nothing
   none_before : (l : Text) → order l first ≡ Less → among l (e ∷ es) ≡ None
   none_before l h =
       ap (λ o. option_and_then (λ d. Some (a_value d)) o) (absent l (e ∷ es) (h, below_more l first es h unfold_ascend.0))
 
-  -- at the first member's name, it stands
+  -- at the first member's name there is the first member
   first_there : among first (e ∷ es) ≡ Some (a_value (view e.1))
   first_there = ap (λ b. option_and_then (λ d. Some (a_value d)) (cond b (Some (view e.1)) (member_of first (members_view es)))) ((bytes_eq-Decides first first).1 refl)
 
-  -- behind the first member's name, the others have what all have
+  -- above the first member's name the others have what all have
   rest_behind : (l : Text) → order first l ≡ Less → among l (e ∷ es) ≡ among l es
   rest_behind l h = ap (λ b. option_and_then (λ d. Some (a_value d)) (cond b (Some (view e.1)) (member_of l (members_view es)))) (less_differs_back first l h)
 
--- ---- the names from a place on
+-- ---- the names from an index on
 
 -- the names that are not below this one
 abbrev names_from : Text → List Text → List Text
@@ -132,7 +132,7 @@ above_more : (k l : Text) (names : List Text) → order k l ≡ Less → AllAbov
 above_more k l [] h above = tt
 above_more k l (name ∷ names) h above = (nat_list_cmp_total.trans k l name h above.0, above_more k l names h above.1)
 
--- a name that is found is the first of those from its place on, and the others are above it
+-- a name that is found is the first of those from its index on, and the others are above it
 found_first : (k : Text) (i : ℕ) (ns : List Text) → Ascend ns → (place_from k i ns).1 ≡ true → (rest : List Text) × (names_from k ns ≡ k ∷ rest) × AllAbove k rest
 found_first k i [] ascend found = cc
 found_first k i (name ∷ names) ascend found =
@@ -148,7 +148,7 @@ found_first k i (name ∷ names) ascend found =
     ] in
     first (bytes_eq name k) refl found
 
--- where it is not found, those from its place on are above it
+-- if it is not found, those from its index on are above it
 passed_first : (k : Text) (i : ℕ) (ns : List Text) → Ascend ns → (place_from k i ns).1 ≡ false → AllAbove k (names_from k ns)
 passed_first k i [] ascend passed = tt
 passed_first k i (name ∷ names) ascend passed =
@@ -173,7 +173,7 @@ module _ (s : Subject) (e : String Global × Value) (es : Entries) (ascend : IsS
   abbrev key : Text
   key = string_bytes e.0
 
-  -- a fact of each name is one of those from a place on
+  -- a fact about each name holds of those from an index on
   all_from : (P : Text → Type 0) (ns : List Text) → AllByRecursion P ns → AllByRecursion P (names_from key ns)
   all_from P [] h = tt
   all_from P (name ∷ names) h =
@@ -181,7 +181,7 @@ module _ (s : Subject) (e : String Global × Value) (es : Entries) (ascend : IsS
       let first : (b : Bool) → AllByRecursion P (cond b (name ∷ names) (cond (is_lt (order key name)) (name ∷ names) (names_from key names))) = elim [ true ↦ h | false ↦ second (is_lt (order key name)) ] in
       first (bytes_eq name key)
 
-  -- the names before the member's are none of the subject's
+  -- the names before the member's are not in the subject
   skips : (i : ℕ) (ns : List Text) → AllByRecursion (IsFound s (e ∷ es)) ns → at_names s i ns ≡ at_names s (place_from key i ns).0 (names_from key ns)
   skips i [] found = refl
   skips i (name ∷ names) found =
@@ -204,13 +204,13 @@ module _ (s : Subject) (e : String Global × Value) (es : Entries) (ascend : IsS
   found_behind [] above found = tt
   found_behind (name ∷ names) above found = (found.0 ∙ rest_behind e es ascend name above.0, found_behind names above.1 found.1)
 
--- ---- a turn of the walk: names from i on, and the place that a member's name has among them
+-- ---- a call of `next`: the names from i on, and the index of a member's name among them
 
 place_parts : (q : ℕ × Bool) (p : ℕ) (b : Bool) → q ≡ (p, b) → (q.0 ≡ p) × (q.1 ≡ b)
 place_parts q p b is = (ap (λ r. r.0) is, ap (λ r. r.1) is)
 
 module _ (names : List Text) (ascend : Ascend names) (i p : ℕ) (k : Text) where
-  -- a name that is found is at its place, and those behind it are above it
+  -- a name that is found is at its index, and those after it are above it
   pub found_at : place_from k i (drop i names) ≡ (p, true) → (drop p names ≡ k ∷ drop (p + 1) names) × AllAbove k (drop (p + 1) names)
   found_at place =
       let parts = place_parts (place_from k i (drop i names)) p true place in
@@ -245,18 +245,18 @@ module _ (s : Subject) (names : List Text) (ascend : Ascend names) (i p : ℕ) (
     found_here : AllByRecursion (IsFound s (e ∷ es)) (its ∷ drop (p + 1) names)
     found_here = subst (AllByRecursion (IsFound s (e ∷ es))) (found_at names ascend i p its place).0 (from_place true place).2
 
-    -- the member whose name is found is what stands there
+    -- the member whose name is found is the subject there
     pub found_stands : after_step (to_member its) s ≡ Some (a_value (view e.1))
     found_stands = found_here.0 ∙ first_there e es have.ascend
 
-    -- its child is asked at it
+    -- its child is asked about it
     pub found_asked : at_names s i (drop i names) ≡ child_below p its ∷ at_names s (p + 1) (drop (p + 1) names)
     found_asked =
         (from_place true place).0
         ∙ ap (at_names s p) (found_at names ascend i p its place).0
         ∙ ap (λ o. cond (is_some o) (child_below p its ∷ at_names s (p + 1) (drop (p + 1) names)) (at_names s (p + 1) (drop (p + 1) names))) found_stands
 
-    -- the other members have all of the names behind it
+    -- the other members have all of the names after it
     pub found_goes_on : HaveAllOf s (drop (p + 1) names) es
     found_goes_on = record {
       ascend = (unfold_ascend e es have.ascend).1;
@@ -264,11 +264,11 @@ module _ (s : Subject) (names : List Text) (ascend : Ascend names) (i p : ℕ) (
     }
 
   module _ (place : place_from its i (drop i names) ≡ (p, false)) where
-    -- where a member's name is not found, nothing is asked at it
+    -- if a member's name is not found, nothing is asked about it
     pub passed_asked : at_names s i (drop i names) ≡ at_names s p (drop p names)
     passed_asked = (from_place false place).0
 
-    -- and the other members have all of the names from its place on
+    -- and the other members have all of the names from its index on
     pub passed_goes_on : HaveAllOf s (drop p names) es
     passed_goes_on =
         let parts = place_parts (place_from its i (drop i names)) p false place in
@@ -280,7 +280,7 @@ none_found s i [] found = refl
 none_found s i (name ∷ names) found =
     ap (λ o. cond (is_some o) (child_below i name ∷ at_names s (i + 1) names) (at_names s (i + 1) names)) found.0 ∙ none_found s (i + 1) names found.1
 
--- where no member is left, no name is asked at
+-- if no member is left, nothing is asked
 pub none_asked : (s : Subject) (i : ℕ) (ns : List Text) (members : Entries) → members ≡ [] → HaveAllOf s ns members → at_names s i ns ≡ []
 none_asked s i ns members is have = none_found s i ns (subst (λ es. AllByRecursion (IsFound s es) ns) is have.found)
 

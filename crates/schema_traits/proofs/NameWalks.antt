@@ -1,4 +1,4 @@
--- The name of each member of an object is one in it.
+-- The name of each member of an object is found in it.
 use Rattle.std.proofs.Common.{[], Some, String, ap, bytes_eq, cond, option_and_then, refl, string_bytes, true, false, Bool, ◌∷◌, ◌≡◌}
 use Rattle.std.proofs.lemmas.Slice.Eq.{bytes_eq-Decides}
 use Rattle.std.specs.List.{AllByRecursion}
@@ -9,7 +9,7 @@ use Rattle.serde_json.specs.declared.value.Value.{Value}
 use Rattle.theory_definitions.specs.Instance.{Text, a_name, a_value, after_step, member_of, to_name}
 use Rattle.schema_traits.specs.Members.{AreNamed, Entries}
 
--- a name that other members have, members with one more before them have
+-- a name that some members have is still theirs with one more member before them
 abbrev IsNamed : Entries → Text → Type 0
 IsNamed members k = after_step (to_name k) (a_value (object (members_view members))) ≡ Some (a_name k)
 

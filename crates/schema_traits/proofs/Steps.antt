@@ -1,4 +1,4 @@
--- Steps of a walk through numbers, and what stands at an item.
+-- Steps of an iteration over numbers, and the item at an index.
 use Rattle.std.proofs.Common.{[], ap, arith, get_or, length, sym, zero, suc, ℕ, List, Some, ◌+◌, ◌-◌, ◌<◌, ◌≤◌, ◌∷◌, ◌≡◌}
 use Rattle.serde_json.specs.View.{items_view, view}
 use Rattle.serde_json.specs.declared.value.Value.{Value}

@@ -1,4 +1,4 @@
--- Members that are left of a walk through those of an object.
+-- The members that are left of an iteration over those of an object.
 use Rattle.std.specs.List.{AllByRecursion}
 use Rattle.std.specs.List.Sorted.{IsStrictlySortedBy}
 use Rattle.std.specs.Map.{keys_of}
@@ -12,19 +12,19 @@ use Rattle.theory_definitions.specs.Instance.{Subject, Text, a_name, a_value, af
 use Rattle.theory_definitions.specs.Keywords.{Question}
 use Rattle.schema_traits.specs.AskedAtOnce.{first_at_name}
 
--- members, in their order
+-- members, in order
 abbrev pub Entries : Type 0
 Entries = List (String Global × Value)
 
--- these members have all that the subject has of these names
+-- for each of these names, these members have the same as the subject
 pub record HaveAllOf (s : Subject) (names : List Text) (members : Entries) : Type 0 where
   pub ascend : IsStrictlySortedBy string_cmp (keys_of members)
   pub found : AllByRecursion (λ k. after_step (to_member k) s ≡ after_step (to_member k) (a_value (object (members_view members)))) names
 
--- the name of each of these is one in the subject
+-- the name of each of these members is found in the subject
 abbrev pub AreNamed : Subject → Entries → Type 0
 AreNamed s members = AllByRecursion (λ e. after_step (to_name (string_bytes e.0)) s ≡ Some (a_name (string_bytes e.0))) members
 
--- the questions of the first child at their names
+-- the questions to the first child at the names of these members
 abbrev pub at_their_names : Entries → List Question
 at_their_names members = map (λ e. first_at_name (string_bytes e.0)) members

@@ -1,4 +1,4 @@
--- What is left of a walk through children at the keyword's own place, or through items.
+-- What is left of an iteration over children at the keyword's own place, or over items.
 use Rattle.std.specs.Prelude.{List, length, map, ◌-◌, ◌≤◌}
 use Rattle.serde_json.specs.Data.{array}
 use Rattle.serde_json.specs.View.{items_view}
@@ -9,19 +9,19 @@ use Rattle.schema_traits.specs.AskedAtOnce.{child_at, child_here, numbers_from}
 use Rattle.schema_traits.specs.declared.asked.counted.Walk.{Walk}
 use Rattle.schema_traits.specs.declared.asked.counted.Walk.TheVariants as walk
 
--- the subject that a walk goes through
+-- the subject that the questions are about
 abbrev pub subject_in : Walk → Subject
 subject_in (walk.Here w) = subject_of w.instance
 subject_in (walk.Items w) = a_value (array (items_view w.items.now))
 subject_in (walk.Listed w) = a_value (array (items_view w.items.now))
 
--- the questions that are left, in their order
+-- the questions that are left, in order
 abbrev pub left_in : Walk → List Question
 left_in (walk.Here w) = map child_here (numbers_from w.next (w.end - w.next))
 left_in (walk.Items w) = map (child_at 0) (numbers_from w.next (length w.items.now - w.next))
 left_in (walk.Listed w) = map (λ k. child_at k k) (numbers_from w.next (w.end - w.next))
 
--- it ends within the items
+-- the iteration ends within the items
 abbrev pub IsOnItsWay : Walk → Type 0
 IsOnItsWay (walk.Here w) = Unit {0}
 IsOnItsWay (walk.Items w) = Unit {0}

@@ -1,4 +1,4 @@
-//! The questions of a keyword's children at its own place, and of items.
+//! Questions to a keyword's children at its own place, and at items.
 ghost use Rattle.std.specs.Prelude.{◌≡◌, ◌∷◌, ◌-◌, ◌≤◌, [], IfSome, MatchOption, length, map, min};
 ghost use Rattle.serde_json.specs.Data.{array};
 ghost use Rattle.serde_json.specs.View.{items_view};
@@ -12,7 +12,7 @@ use schema_reports::instance::{Instance, InstanceStep};
 use serde_json::Value;
 use std::marker::Model;
 
-// The children at the keyword's own place: the next one, and where they end.
+// Children at the keyword's own place: the next one, and the number of them.
 #[derive(Drop)]
 struct HereWalk<'i> {
     instance: Instance<'i>,
@@ -27,7 +27,7 @@ struct ItemsWalk<'i> {
     next: usize,
 }
 
-// Each child at the item of its number: the next one, and where they end.
+// Each child at the item with its index: the next one, and the index at which they end.
 #[derive(Drop)]
 struct ListedWalk<'i> {
     items: &'i [Value],
@@ -35,7 +35,7 @@ struct ListedWalk<'i> {
     end: usize,
 }
 
-// The ways of asking, each with how far it has come.
+// The kinds of questions, each with how far it has come.
 #[derive(Drop)]
 enum Walk<'i> {
     Here(HereWalk<'i>),
@@ -43,8 +43,9 @@ enum Walk<'i> {
     Listed(ListedWalk<'i>),
 }
 
-/// The questions that are left of those of children at the keyword's own place, or at items. Contracts see the subject, and the questions
-/// that are left.
+/// Iterator over the questions to children at the keyword's own place, or at items.
+///
+/// Contracts see the subject, and the questions that are left.
 #[derive(Drop)]
 pub struct CountedQuestions<'i> {
     walk: Walk<'i>,
@@ -66,7 +67,9 @@ impl<'i> Model for CountedQuestions<'i> {
 }
 
 impl<'i> CountedQuestions<'i> {
-    /// Returns the questions of so many children at the keyword's own place. It allocates nothing.
+    /// Returns the questions to the first `end` children at the keyword's own place.
+    ///
+    /// Allocates nothing.
     #[inline(always)]
     pub fn here(instance: Instance<'i>, end: usize) -> CountedQuestions<'i>
         ensures subject { result.subject ≡ subject_of instance.entry }
@@ -81,7 +84,9 @@ impl<'i> CountedQuestions<'i> {
         }
     }
 
-    /// Returns the questions of the first child at each item from this one on. It allocates nothing.
+    /// Returns the questions to the first child at each item, starting at index `next`.
+    ///
+    /// Allocates nothing.
     #[inline(always)]
     pub fn items(next: usize, items: &'i [Value]) -> CountedQuestions<'i>
         ensures subject { result.subject ≡ a_value (array (items_view items.now)) }
@@ -92,7 +97,10 @@ impl<'i> CountedQuestions<'i> {
         }
     }
 
-    /// Returns the questions of each of so many children at the item of its number, where there is one. It allocates nothing.
+    /// Returns the questions to each child at the item with its index.
+    ///
+    /// There are `count` children, or as many as there are items, if those are fewer. Allocates
+    /// nothing.
     #[inline(always)]
     pub fn listed(count: usize, items: &'i [Value]) -> CountedQuestions<'i>
         ensures subject { result.subject ≡ a_value (array (items_view items.now)) }
@@ -107,7 +115,7 @@ impl<'i> CountedQuestions<'i> {
         }
     }
 
-    /// Returns the next question; `None` where none is left. It allocates nothing.
+    /// Returns the next question, or `None` if none is left. Allocates nothing.
     #[inline(always)]
     pub fn next(&mut self) -> Option<AskedQuestion<'i>>
         ensures next { MatchOption result (self.old.left ≡ []) (λ a. self.old.left ≡ question_in a ∷ self.new.left) }
@@ -123,7 +131,6 @@ impl<'i> CountedQuestions<'i> {
     }
 }
 
-// The next child at the keyword's own place.
 #[inline(always)]
 fn next_here<'i>(next: &mut usize, end: usize) -> Option<AskedQuestion<'i>>
     ensures asks { (s : Subject) → AsksFirst s (map child_here (numbers_from next.old (end - next.old))) result
@@ -137,7 +144,6 @@ fn next_here<'i>(next: &mut usize, end: usize) -> Option<AskedQuestion<'i>>
     Some(AskedQuestion { child, below: None })
 }
 
-// The first child at the next item.
 #[inline(always)]
 fn next_item<'i>(items: &'i [Value], next: &mut usize) -> Option<AskedQuestion<'i>>
     ensures asks { AsksFirst (a_value (array (items_view items.now)))
@@ -155,7 +161,6 @@ fn next_item<'i>(items: &'i [Value], next: &mut usize) -> Option<AskedQuestion<'
     })
 }
 
-// The next child at the item of its number.
 #[inline(always)]
 fn next_listed<'i>(items: &'i [Value], next: &mut usize, end: usize) -> Option<AskedQuestion<'i>>
     requires within { end ≤ length items.now }

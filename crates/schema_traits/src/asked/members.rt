@@ -1,4 +1,4 @@
-//! The questions of a keyword's children at the members that have their names.
+//! Questions to a keyword's children at the members with their names.
 ghost use Rattle.std.specs.Prelude.{◌≡◌, ◌∷◌, [], IfSome, MatchOption, drop};
 ghost use Rattle.serde_json.specs.Data.{object};
 ghost use Rattle.serde_json.specs.View.{members_view};
@@ -13,8 +13,10 @@ use serde_json::{Map, Value};
 use std::collections::btree_map::Iter;
 use std::marker::Model;
 
-/// The questions that are left of those of each child at the member that has its name: the next child, and the members that are left.
-/// Contracts see the subject, and the questions that are left.
+/// Iterator over the questions to each child at the member with its name.
+///
+/// It holds the next child, and the members that are left. Contracts see the subject, and the
+/// questions that are left.
 #[derive(Drop)]
 pub struct MembersQuestions<'s, 'i> {
     whole: &'i Map<String, Value>,
@@ -46,7 +48,9 @@ impl<'s, 'i> Model for MembersQuestions<'s, 'i> {
 }
 
 impl<'s, 'i> MembersQuestions<'s, 'i> {
-    /// Returns the questions of each child at the member that has its name, where there is one. It allocates nothing.
+    /// Returns the questions to each child at the member with its name, if there is one.
+    ///
+    /// Allocates nothing.
     #[inline(always)]
     pub fn of(
         names: &'s AscendingNames,
@@ -63,7 +67,7 @@ impl<'s, 'i> MembersQuestions<'s, 'i> {
         }
     }
 
-    /// Returns the next question; `None` where none is left. It allocates nothing.
+    /// Returns the next question, or `None` if none is left. Allocates nothing.
     #[inline(always)]
     pub fn next(&mut self) -> Option<AskedQuestion<'i>>
         ensures next { MatchOption result (self.old.left ≡ []) (λ a. self.old.left ≡ question_in a ∷ self.new.left) }
@@ -75,8 +79,7 @@ impl<'s, 'i> MembersQuestions<'s, 'i> {
     }
 }
 
-// The next child that has the name of a member, at it. Names and members ascend, so each member is looked for behind the one
-// before.
+// Names and members both ascend, so each member is looked up only behind the one before.
 #[inline(always)]
 fn next_member<'i>(
     names: &AscendingNames,

@@ -1,4 +1,4 @@
-//! The questions of a keyword's first child at the names of members.
+//! Questions to a keyword's first child at the names of members.
 ghost use Rattle.std.specs.Prelude.{◌≡◌, ◌∷◌, [], IfSome, MatchOption};
 ghost use Rattle.serde_json.specs.Data.{object};
 ghost use Rattle.serde_json.specs.View.{members_view};
@@ -12,8 +12,9 @@ use serde_json::{Map, Value};
 use std::collections::btree_map::Iter;
 use std::marker::Model;
 
-/// The questions that are left of those of the first child at the name of each member: the members that are left. Contracts see the
-/// subject, and the questions that are left.
+/// Iterator over the questions to the first child at the name of each member.
+///
+/// It holds the members that are left. Contracts see the subject, and the questions that are left.
 #[derive(Drop)]
 pub struct NamesQuestions<'i> {
     whole: &'i Map<String, Value>,
@@ -39,7 +40,9 @@ impl<'i> Model for NamesQuestions<'i> {
 }
 
 impl<'i> NamesQuestions<'i> {
-    /// Returns the questions of the first child at the name of each member. It allocates nothing.
+    /// Returns the questions to the first child at the name of each member.
+    ///
+    /// Allocates nothing.
     #[inline(always)]
     pub fn of(members: &'i Map<String, Value>) -> NamesQuestions<'i>
         ensures subject { result.subject ≡ a_value (object (members_view members.now.entries)) }
@@ -51,7 +54,7 @@ impl<'i> NamesQuestions<'i> {
         }
     }
 
-    /// Returns the next question; `None` where none is left. It allocates nothing.
+    /// Returns the next question, or `None` if none is left. Allocates nothing.
     #[inline(always)]
     pub fn next(&mut self) -> Option<AskedQuestion<'i>>
         ensures next { MatchOption result (self.old.left ≡ []) (λ a. self.old.left ≡ question_in a ∷ self.new.left) }
@@ -63,7 +66,6 @@ impl<'i> NamesQuestions<'i> {
     }
 }
 
-// The first child at the next member's name.
 #[inline(always)]
 fn next_name<'i>(members: &mut Iter<'i, String, Value>) -> Option<AskedQuestion<'i>>
     ensures way { (s : Subject) → AreNamed s members.old → AreNamed s members.new }

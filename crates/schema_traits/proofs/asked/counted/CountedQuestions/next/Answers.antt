@@ -18,7 +18,7 @@ invariant_of-self c = elim c.match-self.branch [
 abbrev left_of : Walk → QuestionsLeft
 left_of w = record { subject = subject_in w; left = left_in w }
 
--- a walk that was there, and the same after its turn
+-- an iterator, and the same one after the call
 says : (q : QuestionsLeft) (there before after now : Walk) (asked first : Option AskedQuestion) → left_of there ≡ q → there ≡ before → now ≡ after → asked ≡ first → subject_in after ≡ subject_in before
     → AsksFirst (subject_in before) (left_in before) first (left_in after) → Says q asked (left_of now)
 says q there before after now asked first view is came asks same h =
