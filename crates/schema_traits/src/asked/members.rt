@@ -48,7 +48,7 @@ impl<'s, 'i> Model for MembersQuestions<'s, 'i> {
 }
 
 impl<'s, 'i> MembersQuestions<'s, 'i> {
-    /// Returns the questions to each child at the member with its name, if there is one.
+    /// Returns the questions to each child at the member with its name, if any.
     ///
     /// Allocates nothing.
     #[inline(always)]
