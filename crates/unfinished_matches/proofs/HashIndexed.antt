@@ -1,4 +1,4 @@
--- Lists whose elements are found by a hash: an element is added, and one is looked for.
+-- Indexes by hash: adding an element, and looking one up.
 use Rattle.std.proofs.Common.{◌≡◌, ℕ, zero, suc, ◌<◌, Bool, true, false, cond, List, [], ◌∷◌, ◌++◌, length, map, nat_eq, refl, ap, sym, ◌∙◌, subst, arith, true≢false}
 use Rattle.std.specs.Prelude.{None, Option, Some, find, is_some, option_map, slice_get, ◌||◌}
 use Rattle.std.specs.List.{list_any}
@@ -52,7 +52,7 @@ indexed_more hashes first first' x is new updates = λ h. go h (nat_eq x h) refl
       updates h ∙ ap (λ b. cond b (Some (length hashes)) (first h)) e ∙ sym (first-append hashes x h ∙ ap (λ o. or_last o (cond (nat_eq x h) (Some (length hashes)) None)) none ∙ ap (λ b. cond b (Some (length hashes)) None) e)
   go h false e = updates h ∙ ap (λ b. cond b (Some (length hashes)) (first h)) e ∙ is h ∙ same (first_of hashes h) ∙ ap (λ b. or_last (first_of hashes h) (cond b (Some (length hashes)) None)) (sym e) ∙ sym (first-append hashes x h)
 
--- ---- an element is looked for
+-- ---- looking an element up
 
 first_none : (o : Option ℕ) → option_map (λ n. suc n) o ≡ None → o ≡ None
 first_none None e = refl
@@ -75,7 +75,7 @@ module _ {A : Type 0} (hash : A → ℕ) (is : A → Bool) (h : ℕ) (one_hash :
     go false k = k
     go true k = absurd (true≢false (sym (eq-eqb (hash a) h (one_hash a k)) ∙ e))
 
-  -- an element whose hash has no position is not there
+  -- an element whose hash has no position is not in the list
   pub not_found : (xs : List A) → first_of (map hash xs) h ≡ None → find is xs ≡ None
   not_found [] e = refl
   not_found (x ∷ xs) e = go (nat_eq (hash x) h) refl (not_found xs) e where
@@ -83,7 +83,7 @@ module _ {A : Type 0} (hash : A → ℕ) (is : A → Bool) (h : ℕ) (one_hash :
     go true k rest e = absurd (let b : ⊥ = cc in b)
     go false k rest e = rw (other x k) (rest (first_none (first_of (map hash xs) h) e))
 
-  -- the element at the first position of its hash is the first of its kind
+  -- if the element at the first position of the hash is a match, it is the first match in the list
   pub found_there : (xs : List A) (n : ℕ) (x : A) → first_of (map hash xs) h ≡ Some n → slice_get xs n ≡ Some x → is x ≡ true → find is xs ≡ Some x
   found_there [] n x e at k = absurd (let b : ⊥ = cc in b)
   found_there (y ∷ xs) n x e at k = go (nat_eq (hash y) h) refl (first_of (map hash xs) h) (λ m f a. found_there xs m x f a k) n e at where

@@ -1,4 +1,4 @@
--- Matches that are found by a hash.
+-- Matches that are found by hash.
 use Rattle.std.proofs.Common.{◌≡◌, ℕ, ◌<◌, true, List, length, map, ap, ap₂, sym, ◌∙◌, arith}
 use Rattle.std.proofs.lemmas.List.{length-map}
 use Rattle.std.proofs.lemmas.Slice.Eq.{bytes_eq-Decides}
@@ -10,7 +10,7 @@ use Rattle.theory_definitions.specs.Unfinished.{site_of}
 use Rattle.unfinished_matches.proofs.HashIndexed.{first_within, found_there, not_found}
 use Rattle.theory_definitions.proofs.Products.{both_left, both_right}
 
--- one match has one hash
+-- equal matches have one hash
 one_hash : (a b : Pair) → same_pair a b ≡ true → match_hash b ≡ match_hash a
 one_hash a b e = sym (ap₂ hash_of_match ((bytes_eq-Decides a.pattern b.pattern).0 (both_left _ _ e)) ((bytes_eq-Decides a.subject b.subject).0 (both_right _ _ e)))
 

@@ -1,4 +1,5 @@
--- The code's reasons and matches, as the definitions have them, and the match of a pattern and a subject.
+-- The code's reasons and matches, in terms of the definitions, and the match of a pattern and a
+-- subject.
 use Rattle.std.specs.Prelude.{Bool, List, MatchOption, None, Option, Some, length, slice_index_or, ℕ, ◌<◌, ◌≡◌}
 use Rattle.theory_definitions.specs.Instance.{Text}
 use Rattle.theory_definitions.specs.Matching as spec
@@ -21,17 +22,17 @@ match_of (outcome.Unfinished r) = spec.unfinished (reason_of r)
 abbrev pub pair_of : Text → Text → spec.Pair
 pair_of pattern subject = record { pattern = pattern; subject = subject }
 
--- it at a site, and why it was not finished there
+-- the match at a site, and (below) why it was not finished there
 abbrev pub met_at : Text → Text → Site → Met
 met_at pattern subject site = record { pair = pair_of pattern subject; site = site }
 
 abbrev pub failed_at : Text → Text → Site → spec.Reason → Failure
 failed_at pattern subject site why = record { met = met_at pattern subject site; reason = why }
 
--- the outcome that is assumed of it, and no where none is
+-- the assumed outcome of a match, or no if none is assumed
 abbrev pub outcome_of : spec.Assumptions → Text → Text → Bool
 outcome_of assumptions pattern subject = or_no (spec.assumed assumptions (pair_of pattern subject))
 
--- the position of the first of these sites that is of this match, or there is none
+-- the position of the first of these sites for this match, or none if there is no such site
 abbrev pub IsPlaceOf : List Met → spec.Pair → Option ℕ → Type 0
 IsPlaceOf sites pair o = MatchOption o (site_of sites pair ≡ None) (λ i. (i < length sites) × ((d : Met) → site_of sites pair ≡ Some (slice_index_or sites i d).site))

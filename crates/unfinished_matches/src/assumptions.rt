@@ -1,4 +1,4 @@
-//! What a run assumes, and what it remembers of the unfinished matches that it meets.
+//! What a run assumes, and what it remembers of the unfinished matches it meets.
 ghost use Rattle.std.specs.Prelude.{◌≡◌, ◌∷◌, [], IfOk, IfSome, IsTrue, OnErr, OnOk, is_some, map, nat_eq, OnSome};
 ghost use Rattle.schema_reports.specs.Showing.{Yields};
 ghost use Rattle.std.specs.HashMap.{get};
@@ -17,7 +17,7 @@ use std::alloc::{AllocError, Global};
 use std::collections::HashMap;
 use std::marker::Model;
 
-/// An unfinished match, and what it is assumed to come out as.
+/// An unfinished match, and its assumed outcome.
 #[derive(Drop)]
 struct AssumedMatch {
     unfinished: UnfinishedMatch,
@@ -44,7 +44,7 @@ impl Clone for AssumedMatch {
     }
 }
 
-/// What is assumed of some unfinished matches, the one assumed last first.
+/// The assumed outcomes of some unfinished matches, the latest first.
 #[derive(Drop)]
 pub struct AssumedOutcomes {
     matches: Vec<AssumedMatch>,
@@ -60,7 +60,7 @@ impl Model for AssumedOutcomes {
 }
 
 impl AssumedOutcomes {
-    /// Nothing is assumed.
+    /// Returns an empty list: nothing is assumed.
     pub fn new(alloc: Global) -> AssumedOutcomes
         ensures { result ≡ [] }
     {
@@ -69,7 +69,7 @@ impl AssumedOutcomes {
         }
     }
 
-    /// What a run starts from that assumes these outcomes.
+    /// Returns the start of a run that assumes these outcomes.
     pub fn start<'i>(&self, alloc: Global) -> Result<MatchAssumptions<'i>, OutOfMemory>
         ensures starts { Yields result (starting self.now) }
     {
@@ -77,7 +77,7 @@ impl AssumedOutcomes {
         Ok(MatchAssumptions::assuming(alloc, assumed))
     }
 
-    /// One match more is assumed to come out so.
+    /// Returns the list with the assumed outcome of one more match.
     pub fn with(
         self,
         unfinished: UnfinishedMatch,
@@ -107,7 +107,6 @@ impl Clone for AssumedOutcomes {
     }
 }
 
-// The outcome that is assumed of a match.
 fn assumed_outcome(list: &[AssumedMatch], pattern: &str, subject: &str) -> Option<bool>
     ensures { result ≡ assumed list.now (pair_of pattern.now subject.now) }
 {
@@ -119,11 +118,11 @@ fn assumed_outcome(list: &[AssumedMatch], pattern: &str, subject: &str) -> Optio
     None
 }
 
-/// Assumed outcomes that are found by the hash of their match. Contracts see the list.
+/// Assumed outcomes, indexed by the hash of their match. Contracts see the list.
 #[derive(Drop)]
 struct IndexedOutcomes {
     matches: Vec<AssumedMatch>,
-    // For each hash the first position that has it.
+    // The first position of each hash.
     positions: HashMap<u64, usize>,
 }
 
@@ -140,7 +139,7 @@ impl Model for IndexedOutcomes {
     ghost invariant = { λ o. IsIndexed (map (λ a. match_hash a.pair) o.matches.items) (get nat_eq o.positions) };
 }
 
-// The positions of these outcomes by the hashes of their matches.
+// Returns the positions of these outcomes by the hashes of their matches.
 fn indexed(alloc: Global, list: &[AssumedMatch]) -> Result<HashMap<u64, usize>, OutOfMemory>
     ensures indexed { IfOk result (λ p. IsIndexed (map (λ a. match_hash a.pair) list.now) (get nat_eq p)) }
 {
@@ -152,7 +151,6 @@ fn indexed(alloc: Global, list: &[AssumedMatch]) -> Result<HashMap<u64, usize>, 
 }
 
 impl IndexedOutcomes {
-    // Nothing is assumed.
     fn none(alloc: Global) -> IndexedOutcomes
         ensures { result ≡ [] }
     {
@@ -162,7 +160,6 @@ impl IndexedOutcomes {
         }
     }
 
-    // These outcomes; it fails only if memory does.
     fn new(alloc: Global, outcomes: AssumedOutcomes) -> Result<IndexedOutcomes, OutOfMemory>
         ensures same { Yields result outcomes }
     {
@@ -176,7 +173,6 @@ impl IndexedOutcomes {
         }
     }
 
-    // The outcome that is assumed of a match.
     fn outcome(&self, pattern: &str, subject: &str) -> Option<bool>
         ensures assumed { result ≡ assumed self.now (pair_of pattern.now subject.now) }
     {
@@ -196,7 +192,6 @@ impl IndexedOutcomes {
         }
     }
 
-    // The outcomes.
     fn into_outcomes(self) -> AssumedOutcomes
         ensures { result ≡ self }
     {
@@ -206,8 +201,10 @@ impl IndexedOutcomes {
     }
 }
 
-/// What a run assumes of unfinished matches, and what it remembers of those that it meets: the first one that is not assumed,
-/// and for each match the first site with an instance path. The first one that is not assumed is never among those assumed.
+/// What a run assumes and remembers of unfinished matches.
+///
+/// It remembers the first unfinished match whose outcome is not assumed, and for each match the
+/// first site with an instance path.
 #[derive(Drop)]
 pub struct MatchAssumptions<'i> {
     alloc: Global,
@@ -227,14 +224,15 @@ impl<'i> Model for MatchAssumptions<'i> {
 }
 
 impl<'i> MatchAssumptions<'i> {
-    /// Returns what the first run of a call starts from: nothing is assumed. It allocates nothing.
+    /// Returns the start of a call's first run, which assumes nothing.
+    ///
+    /// Allocates nothing.
     pub fn new(alloc: Global) -> MatchAssumptions<'i>
         ensures starts { result ≡ starting [] }
     {
         MatchAssumptions::assuming(alloc, IndexedOutcomes::none(alloc))
     }
 
-    // What a run starts from that assumes these outcomes.
     fn assuming(alloc: Global, assumed: IndexedOutcomes) -> MatchAssumptions<'i>
         ensures starts { result ≡ starting assumed }
     {
@@ -246,7 +244,9 @@ impl<'i> MatchAssumptions<'i> {
         }
     }
 
-    /// The assumed outcomes, the first unfinished match that is not among them, and the sites with an instance path.
+    /// Returns the assumptions, the first match without one, and the located sites.
+    ///
+    /// A located site is one with an instance path.
     pub fn into_parts(
         self,
     ) -> (
@@ -267,7 +267,7 @@ impl<'i> MatchAssumptions<'i> {
     }
 }
 
-// Keeps the failure, where nothing is assumed of its match and none is kept yet.
+// Keeps the failure if no outcome of its match is assumed and none has been kept yet.
 fn keep_first<'i>(
     kept: &mut Option<MatchFailure<'i>>,
     outcome: Option<bool>,
@@ -283,8 +283,10 @@ fn keep_first<'i>(
 }
 
 impl<'i> MatchAssumptions<'i> {
-    /// Returns `true` if the match is known to be unfinished: its outcome is assumed, or it was the first one without an
-    /// assumed outcome, or a site of it is remembered.
+    /// Returns whether the match is known to be unfinished.
+    ///
+    /// It is if its outcome is assumed, if it was the first match without an assumed outcome, or if
+    /// a site of it is remembered.
     pub fn is_unfinished(&self, pattern: &str, subject: &str) -> bool
         ensures known { result ≡ is_known self.now (pair_of pattern.now subject.now) }
     {
@@ -299,15 +301,17 @@ impl<'i> MatchAssumptions<'i> {
         self.located.contains(pattern, subject)
     }
 
-    /// Returns `true` if an unfinished match was met whose outcome is not assumed.
+    /// Returns whether the run met an unfinished match whose outcome is not assumed.
     pub fn met_unassumed(&self) -> bool
         ensures met { result ≡ is_some self.now.unassumed }
     {
         self.unassumed.is_some()
     }
 
-    /// Returns how a match that the matcher did not finish comes out, where nothing is left to remember of it; `None` where it has to
-    /// be resolved with its site. `has_place` says whether that site has an instance path. It allocates nothing.
+    /// Returns the outcome of an unfinished match, if nothing more is remembered.
+    ///
+    /// `None` means that it has to be resolved with its site. `has_place` says whether that site
+    /// has an instance path. Allocates nothing.
     pub fn known_outcome(&self, pattern: &str, subject: &str, has_place: bool) -> Option<bool>
         ensures answer { IfSome result (λ b. b ≡ outcome_of self.now.assumptions pattern.now subject.now) }
         ensures nothing_new { OnSome result ((site : Site) (reason : matching.Reason) → is_some site.located ≡ has_place
@@ -323,8 +327,9 @@ impl<'i> MatchAssumptions<'i> {
         Some(outcome.unwrap_or(false))
     }
 
-    /// Returns the assumed outcome of a match that the matcher did not finish, or `false` if none is assumed, and remembers the
-    /// match with its site. Fails only if memory cannot be allocated; nothing has changed then.
+    /// Returns the outcome of an unfinished match, and remembers its site.
+    ///
+    /// The outcome is the assumed one, or `false` if none is assumed. On `Err` nothing has changed.
     pub fn resolve(
         &mut self,
         pattern: &str,
@@ -353,7 +358,9 @@ impl<'i> MatchAssumptions<'i> {
         }
     }
 
-    /// The same for a match that is known to be unfinished, so that the matcher need not be asked again.
+    /// Like `resolve`, for a match that is known to be unfinished.
+    ///
+    /// The matcher need not be asked again, so no reason is given.
     pub fn resolve_unfinished(
         &mut self,
         pattern: &str,

@@ -1,4 +1,6 @@
-//! Matches that a matcher could not finish: where a run met them, and what it assumes of them.
+//! Matches that a matcher could not finish.
+//!
+//! A run records where it met them, and may assume their outcomes.
 #![tactic(auto)]
 
 pub mod assumptions;

@@ -1,4 +1,4 @@
-//! The matches that a run met at sites with an instance path, found by hash.
+//! The matches that a run met at sites with an instance path, indexed by hash.
 ghost use Rattle.std.specs.Prelude.{◌≡◌, ◌++◌, ◌∷◌, [], OnErr, OnOk, is_some, nat_eq};
 ghost use Rattle.unfinished_matches.specs.MatchViews.{met_at, pair_of};
 ghost use Rattle.theory_definitions.specs.Unfinished.{noted, site_of};
@@ -14,7 +14,7 @@ use std::marker::Model;
 #[derive(Drop)]
 pub struct LocatedMatches<'i> {
     matches: Vec<LocatedMatch<'i>>,
-    // For each hash the first position that has it.
+    // The first position of each hash.
     positions: HashMap<u64, usize>,
 }
 
@@ -32,7 +32,7 @@ impl<'i> Model for LocatedMatches<'i> {
 }
 
 impl<'i> LocatedMatches<'i> {
-    /// No match yet.
+    /// Returns an empty list.
     pub fn new(alloc: Global) -> LocatedMatches<'i>
         ensures none { result ≡ [] }
     {
@@ -42,14 +42,14 @@ impl<'i> LocatedMatches<'i> {
         }
     }
 
-    /// The matches in their order.
+    /// Returns the matches, in order.
     pub fn into_vec(self) -> Vec<LocatedMatch<'i>>
         ensures same { result.items ≡ self.entry }
     {
         self.matches
     }
 
-    /// Whether a site of this match is among these.
+    /// Returns whether a site of this match is in the list.
     pub fn contains(&self, pattern: &str, subject: &str) -> bool
         ensures has { result ≡ is_some (site_of self.now (pair_of pattern.now subject.now)) }
     {
@@ -65,8 +65,9 @@ impl<'i> LocatedMatches<'i> {
         }
     }
 
-    /// Records the match at this site, if the site has an instance path and there is none of the match yet. On `Err` nothing has
-    /// changed.
+    /// Records the match at this site, if it is the first with an instance path.
+    ///
+    /// On `Err` nothing has changed.
     pub fn note(
         &mut self,
         alloc: Global,
@@ -83,7 +84,6 @@ impl<'i> LocatedMatches<'i> {
         self.push(LocatedMatch::met(alloc, pattern, subject, site)?)
     }
 
-    // Puts a match at the end.
     fn push(&mut self, met: LocatedMatch<'i>) -> Result<(), OutOfMemory>
         ensures pushed { OnOk result (self.new ≡ self.old ++ met.entry ∷ []) }
         ensures unchanged { OnErr result (self.new ≡ self.old) }

@@ -1,4 +1,4 @@
-//! Positions in a list that are found by a hash: for each hash the first position that has it.
+//! An index of a list by hash: the first position of each hash.
 ghost use Rattle.std.specs.Prelude.{◌≡◌, ◌≤◌, ◌+◌, OnErr, OnOk, length, nat_eq, vec_capacity, vec_len};
 ghost use Rattle.std.specs.HashMap.{get};
 ghost use Rattle.unfinished_matches.specs.MatchViews.{pair_of};
@@ -8,7 +8,9 @@ use schema_reports::location::OutOfMemory;
 use std::collections::HashMap;
 use std::hash::{FoldHasher, Hasher};
 
-/// Records the position of the next element, unless an earlier one has its hash. On `Err` nothing has changed.
+/// Records the position of the next element, unless an earlier one has its hash.
+///
+/// On `Err` nothing has changed.
 pub fn add_position(
     positions: &mut HashMap<u64, usize>,
     hash: u64,
@@ -23,7 +25,9 @@ pub fn add_position(
     Ok(())
 }
 
-/// Records the position of the next element, and makes room for it. On `Err` nothing has changed.
+/// Records the position of the next element, and reserves capacity for it.
+///
+/// On `Err` nothing has changed.
 pub fn reserve_next<T>(
     elements: &mut Vec<T>,
     positions: &mut HashMap<u64, usize>,
@@ -38,7 +42,7 @@ pub fn reserve_next<T>(
     add_position(positions, hash, elements.len())
 }
 
-/// The hash by which a match is found.
+/// Returns the hash by which a match is found.
 #[tactic(auto, unfolding(crate::specs::HashIndex::hash_of_match))]
 pub fn match_hash(pattern: &str, subject: &str) -> u64
     ensures hash { result ≡ match_hash (pair_of pattern.now subject.now) }

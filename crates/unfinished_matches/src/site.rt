@@ -1,4 +1,4 @@
-//! Unfinished matches, and where they are met.
+//! Unfinished matches, and the sites at which a run meets them.
 ghost use Rattle.std.specs.Prelude.{[], IfOk, None, Some, is_some, option_copied, option_map};
 ghost use Rattle.std.specs.Prelude.{string_bytes, true, unwrap_or, ◌≡◌};
 ghost use Rattle.schema_reports.specs.Showing.{Shows, Yields};
@@ -23,14 +23,16 @@ use serde_json::Value;
 use std::alloc::{AllocError, Global};
 use std::marker::Model;
 
-/// Why a match was not finished: a limit was reached, which the text names, or the regex engine failed.
+/// Why a match was not finished.
+///
+/// A limit was reached, which the text names, or the regex engine failed.
 #[derive(Drop)]
 pub enum Reason {
     Limit(Text),
     Engine,
 }
 
-/// What a matcher answers for a pattern and a subject: whether they match, or why it did not finish.
+/// The answer of a matcher: whether the subject matches, or why it did not finish.
 #[derive(Drop)]
 pub enum Match {
     Finished(bool),
@@ -53,7 +55,7 @@ impl Model for UnfinishedMatch {
 }
 
 impl UnfinishedMatch {
-    /// The match of this pattern and this subject.
+    /// Returns the match of this pattern and this subject.
     pub fn new(alloc: Global, pattern: &str, subject: &str) -> Result<UnfinishedMatch, OutOfMemory>
         ensures pair { Yields result (pair_of pattern.now subject.now) }
     {
@@ -62,28 +64,28 @@ impl UnfinishedMatch {
         Ok(UnfinishedMatch { pattern, subject })
     }
 
-    /// Whether it is the match of this pattern and this subject.
+    /// Returns whether this is the match of this pattern and this subject.
     pub fn is(&self, pattern: &str, subject: &str) -> bool
         ensures same { result ≡ same_pair (pair_of pattern.now subject.now) self.now }
     {
         self.pattern.is(pattern) && self.subject.is(subject)
     }
 
-    /// The compiled pattern.
+    /// Returns the compiled pattern.
     pub fn pattern(&self) -> &str
         ensures { result.now ≡ self.now.pattern }
     {
         self.pattern.as_str()
     }
 
-    /// The subject.
+    /// Returns the subject.
     pub fn subject(&self) -> &str
         ensures { result.now ≡ self.now.subject }
     {
         self.subject.as_str()
     }
 
-    /// The hash by which it is found.
+    /// Returns the hash by which the match is found.
     pub fn hash(&self) -> u64
         ensures hash { result ≡ match_hash self.now }
     {
@@ -101,8 +103,10 @@ impl Clone for UnfinishedMatch {
     }
 }
 
-/// Where a match was asked for: the schema path; the evaluation path and the place of the subject, if the run knows them; and
-/// the pattern as it is written in the schema, if that is not the compiled one.
+/// The site at which a match was requested.
+///
+/// It has the schema path; the evaluation path and the subject's place, if the run knows them; and
+/// the pattern as the schema has it, if that differs from the compiled one.
 #[derive(Drop)]
 pub struct MatchSite<'i> {
     schema_path: Location,
@@ -130,7 +134,7 @@ impl<'i> MatchSite<'i> {
         }
     }
 
-    /// Returns a site with an evaluation path and a place too.
+    /// Returns a site that also has an evaluation path and a place.
     pub fn located(
         schema_path: Location,
         evaluation_path: Location,
@@ -145,7 +149,7 @@ impl<'i> MatchSite<'i> {
         }
     }
 
-    /// Adds the pattern as it is written in the schema. Fails only if memory cannot be allocated.
+    /// Adds the pattern as the schema has it.
     pub fn pattern(self, alloc: Global, pattern: &str) -> Result<MatchSite<'i>, OutOfMemory>
         ensures site { Yields result (record self.entry { pattern = Some pattern.now }) }
     {
@@ -159,21 +163,21 @@ impl<'i> MatchSite<'i> {
 }
 
 impl<'i> MatchSite<'i> {
-    /// Whether it has an instance path.
+    /// Returns whether the site has an instance path.
     pub fn has_place(&self) -> bool
         ensures { result ≡ is_some self.now.located }
     {
         self.located.is_some()
     }
 
-    /// The schema path.
+    /// Returns the schema path.
     pub fn schema_path(&self) -> &Location
         ensures path { result.now ≡ self.now.schema_path }
     {
         &self.schema_path
     }
 
-    /// The evaluation path, where the site has one.
+    /// Returns the evaluation path, if the site has one.
     pub fn evaluation_path(&self) -> Option<&Location>
         ensures path { option_copied result ≡ option_map (λ l. l.0) self.now.located }
     {
@@ -183,7 +187,9 @@ impl<'i> MatchSite<'i> {
         }
     }
 
-    /// The place of the subject, which is where the instance path leads to, where the site has one.
+    /// Returns the place of the subject, if the site has one.
+    ///
+    /// The instance path leads to this place.
     pub fn place(&self) -> Option<&Place<'i>>
         ensures place { option_copied result ≡ option_map (λ l. l.1) self.now.located }
     {
@@ -193,7 +199,7 @@ impl<'i> MatchSite<'i> {
         }
     }
 
-    /// The pattern as it is written in the schema, where the site has that.
+    /// Returns the pattern as the schema has it, if the site has that.
     pub fn written_pattern(&self) -> Option<&str>
         ensures pattern { option_copied result ≡ self.now.pattern }
     {
@@ -203,7 +209,7 @@ impl<'i> MatchSite<'i> {
         }
     }
 
-    // Takes over the other site, and keeps its pattern where the other has none.
+    // Takes the other site over, but keeps its own pattern if the other has none.
     fn take_over(&mut self, other: MatchSite<'i>)
         ensures { self.new ≡ record other.entry { pattern = or_pattern other.entry.pattern self.old.pattern } }
     {
@@ -218,7 +224,7 @@ impl<'i> MatchSite<'i> {
 impl<'i> Clone for MatchSite<'i> {
     ghost is_clone = { λ s copy. copy ≡ s };
 
-    /// Returns a clone of the site. Fails only if memory cannot be allocated.
+    /// Returns a copy of the site.
     fn clone(&self) -> Result<MatchSite<'i>, AllocError> {
         let schema_path = self.schema_path.clone()?;
         let pattern = self.pattern.clone()?;
@@ -247,7 +253,7 @@ impl<'i> Model for LocatedMatch<'i> {
 }
 
 impl<'i> LocatedMatch<'i> {
-    /// The match of this pattern and this subject at a copy of this site.
+    /// Returns the match of this pattern and this subject, at a copy of this site.
     pub fn met(
         alloc: Global,
         pattern: &str,
@@ -261,7 +267,7 @@ impl<'i> LocatedMatch<'i> {
         Ok(LocatedMatch { unfinished, site })
     }
 
-    /// The match.
+    /// Returns the match.
     pub fn unfinished(&self) -> &UnfinishedMatch
         ensures { result.now ≡ self.now.pair }
     {
@@ -287,7 +293,7 @@ impl<'i> Model for MatchFailure<'i> {
 }
 
 impl<'i> MatchFailure<'i> {
-    /// The failure of the match of this pattern and this subject at this site.
+    /// Returns the failure of this match at this site.
     pub fn met(
         alloc: Global,
         pattern: &str,
@@ -305,42 +311,42 @@ impl<'i> MatchFailure<'i> {
         })
     }
 
-    /// The match.
+    /// Returns the match.
     pub fn unfinished(&self) -> &UnfinishedMatch
         ensures { result.now ≡ self.now.met.pair }
     {
         &self.unfinished
     }
 
-    /// The site.
+    /// Returns the site.
     pub fn site(&self) -> &MatchSite<'i>
         ensures { result.now ≡ self.now.met.site }
     {
         &self.site
     }
 
-    /// The compiled pattern.
+    /// Returns the compiled pattern.
     pub fn pattern(&self) -> &str
         ensures pattern { result.now ≡ self.now.met.pair.pattern }
     {
         self.unfinished.pattern()
     }
 
-    /// The subject.
+    /// Returns the subject.
     pub fn subject(&self) -> &str
         ensures subject { result.now ≡ self.now.met.pair.subject }
     {
         self.unfinished.subject()
     }
 
-    /// Why the match was not finished.
+    /// Returns why the match was not finished.
     pub fn reason(&self) -> &Reason
         ensures reason { reason_of result.now ≡ self.now.reason }
     {
         &self.reason
     }
 
-    /// Takes over the first of these sites that is of this match, where its own has no instance path.
+    /// Takes over the first site for this match, if its own has no instance path.
     pub fn locate(&mut self, located: Vec<LocatedMatch<'i>>)
         ensures { self.new ≡ located_by self.old located.entry.items }
     {
@@ -359,7 +365,6 @@ impl<'i> MatchFailure<'i> {
     }
 }
 
-// The text of a match that stays unfinished.
 fn reason_text(alloc: Global, reason: Reason, pattern: &str) -> Result<String, OutOfMemory>
     ensures text { Shows string_bytes result (reason_text pattern.now (unfinished (reason_of reason))) }
 {
@@ -369,7 +374,7 @@ fn reason_text(alloc: Global, reason: Reason, pattern: &str) -> Result<String, O
     }
 }
 
-// The paths of a site; without an evaluation path, that is the schema path, and the place is the root.
+// Without an evaluation path, that is the schema path, and the place is the root.
 fn place_or_root<'i>(
     alloc: Global,
     located: Option<(Location, Place<'i>)>,
@@ -386,7 +391,7 @@ fn place_or_root<'i>(
     }
 }
 
-// What stands at the place, or else the root.
+// The instance at the place, or the root if there is none.
 fn at_or_root<'i>(root: &'i Value, place: &Place<'i>) -> Instance<'i>
     ensures at { subject_of result ≡ unwrap_or (subject_at (view root.now) place.now) (a_value (view root.now)) }
 {
@@ -396,7 +401,7 @@ fn at_or_root<'i>(root: &'i Value, place: &Place<'i>) -> Instance<'i>
     }
 }
 
-// The text of a failure: it shows the pattern as the schema has it, where the site has that.
+// The text shows the pattern as the schema has it, if the site has that.
 fn failure_text(
     alloc: Global,
     reason: Reason,
@@ -412,8 +417,7 @@ fn failure_text(
     reason_text(alloc, reason, shown)
 }
 
-// The error with this text at this site; its place is the one that the site's pointer leads to, and its instance is what
-// stands there.
+// The error's place is the one that the site's pointer leads to, and its instance is the one there.
 fn error_at<'i>(
     alloc: Global,
     root: &'i Value,
@@ -445,7 +449,7 @@ fn error_at<'i>(
 }
 
 impl<'i> MatchFailure<'i> {
-    /// The failure as an error, whose instance is the value at its place.
+    /// Returns the failure as an error, whose instance is the one at its place.
     pub fn into_error(
         self,
         alloc: Global,
@@ -472,7 +476,7 @@ impl<'i> MatchFailure<'i> {
     }
 }
 
-/// The position of the first of these sites that is of this match.
+/// Returns the position of the first of these sites for this match.
 pub fn place_of(sites: &[LocatedMatch<'_>], pattern: &str, subject: &str) -> Option<usize>
     ensures variant { is_some result ≡ is_some (site_of sites.now (pair_of pattern.now subject.now)) }
     ensures place { IsPlaceOf sites.now (pair_of pattern.now subject.now) result }
