@@ -1,4 +1,4 @@
--- Trees that grow from the lists that wait on the stack.
+-- The trees that grow from the lists on the stack.
 use Rattle.std.proofs.Common.{◌≡◌, ◌<◌, ◌⊎◌, inl, inr, ℕ, zero, suc, ◌+◌, List, [], ◌∷◌, ◌++◌, Option, Some, None, true, false, sym, ◌∙◌, ap, subst, refl, append_assoc, arith, length, reverse}
 use Rattle.std.proofs.lemmas.List.{append-nil, reverse-append}
 use Rattle.theory_definitions.specs.Matching.{Assumptions}
@@ -8,7 +8,7 @@ use Rattle.theory_definitions.specs.Unfinished.{Failure, FirstIsNew, Remembered,
 use Rattle.theory_meaning.specs.Search.{Grows, GrowsFrom, IsInOrder, Tree, branch, member, results_of, runs, sites, unrun, waiting}
 
 module _ {S T : Type 0} (Step : S → Remembered → Remembered → T → S → Type 0) where
-  -- trees that grow from the lists one after another
+  -- the trees that grow from the lists, one after another
   abbrev pub GrowAll : List Assumptions → S → List (Tree T) → S → Type 0
   GrowAll [] s [] end = s ≡ end
   GrowAll [] s (c ∷ cs) end = ⊥
@@ -38,17 +38,17 @@ module _ {T : Type 0} where
   sites_all [] = []
   sites_all (c ∷ cs) = sites c ++ sites_all cs
 
-  -- nothing of these is run
+  -- nothing of these trees has been run
   abbrev pub AllWait : List (Tree T) → Type 0
   AllWait [] = Unit {0}
   AllWait (c ∷ cs) = (c ≡ unrun) × AllWait cs
 
-  -- no list is run past one that waits, in a tree or in an earlier one
+  -- no list is run before an earlier one, in its tree or in another, that still waits
   abbrev pub AllInOrder : List (Tree T) → Type 0
   AllInOrder [] = Unit {0}
   AllInOrder (c ∷ cs) = IsInOrder c × (0 < waiting c → AllWait cs) × AllInOrder cs
 
--- two trees that stand first, put together by a branching
+-- two trees at the front, joined by a branching
 branch_in_order : {T : Type 0} (met : Remembered) (v : Failure) (x y : Tree T) (cs : List (Tree T)) → AllInOrder (x ∷ y ∷ cs) → AllInOrder (branch met v x y ∷ cs)
 branch_in_order met v x y cs order = (
   (order.0, order.2.0, λ some. (order.1 some).0),
@@ -65,7 +65,7 @@ branch_in_order met v x y cs order = (
     either some (inr first) = (order.1 first).1
 
 module _ {S T : Type 0} (Step : S → Remembered → Remembered → T → S → Type 0) (first : Remembered) (u : Failure) (start : S) where
-  -- a tree of the call, and what it gives
+  -- a tree of the call, and its results
   pub record Grown (end : S) (results : List T) (count left : ℕ) (failure : Failure) : Type 0 where
     pub tree : Tree T
     pub grows : GrowsFrom Step first start tree end
@@ -75,7 +75,7 @@ module _ {S T : Type 0} (Step : S → Remembered → Remembered → T → S → 
     pub waiting_are : waiting tree ≡ left
     pub failure_is : located_by_all u (sites tree) ≡ failure
 
-  -- whatever trees grow from the lists that wait, with them the tree of the call is grown
+  -- whatever trees grow from the lists that wait, they complete the tree of the call
   abbrev pub Completes : List Assumptions → S → List T → ℕ → Failure → Type 0
   Completes lists state results count failure =
       (cs : List (Tree T)) (end : S)
@@ -170,7 +170,7 @@ module _ {S T : Type 0} (Step : S → Remembered → Remembered → T → S → 
       (ap (λ z. results ++ z) (waits_members lists) ∙ append-nil results) (omega (arith, waits_runs lists)) (waits_waiting lists)
       (ap (λ z. located_by_all failure z) (waits_sites lists))
 
-  -- the same of the stack, whose last list is run first
+  -- the same for the stack, whose last list is run first
   pub stack_first : first.unassumed ≡ Some u → FirstIsNew first → (items : List Assumptions) (results : List T) (failure : Failure) → items ≡ [] ++ assuming u.met true first.assumptions ∷ [] ++ assuming u.met false first.assumptions ∷ [] → results ≡ [] → failure ≡ located_by u first.located → Completes (reverse items) start results 1 failure
   stack_first is new items results failure e er ef =
       let q = ap reverse e ∙ reverse-push_two [] _ _ in rw (q, er, ef) (completes_first is new)
@@ -186,7 +186,7 @@ module _ {S T : Type 0} (Step : S → Remembered → Remembered → T → S → 
       let q' = ap reverse ei ∙ reverse-push_two items (assuming v.met true a) (assuming v.met false a) in
       rw (q', ef) (completes_branch (reverse items) a s results count failure met result v s' (subst (λ z. Completes z s results count failure) q h) step some new)
 
-  -- either of them, as the run met a match that it did not assume
+  -- the same for either list, after the run met a match that it did not assume
   pub stack_taken : (stack items items' : List Assumptions) (a : Assumptions) (s : S) (results results' : List T) (count : ℕ) (failure failure' : Failure) (met : Remembered) (result : T) (s' : S) (unassumed : Option Failure) → met.unassumed ≡ unassumed → stack ≡ items ++ a ∷ [] → Completes (reverse stack) s results count failure → Step s (starting a) met result s' → FirstIsNew met → failure' ≡ located_by failure met.located → (met.unassumed ≡ None → (items' ≡ items) × (results' ≡ results ++ result ∷ [])) → ((v : Failure) → met.unassumed ≡ Some v → (items' ≡ items ++ assuming v.met true a ∷ [] ++ assuming v.met false a ∷ []) × (results' ≡ results)) → Completes (reverse items') s' results' (count + 1) failure'
   stack_taken stack items items' a s results results' count failure failure' met result s' None none e h step new ef whole branches =
       let w = whole none in

@@ -1,4 +1,4 @@
--- Errors whose keys are found by a hash.
+-- Errors whose keys are found by hash.
 use Rattle.std.proofs.Common.{◌≡◌, ℕ, ◌<◌, false, true, List, length, map, ap, sym, ◌∙◌, arith}
 use Rattle.std.proofs.lemmas.List.{length-map}
 use Rattle.std.proofs.lemmas.Slice.Eq.{bytes_eq-Decides}
@@ -11,7 +11,7 @@ use Rattle.schema_reports.specs.declared.reports.ValidationError.{ValidationErro
 use Rattle.unfinished_matches.proofs.HashIndexed.{any_found, first_within, found_there, not_found}
 use Rattle.theory_definitions.proofs.Products.{both_left, both_right}
 
--- one key has one hash
+-- equal keys have one hash
 one_hash : (a b : ValidationError) → same_key a b ≡ true → key_hash b ≡ key_hash a
 one_hash a b e =
     let e1 = both_left _ _ e in

@@ -1,4 +1,4 @@
--- The state that a search leaves is one that its runs lead to.
+-- The state at the end of a search is one that its runs lead to.
 use Rattle.std.proofs.Common.{ℕ, false, true, subst}
 use Rattle.theory_definitions.specs.Cover.{assuming}
 use Rattle.theory_definitions.specs.Matching.{Assumptions}

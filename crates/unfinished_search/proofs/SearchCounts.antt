@@ -1,4 +1,4 @@
--- What a tree of runs counts.
+-- The numbers of runs and results in a tree.
 use Rattle.std.proofs.Common.{◌≡◌, ℕ, ◌+◌, ◌*◌, ◌<◌, List, [], ◌∷◌, ◌++◌, true, false, sym, ◌∙◌, ap, refl, arith, length, append_assoc}
 use Rattle.std.proofs.lemmas.List.{length-append}
 use Rattle.theory_definitions.specs.Matching.{Assumptions}

@@ -141,9 +141,9 @@ module _ (root : Data) (f : Failure) where
         let two : list_all is_empty (front ++ end ∷ []) ≡ none_has v (others ++ last ∷ []) = empty_told (front ++ end ∷ []) ∙ (ap (λ z. list_all is_nil (map told z)) (sym is) ∙ (ap (list_all is_nil) e ∙ sym (none_has_is v (others ++ last ∷ [])))) in
         answer_is (shared_among front end) (list_all is_empty (front ++ end ∷ [])) o answer shared k ∙ ap₂ (λ a b. or_failure a b (failure_error f)) one two
 
--- ---- where only that there is no error is looked at
+-- ---- if only the absence of errors is looked at
 
--- an outcome has no error exactly where it is a yes
+-- an outcome has no error exactly if it is a yes
 nil_agrees : (o : Outcome) → Agrees o → is_nil o.errors ≡ o.verdict
 nil_agrees o a = go o.verdict o.errors refl refl
   where
@@ -198,7 +198,7 @@ module _ (v : Sense) (follows : Follows v) (root : Data) {S : Type 0} (Step : S 
       → map told (map (λ (r : Vec ValidationError). r.items) results) ≡ map (errors_of v) ms
   told_results tree results ms e same = map_map told (λ (r : Vec ValidationError). r.items) results ∙ (ap (map errors_in) e ∙ same)
 
-  -- what is given is what the call's sentence lists, for each call whose further runs want all errors
+  -- the errors are those that the call lists, for each call whose further runs find all errors
   pub all_errors_say : (call : Call) → WantsAllLater call → IsRunOf v call Step first start errors_in (errors_of v) → (o : Outcomes (Vec ValidationError)) → AreOutcomes Step first start limit end o → (es : Vec ValidationError) → AreErrors root o es.items → ErrorsOf v limit call (errors_in es)
   all_errors_say call later is (Assumed results f) (tree, made, whole, same) es (o, shared, answer) =
       let m = are_few v call Step first start errors_in (errors_of v) is limit tree f made whole in
@@ -223,7 +223,7 @@ module _ (v : Sense) (follows : Follows v) (root : Data) {S : Type 0} (Step : S 
   accepts_is : (ms : List Assumptions) → none_has v ms ≡ all_accept v ms
   accepts_is ms = all_same (λ m. is_nil (errors_of v m)) (verdict_of v) ms (λ m. nil_agrees (v.says (completion_of m)) (follows.agrees (completion_of m)))
 
-  -- no error is given exactly where the call's sentence says yes
+  -- there is no error exactly if the call says yes
   pub none_says : (call : Call) → IsRunOf v call Step first start none_in (λ m. is_nil (errors_of v m)) → (o : Outcomes (Vec ValidationError)) → AreOutcomes Step first start limit end o → (es : Vec ValidationError) → AreErrors root o es.items → VerdictSays v limit call (none_in es)
   none_says call is (Assumed results f) (tree, made, whole, same) es (o, shared, answer) =
       let m = are_few v call Step first start none_in (λ x. is_nil (errors_of v x)) is limit tree f made whole in
@@ -235,7 +235,7 @@ module _ (v : Sense) (follows : Follows v) (root : Data) {S : Type 0} (Step : S 
   none_says call is (Undecided f) (tree, made, cut) es one =
       (λ d. absurd (not_decided v call Step first start none_in (λ x. is_nil (errors_of v x)) is limit tree f made cut d), λ n. ap is_empty one.alone)
 
--- ---- which errors are given
+-- ---- the errors that are returned
 
 shared_each : (P : ValidationError → Type 0) (results : List (List ValidationError)) (xs : List ValidationError) → All (All P) results → IsSharedBy results (Some xs) → All P xs
 shared_each P [] xs h e = let none : xs ≡ [] = cc in subst (All P) (sym none) (All-nil P)

@@ -1,4 +1,4 @@
--- What the search over a sense's runs answers, that is what the sense's call says.
+-- The result of the search over a sense's runs is what the sense's call says.
 use Rattle.std.proofs.Common.{◌≡◌, ℕ, ◌+◌, ◌*◌, ◌≤◌, List, [], ◌∷◌, ◌++◌, Bool, true, false, ◌&&◌, sym, ◌∙◌, ap, subst, refl, arith, length, map}
 use Rattle.std.specs.Prelude.{◌↔◌}
 use Rattle.std.specs.List.{list_all}
@@ -29,7 +29,7 @@ false-true : false ≡ true → ⊥
 false-true e = cc e
 
 module _ (v : Sense) (call : Call) {S T V : Type 0} (Step : S → Remembered → Remembered → T → S → Type 0) (first : Remembered) (start : S) (view : T → V) (says : Assumptions → V) (is : IsRunOf v call Step first start view says) where
-  -- the members, and that they are few enough
+  -- the members, and that there are few enough of them
   pub record AreFew (limit : ℕ) (tree : Tree T) : Type 0 where
     pub cover : Cover v call [] (lists_of [] tree)
     pub same : map view (results_of tree) ≡ map says (lists_of [] tree)

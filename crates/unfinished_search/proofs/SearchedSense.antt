@@ -22,7 +22,7 @@ none_or_some zero = inl refl
 none_or_some (suc n) = inr (omega arith)
 
 module _ (v : Sense) (call : Call) (most : ℕ) where
-  -- sites that a run gives which the call makes
+  -- sites of runs that the call makes
   abbrev pub Sited : List Met → Type 0
   Sited ms = (as' : Assumptions) × IsMade v most call as' × ((m : Met) → Contains ms m → Contains (v.meets call as') m × (is_some m.site.located ≡ true))
 
@@ -41,7 +41,8 @@ module _ (v : Sense) (call : Call) where
   none_from : (as' : Assumptions) (r : Remembered) → Remembers v call as' r → r.unassumed ≡ None → branch_at v call as' ≡ None
   none_from as' r h e = sym h.first ∙ ap (option_map (λ (g : Failure). g.met)) e
 
-  -- the sites of both sides of a branching: where something waits of its no, nothing of its yes is run
+  -- the sites of both sides of a branching; if something of its no still waits, then nothing of its
+  -- yes is run
   two_sides : {T : Type 0} (most n : ℕ) (a b : Tree T) (rest : List Assumptions) → AllSited v call most (sites a)
       → (waiting a ≡ 0 → AllSited v call most (sites b) × (waiting b ≡ 0 → waiting_after v call ((suc n + runs a) + runs b) ≡ rest))
       → (0 < waiting a → b ≡ unrun)
@@ -77,8 +78,8 @@ module _ (v : Sense) (call : Call) where
         let q = grown_part (assuming f.met true as') g.2 b end (λ e'. cc e') (further f.met true run e) at2 g.6 in
         splits f.met e p q
 
-    -- where its list waits first, and so many runs are left for it, each of its sites is of a run that is made; once all of it is run, the
-    -- rest waits
+    -- if its list waits first, and this many runs are left for it, then each of its sites belongs
+    -- to a run that is made; once all of it is run, the rest waits
     module _ (most : ℕ) where
       grown_sited : (as' : Assumptions) (s : S) (tree : Tree T) (end : S) → ¬ (as' ≡ []) → IsRun v call as' → Reaches Step start s → Grows Step as' s tree end
           → (n : ℕ) (rest : List Assumptions) → waiting_after v call n ≡ as' ∷ rest → IsInOrder tree → n + runs tree ≤ most
@@ -119,7 +120,7 @@ module _ (v : Sense) (call : Call) where
           same = map_append view (results_of a) (results_of b) ∙ ap₂ (λ x y. x ++ y) p.same q.same ∙ sym (map_append says (lists_of (assuming f.met false as') a) (lists_of (assuming f.met true as') b));
         }
 
-    -- each result is one that a further run gave, which met no match but those assumed
+    -- each result is that of a further run which met no match but the assumed ones
     module _ (Q : T → Type 0) (each : (s : S) (as' : Assumptions) (r : Remembered) (result : T) (end : S) → Reaches Step start s → IsRun v call as' → ¬ (as' ≡ []) → Step s (starting as') r result end → r.unassumed ≡ None → Q result) where
       grown_each : (as' : Assumptions) (s : S) (tree : Tree T) (end : S) → ¬ (as' ≡ []) → IsRun v call as' → Reaches Step start s → Grows Step as' s tree end → All Q (results_of tree)
       grown_each as' s unrun end some run at g = All-nil Q
@@ -132,7 +133,7 @@ module _ (v : Sense) (call : Call) where
           let q = grown_each (assuming f.met true as') g.2 b end (λ e'. cc e') (further f.met true run e) at2 g.6 in
           All-append Q (results_of a) (results_of b) p q
 
-    -- the same of the call's tree
+    -- the same for the call's tree
     from_first : (as' : Assumptions) (s s2 end : S) (f : Failure) (a b : Tree T) → as' ≡ []
         → Grows Step (assuming f.met false as') s a s2 → Grows Step (assuming f.met true as') s2 b end
         → Grows Step (assuming f.met false []) s a s2 × Grows Step (assuming f.met true []) s2 b end
@@ -153,7 +154,7 @@ module _ (v : Sense) (call : Call) where
     some_run (member r result) end g = absurd g
     some_run (branch r f a b) end g = omega arith
 
-    -- each site is of a run that the call makes
+    -- each site belongs to a run that the call makes
     pub call_sited : (most : ℕ) (tree : Tree T) (end : S) → GrowsFrom Step first start tree end → IsInOrder tree → runs tree ≤ most → AllSited v call most (sites tree)
     call_sited most unrun end g order few = absurd g
     call_sited most (member r result) end g order few = absurd g

@@ -1,4 +1,4 @@
--- What all results share.
+-- The errors that all results share.
 use Rattle.std.proofs.Common.{◌≡◌, List, [], ◌∷◌, ◌++◌, ap, map, refl}
 use Rattle.std.specs.Prelude.{Option}
 use Rattle.std.specs.List.{list_all}

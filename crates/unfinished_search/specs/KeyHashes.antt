@@ -1,4 +1,4 @@
--- The hash of an error's key: of its three paths, then its text.
+-- The hash of an error's key: of its three paths, then of its text.
 use Rattle.std.specs.Prelude.{string_bytes, ℕ}
 use Rattle.std.specs.Hash.FoldHasher.{finish, initial, write}
 use Rattle.theory_definitions.specs.Instance.{Text}

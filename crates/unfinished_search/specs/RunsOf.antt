@@ -12,10 +12,10 @@ abbrev pub has_none : Sense → Assumptions → Bool
 has_none v = λ as'. is_nil (errors_of v as')
 
 module _ {S T V : Type 0} (Step : S → Remembered → Remembered → T → S → Type 0) (first : Remembered) (start : S) (seen : T → V) (says : Sense → Assumptions → V) where
-  -- of each whose runs these are, as far as this is seen of their results
+  -- a fact about each sense and call that these runs belong to, as far as their results are seen
   abbrev pub OfRuns : (Sense → Call → Type 0) → Type 0
   OfRuns Holds = (v : Sense) (call : Call) → IsRunOf v call Step first start seen (says v) → Holds v call
 
-  -- of those that follow
+  -- the same, for the senses that follow
   abbrev pub OfFollowed : (Sense → Call → Type 0) → Type 0
   OfFollowed Holds = (v : Sense) (call : Call) → Follows v → IsRunOf v call Step first start seen (says v) → Holds v call

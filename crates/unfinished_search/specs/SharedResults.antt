@@ -10,7 +10,7 @@ use Rattle.theory_meaning.specs.Searched.{failure_error}
 use Rattle.theory_definitions.specs.Unfinished.{Failure}
 use Rattle.schema_reports.specs.declared.reports.ValidationError.{ValidationError}
 
--- the same in instance path, schema path, evaluation path and text
+-- the two errors have the same instance path, schema path, evaluation path and text
 abbrev pub same_key : ValidationError → ValidationError → Bool
 same_key a b = same_error (error_of true a) (error_of true b)
 
@@ -20,7 +20,7 @@ has_key es e = list_any (same_key e) es
 abbrev pub in_each_of : List (List ValidationError) → ValidationError → Bool
 in_each_of others e = list_all (λ es. has_key es e) others
 
--- those of the last result whose key is in each other one, in its order
+-- the errors of the last result whose key is in each of the others, in its order
 abbrev pub shared_among : List (List ValidationError) → List ValidationError → List ValidationError
 shared_among others last = filter (in_each_of others) last
 
@@ -28,14 +28,15 @@ abbrev pub is_empty : List ValidationError → Bool
 is_empty [] = true
 is_empty (e ∷ es) = false
 
--- the failure as one error, whose instance is what stands at its place
+-- the failure as the only error, whose instance is the one at its place, or the root if there is
+-- none
 pub record OneError (root : Data) (f : Failure) (es : List ValidationError) : Type 0 where
   pub error : ValidationError
   pub alone : es ≡ error ∷ []
   pub is : error_of true error ≡ failure_error f
   pub instance : subject_of error.instance ≡ unwrap_or (subject_at root error.place) (a_value root)
 
--- the shared errors, or that there is none although some result has one
+-- the shared errors, or none if there is no shared error although some result has one
 abbrev pub or_none : List ValidationError → Bool → Option (List ValidationError)
 or_none (e ∷ es) empty = Some (e ∷ es)
 or_none [] true = Some []
@@ -46,7 +47,7 @@ OfSome results answer =
     (others : List (List ValidationError)) × (last : List ValidationError) × (results ≡ others ++ last ∷ [])
     × (answer ≡ or_none (shared_among others last) (list_all is_empty (others ++ last ∷ [])))
 
--- of no result, no error
+-- the errors that the results share; without results there are none
 abbrev pub IsSharedBy : List (List ValidationError) → Option (List ValidationError) → Type 0
 IsSharedBy [] answer = answer ≡ Some []
 IsSharedBy (r ∷ rs) answer = OfSome (r ∷ rs) answer
@@ -55,6 +56,6 @@ abbrev pub OrFailure : Data → Failure → Option (List ValidationError) → Li
 OrFailure root f (Some es) answer = answer ≡ es
 OrFailure root f None answer = OneError root f answer
 
--- the shared errors; where there is none although some result has one, the failure
+-- the shared errors, or the failure if there is no shared error although some result has one
 abbrev pub AreShared : Data → Failure → List (List ValidationError) → List ValidationError → Type 0
 AreShared root f results answer = (o : Option (List ValidationError)) × IsSharedBy results o × OrFailure root f o answer

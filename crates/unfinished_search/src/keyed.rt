@@ -1,4 +1,6 @@
-//! The errors of a result, found by hash. An error's key is its three paths and its text.
+//! The errors of a result, indexed by hash.
+//!
+//! The key of an error is its three paths and its text.
 ghost use Rattle.std.specs.Prelude.{◌≡◌, IfOk, bytes_eq, map, nat_eq};
 ghost use Rattle.schema_reports.specs.Showing.{Yields};
 ghost use Rattle.std.specs.HashMap.{get};
@@ -16,11 +18,11 @@ use std::hash::{FoldHasher, Hasher};
 use std::marker::Model;
 use unfinished_matches::positions::add_position;
 
-/// The errors of a result in their order. Contracts see the list.
+/// The errors of a result, in order. Contracts see the list.
 #[derive(Drop)]
 pub(super) struct KeyedErrors<'i> {
     errors: Vec<ValidationError<'i>>,
-    // For each hash of a key the first position that has it.
+    // The first position of each hash of a key.
     positions: HashMap<u64, usize>,
 }
 
@@ -42,7 +44,6 @@ impl<'i> Model for KeyedErrors<'i> {
     ghost invariant = { λ k. IsIndexed (map key_hash k.errors.items) (get nat_eq k.positions) };
 }
 
-// The hash of an error's key.
 #[tactic(auto, unfolding(crate::specs::KeyHashes::hash_of_key))]
 fn key_hash(alloc: Global, error: &ValidationError<'_>) -> Result<u64, OutOfMemory>
     ensures hash { Yields result (key_hash error.now) }
@@ -57,7 +58,7 @@ fn key_hash(alloc: Global, error: &ValidationError<'_>) -> Result<u64, OutOfMemo
     Ok(hasher.finish())
 }
 
-// The positions of these errors by the hashes of their keys.
+// Returns the positions of these errors by the hashes of their keys.
 fn positions(
     alloc: Global,
     errors: &[ValidationError<'_>],
@@ -71,7 +72,7 @@ fn positions(
     Ok(positions)
 }
 
-// Whether two places have one pointer: two that differ may, since a name's place is shown by its object's pointer.
+// Different places may have one pointer, since the place of a name has the pointer of its object.
 fn have_one_pointer(alloc: Global, one: &Place<'_>, other: &Place<'_>) -> Result<bool, OutOfMemory>
     ensures same { Yields result (bytes_eq (pointer_to one.now) (pointer_to other.now)) }
 {
@@ -85,7 +86,7 @@ fn have_one_pointer(alloc: Global, one: &Place<'_>, other: &Place<'_>) -> Result
     Ok(same)
 }
 
-// Whether two errors are the same in all paths and the text. What is cheap is compared first.
+// Compares what is cheap first.
 fn is_same_key(
     alloc: Global,
     one: &ValidationError<'_>,
@@ -102,7 +103,6 @@ fn is_same_key(
     have_one_pointer(alloc, &one.place, &other.place)
 }
 
-// Whether one of the errors is the same.
 fn has_key_of(
     alloc: Global,
     errors: &[ValidationError<'_>],
@@ -119,7 +119,6 @@ fn has_key_of(
 }
 
 impl<'i> KeyedErrors<'i> {
-    // These errors; it fails only if memory does.
     fn new(alloc: Global, errors: Vec<ValidationError<'i>>) -> Result<KeyedErrors<'i>, OutOfMemory>
         ensures same { Yields result errors.entry.items }
     {
@@ -132,7 +131,7 @@ impl<'i> KeyedErrors<'i> {
         }
     }
 
-    // Whether one of the errors is the same as this one, whose key has this hash.
+    // Returns whether one of the errors has the same key as this one, whose key has this hash.
     fn contains(
         &self,
         alloc: Global,
@@ -155,7 +154,7 @@ impl<'i> KeyedErrors<'i> {
     }
 }
 
-/// The errors of each result, found by their keys.
+/// Indexes the errors of each result by their keys.
 pub(super) fn keyed<'i>(
     alloc: Global,
     results: Vec<Vec<ValidationError<'i>>>,
@@ -169,7 +168,7 @@ pub(super) fn keyed<'i>(
     Ok(keyed)
 }
 
-/// Whether each result has such an error.
+/// Returns whether each result has an error with the same key.
 pub(super) fn is_in_each(
     alloc: Global,
     results: &[KeyedErrors<'_>],

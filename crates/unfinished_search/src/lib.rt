@@ -1,5 +1,6 @@
-//! Matches that the matcher could not finish, and the search over what they may come out as. What a run meets and assumes is
-//! `unfinished_matches`, and handed on.
+//! The search over the outcomes of matches that the matcher could not finish.
+//!
+//! `unfinished_matches` has what a run meets and assumes. Some of it is re-exported here.
 #![tactic(auto)]
 
 mod keyed;

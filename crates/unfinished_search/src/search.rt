@@ -1,4 +1,4 @@
-//! The search over what unfinished matches may come out as.
+//! The search over the outcomes of unfinished matches.
 ghost use Rattle.std.specs.Prelude.{[], IfOk, IsSome, None, Ok, Some, false, true, ◌++◌, ◌∷◌, ◌≡◌, ◌≤◌, OnOk};
 ghost use Rattle.theory_definitions.specs.Cover.{assuming};
 ghost use Rattle.theory_meaning.specs.Search.{UsesBelow};
@@ -10,23 +10,26 @@ use std::alloc::Global;
 use unfinished_matches::assumptions::{AssumedOutcomes, MatchAssumptions};
 use unfinished_matches::site::{MatchFailure, UnfinishedMatch};
 
-/// How many runs a call makes at most, with the first one, where nobody says another number: at most 32 combinations of outcomes
-/// are told apart by then.
+/// The default limit on the number of runs that a call makes, including the first one.
+///
+/// It suffices for 32 combinations of outcomes.
 pub const MAX_ASSUMED_RUNS: u32 = 64;
 
-/// What a search found: the results of its runs, or that there are more combinations of outcomes than it may try.
+/// The result of a search.
 #[derive(Drop)]
 pub enum Outcomes<'i, T> {
-    /// One result for each combination of outcomes, and the failure to report if they share no error.
+    /// One result for each combination of outcomes.
+    ///
+    /// The failure is reported if the results share no error.
     Assumed {
         results: Vec<T>,
         failure: MatchFailure<'i>,
     },
-    /// There are too many combinations: the failure to report.
+    /// There are more combinations than the search may try. The failure is reported.
     Undecided(MatchFailure<'i>),
 }
 
-// Pushes the list that assumes an outcome of the match too.
+// Pushes the list that also assumes this outcome of the match.
 fn push_one(
     alloc: Global,
     pending: &mut Vec<AssumedOutcomes>,
@@ -42,7 +45,7 @@ fn push_one(
     Ok(())
 }
 
-// Pushes the two lists that assume an outcome of the match, yes below no.
+// Pushes the two lists that also assume an outcome of the match: first yes, then no.
 fn push_both(
     alloc: Global,
     pending: &mut Vec<AssumedOutcomes>,
@@ -56,7 +59,9 @@ fn push_both(
     push_one(alloc, pending, assumed, unfinished, false)
 }
 
-// The two lists that the first run calls for, and the failure: the match that it met, at the sites that it remembers.
+// Returns the two lists that follow from the first run, and the failure.
+//
+// The failure is the match that the run met, located by the sites that it remembers.
 fn begin<'i>(
     alloc: Global,
     first: MatchAssumptions<'i>,
@@ -82,8 +87,10 @@ fn begin<'i>(
     }
 }
 
-// The match that a run met and did not assume; the failure stands at the first site of its own match that has an
-// instance path, of those that the run remembers too.
+// Returns the match that the run met and did not assume.
+//
+// If the failure has no instance path, it moves to the first site of its match that the run
+// remembers.
 fn take_met<'i>(
     met: MatchAssumptions<'i>,
     failure: &mut MatchFailure<'i>,
@@ -97,7 +104,6 @@ fn take_met<'i>(
     unassumed
 }
 
-// Makes the run that assumes these outcomes.
 fn run_from<
     'i,
     T,
@@ -116,8 +122,10 @@ fn run_from<
     run(start)
 }
 
-// Takes what the run gave that assumed these outcomes: the sites that it met locate the failure; where it met a match
-// that it did not assume, the two lists are pushed that assume an outcome of it too; else its result is one of the search.
+// Processes what a run returned that assumed these outcomes.
+//
+// Its sites locate the failure. If it met a match that it did not assume, then the two lists that
+// also assume an outcome of that match are pushed; otherwise its result is one of the search.
 fn take<'i, T: Drop>(
     alloc: Global,
     outcomes: &AssumedOutcomes,
@@ -149,9 +157,15 @@ fn take<'i, T: Drop>(
     }
 }
 
-/// Makes the runs that the unfinished matches call for, at most so many, the first one among them, also where it fails. The first
-/// run has been made, and met such a match. Where it finds outcomes, it used the run for these runs alone, and not once after the
-/// last of them. Fails if a run fails, or if memory cannot be allocated.
+/// Makes the runs that the unfinished matches call for, but at most `run_limit` runs.
+///
+/// The limit includes the first run, which has been made and has met such a match, and holds also
+/// if a run fails. If the result is `Assumed`, then `run` was called for these runs only, and not
+/// again after the last of them.
+///
+/// # Errors
+///
+/// Out of memory, also if a run is.
 pub fn assume_within<
     'i,
     T: Drop,
@@ -202,10 +216,15 @@ pub fn assume_within<
     Ok(Outcomes::Assumed { results, failure })
 }
 
-/// Runs once for each combination of outcomes of the unfinished matches, and returns the results, or `Undecided` after so many runs
-/// as the limit says, the first one among them, also where it fails. The first run has been made, and met such a match. Where
-/// it finds outcomes, it used the run for these runs alone, and not once after the last of them. Fails if a run fails, or if memory
-/// cannot be allocated.
+/// Runs once for each combination of outcomes, and returns the results.
+///
+/// Returns `Undecided` if that takes more than `run_limit` runs, including the first one, which has
+/// been made and has met an unfinished match. The limit holds also if a run fails. If the result is
+/// `Assumed`, then `run` was called for these runs only, and not again after the last of them.
+///
+/// # Errors
+///
+/// Out of memory, also if a run is.
 pub fn assume_each_outcome<
     'i,
     T: Drop,

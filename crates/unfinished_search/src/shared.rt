@@ -14,7 +14,6 @@ use serde_json::Value;
 use std::alloc::Global;
 use unfinished_matches::site::MatchFailure;
 
-// Whether all are yes.
 fn all_valid(results: &[bool]) -> bool
     ensures { result ≡ list_all (λ b. b) results.now }
 {
@@ -26,7 +25,9 @@ fn all_valid(results: &[bool]) -> bool
     true
 }
 
-/// Returns `true` if every result is `true`, and `false` if there were too many combinations.
+/// Returns `true` if every result is `true`.
+///
+/// Returns `false` if there were too many combinations.
 pub fn validity(outcomes: Outcomes<'_, bool>) -> bool
     ensures yes { result ≡ is_yes outcomes.entry }
 {
@@ -42,7 +43,6 @@ pub fn validity(outcomes: Outcomes<'_, bool>) -> bool
     }
 }
 
-// Whether no result has an error.
 fn are_empty(results: &[Vec<ValidationError<'_>>]) -> bool
     ensures { result ≡ list_all is_empty (map (λ r. r.items) results.now) }
 {
@@ -54,7 +54,7 @@ fn are_empty(results: &[Vec<ValidationError<'_>>]) -> bool
     true
 }
 
-// Pushes the error, where each of the results has its key.
+// Pushes the error if each of the results has its key.
 fn keep_shared<'i>(
     alloc: Global,
     kept: &mut Vec<ValidationError<'i>>,
@@ -71,7 +71,7 @@ fn keep_shared<'i>(
     Ok(())
 }
 
-// Those of the errors whose key each of the results has, in their order.
+// Returns those of the errors whose key each of the results has, in order.
 fn kept<'i>(
     alloc: Global,
     errors: Vec<ValidationError<'i>>,
@@ -88,14 +88,13 @@ fn kept<'i>(
     Ok(kept)
 }
 
-// Whether no result has an error, the last one among them.
 fn all_empty(others: &[Vec<ValidationError<'_>>], last: &[ValidationError<'_>]) -> bool
     ensures { result ≡ list_all is_empty (map (λ r. r.items) others.now ++ last.now ∷ []) }
 {
     are_empty(others) && last.is_empty()
 }
 
-// These errors; or none where there is none although some result has one.
+// Returns `None` if no error is shared although some result has one.
 fn or_none<'i>(shared: Vec<ValidationError<'i>>, empty: bool) -> Option<Vec<ValidationError<'i>>>
     ensures { option_map (λ r. r.items) result ≡ or_none shared.entry.items empty }
 {
@@ -106,7 +105,7 @@ fn or_none<'i>(shared: Vec<ValidationError<'i>>, empty: bool) -> Option<Vec<Vali
     }
 }
 
-// The errors that all results share, or none where they share none and some result has one.
+// Returns the errors that all results share, or `None` if they share none although one has errors.
 fn shared_errors<'i>(
     alloc: Global,
     results: Vec<Vec<ValidationError<'i>>>,
@@ -123,7 +122,7 @@ fn shared_errors<'i>(
     Ok(or_none(shared, empty))
 }
 
-// The failure as the only error.
+// Returns the failure as the only error.
 fn failure_alone<'i>(
     alloc: Global,
     failure: MatchFailure<'i>,
@@ -137,7 +136,7 @@ fn failure_alone<'i>(
     Ok(alone)
 }
 
-// The errors that all results share, or the failure alone where they share none and some result has one.
+// Returns the shared errors, or the failure alone if none are shared although a result has errors.
 fn shared_or_failure<'i>(
     alloc: Global,
     results: Vec<Vec<ValidationError<'i>>>,
@@ -159,8 +158,10 @@ fn shared_or_failure<'i>(
     }
 }
 
-/// Returns the errors that every result has, in the order of the last result. If there is none although some result has an
-/// error, or if there were too many combinations, it returns the failure alone. Fails only if memory cannot be allocated.
+/// Returns the errors that every result has, in the order of the last result.
+///
+/// Returns the failure alone if there are none although some result has an error, or if there were
+/// too many combinations.
 pub fn errors<'i>(
     alloc: Global,
     outcomes: Outcomes<'i, Vec<ValidationError<'i>>>,

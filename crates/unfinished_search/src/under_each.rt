@@ -1,4 +1,7 @@
-//! What a call says over a search: of a sense whose runs these are, what every completion says.
+//! What a call returns that searches over the outcomes of unfinished matches.
+//!
+//! Its answer is what the sense says under every combination of outcomes, if the sense's runs are
+//! those of the search.
 ghost use Rattle.std.specs.Prelude.{Bool, IfOk, IsSome, true, ◌↔◌, ◌≡◌, ◌≤◌, OnOk};
 ghost use Rattle.serde_json.specs.View.{view};
 ghost use Rattle.theory_definitions.specs.Cover.{Call, Decides, Sense, validate};
@@ -21,10 +24,16 @@ use serde_json::Value;
 use std::alloc::Global;
 use unfinished_matches::assumptions::MatchAssumptions;
 
-/// Returns `true` if the instance is valid however the unfinished matches come out, and `false` if it is not, or if the call
-/// cannot decide within so many runs, the first one among them. The first run has been made, and met an unfinished match. With it no
-/// more runs are made than the limit says, also where it fails. It makes as many as the call does for the sense whose runs these are,
-/// and leaves the run as they do, one after another. Fails if a run fails, or if memory cannot be allocated.
+/// Returns whether the instance is valid however the unfinished matches come out.
+///
+/// Also returns `false` if the call cannot decide within `run_limit` runs. The limit includes the
+/// first run, which has been made and has met an unfinished match, and holds also if a run fails.
+/// The function makes as many runs as the call does for the sense that these runs belong to, and
+/// leaves `run` as they do, one after another.
+///
+/// # Errors
+///
+/// Out of memory, also if a run is.
 pub fn validity_under_each<
     'i,
     F: FnMut(MatchAssumptions<'i>) -> Result<(MatchAssumptions<'i>, bool), OutOfMemory>,
@@ -49,11 +58,17 @@ pub fn validity_under_each<
     Ok(validity(assume_each_outcome(alloc, run, first, run_limit)?))
 }
 
-/// Returns the errors that the instance has however the unfinished matches come out; if there is no such error although the
-/// instance is not always valid, or if the call cannot decide within so many runs, the first one among them, it returns one failure.
-/// The first run has been made, and met an unfinished match. With it no more runs are made than the limit says, also where it fails.
-/// It makes as many as the call does for the sense whose runs these are, and leaves the run as they do, one after another. Fails if a
-/// run fails, or if memory cannot be allocated.
+/// Returns the errors that the instance has however the unfinished matches come out.
+///
+/// Returns one failure if there is no such error although the instance is not always valid, or if
+/// the call cannot decide within `run_limit` runs. The limit includes the first run, which has been
+/// made and has met an unfinished match, and holds also if a run fails. The function makes as many
+/// runs as the call does for the sense that these runs belong to, and leaves `run` as they do, one
+/// after another.
+///
+/// # Errors
+///
+/// Out of memory, also if a run is.
 pub fn errors_under_each<
     'i,
     F: FnMut(
