@@ -10,9 +10,9 @@ use std::alloc::Global;
 use unfinished_matches::assumptions::{AssumedOutcomes, MatchAssumptions};
 use unfinished_matches::site::{MatchFailure, UnfinishedMatch};
 
-/// The default limit on the number of runs that a call makes, including the first one.
+/// The default limit on the number of runs that a call makes.
 ///
-/// It suffices for 32 combinations of outcomes.
+/// It includes the first run, and suffices for 32 combinations of outcomes.
 pub const MAX_ASSUMED_RUNS: u32 = 64;
 
 /// The result of a search.
@@ -157,7 +157,7 @@ fn take<'i, T: Drop>(
     }
 }
 
-/// Makes the runs that the unfinished matches call for, but at most `run_limit` runs.
+/// Makes the runs that unfinished matches call for, but at most `run_limit` runs.
 ///
 /// The limit includes the first run, which has been made and has met such a match, and holds also
 /// if a run fails. If the result is `Assumed`, then `run` was called for these runs only, and not

@@ -58,7 +58,7 @@ pub fn validity_under_each<
     Ok(validity(assume_each_outcome(alloc, run, first, run_limit)?))
 }
 
-/// Returns the errors that the instance has however the unfinished matches come out.
+/// Returns the errors of the instance that it has however unfinished matches end.
 ///
 /// Returns one failure if there is no such error although the instance is not always valid, or if
 /// the call cannot decide within `run_limit` runs. The limit includes the first run, which has been
