@@ -1,4 +1,4 @@
--- Questions that are asked one after the other are those that are told at once.
+-- Questions that are asked one after the other are those that are declared up front.
 use Rattle.std.proofs.Common.{◌≡◌, ◌∙◌, ◌-◌, ◌+◌, ◌∷◌, List, ap, length, map, min, refl, suc, zero, ℕ}
 use Rattle.serde_json.specs.Data.{array}
 use Rattle.serde_json.specs.View.{items_view}
@@ -17,10 +17,10 @@ module _ (s : Subject) (items : List Value) (is : s ≡ a_value (array (items_vi
   count : item_count s ≡ length items
   count = ap item_count is ∙ items_count_length items
 
-  -- the first child, at each item from a number on
+  -- the first child, at each item from an index on
   pub first_at_each : (n : ℕ) → each_from first_at_item n (item_count s - n) ≡ map (child_at 0) (numbers_from n (length items - n))
   first_at_each n = numbered_alike first_at_item n (item_count s - n) ∙ ap (λ (m : ℕ). map (child_at 0) (numbers_from n (m - n))) count
 
-  -- each of so many children, at the item of its number
+  -- each of this many children, at the item with its index
   pub each_at_its_own : (n : ℕ) → each_from child_at_item 0 (min n (item_count s)) ≡ map (λ k. child_at k k) (numbers_from 0 (min n (length items)))
   each_at_its_own n = numbered_alike child_at_item 0 (min n (item_count s)) ∙ ap (λ (m : ℕ). map (λ k. child_at k k) (numbers_from 0 (min n m))) count

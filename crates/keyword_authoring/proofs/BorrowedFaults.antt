@@ -1,4 +1,4 @@
--- Faults that are passed on as they were borrowed.
+-- Faults that are passed on with the places that they borrow.
 use Rattle.std.proofs.Common.{List, [], ◌∷◌, ◌++◌, map, All}
 use Rattle.std.proofs.lemmas.List.Elements.{All-append, All-cons, All-map, All-nil, All-push}
 use Rattle.serde_json.specs.Data.{Data}

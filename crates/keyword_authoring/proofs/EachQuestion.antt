@@ -1,4 +1,4 @@
--- Questions that are numbered one after the other.
+-- Questions with consecutive numbers.
 use Rattle.std.proofs.Common.{ℕ, zero, suc, ◌≡◌, ◌∙◌, ◌≤◌, ◌<◌, ◌+◌, Some, None, length, ap, sym, arith, add-zero}
 use Rattle.theory_definitions.specs.Keywords.{Question}
 use Rattle.keyword_authoring.specs.Ways.{nth}

@@ -1,4 +1,4 @@
--- How many members an object has, and how many items a list.
+-- The number of members of an object, and of items of a list.
 use Rattle.std.proofs.Common.{suc, ◌≡◌, ◌∙◌, List, [], ◌∷◌, length, ap, refl, add-one}
 use Rattle.serde_json.specs.View.{items_view, members_view}
 use Rattle.serde_json.specs.declared.value.Value.{Value}

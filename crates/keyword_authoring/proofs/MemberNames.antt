@@ -1,4 +1,4 @@
--- The member of a name, as `serde_json` finds it.
+-- The member with a name, as `serde_json` finds it.
 use Rattle.std.proofs.Common.{false, ◌≡◌, ◌∙◌, Option, Some, None, is_some, option_and_then, option_map, ap, sym, refl, cond}
 use Rattle.std.specs.Ordering.{nat_cmp, is_eq, match_ordering}
 use Rattle.std.specs.declared.cmp.Ordering.{Ordering}

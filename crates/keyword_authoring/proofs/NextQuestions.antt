@@ -1,4 +1,4 @@
--- The next question, where there is one.
+-- The next question, if there is one.
 use Rattle.std.proofs.Common.{map, ℕ, zero, suc, drop, add-zero, ◌≡◌, ◌∙◌, ◌≤◌, ◌+◌, Bool, true, false, List, [], ◌∷◌, Option, None, length, ap, sym, refl, arith}
 use Rattle.theory_definitions.specs.Instance.{Subject, Text}
 use Rattle.theory_definitions.specs.Keywords.{Answer, Question, Reply, Turn}
@@ -28,7 +28,7 @@ pub ended_at_limit : (qs : List Question) (i : ℕ) (r : Reply) → length qs �
 ended_at_limit qs i r h = let none : next_if (goes_on r) (nth (i + 1) qs) ≡ None = ap (next_if (goes_on r)) (nth-past (i + 1) qs (omega arith)) ∙ next_if-none (goes_on r) in
     record { stage_is = λ m. ap (stage_at (i + 1)) none; step_is = λ m. ap (asked m) none }
 
--- a turn that goes to the place
+-- a turn that goes to this position
 pub turned : (qs : List Question) (run after : Progress) (a b : Answer) (r : Reply) (place : Option ℕ) → IsNext qs run.stage r place
     → after ≡ record run { stage = stage_of qs place } → b ≡ answer_after (passes_on qs) run.mode run.stage a r → way_turn (passes_on qs) (run, a) r ≡ (after, b)
 turned qs run after a b r place is_next goes answers =
@@ -39,7 +39,7 @@ pub stepped : (qs : List Question) (run : Progress) (a : Answer) (r : Reply) (pl
     → step ≡ asked run.mode (nth_at qs place) → way_step (passes_on qs) (run, a) r ≡ step
 stepped qs run a r place step is_next asks = is_next.step_is run.mode ∙ sym asks
 
--- ---- where some are there
+-- ---- if some are present
 
 next_some-none : (b : Bool) → next_some b None ≡ None
 next_some-none true = refl
@@ -52,14 +52,14 @@ pub some_ended_at_limit : (os : List (Option Question)) (i : ℕ) (r : Reply) �
 some_ended_at_limit os i r h = let none : next_some (goes_on r) (some_from (i + 1) os) ≡ None = ap (next_some (goes_on r)) (past_none os i h) ∙ next_some-none (goes_on r) in
     record { stage_is = λ m. ap stage_some none; step_is = λ m. ap (λ o. asked m (question_of o)) none }
 
--- it takes replies as any that passes on
+-- it takes replies as any run that passes on does
 same_answer : (os : List (Option Question)) (qs : List Question) (m : Mode) (stage : Stage) (a : Answer) (r : Reply) → answer_after (passes_some os) m stage a r ≡ answer_after (passes_on qs) m stage a r
 same_answer os qs m Begun a r = refl
 same_answer os qs m (Asked i) a r = refl
 same_answer os qs m (Counted i n) a r = refl
 same_answer os qs m Ended a r = refl
 
--- a turn that goes to the first that is there
+-- a turn that goes to the first that is present
 pub some_turned : (os : List (Option Question)) (run after : Progress) (a b : Answer) (r : Reply) (start : Option ℕ) → IsNextFrom os run.stage r start
     → after ≡ record run { stage = stage_some (some_at os start) } → b ≡ answer_after (passes_on []) run.mode run.stage a r → way_turn (passes_some os) (run, a) r ≡ (after, b)
 some_turned os run after a b r start is_next goes answers =

@@ -6,18 +6,18 @@ use Rattle.schema_traits.specs.FaultViews.{PassesBorrowed, errors_in, faults_in}
 use Rattle.schema_traits.specs.declared.keyword.Answer.{Answer}
 use Rattle.schema_traits.specs.declared.keyword.Reply.{Reply}
 
--- each error that the answer after passes on borrows its place, where each of the answer before does
+-- each error that the new answer passes on borrows its place, if each of the old answer does
 abbrev pub KeepsBorrows : Answer → Answer → Type 0
 KeepsBorrows old new = (root : Data) → All (PassesBorrowed root) (faults_in old) → All (PassesBorrowed root) (faults_in new)
 
--- so it is where each error of a reply borrows its place too
+-- the same, if each error of a reply borrows its place too
 abbrev pub TakesBorrows : Reply → Answer → Answer → Type 0
 TakesBorrows reply old new = (root : Data) → All (BorrowsItsPlace root) (errors_in reply) → All (PassesBorrowed root) (faults_in old) → All (PassesBorrowed root) (faults_in new)
 
--- the first where there is an answer
+-- if the result is `Ok`, then `KeepsBorrows`
 abbrev pub Retains : {A E : Type 0} → Answer → Answer → Result A E → Type 0
 Retains old new result = IfOk result (λ _. KeepsBorrows old new)
 
--- the second where there is an answer
+-- if the result is `Ok`, then `TakesBorrows`
 abbrev pub Borrows : {A E : Type 0} → Reply → Answer → Answer → Result A E → Type 0
 Borrows reply old new result = IfOk result (λ _. TakesBorrows reply old new)

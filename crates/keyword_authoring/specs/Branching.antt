@@ -1,10 +1,10 @@
--- A run that branches, by the numbers of its children, each of which is asked at the keyword's own place.
+-- A run that branches, by the numbers of its children, each asked at the keyword's own place.
 use Rattle.std.specs.Prelude.{Bool, Option, option_map, ℕ}
 use Rattle.theory_definitions.specs.Keywords.{Question}
 use Rattle.keyword_authoring.specs.Items.{child_here}
 use Rattle.keyword_authoring.specs.Ways.{Way, branches, chosen}
 
--- the first child is asked, and then the one of the branch that follows, where there is one
+-- the first child is asked, and then the child of the branch that follows, if there is one
 abbrev pub branches_here : Option ℕ → Option ℕ → Way
 branches_here accepted refused = branches (child_here 0) (option_map child_here accepted) (option_map child_here refused)
 

@@ -1,4 +1,4 @@
--- The faults of an answer whose first fault stays.
+-- The faults of an answer whose first fault is kept.
 use Rattle.std.specs.Prelude.{List, [], ◌∷◌}
 use Rattle.schema_traits.specs.declared.keyword.Fault.{Fault}
 

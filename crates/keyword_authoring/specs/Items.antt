@@ -1,4 +1,4 @@
--- The items of an instance that is a list, and questions that are numbered one after the other.
+-- The items of an instance that is a list, and questions with consecutive numbers.
 use Rattle.std.specs.Prelude.{Bool, List, None, Option, Some, [], false, is_some, suc, zero, ℕ, ◌+◌, ◌∷◌}
 use Rattle.serde_json.specs.Data.{Items, item, no_items}
 use Rattle.serde_json.specs.Find.{as_array}
@@ -17,12 +17,12 @@ abbrev pub is_list : Subject → Bool
 is_list (a_value d) = is_some (as_array d)
 is_list (a_name k) = false
 
--- none where it is no list
+-- the number of items, which is 0 if the instance is no list
 abbrev pub item_count : Subject → ℕ
 item_count (a_value d) = count_in (as_array d)
 item_count (a_name k) = 0
 
--- so many questions, from a number on
+-- this many questions, starting with a number
 abbrev pub each_from : (ℕ → Question) → ℕ → ℕ → List Question
 each_from f i zero = []
 each_from f i (suc n) = f i ∷ each_from f (i + 1) n

@@ -1,4 +1,4 @@
--- A turn of a run that asks a match, as the code takes it.
+-- A turn of a run that requests a match, as the code takes it.
 use Rattle.std.specs.Prelude.{Bool, ◌≡◌}
 use Rattle.theory_definitions.specs.Instance.{Text}
 use Rattle.theory_definitions.specs.Keywords.{Answer, Turn, done, match_text}
@@ -11,24 +11,26 @@ use Rattle.keyword_authoring.specs.declared.matching.MatchTurn.TheVariants.{Answ
 use Rattle.keyword_authoring.specs.declared.run.Progress.{Progress}
 use Rattle.keyword_authoring.specs.Ways.{asks_match, match_point, noted, unless, way_step, way_turn}
 
--- the step that it is
+-- the step that the turn takes
 abbrev pub match_turn : Pair → Mode → MatchTurn → Turn
 match_turn p m Asks = match_text p (match_point m p.pattern)
 match_turn p m (Answered b) = done
 match_turn p m Over = done
 
--- what it makes of an answer, with an error of this name with this text where the pattern does not match
+-- what the turn makes of an answer, with an error of this name and text if the pattern does not
+-- match
 abbrev pub match_answer : Text → Text → Mode → Answer → MatchTurn → Answer
 match_answer name text m a Asks = a
 match_answer name text m a (Answered b) = noted m name a (unless b text)
 match_answer name text m a Over = a
 
--- the run goes on as one that asks a match, whatever its pattern, its error and its answer so far
+-- the run goes on as one that requests a match, whatever its pattern, its error and its answer so
+-- far
 abbrev pub TurnsMatch : Progress → ReplyOfCall → MatchTurn → Progress → Type 0
 TurnsMatch run reply turn run' = (texts : Bool) (name text : Text) (p : Pair) (a : Answer) →
     way_turn (asks_match name p text) (run, a) (reply_of texts reply) ≡ (run', match_answer name text run.mode a turn)
 
--- and takes its step
+-- the turn takes the step of a run that requests a match
 abbrev pub StepsMatch : Progress → ReplyOfCall → MatchTurn → Type 0
 StepsMatch run reply turn = (texts : Bool) (name text : Text) (p : Pair) (a : Answer) →
     way_step (asks_match name p text) (run, a) (reply_of texts reply) ≡ match_turn p run.mode turn

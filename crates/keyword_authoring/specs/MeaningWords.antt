@@ -3,6 +3,7 @@ use Rattle.std.specs.Prelude.{Bool}
 use Rattle.theory_definitions.specs.Instance.{Subject}
 use Rattle.theory_definitions.specs.Matching.{Matching}
 
--- of every instance, whether texts are spoken of or not, and whichever texts the patterns match
+-- this holds of every instance, whether texts are covered or not, and whichever texts the patterns
+-- match
 abbrev pub Always : (Bool → Subject → Matching → Type 0) → Type 0
 Always Says = (texts : Bool) (s : Subject) (matches : Matching) → Says texts s matches

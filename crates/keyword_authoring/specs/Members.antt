@@ -12,7 +12,7 @@ abbrev pub is_object : Subject → Bool
 is_object (a_value d) = is_some (as_object d)
 is_object (a_name k) = false
 
--- the names of an object's members, in order; none where it is no object
+-- the names of an object's members, in order
 abbrev pub names_in : Members → List Text
 names_in no_members = []
 names_in (member k d ms) = k ∷ names_in ms
@@ -25,21 +25,21 @@ abbrev pub subject_names : Subject → List Text
 subject_names (a_value d) = names_of_any (as_object d)
 subject_names (a_name k) = []
 
--- how many members there are
+-- the number of members, which is 0 if the instance is no object
 abbrev pub member_count : Subject → ℕ
 member_count s = length (subject_names s)
 
--- the name of the member of a number; an empty one where there is none
+-- the name of the member with this number, or an empty text if there is none
 abbrev pub name_at : Subject → ℕ → Text
 name_at s n = slice_index_or (subject_names s) n []
 
 -- ---- questions
 
--- the only child, at the value of the member of a name
+-- the only child, at the value of the member with this name
 abbrev pub first_at_member : Text → Question
 first_at_member k = record { child = 0; below = down (to_member k) }
 
--- the only child, at a name
+-- the only child, at this name
 abbrev pub at_name : Text → Question
 at_name k = record { child = 0; below = down (to_name k) }
 
@@ -47,7 +47,7 @@ abbrev pub only_if : Bool → Question → Option Question
 only_if true q = Some q
 only_if false q = None
 
--- for each child the question at the member of its name, where that is present
+-- for each child the question at the member with its name, if that is present
 abbrev pub members_from : ℕ → List Text → Subject → List (Option Question)
 members_from i [] s = []
 members_from i (k ∷ ks) s = only_if (has_member k s) (record { child = i; below = down (to_member k) }) ∷ members_from (i + 1) ks s

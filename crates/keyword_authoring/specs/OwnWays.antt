@@ -1,5 +1,6 @@
--- Keywords of an author's own. The author says in which way a keyword goes about an instance, with its texts; where texts are
--- not spoken of, each counts as empty. All that the laws of keywords name follows from that.
+-- Keywords of an author's own. The author says of which kind a keyword is for an instance, with its
+-- texts; if texts are not covered, each counts as empty. All that the laws of keywords mention
+-- follows from that.
 use Rattle.std.proofs.Common.{◌≡◌, ◌∙◌, ℕ, Bool, List, false, refl, subst, sym, map}
 use Rattle.std.proofs.lemmas.List.Elements.{All-nil}
 use Rattle.theory_definitions.specs.Instance.{Subject, Text}
@@ -25,11 +26,11 @@ spoken_way texts (judges t qs) = judges (spoken_tally texts t) qs
 spoken_way texts (branches q one other) = branches q one other
 spoken_way texts (asks_match name p text) = asks_match name p (spoken texts text)
 
--- a keyword that asks nothing: one error of this name with this text where it does not hold
+-- a keyword that asks nothing: one error with this name and text if it refuses
 abbrev pub leaf_way : Text → Bool → Text → Way
 leaf_way name holds text = tells name (unless holds text)
 
--- a keyword that judges: one error where so many answers by yes are not what it wants
+-- a keyword that judges: one error if it refuses this number of accepted questions
 abbrev pub judge_way : Text → ℕ → Bool → (ℕ → Bool) → (ℕ → Text) → List Question → Way
 judge_way name enough shows accepts text qs =
     judges (record { name = name; enough = enough; told = λ n. unless (accepts n) (text n); shows = shows }) qs
@@ -54,7 +55,7 @@ module _ {M : Type 0} (way : M → Subject → Way) where
   abbrev pub spoken_ways : Bool → M → Subject → Way
   spoken_ways texts m s = spoken_way texts (way m s)
 
-  -- each keyword asks at places that are there
+  -- each keyword asks at places that exist
   abbrev pub AlwaysPresent : Type 0
   AlwaysPresent = (m : M) (s : Subject) → AsksPresent s (questions (way m s))
 
@@ -100,7 +101,7 @@ module _ {M : Type 0} (called : M → Text) (accepts : M → Subject → Bool) (
   leaf_present m s = All-nil _
 
 module _ {M : Type 0} (called : M → Text) (error_texts : M → Subject → List Text) where
-  -- errors of the keyword's name with these texts, in order
+  -- errors with the keyword's name and these texts, in order
   abbrev pub telling_ways : M → Subject → Way
   telling_ways m s = tells (called m) (error_texts m s)
 
@@ -115,6 +116,6 @@ module _ {M : Type 0} (called : M → Text) (enough : M → ℕ) (shows : M → 
   judge_ways m s = judge_way (called m) (enough m) (shows m) (accepts m s) (error_text m s) (each_from (question m) 0 (count m s))
 
 module _ {M : Type 0} (called : M → Text) (accepts : M → Subject → ℕ → Bool) (error_text : M → Subject → ℕ → Text) (accepted : ℕ) where
-  -- one error where a keyword that judges does not hold by so many answers by yes
+  -- one error if a keyword that judges refuses this number of accepted questions
   abbrev pub counted_ways : M → Subject → Way
   counted_ways m s = leaf_way (called m) (accepts m s accepted) (error_text m s accepted)

@@ -1,4 +1,4 @@
--- Which questions are asked at places that are there.
+-- Which questions are asked at places that exist.
 use Rattle.std.proofs.Common.{◌≡◌, ℕ, ◌+◌, ◌<◌, ◌∷◌, [], List, Bool, true, false, Option, Some, None, refl, ap, subst, arith, zero, suc, is_some, min, option_and_then, add-zero, ◌-◌}
 use Rattle.std.proofs.lemmas.Slice.Eq.{bytes_eq-Decides}
 use Rattle.std.specs.Prelude.{All, bytes_eq, if◌then◌else◌, map, option_map}
@@ -12,7 +12,7 @@ use Rattle.keyword_authoring.specs.Members.{at_name, first_at_member, has_member
 use Rattle.keyword_authoring.specs.Somes.{somes}
 use Rattle.keyword_authoring.specs.Items.{child_at_item, child_here, each_from, first_at_item, item_count, items_count}
 
--- each of the questions is asked at a place that is there
+-- each of the questions is asked at a place that exists
 abbrev pub AsksPresent : Subject → List Question → Type 0
 AsksPresent s qs = All (λ q. IsPresent s (steps_below q.below)) qs
 
@@ -28,12 +28,12 @@ some_present : (b : Bool) (i : ℕ) (k : Text) (s : Subject) (os : List (Option 
 some_present true i k s os h rest = All-cons (λ q. IsPresent s (steps_below q.below)) (record { child = i; below = down (to_member k) }) (somes os) (member_present k s h) rest
 some_present false i k s os h rest = rest
 
--- the members that are there, child by child
+-- the members that are present, child by child
 pub some_members_present : (i : ℕ) (ks : List Text) (s : Subject) → AsksPresent s (somes (members_from i ks s))
 some_members_present i [] s = All-nil _
 some_members_present i (k ∷ ks) s = some_present (has_member k s) i k s (members_from (i + 1) ks s) refl (some_members_present (i + 1) ks s)
 
--- questions that are asked each at a present place
+-- questions that are each asked at a place that exists
 pub each_present : (f : ℕ → Question) (s : Subject) (i n : ℕ) → ((k : ℕ) → k < n → IsPresent s (steps_below (f (i + k)).below)) → All (λ q. IsPresent s (steps_below q.below)) (each_from f i n)
 each_present f s i zero h = All-nil _
 each_present f s i (suc n) h = All-cons (λ q. IsPresent s (steps_below q.below)) (f i) (each_from f (i + 1) n)
@@ -98,7 +98,7 @@ names_present (a_value (array ds)) = All-nil _
 names_present (a_value (object ms)) = All-map (λ q. IsPresent (a_value (object ms)) (steps_below q.below)) at_name (names_in ms)
     (All-weaker (IsNamed ms) (λ k. IsPresent (a_value (object ms)) (to_name k ∷ [])) (λ k h. name_leads k (member_of k ms) h) (names_in ms) (each_named ms))
 
--- so does the name of a number
+-- the name of the member with a number leads to it too
 member_of_named : (k : Text) (ms : Members) → IsNamed ms k → has_member k (a_value (object ms)) ≡ true
 member_of_named k ms h = value_leads (member_of k ms) h
   where
@@ -134,7 +134,7 @@ items_present s = each_present first_at_item s 0 (item_count s) (λ k h. item_pr
 pub later_items_present : (s : Subject) (n : ℕ) → AsksPresent s (each_from first_at_item n (item_count s - n))
 later_items_present s n = each_present first_at_item s n (item_count s - n) (λ k h. item_present s (n + k) (omega arith))
 
--- each of n children at the item of its number
+-- each of n children at the item with its index
 pub first_items_present : (s : Subject) (n : ℕ) → AsksPresent s (each_from child_at_item 0 (min n (item_count s)))
 first_items_present s n = each_present child_at_item s 0 (min n (item_count s)) (λ k h. item_present s (0 + k) (omega arith))
 

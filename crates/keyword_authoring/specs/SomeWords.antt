@@ -1,4 +1,4 @@
--- A run that asks those of its numbered questions that are there: what it asks next.
+-- The next question of a run that asks those of its numbered questions that are present.
 use Rattle.std.specs.Prelude.{List, Option, ℕ, ◌≡◌}
 use Rattle.theory_definitions.specs.Keywords.{Question}
 use Rattle.schema_traits.specs.KeywordViews.{turn_of}
@@ -9,7 +9,7 @@ use Rattle.keyword_authoring.specs.Somes.{question_of}
 use Rattle.keyword_authoring.specs.Ways.{asked, stage_some}
 use Rattle.keyword_authoring.specs.declared.run.Progress.{Progress}
 
--- the run stands where the first question is asked that is there from a number on
+-- the run is at the stage that asks the first question that is present from a number on
 abbrev pub StandsAtSome : List (Option Question) → Option ℕ → Progress → Progress → Type 0
 StandsAtSome os start run run' = run' ≡ record run { stage = stage_some (some_at os start) }
 

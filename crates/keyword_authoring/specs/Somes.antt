@@ -1,4 +1,4 @@
--- Numbered questions of which some are there, and which of them comes next from a number on.
+-- Numbered questions of which some are present, and which of them comes next from a number on.
 use Rattle.std.specs.Prelude.{List, None, Option, Some, [], drop, ℕ, ◌+◌, ◌∷◌}
 use Rattle.theory_definitions.specs.Keywords.{Question}
 
@@ -6,12 +6,12 @@ abbrev pub with_some : Option Question → List Question → List Question
 with_some None qs = qs
 with_some (Some q) qs = q ∷ qs
 
--- those that are there
+-- those that are present
 abbrev pub somes : List (Option Question) → List Question
 somes [] = []
 somes (o ∷ os) = with_some o (somes os)
 
--- the first that is there, with its number, in a list that is numbered from a number on
+-- the first that is present, with its number, in a list that is numbered from i on
 abbrev pub first_some : ℕ → List (Option Question) → Option (ℕ × Question)
 first_some i [] = None
 first_some i (None ∷ os) = first_some (i + 1) os

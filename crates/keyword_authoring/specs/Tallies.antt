@@ -1,5 +1,5 @@
--- Keywords that judge by how many of their questions are answered by yes: `anyOf`, `oneOf` and `not`, and how their runs
--- count. (Core 2020-12, 10.2.1.2, 10.2.1.3 and 10.2.1.4)
+-- Keywords that judge by how many of their questions are accepted: `anyOf`, `oneOf` and `not`, and
+-- how their runs count. (Core 2020-12, 10.2.1.2, 10.2.1.3 and 10.2.1.4)
 use Rattle.std.specs.Prelude.{Bool, List, [], false, min, nat_le, not, true, ℕ, ◌++◌, ◌+◌, ◌&&◌, ◌∷◌}
 use Rattle.theory_definitions.specs.Instance.{Text}
 use Rattle.theory_definitions.specs.Reports.{Unit_, report_of}
@@ -7,15 +7,15 @@ use Rattle.theory_definitions.specs.Keywords.{Answer, Gives, Question, Reply, al
 use Rattle.schema_traits.specs.declared.keyword.Mode.{Mode}
 use Rattle.schema_traits.specs.declared.keyword.Mode.TheVariants as mode
 
--- `told` gives the errors by how many accept, where `enough` stands for so many or more; where `shows` is true, the
--- questions' units are given
+-- `told` has the errors by how many accept, where `enough` stands for that number or more; if
+-- `shows` is true, the questions' units are returned
 pub record Tally : Type 0 where
   pub name : Text
   pub enough : ℕ
   pub told : ℕ → List Text
   pub shows : Bool
 
--- one more, where it accepts
+-- one more, if it accepts
 abbrev pub counted : Bool → ℕ → ℕ
 counted true n = n + 1
 counted false n = n
@@ -30,7 +30,7 @@ told_by t accepts qs = t.told (min t.enough (yes_count accepts qs))
 
 -- ---- its runs
 
--- verdicts are asked, but units where units are wanted and given
+-- the run asks for verdicts, except that it asks for units if they are wanted and returned
 abbrev pub wants_units : Tally → Mode → Bool
 wants_units t mode.Verdict = false
 wants_units t mode.First = false
@@ -41,7 +41,7 @@ abbrev pub asked_in : Bool → Mode
 asked_in true = mode.Evaluate
 asked_in false = mode.Verdict
 
--- a run that wants no units ends where so many accept that further ones change nothing
+-- a run that wants no units ends as soon as further accepted questions change nothing
 abbrev pub is_settled : Bool → ℕ → ℕ → Bool
 is_settled units enough n = not units && nat_le enough n
 
@@ -52,7 +52,7 @@ says_yes (first_of_it e) = false
 says_yes (all_of_it es) = false
 says_yes (unit_of_it u) = (report_of u).valid
 
--- how many accept after a reply, `enough` at the most
+-- how many accept after a reply, at most `enough`
 abbrev pub tallied : ℕ → Reply → ℕ → ℕ
 tallied enough reply n = min enough (counted (says_yes reply) n)
 
@@ -60,11 +60,11 @@ tallied enough reply n = min enough (counted (says_yes reply) n)
 abbrev pub in_evaluation : Bool → Gives → Answer
 in_evaluation v g = record { mode = for_units; verdict = v; errors = []; gives = g }
 
--- with one unit more inside
+-- with one more unit inside
 abbrev pub with_inside : Gives → Unit_ → Gives
 with_inside g u = record g { children = g.children ++ u ∷ [] }
 
--- with the unit that a child gave, whatever its verdict
+-- with the unit that a child returned, whatever its verdict
 abbrev pub with_child : Answer → Reply → Answer
 with_child a no_reply = a
 with_child a (truth b) = a

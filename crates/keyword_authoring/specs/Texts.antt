@@ -4,7 +4,7 @@ use Rattle.std.specs.Prelude.{Bool, List, Option, Some, bytes_eq}
 use Rattle.serde_json.specs.Find.{as_str}
 use Rattle.theory_definitions.specs.Instance.{Subject, Text, a_name, a_value}
 
--- the name of a member is one too
+-- the name of a member is a text too
 abbrev pub as_text : Subject → Option Text
 as_text (a_value d) = as_str d
 as_text (a_name k) = Some k

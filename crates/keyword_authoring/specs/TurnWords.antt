@@ -1,5 +1,5 @@
--- What a turn does that is taken by a way: from the run, the answer and the reply that are given, to the run and the answer after, and
--- with the step that it takes.
+-- What a turn of some kind does: it leads from a run, an answer and a reply to the next run and
+-- answer, and takes a step.
 use Rattle.std.specs.Prelude.{Bool, IfOk, Result, ◌≡◌}
 use Rattle.theory_definitions.specs.Instance.{Subject}
 use Rattle.theory_definitions.specs.Keywords as spec
@@ -15,11 +15,11 @@ use Rattle.keyword_authoring.specs.declared.run.Stage.{Stage}
 use Rattle.keyword_authoring.specs.OwnWays.{spoken_way}
 use Rattle.keyword_authoring.specs.Ways.{Way, answer_after, way_step, way_turn}
 
--- the run and the answer after, where texts are spoken of or not
+-- the next run and answer, with texts covered or not
 abbrev pub TurnsIn : Bool → Way → Progress → Answer → Reply → Progress → Answer → Type 0
 TurnsIn texts way run old reply run' new = way_turn way (run, answer_of texts old) (reply_of texts reply) ≡ (run', answer_of texts new)
 
--- the step, as the definitions have it, where texts are spoken of or not
+-- the step in terms of the definitions, with texts covered or not
 abbrev pub StepsIn : Bool → Way → Progress → Answer → Reply → spec.Turn → Type 0
 StepsIn texts way run old reply step = way_step way (run, answer_of texts old) (reply_of texts reply) ≡ step
 
@@ -27,34 +27,34 @@ StepsIn texts way run old reply step = way_step way (run, answer_of texts old) (
 abbrev pub AnswersIn : Bool → Way → Mode → Stage → Reply → Answer → Answer → Type 0
 AnswersIn texts way mode stage reply old new = answer_of texts new ≡ answer_after way mode stage (answer_of texts old) (reply_of texts reply)
 
--- ---- the words below say so where the turn answers
+-- ---- the same, if the turn does not run out of memory
 
--- the run and the answer after, whether texts are spoken of or not
+-- the next run and answer, whether texts are covered or not
 abbrev pub Turns : {A E : Type 0} → Way → Progress → Answer → Reply → Progress → Answer → Result A E → Type 0
 Turns way run old reply run' new result = IfOk result (λ _. (texts : Bool) → TurnsIn texts way run old reply run' new)
 
--- the step, whether texts are spoken of or not
+-- the step, whether texts are covered or not
 abbrev pub Steps : {E : Type 0} → Way → Progress → Answer → Reply → Result Step E → Type 0
 Steps way run old reply result = IfOk result (λ step. (texts : Bool) → StepsIn texts way run old reply (turn_of step))
 
--- the run and the answer after, by a way with texts; they are spoken of only where neither the keyword nor the instance holds a
--- fraction
+-- the next run and answer, by a kind with texts; they are covered only if neither the keyword nor
+-- the instance holds a fraction
 abbrev pub TellsTurn : {M A E : Type 0} → (M → Bool) → (M → Subject → Way) → M → Instance → Progress → Answer → Reply → Progress → Answer → Result A E → Type 0
 TellsTurn is_whole ways m instance run old reply run' new result = IfOk result (λ _. (texts : Bool) → Tells texts (is_whole m) (subject_of instance)
     → TurnsIn texts (spoken_way texts (ways m (subject_of instance))) run old reply run' new)
 
--- the step by such a way
+-- the step, by such a kind
 abbrev pub TellsStep : {M E : Type 0} → (M → Bool) → (M → Subject → Way) → M → Instance → Progress → Answer → Reply → Result Step E → Type 0
 TellsStep is_whole ways m instance run old reply result = IfOk result (λ step. (texts : Bool) → Tells texts (is_whole m) (subject_of instance)
     → StepsIn texts (spoken_way texts (ways m (subject_of instance))) run old reply (turn_of step))
 
--- the step by such a way, whatever they hold
+-- the step, by such a kind, whatever the keyword and the instance hold
 abbrev pub StepsSpoken : {M E : Type 0} → (M → Subject → Way) → M → Instance → Progress → Answer → Reply → Result Step E → Type 0
 StepsSpoken ways m instance run old reply result = IfOk result (λ step. (texts : Bool) → StepsIn texts (spoken_way texts (ways m (subject_of instance))) run old reply (turn_of step))
 
--- ---- by a way that follows from the instance, and from whether texts are spoken of
+-- ---- by a kind that depends on the instance, and on whether texts are covered
 
--- the run and the answer after
+-- the next run and answer
 abbrev pub TurnsBy : {A E : Type 0} → (Bool → Subject → Way) → Instance → Progress → Answer → Reply → Progress → Answer → Result A E → Type 0
 TurnsBy ways instance run old reply run' new result = IfOk result (λ _. (texts : Bool) → TurnsIn texts (ways texts (subject_of instance)) run old reply run' new)
 
@@ -62,7 +62,7 @@ TurnsBy ways instance run old reply run' new result = IfOk result (λ _. (texts 
 abbrev pub StepsBy : {E : Type 0} → (Bool → Subject → Way) → Instance → Progress → Answer → Reply → Result Step E → Type 0
 StepsBy ways instance run old reply result = IfOk result (λ step. (texts : Bool) → StepsIn texts (ways texts (subject_of instance)) run old reply (turn_of step))
 
--- both where texts are spoken of only if neither the keyword nor the instance holds a fraction
+-- both, if texts are covered only when neither the keyword nor the instance holds a fraction
 abbrev pub TellsTurnBy : {A E : Type 0} → Bool → (Bool → Subject → Way) → Instance → Progress → Answer → Reply → Progress → Answer → Result A E → Type 0
 TellsTurnBy whole ways instance run old reply run' new result = IfOk result (λ _. (texts : Bool) → Tells texts whole (subject_of instance)
     → TurnsIn texts (ways texts (subject_of instance)) run old reply run' new)

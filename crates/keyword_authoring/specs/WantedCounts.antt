@@ -1,5 +1,5 @@
--- What the plans say that count: the number of questions that are answered by yes is wanted, though a run counts no further than
--- is enough.
+-- What the plans that count say: the number of accepted questions is within the bounds, though a
+-- run counts no further than is enough.
 use Rattle.std.proofs.Common.{◌≡◌, ◌∙◌, ℕ, suc, ◌+◌, ◌≤◌, ◌<◌, ◌⊎◌, ◌∷◌, [], Bool, List, None, Some, true, false, ap, arith, inl, inr, length, min, nat_le, refl, sym}
 use Rattle.std.specs.Prelude.{if◌then◌else◌}
 use Rattle.std.proofs.Math.Nat.{le-min, min-eq_right}
@@ -16,7 +16,7 @@ one_more_at_most : (b : Bool) (n most : ℕ) → n ≤ most → counted b n ≤ 
 one_more_at_most true n most h = omega arith
 one_more_at_most false n most h = omega arith
 
--- no more of the questions are answered by yes than there are
+-- no more questions are accepted than there are
 pub no_more_yeses : (accepts : Question → Bool) (qs : List Question) → yes_count accepts qs ≤ length qs
 no_more_yeses accepts [] = omega arith
 no_more_yeses accepts (q ∷ qs) = one_more_at_most (accepts q) (yes_count accepts qs) (length qs) (no_more_yeses accepts qs)
@@ -28,14 +28,14 @@ at_most_or_more a b = at (nat_le a b) refl
     at true h = inl (leb-true a b h)
     at false h = inr (leb-false a b h)
 
--- as many as are enough are wanted exactly where all are that there are
+-- a number capped at `least` reaches `least` exactly if the number does
 least_counts : (least n : ℕ) → nat_le least (min least n) ≡ nat_le least n
 least_counts least n = elim (at_most_or_more least n) [
   | inl more ↦ le-leb least (min least n) (le-min (omega arith) more) ∙ sym (le-leb least n more)
   | inr less ↦ ap (nat_le least) (min-eq_right (omega arith))
 ]
 
--- more than the most are not wanted
+-- a number above the upper bound is not within the bounds
 too_many : (least most n : ℕ) → most < n → is_wanted least (Some most) n ≡ false
 too_many least most n more = ap (λ b. if b then nat_le least n else false) (lt-leb n most more)
 
@@ -47,11 +47,12 @@ most_counts least most count n within = elim (at_most_or_more n most) [
 ]
 
 module _ (name : Text) (text : ℕ → Text) (least : ℕ) (qs : List Question) (matching : Matching) (accepts : Question → Bool) where
-  -- a keyword that wants at least so many answers by yes holds where there are
+  -- a keyword that requires at least this many accepted questions accepts exactly if there are as
+  -- many
   pub at_least_holds : way_holds (wanting_way name text least None (length qs) qs) matching accepts ≡ nat_le least (yes_count accepts qs)
   at_least_holds = is_told (nat_le least (min least (yes_count accepts qs))) (text (min least (yes_count accepts qs))) ∙ least_counts least (yes_count accepts qs)
 
-  -- one that wants at least so many and at most so many holds where there are
+  -- a keyword that requires a number of accepted questions within bounds accepts exactly if it is
   pub within_holds : (most : ℕ) → way_holds (wanting_way name text least (Some most) (length qs) qs) matching accepts ≡ is_wanted least (Some most) (yes_count accepts qs)
   within_holds most = is_told (is_wanted least (Some most) (min (min (most + 1) (length qs)) (yes_count accepts qs))) (text (min (min (most + 1) (length qs)) (yes_count accepts qs)))
       ∙ most_counts least most (length qs) (yes_count accepts qs) (no_more_yeses accepts qs)

@@ -1,7 +1,8 @@
--- Which keywords are monotone, by their ways: a yes more among the answers never turns their own from yes to no. One that tells
--- its errors or asks whether a pattern matches hears no answer, and one that passes on holds where all of them are yes. One that
--- judges is monotone where it still holds with one yes more, wherever it holds. One that branches is not in general, since its
--- first answer chooses what is asked.
+-- Which keywords are monotone, by their kinds: one more accepted question never turns such a
+-- keyword from accepting to refusing. A keyword that reports its own errors or requests a match
+-- gets no answers, and one that passes on accepts if all of them accept. A keyword that judges is
+-- monotone if it still accepts with one more accepted question, whenever it accepts. A keyword that
+-- branches is not monotone in general, since its first answer chooses what is asked.
 use Rattle.std.proofs.Common.{◌≡◌, ◌∙◌, ℕ, zero, suc, ◌≤◌, ◌<◌, ◌&&◌, ◌∷◌, [], List, None, Bool, true, false, ap, arith, inl, inr, map, min, nat_le, refl, subst, sym}
 use Rattle.std.proofs.Math.Nat.{eq-or-lt_of_le, le-min, min-le_left, min-le_right}
 use Rattle.std.proofs.lemmas.Bool.{lt-leb}
@@ -21,15 +22,15 @@ use Rattle.keyword_authoring.specs.Tallies.{counted, yes_count}
 use Rattle.keyword_authoring.specs.Ways.{Way, asks_match, branches, judges, passes_on, passes_some, tells, unless, way_holds}
 use Rattle.keyword_authoring.specs.WayWords.{words_of}
 
--- each yes is one in the other answers too
+-- whatever the first answers accept, the second accept too
 abbrev pub SaysYesWhere : (Question → Bool) → (Question → Bool) → Type 0
 SaysYesWhere a b = (q : Question) → a q ≡ true → b q ≡ true
 
--- a way that is monotone
+-- a kind that is monotone
 abbrev pub Grows : Way → Type 0
 Grows w = (matching : Matching) (a b : Question → Bool) → SaysYesWhere a b → way_holds w matching a ≡ true → way_holds w matching b ≡ true
 
--- whether the second is yes where the first one is
+-- whether the second is true if the first is
 abbrev pub stays : Bool → Bool → Bool
 stays true b = b
 stays false b = true
@@ -58,7 +59,7 @@ all_stay : (a b : Question → Bool) → SaysYesWhere a b → (qs : List Questio
 all_stay a b where_yes [] h = h
 all_stay a b where_yes (q ∷ qs) h = both_stay (a q) (b q) (list_all a qs) (list_all b qs) (where_yes q) (all_stay a b where_yes qs) h
 
--- ---- so many accept
+-- ---- this many accept
 
 counts_stay : (x y : Bool) (m n : ℕ) → (x ≡ true → y ≡ true) → m ≤ n → counted x m ≤ counted y n
 counts_stay true true m n h le = omega arith
@@ -78,7 +79,7 @@ both_true : (x y : Bool) → (x && y) ≡ true → (x ≡ true) × (y ≡ true)
 both_true true y h = (refl, h)
 both_true false y h = cc
 
--- what is yes at a number is yes at each further one, up to the last
+-- what is yes at a number is yes at each later one, up to the last
 stays_yes : (f : ℕ → Bool) (last x y : ℕ) → never_falls f last ≡ true → x ≤ y → y ≤ last → f x ≡ true → f y ≡ true
 stays_yes f zero x y falls le below h = subst (λ k. f k ≡ true) (omega arith) h
 stays_yes f (suc n) x y falls le below h = elim (eq-or-lt_of_le le) [
@@ -90,7 +91,7 @@ stays_yes f (suc n) x y falls le below h = elim (eq-or-lt_of_le le) [
   ]
 ]
 
--- where it is no below the last, no yes is followed by a no
+-- if it is no below the last, then no yes is followed by a no
 stays_where_no : (x y : Bool) → x ≡ false → stays x y ≡ true
 stays_where_no true y h = cc
 stays_where_no false y h = refl
@@ -100,7 +101,7 @@ no_before f zero h = refl
 no_before f (suc n) h =
     ap (λ x. x && stays (f n) (f (suc n))) (no_before f n (λ k less. h k (omega arith))) ∙ stays_where_no (f n) (f (suc n)) (h n (omega arith))
 
--- ---- each way
+-- ---- each kind
 
 pub way_grows : (w : Way) → way_says_monotone w ≡ true → Grows w
 way_grows (tells name ts) says matching a b where_yes h = h
@@ -115,7 +116,7 @@ way_grows (judges t qs) says matching a b where_yes h =
 way_grows (branches q one other) says matching a b where_yes h = cc
 way_grows (asks_match name p text) says matching a b where_yes h = h
 
--- keywords that go about an instance in ways that are monotone are
+-- keywords of kinds that are monotone are monotone
 pub ways_grow : {M : Type 0} (way : Bool → M → Subject → Way) (texts : Bool) (m : M) → ((s : Subject) → Grows (way texts m s)) → IsMonotone (words_of way texts) m
 ways_grow way texts m grows s matches a b where_yes h = grows s matches a b where_yes h
 
@@ -125,7 +126,7 @@ as_long : (f : Text → Text) (ts : List Text) → is_nil (map f ts) ≡ is_nil 
 as_long f [] = refl
 as_long f (t ∷ ts) = refl
 
--- whether texts are spoken of or not, it holds of the same
+-- the verdict is the same whether texts are covered or not
 spoken_holds : (texts : Bool) (w : Way) (matching : Matching) (a : Question → Bool) → way_holds (spoken_way texts w) matching a ≡ way_holds w matching a
 spoken_holds texts (tells name ts) matching a = as_long (spoken texts) ts
 spoken_holds texts (passes_on qs) matching a = refl
@@ -135,7 +136,7 @@ spoken_holds texts (branches q one other) matching a = refl
 spoken_holds texts (asks_match name p text) matching a = refl
 
 module _ {M : Type 0} (way : M → Subject → Way) (says : M → Bool) where
-  -- each keyword that says that it is monotone goes about an instance in a way that is
+  -- each keyword that declares that it is monotone is of a monotone kind for each instance
   abbrev pub EachGrows : Type 0
   EachGrows = (m : M) (s : Subject) → says m ≡ true → Grows (way m s)
 
@@ -150,11 +151,11 @@ leaves_grow called accepts error_text m s h = way_grows (leaf_ways called accept
 pub tellings_grow : {M : Type 0} (called : M → Text) (error_texts : M → Subject → List Text) → EachGrows (telling_ways called error_texts) (λ m. true)
 tellings_grow called error_texts m s h = way_grows (telling_ways called error_texts m s) refl
 
--- one that wants so many yeses refuses fewer
+-- a keyword that requires at least this many refuses fewer
 refuses_fewer : (text : ℕ → Text) (least n : ℕ) → n < least → is_nil (unless (nat_le least n) (text n)) ≡ false
 refuses_fewer text least n less = ap (λ b. is_nil (unless b (text n))) (lt-leb least n less)
 
--- each plan is that says so
+-- each plan that says that it is monotone is monotone
 plan_grows : (name : Text) (text : ℕ → Text) (s : Subject) (p : Plan) → plan_says_monotone p ≡ true → Grows (way_by name text s p)
 plan_grows name text s (Holds holds) says = way_grows (way_by name text s (Holds holds)) refl
 plan_grows name text s (PassesOn asks) says = way_grows (passes_on (asks_of asks s)) refl
@@ -162,7 +163,7 @@ plan_grows name text s (AtLeast asks least) says = way_grows (wanting_way name t
     (no_before (λ n. is_nil (unless (nat_le least n) (text n))) least (refuses_fewer text least))
 plan_grows name text s (Within asks least most) says = absurd (cc says)
 
--- each keyword that says that it is monotone has plans that are
+-- each keyword that declares that it is monotone has monotone plans
 abbrev pub PlansGrow : {M : Type 0} → (M → Subject → Plan) → (M → Bool) → Type 0
 PlansGrow {M} plan says = (m : M) (s : Subject) → says m ≡ true → plan_says_monotone (plan m s) ≡ true
 
@@ -170,7 +171,7 @@ pub plans_grow : {M : Type 0} (plan : M → Subject → Plan) (name : M → Text
     → EachGrows (plan_ways plan name text) says
 plans_grow plan name text says grows m s h = plan_grows (name m) (text m s) s (plan m s) (grows m s h)
 
--- what is told is nothing where it holds
+-- there is no text exactly if the keyword accepts
 pub is_told : (b : Bool) (text : Text) → is_nil (unless b text) ≡ b
 is_told true text = refl
 is_told false text = refl
@@ -182,7 +183,8 @@ same_falls f g same (suc n) = ap (λ x. x && stays (f n) (f (suc n))) (same_fall
 
 module _ {M : Type 0} (called : M → Text) (enough : M → ℕ) (shows : M → Bool) (accepts : M → Subject → ℕ → Bool) (error_text : M → Subject → ℕ → Text)
     (question : M → ℕ → Question) (count : M → Subject → ℕ) (says : M → Bool) where
-  -- one that judges is monotone where no yes of it is followed by a no, up to as many answers as are enough
+  -- a keyword that judges is monotone if none of its yeses is followed by a no, up to the number of
+  -- answers that are enough
   pub judges_grow : ((m : M) (s : Subject) → says m ≡ true → never_falls (accepts m s) (enough m) ≡ true)
       → EachGrows (judge_ways called enough shows accepts error_text question count) says
   judges_grow stays_so m s h = way_grows (judge_ways called enough shows accepts error_text question count m s)

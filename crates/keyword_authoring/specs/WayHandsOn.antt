@@ -1,4 +1,4 @@
--- Keywords that go about an instance in ways hand on the units that their questions answer, and absorb none.
+-- Keywords of any kind pass on the units that answer their questions, and absorb none.
 use Rattle.std.proofs.Common.{◌≡◌, ◌++◌, ◌∷◌, [], List, Bool, true, false, Option, refl, map}
 use Rattle.std.specs.Prelude.{All, Contains}
 use Rattle.std.proofs.lemmas.List.Elements.{All-contains_itself, All-map, All-nil, All-same, All-weaker, Contains-append_left, Contains-append_right}
@@ -54,6 +54,6 @@ ways_hand_units_on way texts m s matching u = record {
   absorbed = All-same (ByAbsorbed u (way texts m s)) (way_units (way texts m s) matching u).absorbed [] (absorbs_none u (way texts m s) matching) (All-nil (ByAbsorbed u (way texts m s)));
 }
 
--- and so do an author's own
+-- so do an author's own
 pub own_hand_units_on : {M : Type 0} (way : M → Subject → Way) (texts : Bool) → EachHandsUnitsOn (own_words way texts) (own_absorbed way)
 own_hand_units_on way = ways_hand_units_on (spoken_ways way)

@@ -1,5 +1,6 @@
--- The laws of a type of keywords that go about an instance in ways, proved once: what is left to show of a type is that its
--- keywords ask the same questions whether texts are spoken of or not, and each at a place that is there.
+-- The laws of a type of keywords by their kinds, proved once. What is left to show of a type is
+-- that its keywords ask the same questions whether texts are covered or not, and each at a place
+-- that exists.
 use Rattle.std.proofs.Common.{◌≡◌, ◌∙◌, ℕ, ◌+◌, ◌<◌, ◌⊎◌, ◌∷◌, [], List, Bool, true, false, Option, Some, None, refl, ap, subst, inl, inr, arith, drop, zero, suc}
 use Rattle.std.specs.Prelude.{All, Contains, not, ◌++◌}
 use Rattle.std.proofs.lemmas.List.Elements.{Contains-append_right}
@@ -62,8 +63,8 @@ chosen-contains false q (Some y) (Some n) p h = Contains-append_right (q ∷ y �
 no_question : (w : Way) (q : Question) → None ≡ Some q → Contains (questions w) q
 no_question w q h = cc
 
--- what is true of each turn that asks one of the way's questions, or for a match at the keyword, or is the last, is true of
--- each of its steps
+-- a fact about each turn that asks one of the kind's questions, or requests a match at the keyword,
+-- or is the last, is a fact about each of its steps
 each_step : (P : Turn → Type 0) (w : Way) → ((m : Mode) (o : Option Question) → ((q : Question) → o ≡ Some q → Contains (questions w) q) → P (asked m o))
     → ((a : Pair) (m : Mode) → P (match_text a (match_point m a.pattern))) → (mode' : Mode) (stage : Stage) (r : Reply) → P (step_at w mode' stage r)
 each_step P (tells name ts) asks matched mode' stage r = asks mode' None (no_question (tells name ts))
@@ -93,12 +94,12 @@ each_step P (asks_match name a text) asks matched mode' Ended r = asks mode' Non
 fewer : (a b c d : ℕ) → a ≡ c → b ≡ d → a < b → c < d
 fewer a b c d p q h = omega arith
 
--- the questions and their places are the same where texts are spoken of
+-- the questions and their places are the same whether texts are covered or not
 abbrev pub SameQuestions : {M : Type 0} → (Bool → M → Subject → Way) → Type 0
 SameQuestions {M} way = (texts : Bool) (m : M) (s : Subject)
     → (questions (way texts m s) ≡ questions (way false m s)) × (places (way texts m s) ≡ places (way false m s))
 
--- each is asked at a place that is there
+-- each question is asked at a place that exists
 abbrev pub AllPresent : {M : Type 0} → (Bool → M → Subject → Way) → Type 0
 AllPresent {M} way = (texts : Bool) (m : M) (s : Subject) → All (λ q. IsPresent s (steps_below q.below)) (questions (way texts m s))
 

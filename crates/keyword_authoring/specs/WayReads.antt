@@ -1,4 +1,5 @@
--- A way's functions agree, read no more than they ask, and stay where they are.
+-- The functions of a kind agree with each other, depend only on what is asked, and stay at their
+-- place.
 use Rattle.std.proofs.Common.{◌≡◌, ◌∙◌, zero, ◌&&◌, ◌++◌, ◌∷◌, [], List, Bool, true, false, refl, ap, ap₂, arith, map}
 use Rattle.std.specs.List.{list_all}
 use Rattle.std.specs.Prelude.{All, Contains, Option, None, Some, flat_map, min, ◌↔◌}
@@ -43,7 +44,7 @@ unless_agrees : (b : Bool) (name text : Text) → (b ≡ true) ↔ (map (λ t. o
 unless_agrees true name text = (λ h. refl, λ h. refl)
 unless_agrees false name text = (λ h. cc, λ h. cc)
 
--- it holds exactly where there is no fault
+-- the keyword accepts exactly if there is no fault
 pub way_agrees : (w : Way) (matching : Matching) (answers : Answers) → ((q : Question) → Agrees (answers q)) → (way_holds w matching (λ q. (answers q).verdict) ≡ true) ↔ (way_faults w matching answers ≡ [])
 way_agrees (tells name ts) matching answers agrees = told_agree name ts
 way_agrees (passes_on qs) matching answers agrees = (all_accept answers agrees qs, none_refuses answers agrees qs)
@@ -81,7 +82,7 @@ counts_same a b (q ∷ qs) h =
 verdicts_same : (a b : Answers) (qs : List Question) → All (λ q. a q ≡ b q) qs → yes_count (λ q. (a q).verdict) qs ≡ yes_count (λ q. (b q).verdict) qs
 verdicts_same a b qs h = counts_same (λ q. (a q).verdict) (λ q. (b q).verdict) qs (All-weaker (λ q. a q ≡ b q) (λ q. (a q).verdict ≡ (b q).verdict) (λ q e. ap (λ o. o.verdict) e) qs h)
 
--- what is true of both branches is true of the one that follows
+-- a fact about both branches is a fact about the one that follows
 of_branch : (P : Question → Type 0) (b : Bool) (one other : Option Question) → All P (option_list one ++ option_list other) → All P (branch b one other)
 of_branch P true None other h = All-nil P
 of_branch P true (Some y) other h = All-cons P y [] (All-head P y (option_list other) h) (All-nil P)
@@ -119,7 +120,7 @@ given_same : (shows : Bool) (a b : Question → Unit_) (qs : List Question) → 
 given_same true a b qs h = units_same a b qs h
 given_same false a b qs h = refl
 
--- a unit of its own, and no absorbed one, is valid where the way holds
+-- the keyword has a unit of its own and absorbs none; its unit is valid if it accepts
 pub way_units_valid : (w : Way) (matching : Matching) (u : Question → Unit_) → all_valid (way_units w matching u) ≡ way_holds w matching (λ q. (report_of (u q)).valid)
 way_units_valid (tells name ts) matching u = and_true _
 way_units_valid (passes_on qs) matching u = and_true _
@@ -156,7 +157,8 @@ passed_stand s absorbed answers [] = All-nil _
 passed_stand s absorbed answers (q ∷ qs) = All-append (StandsInside s absorbed) (map passed (answers q).errors) _
     (All-map (StandsInside s absorbed) passed (answers q).errors (λ k d h. tt)) (passed_stand s absorbed answers qs)
 
--- errors stand at the keyword, and those that are passed on are what questions answered
+-- the keyword's own errors are at the keyword, and those that are passed on are answers to
+-- questions
 pub way_stands_inside : (w : Way) (matching : Matching) (s : Subject) (absorbed : List Text) (answers : Answers) → All (StandsInside s absorbed) (way_faults w matching answers)
 way_stands_inside (tells name ts) matching s absorbed answers = All-map (StandsInside s absorbed) (λ t. own (plain name t)) ts (λ k d h. (refl, ([], refl), tt))
 way_stands_inside (passes_on qs) matching s absorbed answers = passed_stand s absorbed answers qs

@@ -1,4 +1,4 @@
--- A way's runs end as it says: the turn by turn laws.
+-- The runs of a kind end as it says: the laws turn by turn.
 use Rattle.std.proofs.Common.{◌≡◌, ◌∙◌, ℕ, zero, suc, ◌+◌, ◌<◌, ◌&&◌, ◌⊎◌, ◌++◌, ◌∷◌, [], List, Bool, true, false, Option, Some, None, refl, sym, ap, ap₂, inl, inr, arith, length, drop, map, ◌-◌, append_assoc, append-nil, add-one, min, subst, ◌≤◌}
 use Rattle.std.specs.List.{list_all}
 use Rattle.std.specs.Prelude.{flat_map, if◌then◌else◌, nat_le, not}
@@ -31,32 +31,33 @@ abbrev pub either : Bool → Answer → Answer → Answer
 either true a b = a
 either false a b = b
 
--- what questions in order lead an answer to
+-- the answer after these questions, in order
 abbrev pub led : (Question → Reply) → Answer → List Question → Answer
 led reply a [] = a
 led reply a (q ∷ qs) = either (goes_on (reply q)) (led reply (taken a (reply q)) qs) (taken a (reply q))
 
--- what questions in order lead a run that judges to, where so many accepted before
+-- the answer of a run that judges after these questions, with this many accepted before
 abbrev pub judged_on : Tally → Bool → (Question → Reply) → Mode → ℕ → Answer → List Question → Answer
 judged_on t units reply m n a [] = noted m t.name a (t.told n)
 judged_on t units reply m n a (q ∷ qs) = either (is_settled units t.enough (tallied t.enough (reply q) n))
     (noted m t.name (with_child a (reply q)) (t.told (tallied t.enough (reply q) n)))
     (judged_on t units reply m (tallied t.enough (reply q) n) (with_child a (reply q)) qs)
 
--- the true replies: to a question by the mode in which it is asked, and whether a pattern matches a text
+-- the true replies: to a question by the mode in which it is asked, and whether a pattern matches a
+-- text
 pub record Replies : Type 0 where
   pub to_question : Mode → Question → Reply
   pub to_match : Pair → Bool
 
--- those that matches, answers and units give
+-- the true replies by matches, answers and units
 abbrev pub replies_by : Matching → Answers → (Question → Unit_) → Replies
 replies_by matching answers u = record { to_question = λ m. reply_for m answers u; to_match = is_matched matching }
 
--- those to a run that judges
+-- the true replies to a run that judges
 abbrev pub judge_replies : Tally → Replies → Mode → Question → Reply
 judge_replies t replies m = replies.to_question (asked_in (wants_units t m))
 
--- the answer that a run ends in
+-- the answer with which a run ends
 abbrev pub end_at : Way → Replies → Mode → Stage → Answer → Answer
 end_at (tells name ts) replies m Begun a = noted m name a ts
 end_at (tells name ts) replies m (Asked i) a = a
@@ -132,14 +133,14 @@ nth-within (suc i) [] q h = cc
 nth-within zero (p ∷ qs) q h = omega arith
 nth-within (suc i) (p ∷ qs) q h = let r : i < length qs = nth-within i qs q h in omega arith
 
--- a question that is there leads on by its reply
+-- a question that is present leads on by its reply
 led_at : (reply : Question → Reply) (a : Answer) (i : ℕ) (qs : List Question) (q : Question) → nth i qs ≡ Some q
     → led reply a (drop i qs) ≡ either (goes_on (reply q)) (led reply (taken a (reply q)) (drop (i + 1) qs)) (taken a (reply q))
 led_at reply a i qs q h = ap (led reply a) (nth-drop i qs q h)
 
--- ---- questions of which some are there
+-- ---- questions of which some are present
 
--- a pair that is found is one pair
+-- the number of a pair that is found
 abbrev number_found : ℕ × Question → ℕ
 number_found x = x.0
 
@@ -149,7 +150,7 @@ asked_found x = x.1
 one_pair : (x y : ℕ × Question) → Some x ≡ Some y → x ≡ y
 one_pair x y h = cc
 
--- what is found is there, and nothing before it
+-- what is found is present, and nothing before it is
 found : (i : ℕ) (xs : List (Option Question)) (j : ℕ) (q : Question) → first_some i xs ≡ Some (j, q)
     → (k : ℕ) × (rest : List (Option Question)) × (j ≡ i + k) × (drop k xs ≡ Some q ∷ rest) × (somes xs ≡ q ∷ somes rest)
 found i [] j q h = cc
@@ -197,13 +198,13 @@ found_from i os j q h = from (found i (drop i os) j q h)
         let here : drop j os ≡ Some q ∷ rest = ap (λ n. drop n os) e ∙ (sym (drop-drop k i os) ∙ d) in
         record { rest = rest; here = here; same = s ∙ sym (ap somes here); after = omega (arith, e); within = within_some j os (Some q) rest here }
 
--- one that is there leads on by its reply
+-- a question that is present leads on by its reply
 led_some : (reply : Question → Reply) (a : Answer) (i : ℕ) (os : List (Option Question)) (q : Question) (rest : List (Option Question)) → drop i os ≡ Some q ∷ rest
     → led reply a (somes (drop i os)) ≡ either (goes_on (reply q)) (led reply (taken a (reply q)) (somes (drop (i + 1) os))) (taken a (reply q))
 led_some reply a i os q rest h = ap (λ xs. led reply a (somes xs)) h
     ∙ ap (λ xs. either (goes_on (reply q)) (led reply (taken a (reply q)) (somes xs)) (taken a (reply q))) (sym (rest_after i os (Some q) rest h))
 
--- ---- a turn falls
+-- ---- each turn takes a run nearer to its end
 
 falls_some_begun : (os : List (Option Question)) (m : Mode) (o : Option (ℕ × Question)) → (asked m (question_of o) ≡ done) ⊎ (left_of (length os) (stage_some o) < length os + 1)
 falls_some_begun os m None = inl refl
@@ -279,7 +280,7 @@ pub record Keeps (w : Way) (replies : Replies) (m : Mode) (stage : Stage) (a : A
 abbrev pub IsTrueNext : Replies → Turn → Reply → Type 0
 IsTrueNext replies step next = (q : Question) (m : Mode) → step ≡ ask q (mode_of m) → next ≡ replies.to_question m q
 
--- the next reply is the true one to a step that asks for a match
+-- the next reply is the true one to a step that requests a match
 abbrev pub IsTrueMatch : Replies → Turn → Reply → Type 0
 IsTrueMatch replies step next = (p : Pair) (point : MatchPoint) → step ≡ match_text p point → next ≡ truth (replies.to_match p)
 
@@ -340,7 +341,7 @@ keeps_some os replies m i a r next (q, rest, here, true_reply) h f =
     = some_kept os replies m i a q rest next (goes_on r) (some_from (i + 1) os) here (ap goes_on true_reply) refl h f in
     record { fits = parts.0; ends = ap (λ x. end_at (passes_some os) replies m (stage_some (next_some (goes_on r) (some_from (i + 1) os))) (taken a x)) true_reply ∙ parts.1 }
 
--- a question that is there is counted
+-- a question that is present is counted
 judged_here : (t : Tally) (units : Bool) (reply : Question → Reply) (m : Mode) (n : ℕ) (a : Answer) (i : ℕ) (qs : List Question) (q : Question) → nth i qs ≡ Some q
     → judged_on t units reply m n a (drop i qs) ≡ either (is_settled units t.enough (tallied t.enough (reply q) n))
     (noted m t.name (with_child a (reply q)) (t.told (tallied t.enough (reply q) n)))
@@ -433,7 +434,7 @@ way_keeps (asks_match name p text) replies m (Asked i) a r next fits h f g = abs
 way_keeps (asks_match name p text) replies m (Counted i n) a r next fits h f g = absurd (h refl)
 way_keeps (asks_match name p text) replies m Ended a r next fits h f g = absurd (h refl)
 
--- ---- at `done` the end stands in the answer
+-- ---- at `done` the answer is the one at the end
 
 stands_begun : (qs : List Question) (reply : Question → Reply) (m : Mode) (a : Answer) → asked m (nth 0 qs) ≡ done → a ≡ led reply a qs
 stands_begun [] reply m a h = refl
@@ -537,7 +538,7 @@ way_stands (asks_match name p text) replies m (Asked i) a r fits h = ap (λ x. n
 way_stands (asks_match name p text) replies m (Counted i n) a r fits h = refl
 way_stands (asks_match name p text) replies m Ended a r fits h = refl
 
--- ---- the end is the way's own
+-- ---- the end is the one that the kind says
 
 noted_kept : (name : Text) (ts : List Text) (a : Answer) (f : Fault) (fs : List Fault) → a.errors ≡ f ∷ fs → noted mode.First name a ts ≡ a
 noted_kept name [] a f fs h = refl
@@ -559,7 +560,7 @@ noted_verdict : (name : Text) (ts : List Text) (a : Answer) → a.verdict ≡ tr
 noted_verdict name [] a h = h
 noted_verdict name (t ∷ ts) a h = noted_no name ts (refused a) refl
 
--- in an evaluation the errors stand in the unit
+-- in an evaluation the errors are in the unit
 and_false : (b : Bool) → false ≡ (b && false)
 and_false true = refl
 and_false false = refl
@@ -581,7 +582,7 @@ evaluated_verdict : (name : Text) (ts : List Text) (a : Answer) → a.verdict �
 evaluated_verdict name [] a h = h
 evaluated_verdict name (t ∷ ts) a h = evaluated_no name ts (evaluated a (own (plain name t))) refl
 
--- questions in verdict mode: the first no ends it
+-- questions in verdict mode: the first no ends the run
 verdict_step : (reply : Question → Reply) (a : Answer) (qs : List Question) (b all : Bool) → (led reply a qs).verdict ≡ all
     → (either b (led reply (taken a (truth b)) qs) (taken a (truth b))).verdict ≡ (b && all)
 verdict_step reply a qs true all h = h
@@ -592,7 +593,7 @@ led_verdict : (answers : Answers) (u : Question → Unit_) (qs : List Question) 
 led_verdict answers u [] a h = h
 led_verdict answers u (q ∷ qs) a h = verdict_step (reply_for mode.Verdict answers u) a qs (answers q).verdict _ (led_verdict answers u qs a h)
 
--- in first mode: the first error ends it
+-- in first mode the first error ends the run
 first_step : (reply : Question → Reply) (a : Answer) (qs : List Question) (es : List Error) (fs : List Fault) → a.errors ≡ [] → (led reply a qs).errors ≡ first_fault fs
     → (either (goes_on (first_of_it (first_error es))) (led reply (taken a (first_of_it (first_error es))) qs) (taken a (first_of_it (first_error es)))).errors ≡ first_fault (map passed es ++ fs)
 first_step reply a qs [] fs none h = h
@@ -603,7 +604,7 @@ led_first : (answers : Answers) (u : Question → Unit_) (qs : List Question) (a
 led_first answers u [] a none = none
 led_first answers u (q ∷ qs) a none = first_step (reply_for mode.First answers u) a qs (answers q).errors _ none (led_first answers u qs a none)
 
--- in all mode every error passes
+-- in all mode every error is passed on
 led_all : (answers : Answers) (u : Question → Unit_) (qs : List Question) (a : Answer)
     → (led (reply_for mode.All answers u) a qs).errors ≡ a.errors ++ flat_map (λ q. map passed (answers q).errors) qs
 led_all answers u [] a = sym (append-nil a.errors)
@@ -614,7 +615,7 @@ valid_step true accepted all = refl
 valid_step false true all = refl
 valid_step false false all = refl
 
--- in evaluation every unit becomes a child
+-- in an evaluation every unit becomes a child
 led_gives : (answers : Answers) (u : Question → Unit_) (qs : List Question) (a : Answer)
     → (led (reply_for mode.Evaluate answers u) a qs).gives ≡ record a.gives { valid = a.gives.valid && list_all (λ q. (report_of (u q)).valid) qs; children = a.gives.children ++ map u qs }
 led_gives answers u [] a = ap₂ (λ v us. record a.gives { valid = v; children = us }) (and_true a.gives.valid) (sym (append-nil a.gives.children))
@@ -629,7 +630,7 @@ led_valid answers u valid (q ∷ qs) a = led_valid answers u valid qs (with_unit
 
 -- ---- counting
 
--- further ones change nothing where so many accept
+-- further accepted questions change nothing once there are enough
 sum_up : (e n k : ℕ) (b : Bool) → n ≤ e → min e (min e (counted b n) + k) ≡ min e (n + counted b k)
 sum_up e n k true h = omega arith
 sum_up e n k false h = omega arith
@@ -648,7 +649,7 @@ settled_same : (t : Tally) (m : Mode) (a rest : Answer) (n k : ℕ) (s : Bool) �
 settled_same t m a rest n k true s l h = ap (λ x. noted m t.name a (t.told x)) (full_sum t.enough n k (leb-true t.enough n (sym s)) l)
 settled_same t m a rest n k false s l h = h
 
--- where verdicts are asked, the errors are told by how many accept
+-- if verdicts are asked, the errors depend on how many accept
 judged_verdicts : (t : Tally) (answers : Answers) (u : Question → Unit_) (m : Mode) (qs : List Question) (n : ℕ) (a : Answer) → n ≤ t.enough
     → judged_on t false (reply_for mode.Verdict answers u) m n a qs ≡ noted m t.name a (t.told (min t.enough (n + yes_count (λ q. (answers q).verdict) qs)))
 judged_verdicts t answers u m [] n a l = ap (λ x. noted m t.name a (t.told x)) (zero_sum t.enough n l)
@@ -657,7 +658,7 @@ judged_verdicts t answers u m (q ∷ qs) n a l =
     (judged_verdicts t answers u m qs (min t.enough (counted (answers q).verdict n)) a (counted_within t.enough _))
     ∙ ap (λ x. noted m t.name a (t.told x)) (sum_up t.enough n (yes_count (λ q. (answers q).verdict) qs) (answers q).verdict l)
 
--- where units are asked, they become children besides
+-- if units are asked, they also become children
 abbrev pub with_children : Bool → Gives → List Unit_ → Answer
 with_children v g us = in_evaluation v (record g { children = g.children ++ us })
 
@@ -692,7 +693,7 @@ judged_evaluation : (t : Tally) (answers : Answers) (u : Question → Unit_) →
 judged_evaluation t answers u valid qs true = judged_given t answers u valid mode.Evaluate qs
 judged_evaluation t answers u valid qs false = judged_fresh for_units t answers u mode.Evaluate qs
 
--- what is wanted of the end, by mode
+-- the end that is wanted, by mode
 abbrev pub IsEnd : Way → Matching → Answers → (Question → Unit_) → spec.Mode → Answer → Type 0
 IsEnd w matching answers u for_verdict a = a.verdict ≡ way_holds w matching (λ q. (answers q).verdict)
 IsEnd w matching answers u for_first a = a.errors ≡ first_fault (way_faults w matching answers)

@@ -27,7 +27,7 @@ asked_for_less mode' (Some q) none = none
 verdict_for_less : WantsNone mode.Verdict
 verdict_for_less = λ e. let f : ⊥ = cc in f
 
--- a run that judges asks verdicts then
+-- a run that judges asks for verdicts then
 judge_for_less : (t : Tally) (mode' : Mode) → WantsNone mode' → WantsNone (asked_in (wants_units t mode'))
 judge_for_less t mode.Verdict none = verdict_for_less
 judge_for_less t mode.First none = verdict_for_less
@@ -72,7 +72,7 @@ module _ {M : Type 0} (way : Bool → M → Subject → Way) where
   turns_for_less texts m s (suc n) r reply none =
       (step_for_less (way texts m s) r.0.mode r.0.stage reply none, λ next. turns_for_less texts m s n ((words_of way texts).turn m s r reply) next none)
 
-  -- keywords that go about an instance in ways ask for no units there
+  -- keywords of any kind ask for no units in such a mode
   pub ways_ask_no_units : (texts : Bool) → AsksNoUnits (words_of way texts)
   ways_ask_no_units texts = λ m s mode' none.
       turns_for_less texts m s ((words_of way texts).most_turns m s) ((words_of way texts).begin m s mode') no_reply (λ e. none (sym (mode-kept mode') ∙ e))

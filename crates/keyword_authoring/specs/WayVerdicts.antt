@@ -23,7 +23,7 @@ asked_for_verdict : (mode' : Mode) (o : Option Question) → WantsVerdict mode' 
 asked_for_verdict mode' None wants = tt
 asked_for_verdict mode' (Some q) wants = wants
 
--- a run that judges asks for units in an evaluation at most
+-- a run that judges asks for units only in an evaluation
 judge_for_verdict : (t : Tally) (mode' : Mode) → WantsVerdict mode' → WantsVerdict (asked_in (wants_units t mode'))
 judge_for_verdict t mode.Verdict wants = refl
 judge_for_verdict t mode.First wants = refl
@@ -62,10 +62,10 @@ module _ {M : Type 0} (way : Bool → M → Subject → Way) where
   turns_for_verdict texts m s (suc n) r reply wants =
       (step_for_verdict (way texts m s) r.0.mode r.0.stage reply wants, λ next. turns_for_verdict texts m s n ((words_of way texts).turn m s r reply) next wants)
 
-  -- keywords that go about an instance in ways ask for verdicts there
+  -- keywords of any kind ask for verdicts in such a run
   pub ways_ask_verdicts : (texts : Bool) → EachAsksVerdicts (words_of way texts)
   ways_ask_verdicts texts = λ m s. turns_for_verdict texts m s ((words_of way texts).most_turns m s) ((words_of way texts).begin m s for_verdict) no_reply refl
 
--- and so do an author's own
+-- so do an author's own
 pub own_ask_verdicts : {M : Type 0} (way : M → Subject → Way) (texts : Bool) → EachAsksVerdicts (own_words way texts)
 own_ask_verdicts way = ways_ask_verdicts (spoken_ways way)

@@ -1,5 +1,6 @@
--- What the keywords of a type say of an instance, where each goes about it in a way. `way` names the way: whether texts are
--- spoken of (one counts as empty where they are not), what is known of the keyword, and the instance.
+-- What the keywords of a type say of an instance, by their kinds. `way` names the kind, by whether
+-- texts are covered (each counts as empty if they are not), by the keyword's shape, and by the
+-- instance.
 use Rattle.std.specs.Prelude.{Bool, List, [], false, ℕ}
 use Rattle.theory_definitions.specs.Instance.{Subject, Text}
 use Rattle.theory_definitions.specs.Keywords.{Answer, Keywords}
@@ -32,7 +33,7 @@ module _ {M : Type 0} (way : Bool → M → Subject → Way) where
   abbrev pub nothing_absorbed : M → List Text
   nothing_absorbed m = []
 
-  -- the turns that are left at the most
+  -- the greatest number of turns that are left
   abbrev pub left_at_most : M → Subject → Progress × Answer → ℕ
   left_at_most m s r = way_left (way false m s) r.0.stage
 
@@ -40,7 +41,7 @@ module _ {M : Type 0} (way : Bool → M → Subject → Way) where
   abbrev pub any_state : M → Subject → Progress × Answer → Type 0
   any_state m s r = Unit {0}
 
-  -- the answer that a run ends in
+  -- the answer with which a run ends
   abbrev pub run_ends : Bool → M → Standing (Progress × Answer) → Answer
   run_ends texts m x = end_at (way texts m x.subject) (run_replies x) x.state.0.mode x.state.0.stage x.state.1
 

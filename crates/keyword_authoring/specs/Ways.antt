@@ -1,7 +1,8 @@
--- How a keyword goes about an instance: it tells its own errors at once; or it asks questions in order and passes on what
--- they answer; or it judges by how many of them accept; or it asks one question, and then one of two as that one answers,
--- whose answer it passes on; or it asks whether a pattern matches a text, and tells an error where it does not. Its runs by
--- turns follow from that.
+-- The kinds of keywords, by how they evaluate an instance. A keyword reports errors of its own at
+-- once; or it asks questions in order and passes on the answers; or it judges by how many questions
+-- are accepted; or it asks one question, and passes on the answer to one of two others, depending
+-- on that; or it asks whether a pattern matches a text, and reports an error if it does not. Its
+-- runs by turns follow from the kind.
 use Rattle.std.specs.List.{list_all}
 use Rattle.std.specs.Prelude.{Bool, List, None, Option, Some, [], false, flat_map, if◌then◌else◌, length, map, not, suc, true, zero, ℕ, ◌++◌, ◌+◌, ◌-◌, ◌∷◌}
 use Rattle.theory_definitions.specs.Instance.{Text}
@@ -20,18 +21,18 @@ use Rattle.keyword_authoring.specs.Somes.{question_of, some_from, somes}
 use Rattle.keyword_authoring.specs.Tallies.{Tally, asked_in, in_evaluation, is_settled, says_yes, tallied, told_by, wants_units, with_child, with_inside}
 
 pub data Way : Type 0 where
-  -- errors of this name with these texts
+  -- errors with this name and these texts
   tells : Text → List Text → Way
   passes_on : List Question → Way
-  -- for each number a question, or none: those that are there
+  -- for each number a question or none; those that are present are asked
   passes_some : List (Option Question) → Way
   judges : Tally → List Question → Way
-  -- a question, the one that follows where it accepts, and the one that follows else
+  -- a question, the one that follows if it is accepted, and the one that follows otherwise
   branches : Question → Option Question → Option Question → Way
-  -- a pattern and the text that it is to match, and an error of this name with this text where it does not
+  -- a pattern and the text that it must match, and an error with this name and text if it does not
   asks_match : Text → Pair → Text → Way
 
--- one text where the test fails
+-- one text if the test fails
 abbrev pub unless : Bool → Text → List Text
 unless true text = []
 unless false text = text ∷ []
@@ -95,9 +96,9 @@ way_units (judges t qs) matching unit_at = record no_gives { valid = is_nil (tol
 way_units (branches q one other) matching unit_at = record no_gives { valid = list_all (λ q. (report_of (unit_at q)).valid) (branch (report_of (unit_at q)).valid one other); children = map unit_at (branch (report_of (unit_at q)).valid one other) }
 way_units (asks_match name a text) matching unit_at = record no_gives { valid = is_matched matching a; errors = map (described name) (unless (is_matched matching a) text) }
 
--- ---- what stands in an answer
+-- ---- answers
 
--- the mode that an answer shows once it refuses: a no without an error is a verdict alone
+-- the mode that an answer shows once it is a refusal: a refusal without an error is only a verdict
 abbrev pub refused_mode : spec.Mode → List Fault → spec.Mode
 refused_mode for_verdict fs = for_verdict
 refused_mode for_first [] = for_verdict
@@ -109,17 +110,17 @@ refused_mode for_units fs = for_units
 abbrev pub refused : Answer → Answer
 refused a = record a { mode = refused_mode a.mode a.errors; verdict = false; gives = record a.gives { valid = false } }
 
--- the first error stays
+-- the first error is kept
 abbrev pub with_first : Answer → List Fault → Fault → Answer
 with_first a [] f = with_errors for_first (f ∷ [])
 with_first a (g ∷ gs) f = a
 
--- refused in an evaluation: an error of the keyword's own stands in its unit
+-- a refusal in an evaluation: an error of the keyword's own is in its unit
 abbrev pub evaluated : Answer → Fault → Answer
 evaluated a (own o) = in_evaluation false (errored (described o.name o.text) a.gives)
 evaluated a (passed e) = refused a
 
--- with one fault more
+-- with one more fault
 abbrev pub noted_one : Mode → Answer → Fault → Answer
 noted_one mode.Verdict a f = refused a
 noted_one mode.First a f = with_first a a.errors f
@@ -130,7 +131,7 @@ abbrev pub noted : Mode → Text → Answer → List Text → Answer
 noted m name a [] = a
 noted m name a (t ∷ ts) = noted m name (noted_one m a (own (plain name t))) ts
 
--- with the unit of a child, which refuses where that does
+-- with the unit of a child; it is a refusal if the unit is invalid
 abbrev pub with_unit : Answer → Unit_ → Answer
 with_unit a u = in_evaluation (if (report_of u).valid then a.verdict else false) (record (with_inside a.gives u) { valid = if (report_of u).valid then a.gives.valid else false })
 
@@ -144,7 +145,7 @@ taken a (first_of_it (Some e)) = with_first a a.errors (passed e)
 taken a (all_of_it es) = with_errors for_all (a.errors ++ map passed es)
 taken a (unit_of_it u) = with_unit a u
 
--- a verdict ends at the first no, a first error at the first
+-- a run for the verdict ends at the first no, and a run for the first error ends at that
 abbrev pub goes_on : Reply → Bool
 goes_on no_reply = true
 goes_on (truth b) = b
@@ -161,7 +162,7 @@ mode_from for_first = mode.First
 mode_from for_all = mode.All
 mode_from for_units = mode.Evaluate
 
--- the question of a place in order
+-- the question at a position
 abbrev pub nth : ℕ → List Question → Option Question
 nth n [] = None
 nth zero (q ∷ qs) = Some q
@@ -175,7 +176,7 @@ abbrev pub stage_at : ℕ → Option Question → Stage
 stage_at i None = Ended
 stage_at i (Some q) = Asked i
 
--- the next question, where the run goes on
+-- the next question, if the run goes on
 abbrev pub next_if : Bool → Option Question → Option Question
 next_if true o = o
 next_if false o = None
@@ -196,7 +197,7 @@ abbrev pub counted_at : ℕ → ℕ → Option Question → Stage
 counted_at i n None = Ended
 counted_at i n (Some q) = Counted i n
 
--- the errors are told where no question is left
+-- the errors are reported once no question is left
 abbrev pub judged_at : Tally → Mode → ℕ → Answer → Option Question → Answer
 judged_at t m n a None = noted m t.name a (t.told n)
 judged_at t m n a (Some q) = a
@@ -205,12 +206,13 @@ abbrev pub chosen : Bool → Option Question → Option Question → Option Ques
 chosen true one other = one
 chosen false one other = other
 
--- the branch that accepting leads to is asked at 1, the other at 2
+-- the branch that follows if the first child accepts is asked at 1, the other at 2
 abbrev pub branch_number : Bool → ℕ
 branch_number true = 1
 branch_number false = 2
 
--- where a match is asked for: at the keyword, shown with evaluation path and place but in a verdict, with the pattern
+-- a match is requested at the keyword with its pattern, and is shown with evaluation path and place
+-- unless only the verdict is wanted
 abbrev pub is_located : Mode → Bool
 is_located mode.Verdict = false
 is_located mode.First = true
@@ -268,7 +270,7 @@ stage_after (asks_match name a text) m (Asked i) reply = Ended
 stage_after (asks_match name a text) m (Counted i n) reply = Ended
 stage_after (asks_match name a text) m Ended reply = Ended
 
--- what is told is told in the first turn
+-- errors of the keyword's own are reported in the first turn
 abbrev pub at_first : Stage → Answer → Answer → Answer
 at_first Begun told a = told
 at_first (Asked i) told a = a
@@ -316,7 +318,7 @@ way_step w r reply = step_at w r.0.mode r.0.stage reply
 abbrev pub way_turn : Way → Progress × Answer → Reply → Progress × Answer
 way_turn w r reply = (record r.0 { stage = stage_after w r.0.mode r.0.stage reply }, answer_after w r.0.mode r.0.stage r.1 reply)
 
--- how many places its questions have
+-- the number of positions of its questions
 abbrev pub places : Way → ℕ
 places (tells name ts) = 0
 places (passes_on qs) = length qs
@@ -328,7 +330,7 @@ places (asks_match name a text) = 0
 abbrev pub way_turns : Way → ℕ
 way_turns w = places w + 2
 
--- the turns that are left at the most, of so many places
+-- the greatest number of turns that are left, for this many positions
 abbrev pub left_of : ℕ → Stage → ℕ
 left_of n Begun = n + 1
 left_of n (Asked i) = n - i

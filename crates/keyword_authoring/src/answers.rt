@@ -1,4 +1,4 @@
-//! What is added to the answer of a run.
+//! Changes to the answer of a run.
 ghost use Rattle.std.specs.Prelude.{◌≡◌, ◌++◌, [], Bool, IfOk, map};
 ghost use Rattle.serde_json.specs.Data.{Data};
 ghost use Rattle.schema_reports.specs.ReportViews.{error_of};
@@ -22,7 +22,6 @@ use schema_traits::keyword::{Answer, Fault, Mode, OwnError, Reply};
 use std::alloc::Global;
 use std::mem;
 
-/// The answer with the verdict no.
 fn refused<'i>(alloc: Global, answer: Answer<'i>) -> Answer<'i>
     ensures refused { Refuses answer.entry result }
     ensures faults { faults_in result ≡ faults_in answer.entry }
@@ -48,7 +47,7 @@ fn refused<'i>(alloc: Global, answer: Answer<'i>) -> Answer<'i>
     }
 }
 
-/// The answer with this first error, where it has none.
+/// Returns the answer with this error as its first, unless it has one already.
 fn with_first<'i>(answer: Answer<'i>, fault: Box<Fault<'i>>) -> Answer<'i>
     ensures first { Becomes answer.entry (λ texts a. with_first a a.errors (fault_of texts fault.entry.value)) result }
     ensures faults { faults_in result ≡ first_kept (faults_in answer.entry) fault.entry.value }
@@ -78,7 +77,6 @@ fn with_first<'i>(answer: Answer<'i>, fault: Box<Fault<'i>>) -> Answer<'i>
     }
 }
 
-/// The errors of an answer.
 fn faults_of<'i>(alloc: Global, answer: Answer<'i>) -> Result<Vec<Fault<'i>>, OutOfMemory>
     ensures errors { IfOk result (λ faults. (texts : Bool) → map (fault_of texts) faults.items ≡ (answer_of texts answer.entry).errors) }
     ensures faults { Lists result (faults_in answer.entry) }
@@ -100,7 +98,7 @@ fn faults_of<'i>(alloc: Global, answer: Answer<'i>) -> Result<Vec<Fault<'i>>, Ou
     }
 }
 
-/// The answer that refuses, with an error of the keyword's own for its unit.
+/// Returns the answer as a refusal, with an error of the keyword's own in its unit.
 fn evaluated<'i>(
     alloc: Global,
     keyword: &str,
@@ -118,8 +116,9 @@ fn evaluated<'i>(
     Ok(Answer::Evaluation(found))
 }
 
-/// Makes the answer say no, with no error. Where a verdict alone is wanted, this is what a keyword does that refuses. Nothing is
-/// allocated.
+/// Makes the answer a refusal without an error.
+///
+/// This is what a keyword does that refuses if only the verdict is wanted. Allocates nothing.
 pub fn refuse<'i>(alloc: Global, answer: &mut Answer<'i>)
     ensures refused { Refuses answer.old answer.new }
     ensures borrows { KeepsBorrows answer.old answer.new }
@@ -128,7 +127,9 @@ pub fn refuse<'i>(alloc: Global, answer: &mut Answer<'i>)
     *answer = refused(alloc, before);
 }
 
-/// Notes an error of the keyword's own. Where a verdict is wanted, it refuses alone; in an evaluation the error is in
+/// Notes an error of the keyword's own.
+///
+/// In a run for the verdict the answer only becomes a refusal. In an evaluation the error goes into
 /// the unit.
 pub fn note<'i>(
     alloc: Global,
@@ -145,7 +146,6 @@ pub fn note<'i>(
     Ok(())
 }
 
-/// The answer with an error of the keyword's own.
 fn with_own<'i>(
     alloc: Global,
     mode: Mode,
@@ -167,7 +167,6 @@ fn with_own<'i>(
     }
 }
 
-/// The answer with an error of the keyword's own as its first, where it has none.
 fn with_own_first<'i>(
     alloc: Global,
     keyword: &str,
@@ -181,7 +180,6 @@ fn with_own_first<'i>(
     Ok(with_first(before, Box::new(alloc, fault)?))
 }
 
-/// The answer with an error of the keyword's own after the others.
 fn with_own_last<'i>(
     alloc: Global,
     keyword: &str,
@@ -196,7 +194,7 @@ fn with_own_last<'i>(
     Ok(Answer::All(faults))
 }
 
-/// An error at the keyword itself.
+/// Returns an error at the keyword itself.
 fn own_fault<'i>(alloc: Global, keyword: &str, text: String) -> Result<Fault<'i>, OutOfMemory>
     ensures own { IfOk result (λ fault. (texts : Bool) → fault_of texts fault ≡ own_fault texts keyword.now text) }
     ensures borrows { IfOk result (λ fault. (root : Data) → PassesBorrowed root fault) }
@@ -210,7 +208,7 @@ fn own_fault<'i>(alloc: Global, keyword: &str, text: String) -> Result<Fault<'i>
     }))
 }
 
-/// Whether a reply lets its run go on.
+/// Returns whether a run goes on after this reply.
 pub fn goes_on(reply: &Reply<'_>) -> bool
     ensures goes_on { (texts : Bool) → result ≡ goes_on (reply_of texts reply.now) }
 {
@@ -223,7 +221,7 @@ pub fn goes_on(reply: &Reply<'_>) -> bool
     }
 }
 
-/// Whether a reply says yes: a verdict, or a unit's.
+/// Returns whether a reply accepts, by its verdict or by its unit's.
 pub fn says_yes(reply: &Reply<'_>) -> bool
     ensures yes { (texts : Bool) → result ≡ says_yes (reply_of texts reply.now) }
 {
@@ -236,7 +234,9 @@ pub fn says_yes(reply: &Reply<'_>) -> bool
     }
 }
 
-/// Takes what a child answered. A verdict that lets the answer be moves nothing.
+/// Takes over what a child answered.
+///
+/// A verdict that does not change the answer moves nothing.
 pub fn take<'i>(alloc: Global, reply: Reply<'i>, answer: &mut Answer<'i>) -> Result<(), OutOfMemory>
     ensures taken { IfOk result (λ _. Takes reply.entry answer.old answer.new) }
     ensures borrows { Borrows reply.entry answer.old answer.new result }
@@ -252,7 +252,7 @@ pub fn take<'i>(alloc: Global, reply: Reply<'i>, answer: &mut Answer<'i>) -> Res
     }
 }
 
-/// Takes what a child told. Its room on the stack is its own, so that a verdict pays nothing for it.
+/// Not inlined, so that a verdict does not pay for its stack frame.
 #[inline(never)]
 fn take_told<'i>(
     alloc: Global,
@@ -267,7 +267,6 @@ fn take_told<'i>(
     Ok(())
 }
 
-/// The answer with what a child answered.
 fn with_reply<'i>(
     alloc: Global,
     reply: Reply<'i>,

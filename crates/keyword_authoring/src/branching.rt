@@ -1,4 +1,7 @@
-//! A run that branches: it asks whether one child accepts, and passes on what the child of the branch that follows answers.
+//! Runs that branch.
+//!
+//! Such a run asks whether one child accepts, and passes on what the child of the branch that
+//! follows answers.
 ghost use Rattle.std.specs.Prelude.{◌≡◌};
 ghost use Rattle.schema_traits.specs.KeywordViews.{turn_of};
 ghost use Rattle.keyword_authoring.specs.Ways.{asked, branch_number, stage_at};
@@ -12,7 +15,7 @@ use schema_reports::location::OutOfMemory;
 use schema_traits::keyword::{Answer, Below, Mode, Reply, Step};
 use std::alloc::Global;
 
-/// Asks the branch that a verdict leads to, if there is one, and ends the run else.
+/// Asks the branch that a verdict leads to, or ends the run if there is none.
 fn ask_branch<'s>(
     accepts: bool,
     accepted: Option<usize>,
@@ -35,8 +38,10 @@ fn ask_branch<'s>(
     }
 }
 
-/// Takes a turn of a run that branches: it asks whether its first child accepts, and then the branch that follows, whose answer
-/// it passes on. A branch is the number of a child, where there is one.
+/// Takes a turn of a run that branches.
+///
+/// The run asks whether its first child accepts, and then the branch that follows, whose answer it
+/// passes on. A branch is the number of a child, if there is one.
 #[inline(always)]
 pub fn branch_on<'s, 'i>(
     alloc: Global,

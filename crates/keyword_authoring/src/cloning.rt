@@ -1,5 +1,7 @@
-//! Clones of keywords by a way. An author's type says that a clone of it has its source's shape, and what the engine takes of it can be
-//! cloned.
+//! Clones of the authoring types.
+//!
+//! An author's type declares that its clone has the shape of its source. The keyword that the
+//! engine takes can then be cloned.
 ghost use Rattle.std.specs.Prelude.{◌≡◌};
 
 use crate::judge::{JudgeKeyword, Judged};
@@ -9,27 +11,27 @@ use crate::own::{ByTurns, OwnKeyword};
 use crate::planned::{Planned, PlannedKeyword};
 use schema_traits::cloning::CloneKeyword;
 
-/// A keyword that asks nothing and has one error, and that can be cloned. A clone has its source's shape.
+/// A `LeafKeyword` that can be cloned. A clone has the shape of its source.
 pub trait CloneLeaf: LeafKeyword + Clone {
     ghost cloned: { (m n : Self) → Self.is_clone m n → Self.shape n ≡ Self.shape m };
 }
 
-/// A keyword that asks nothing, and that can be cloned. A clone has its source's shape.
+/// A `TellingKeyword` that can be cloned. A clone has the shape of its source.
 pub trait CloneTelling: TellingKeyword + Clone {
     ghost cloned: { (m n : Self) → Self.is_clone m n → Self.shape n ≡ Self.shape m };
 }
 
-/// A keyword by a plan that can be cloned. A clone has its source's shape.
+/// A `PlannedKeyword` that can be cloned. A clone has the shape of its source.
 pub trait ClonePlanned: PlannedKeyword + Clone {
     ghost cloned: { (m n : Self) → Self.is_clone m n → Self.shape n ≡ Self.shape m };
 }
 
-/// A keyword that judges, and that can be cloned. A clone has its source's shape.
+/// A `JudgeKeyword` that can be cloned. A clone has the shape of its source.
 pub trait CloneJudge: JudgeKeyword + Clone {
     ghost cloned: { (m n : Self) → Self.is_clone m n → Self.shape n ≡ Self.shape m };
 }
 
-/// A keyword by its own turns that can be cloned. A clone has its source's shape.
+/// An `OwnKeyword` that can be cloned. A clone has the shape of its source.
 pub trait CloneOwn: OwnKeyword + Clone {
     ghost cloned: { (m n : Self) → Self.is_clone m n → Self.shape n ≡ Self.shape m };
 }

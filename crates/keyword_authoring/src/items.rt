@@ -1,4 +1,4 @@
-//! Items of instances.
+//! The items of instances.
 ghost use Rattle.std.specs.Prelude.{◌≡◌, IfSome};
 ghost use Rattle.serde_json.specs.Data.{array};
 ghost use Rattle.serde_json.specs.View.{items_view};
@@ -9,7 +9,7 @@ ghost use Rattle.keyword_authoring.specs.Items.{is_list, item_count};
 use schema_reports::instance::Instance;
 use serde_json::Value;
 
-/// Whether the instance is a list.
+/// Returns whether the instance is a list.
 pub fn is_list(instance: Instance<'_>) -> bool
     ensures list { result ≡ is_list (subject_of instance.entry) }
 {
@@ -19,7 +19,7 @@ pub fn is_list(instance: Instance<'_>) -> bool
     }
 }
 
-/// How many items the instance has, which is none where it is no list.
+/// Returns the number of items of the instance, or 0 if it is no list.
 #[tactic(auto, using(crate::proofs::MemberCounts::items_count_length))]
 pub fn item_count(instance: Instance<'_>) -> usize
     ensures count { result ≡ item_count (subject_of instance.entry) }
@@ -33,7 +33,7 @@ pub fn item_count(instance: Instance<'_>) -> usize
     }
 }
 
-/// The items of the instance, where it is a list.
+/// Returns the items of the instance, if it is a list.
 #[inline(always)]
 pub fn items_of<'i>(instance: Instance<'i>) -> Option<&'i [Value]>
     ensures items { IfSome result (λ items. subject_of instance.entry ≡ a_value (array (items_view items.now))) }

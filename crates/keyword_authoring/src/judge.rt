@@ -1,5 +1,7 @@
-//! Keywords that judge by how many questions are answered by yes. An author says which questions it asks, of how many such answers
-//! it holds, its name and its error's text; its turns and all laws follow.
+//! Keywords that count how many of their questions are accepted.
+//!
+//! An author says which questions such a keyword asks, how many must be accepted, its name, and the
+//! text of its error. Its turns and all laws follow.
 ghost use Rattle.std.specs.Prelude.{◌≡◌, ℕ, Bool, IfOk, true};
 ghost use Rattle.theory_definitions.specs.Instance.{Subject, Text};
 ghost use Rattle.schema_reports.specs.InstanceViews.{subject_of};
@@ -22,53 +24,61 @@ use schema_reports::location::OutOfMemory;
 use schema_traits::keyword::{Answer, Mode, Reply, Step, Validate};
 use std::alloc::Global;
 
-/// A keyword that judges: it asks numbered questions, and holds of an instance by how many are answered by yes, or tells one error.
+/// A keyword that judges: it asks numbered questions, and counts those accepted.
+///
+/// It accepts an instance depending on that number, or reports one error.
 pub trait JudgeKeyword: Drop {
-    /// What is known of the keyword apart from its representation: the keyword itself, where it owns nothing.
+    /// What is known of the keyword apart from its representation.
+    ///
+    /// This is the keyword itself if it owns nothing.
     type Shape;
 
     ghost shape: { Self → Self.Shape };
 
     ghost called: { Self.Shape → Text };
 
-    // how many questions there are of an instance, and the question of each number
+    // How many questions there are about an instance, and the question with each number.
     ghost count: { Self.Shape → Subject → ℕ };
 
     ghost question: { Self.Shape → ℕ → Question };
 
-    // after how many answers by yes further ones change nothing, and whether it gives the units of its questions; it is judged by
-    // how many are answered by yes, or by that number where more are
+    // `enough` accepted questions are all that count: further ones change nothing. The keyword
+    // judges by the number of accepted questions, or by `enough` if there are more. `shows` says
+    // whether it returns the units of its questions.
     ghost enough: { Self.Shape → ℕ };
 
     ghost shows: { Self.Shape → Bool };
 
-    // whether it holds of an instance by so many answers by yes, and the error's text where it does not
+    // Whether it accepts an instance if this many questions are accepted, and its error's text if
+    // not.
     ghost accepts: { Self.Shape → Subject → ℕ → Bool };
 
     ghost error_text: { Self.Shape → Subject → ℕ → Text };
 
-    // whether it says of itself that it is monotone
+    // Whether it declares that it is monotone.
     ghost says_monotone: { Self.Shape → Bool };
 
-    /// The keyword's name.
+    /// Returns the keyword's name.
     fn name(&self) -> &str
         ensures name { result.now ≡ called (shape self.now) };
 
-    /// How it judges an instance.
+    /// Returns how the keyword judges an instance.
     fn judge(&self, instance: Instance<'_>) -> Judge
         ensures count { result.count ≡ count (shape self.now) (subject_of instance.entry) }
         ensures enough { result.enough ≡ enough (shape self.now) }
         ensures shows { result.shows ≡ shows (shape self.now) };
 
-    /// The question of this number, in this mode.
+    /// Returns the question with this number, in this mode.
     fn ask(&self, number: usize, mode: Mode) -> Step<'_>
         ensures question { turn_of result ≡ ask (question (shape self.now) number) (mode_of mode) };
 
-    /// Whether it holds where so many questions are answered by yes.
+    /// Returns whether the keyword accepts if this many questions are accepted.
     fn holds(&self, instance: Instance<'_>, accepted: usize) -> bool
         ensures holds { result ≡ accepts (shape self.now) (subject_of instance.entry) accepted };
 
-    /// The error's text. It is asked for only where the keyword does not hold and an error is wanted.
+    /// Returns the error's text.
+    ///
+    /// It is called only if the keyword refuses and an error is wanted.
     fn text(
         &self,
         alloc: Global,
@@ -77,19 +87,22 @@ pub trait JudgeKeyword: Drop {
     ) -> Result<String, OutOfMemory>
         ensures text { IfOk result (ShowsText instance.entry (λ s. error_text (shape self.now) s accepted)) };
 
-    /// Whether the keyword says of itself that it is monotone: a yes more among the answers never turns its own from yes to no.
-    /// `false` says nothing, and is always right.
+    /// Returns whether the keyword declares that it is monotone.
+    ///
+    /// A keyword is monotone if one more accepted question never turns it from accepting to
+    /// refusing. `false` declares nothing, and is always right.
     fn monotone(&self) -> bool
         ensures says { result ≡ says_monotone (shape self.now) };
 
-    // each question is asked at a place that is there
+    // Each question is asked at a place that exists.
     ghost present: { (m : Self.Shape) (s : Subject) → AsksPresent s (each_from (question m) 0 (count m s)) };
 
-    // where it says that it is monotone, no number at which it holds is followed by one at which it does not
+    // If it declares that it is monotone, then no number at which it accepts is followed by one at
+    // which it refuses.
     ghost grows: { (m : Self.Shape) (s : Subject) → says_monotone m ≡ true → never_falls (accepts m s) (enough m) ≡ true };
 }
 
-/// Notes the keyword's error where it does not hold.
+/// Notes the keyword's error, if it refuses.
 fn tell_judged<'i, J: JudgeKeyword>(
     judge: &J,
     alloc: Global,
@@ -113,7 +126,9 @@ fn tell_judged<'i, J: JudgeKeyword>(
     note(alloc, mode, judge.name(), text, answer)
 }
 
-/// Takes a turn of a keyword that judges: asks the next question, or tells its error, if it has one, where no question is left.
+/// Takes a turn of a keyword that judges.
+///
+/// It asks the next question. If none is left, it reports the error, if there is one.
 pub fn turn_judge<'s, 'i, J: JudgeKeyword>(
     keyword: &'s J,
     alloc: Global,

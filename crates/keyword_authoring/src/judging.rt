@@ -1,4 +1,7 @@
-//! A run that judges: it asks one numbered question after the other, and tells errors by how many are answered by yes.
+//! Runs that judge.
+//!
+//! Such a run asks numbered questions one after the other, and reports errors depending on how many
+//! are accepted.
 ghost use Rattle.std.specs.Prelude.{◌≡◌, ◌+◌, ℕ, Bool, IfOk, min, not};
 ghost use Rattle.theory_definitions.specs.Keywords.{Answer as AnswerOfRun, Question, Reply as ReplyOfRun};
 ghost use Rattle.schema_traits.specs.KeywordViews.{reply_of};
@@ -20,28 +23,30 @@ use std::alloc::Global;
 /// What a turn of a run that judges does.
 #[derive(Clone, Copy)]
 pub enum Judging {
-    /// It asks the question of this number, in this mode.
+    /// It asks the question with this number, in this mode.
     Asks(usize, Mode),
-    /// It ends the run, in which so many accepted.
+    /// It ends the run, in which this many questions were accepted.
     Judged(usize),
-    /// The run had ended.
+    /// The run had ended already.
     Over,
 }
 
 /// How a keyword judges an instance.
 #[derive(Clone, Copy)]
 pub struct Judge {
-    /// How many questions it has.
+    /// The number of its questions.
     pub count: usize,
-    /// After how many that are answered by yes further ones change nothing. Any number may be answered: the keyword is judged by how
-    /// many are answered by yes, or by this number where more are. One that wants at least so many answers by yes has enough with
-    /// that number, and one that wants at most so many with one more; the number of its questions is always enough.
+    /// The number of accepted questions after which further ones change nothing.
+    ///
+    /// Any number may be given: the keyword judges by the number of accepted questions, or by this
+    /// number if there are more. A keyword that requires at least n accepted questions has enough
+    /// with n, and one that allows at most n with n + 1. The number of its questions is always
+    /// enough.
     pub enough: usize,
-    /// Whether it gives its questions' units.
+    /// Whether it returns the units of its questions.
     pub shows: bool,
 }
 
-/// Whether a run in this mode asks for units.
 fn wants_units(shows: bool, mode: Mode) -> bool
     ensures units { (t : Tally) → t.shows ≡ shows → result ≡ wants_units t mode }
 {
@@ -53,14 +58,13 @@ fn wants_units(shows: bool, mode: Mode) -> bool
     }
 }
 
-/// The mode of its questions.
 fn asked_in(units: bool) -> Mode
     ensures mode { result ≡ asked_in units }
 {
     if units { Mode::Evaluate } else { Mode::Verdict }
 }
 
-/// How many accept after one more answer, so many at the most.
+/// Returns the number of accepted questions after one more answer, at most `enough`.
 fn tallied(enough: usize, accepts: bool, before: usize) -> usize
     ensures tallied { result ≡ min enough (counted accepts before) }
 {
@@ -71,14 +75,14 @@ fn tallied(enough: usize, accepts: bool, before: usize) -> usize
     }
 }
 
-/// Whether further answers change nothing.
+/// Returns whether further answers change nothing.
 fn is_settled(units: bool, enough: usize, accepted: usize) -> bool
     ensures settled { result ≡ is_settled units enough accepted }
 {
     !units && enough <= accepted
 }
 
-/// Asks the question of this place, if there is one, and ends the run else.
+/// Asks the question at this position, or ends the run if there is none.
 #[tactic(auto, using(crate::proofs::EachQuestion::nth_each_here, crate::proofs::EachQuestion::nth_each_past))]
 fn judge_at(
     place: Option<usize>,
@@ -102,7 +106,6 @@ fn judge_at(
     Judging::Judged(accepted)
 }
 
-/// The place after the last, where there is one.
 #[tactic(auto, using(crate::proofs::EachQuestion::nth_each_past))]
 fn place_after(last: usize, count: usize, settled: bool) -> Option<usize>
     ensures next { (f : ℕ → Question) → nth_at (each_from f 0 count) result ≡ next_if (not settled) (nth (last + 1) (each_from f 0 count)) }
@@ -115,7 +118,7 @@ fn place_after(last: usize, count: usize, settled: bool) -> Option<usize>
     if last < count { Some(last + 1) } else { None }
 }
 
-/// Counts a reply that says yes or not, and says what the turn does.
+/// Counts a reply, which accepts or not, and returns what the turn does.
 fn count_on(judge: Judge, run: &mut Progress, yes: bool) -> Judging
     ensures stage { (f : ℕ → Question) (r : ReplyOfRun) → yes ≡ says_yes r → JudgesStage judge f run.old r run.new }
     ensures step { (f : ℕ → Question) (r : ReplyOfRun) → yes ≡ says_yes r → JudgesStep judge f run.old r result }
@@ -138,7 +141,9 @@ fn count_on(judge: Judge, run: &mut Progress, yes: bool) -> Judging
     }
 }
 
-/// Takes a turn of a run that judges, whatever the question of a number is. A unit that a child gave is put into the answer.
+/// Takes a turn of a run that judges, whatever its questions are.
+///
+/// A unit that a child returned goes into the answer.
 pub fn judge_on<'i>(
     alloc: Global,
     judge: Judge,
@@ -159,7 +164,9 @@ pub fn judge_on<'i>(
     Ok(count_on(judge, run, yes))
 }
 
-/// Takes a turn of a run that judges its children, each at the keyword's own place. A unit that a child gave is put into the answer.
+/// Takes a turn of a run that judges its children, at the keyword's own place.
+///
+/// A unit that a child returned goes into the answer.
 pub fn judge_children<'i>(
     alloc: Global,
     judge: Judge,

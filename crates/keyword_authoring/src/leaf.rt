@@ -1,4 +1,7 @@
-//! Keywords that ask nothing. An author says when such a keyword holds, its name and its error's text; all laws follow.
+//! Keywords that ask nothing, with one error.
+//!
+//! An author says when such a keyword accepts, its name, and the text of its error. All laws
+//! follow.
 ghost use Rattle.std.specs.Prelude.{◌≡◌, Bool, IfOk, true};
 ghost use Rattle.theory_definitions.specs.Instance.{Subject, Text};
 ghost use Rattle.schema_reports.specs.InstanceViews.{subject_of};
@@ -19,34 +22,38 @@ use schema_reports::location::OutOfMemory;
 use schema_traits::keyword::{Answer, Mode, Reply, Step, Validate};
 use std::alloc::Global;
 
-/// A keyword that asks nothing: it holds of an instance, or tells one error.
+/// A keyword that asks nothing: it accepts an instance, or reports one error.
 pub trait LeafKeyword: Drop {
-    /// What is known of the keyword apart from its representation: the keyword itself, where it owns nothing.
+    /// What is known of the keyword apart from its representation.
+    ///
+    /// This is the keyword itself if it owns nothing.
     type Shape;
 
     ghost shape: { Self → Self.Shape };
 
-    // the keyword's name, of which instances it holds, and the error's text where it does not
+    // The keyword's name, the instances that it accepts, and the error's text for the others.
     ghost called: { Self.Shape → Text };
 
     ghost accepts: { Self.Shape → Subject → Bool };
 
     ghost error_text: { Self.Shape → Subject → Text };
 
-    /// The keyword's name.
+    /// Returns the keyword's name.
     fn name(&self) -> &str
         ensures name { result.now ≡ called (shape self.now) };
 
-    /// Whether it holds of an instance.
+    /// Returns whether the keyword accepts an instance.
     fn holds(&self, instance: Instance<'_>) -> bool
         ensures holds { result ≡ accepts (shape self.now) (subject_of instance.entry) };
 
-    /// The error's text. It is asked for only where the keyword does not hold and an error is wanted.
+    /// Returns the error's text.
+    ///
+    /// It is called only if the keyword refuses and an error is wanted.
     fn text(&self, alloc: Global, instance: Instance<'_>) -> Result<String, OutOfMemory>
         ensures text { IfOk result (ShowsText instance.entry (error_text (shape self.now))) };
 }
 
-/// Notes the keyword's error where it does not hold.
+/// Notes the keyword's error, if it refuses.
 fn tell_leaf<'i, L: LeafKeyword>(
     leaf: &L,
     alloc: Global,
@@ -69,7 +76,9 @@ fn tell_leaf<'i, L: LeafKeyword>(
     note(alloc, mode, leaf.name(), text, answer)
 }
 
-/// Takes a turn of a keyword that asks nothing: in the first turn it tells its error, if it has one, and the run ends.
+/// Takes a turn of a keyword that asks nothing.
+///
+/// The first turn reports the error, if there is one, and ends the run.
 pub fn turn_leaf<'s, 'i, L: LeafKeyword>(
     leaf: &L,
     alloc: Global,

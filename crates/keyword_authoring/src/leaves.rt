@@ -1,5 +1,8 @@
-//! Keywords that ask nothing and have an error or several. An author says when such a keyword holds, its name and its errors' texts;
-//! all laws follow. `crate::leaf` is the same of one error, in a type that shows no fraction of the schema.
+//! Keywords that ask nothing, with one error or several.
+//!
+//! An author says when such a keyword accepts, its name, and the texts of its errors. All laws
+//! follow. `crate::leaf` is the same for a single error, in a type whose texts show no fraction of
+//! the schema.
 ghost use Rattle.std.specs.Prelude.{◌≡◌, Bool, IfOk, IfSome, List, false, length, map, string_bytes, true};
 ghost use Rattle.theory_definitions.specs.Instance.{Subject, Text};
 ghost use Rattle.schema_reports.specs.InstanceViews.{subject_of};
@@ -21,41 +24,39 @@ use schema_reports::location::OutOfMemory;
 use schema_traits::keyword::{Answer, Mode, Reply, Step, Validate};
 use std::alloc::Global;
 
-/// A keyword that asks nothing: it holds of an instance, or tells its errors, in order.
+/// A keyword that asks nothing: it accepts an instance, or reports its errors.
 pub trait TellingKeyword: Drop {
-    /// What is known of the keyword apart from its representation: the keyword itself, where it owns nothing.
+    /// What is known of the keyword apart from its representation.
+    ///
+    /// This is the keyword itself if it owns nothing.
     type Shape;
 
     ghost shape: { Self → Self.Shape };
-    // whether no text of it shows a fraction of the schema
+    // Whether none of its texts shows a fraction of the schema.
     ghost shows_no_fraction: { Self.Shape → Bool };
-    // the name that its errors go by
+    // The name of the keyword in its errors.
     ghost called: { Self.Shape → Text };
-    // the texts of its errors, in order; none where it holds
+    // The texts of its errors, in order; none if it accepts.
     ghost error_texts: { Self.Shape → Subject → List Text };
 
     /// Returns the keyword's name.
     fn name(&self) -> &str
         ensures name { result.now ≡ called (shape self.now) };
 
-    /// Returns whether it holds of an instance, where that is told without memory; then a verdict takes no run.
+    /// Returns whether the keyword accepts an instance, if that needs no memory.
+    ///
+    /// Then a verdict takes no run.
     fn holds_at_once(&self, instance: Instance<'_>) -> Option<bool>
         ensures at_once { IfSome result (λ holds. holds ≡ is_nil (error_texts (shape self.now) (subject_of instance.entry))) };
 
-    /// Returns whether it holds of an instance.
-    ///
-    /// # Errors
-    ///
-    /// Memory cannot be allocated.
+    /// Returns whether the keyword accepts an instance.
     fn holds(&self, alloc: Global, instance: Instance<'_>) -> Result<bool, OutOfMemory>
         ensures holds { Yields result (is_nil (error_texts (shape self.now) (subject_of instance.entry))) };
 
-    /// Returns the errors' texts, in order, where the keyword does not hold. They are asked for only where an error is wanted. Nothing
-    /// is promised of what they say where the instance or the keyword holds a fraction.
+    /// Returns the texts of the errors, in order.
     ///
-    /// # Errors
-    ///
-    /// Memory cannot be allocated.
+    /// It is called only if the keyword refuses and errors are wanted. The contract does not cover
+    /// the texts if the instance or the keyword holds a fraction.
     fn texts(&self, alloc: Global, instance: Instance<'_>) -> Result<Vec<String>, OutOfMemory>
         requires refuses { is_nil (error_texts (shape self.now) (subject_of instance)) ≡ false }
         ensures count { IfOk result (λ found. length found.items ≡ length (error_texts (shape self.now) (subject_of instance.entry))) }
@@ -69,7 +70,6 @@ pub struct Telling<T> {
     pub keyword: T,
 }
 
-/// Notes an error for each of these texts, in order.
 fn note_each<'i>(
     alloc: Global,
     mode: Mode,
@@ -87,7 +87,7 @@ fn note_each<'i>(
     Ok(())
 }
 
-/// Notes the keyword's errors. Where a verdict alone is wanted, no text is made.
+/// Notes the keyword's errors. If only the verdict is wanted, no text is made.
 #[tactic(auto, using(crate::proofs::ToldTexts::told_verdict_alone, crate::proofs::ToldTexts::told_nothing))]
 fn tell_each<'i, T: TellingKeyword>(
     keyword: &T,
@@ -112,7 +112,9 @@ fn tell_each<'i, T: TellingKeyword>(
     Ok(())
 }
 
-/// Takes a turn of a keyword that asks nothing: in the first turn it tells its errors, if it has any, and the run ends.
+/// Takes a turn of a keyword that asks nothing.
+///
+/// The first turn reports the errors, if there are any, and ends the run.
 pub fn turn_telling<'s, 'i, T: TellingKeyword>(
     keyword: &T,
     alloc: Global,

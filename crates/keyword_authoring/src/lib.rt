@@ -1,16 +1,29 @@
-//! The ways in which a keyword goes about an instance: it tells its errors, or passes on what children answer, or judges by how
-//! many children accept, or branches by one child's verdict, or asks whether a pattern matches.
+//! Building blocks for keywords.
 //!
-//! An author's keyword says its plan (`PlannedKeyword`), or when it holds (`LeafKeyword` and `TellingKeyword`, which ask nothing, and
-//! `JudgeKeyword`), and `Planned`, `Leaf`, `Telling` and `Judged` make of it what the engine takes, with all laws. Any other is an
-//! `OwnKeyword`: it says its way (`specs/Ways`) and takes its turns, and `ByTurns` makes of it what the engine takes. The turns of
-//! a leaf and of a judge are `turn_leaf` and `turn_judge`. The turns of the other ways are taken by `onward` or `next_number`, by
-//! `branch_on` or by `match_on`, whose clauses speak of the way; `note` adds an error of the keyword's own, and `refuse` says no
-//! where a verdict alone is wanted. `specs/Places` has lemmas that questions are asked at places that are there.
+//! An author says how a keyword evaluates an instance, and its laws follow.
 //!
-//! A type that is `Validate` itself names the way of each of its keywords, and what they say follows from it (`words_of`, in
-//! `specs/WayWords`). Their laws are `turn_laws` and `function_laws` (`specs/WayLaws`), for which two facts are left to show: that
-//! the questions do not depend on texts, and that each is asked at a place that is there.
+//! There are five kinds of keywords: it reports errors of its own, or passes on what its children
+//! answer, or judges by how many children accept, or branches by the verdict of one child, or asks
+//! whether a pattern matches.
+//!
+//! An author's type implements one of these traits, and a wrapper turns it into what the engine
+//! takes, with all laws:
+//!
+//! - `PlannedKeyword`, with the wrapper `Planned`, says its plan;
+//! - `LeafKeyword` and `TellingKeyword`, with `Leaf` and `Telling`, say when they accept, and ask
+//!   nothing;
+//! - `JudgeKeyword`, with `Judged`, says when it accepts by how many questions are accepted;
+//! - `OwnKeyword`, with `ByTurns`, says its kind (`specs/Ways`) and takes its turns.
+//!
+//! The turns of a leaf and of a judge are `turn_leaf` and `turn_judge`. The turns of the other
+//! kinds are taken by `onward` or `next_number`, by `branch_on` or by `match_on`, whose clauses
+//! name the kind. `note` adds an error of the keyword's own, and `refuse` is enough if only the
+//! verdict is wanted. `specs/Places` has lemmas for questions that are asked at places that exist.
+//!
+//! A type that implements `Validate` itself names the kind of each of its keywords, and what they
+//! say follows from it (`words_of`, in `specs/WayWords`). Their laws are `turn_laws` and
+//! `function_laws` (`specs/WayLaws`). They leave two facts to show: that the questions do not
+//! depend on texts, and that each is asked at a place that exists.
 #![tactic(auto)]
 
 pub mod answers;

@@ -1,4 +1,6 @@
-//! A run that asks whether a pattern matches a text, and tells an error where it does not.
+//! Runs that request a match.
+//!
+//! Such a run asks whether a pattern matches a text, and reports an error if it does not.
 ghost use Rattle.std.specs.Prelude.{◌≡◌};
 ghost use Rattle.theory_definitions.specs.Keywords.{match_text};
 ghost use Rattle.schema_traits.specs.KeywordViews.{turn_of};
@@ -9,18 +11,18 @@ use crate::answers::says_yes;
 use crate::run::{Progress, Stage};
 use schema_traits::keyword::{Mode, Reply, Step};
 
-/// What a turn of a run that asks a match does.
+/// What a turn of a run that requests a match does.
 #[derive(Clone, Copy)]
 pub enum MatchTurn {
     /// It asks whether the pattern matches.
     Asks,
-    /// It ends the run, in which the pattern was found to match or not.
+    /// It ends the run, in which the pattern matched or not.
     Answered(bool),
-    /// The run had ended.
+    /// The run had ended already.
     Over,
 }
 
-/// Takes a turn of a run that asks a match.
+/// Takes a turn of a run that requests a match.
 #[inline(always)]
 pub fn match_on(run: &mut Progress, reply: Reply<'_>) -> MatchTurn
     ensures turns { TurnsMatch run.old reply.entry result run.new }
@@ -43,15 +45,14 @@ pub fn match_on(run: &mut Progress, reply: Reply<'_>) -> MatchTurn
     }
 }
 
-/// Asks in a run in this mode whether a pattern matches a text: at the keyword.
+/// Returns the step that asks, at the keyword, whether a pattern matches a text.
 pub fn ask_match<'s>(pattern: &'s str, text: &'s str, mode: Mode) -> Step<'s>
     ensures step { turn_of result ≡ match_text (record { pattern = pattern.now; subject = text.now }) (match_point mode pattern.now) }
 {
     Step::Match(pattern, text, is_located(mode))
 }
 
-/// Whether a match that is asked for in a run in this mode is shown with evaluation path and place: not where a verdict alone is
-/// wanted.
+/// A match is shown with evaluation path and place unless only the verdict is wanted.
 fn is_located(mode: Mode) -> bool
     ensures located { result ≡ is_located mode }
 {

@@ -1,4 +1,4 @@
-//! Members of instances.
+//! The members of instances.
 ghost use Rattle.std.specs.Prelude.{◌≡◌, [], IfSome, is_some, option_map, slice_index_or};
 ghost use Rattle.serde_json.specs.Data.{object};
 ghost use Rattle.serde_json.specs.Find.{get_member};
@@ -10,7 +10,7 @@ ghost use Rattle.schema_traits.specs.Readings.{fields};
 use schema_reports::instance::Instance;
 use serde_json::{Map, Value};
 
-/// Whether the instance is an object.
+/// Returns whether the instance is an object.
 pub fn is_object(instance: Instance<'_>) -> bool
     ensures object { result ≡ is_object (subject_of instance.entry) }
 {
@@ -20,14 +20,13 @@ pub fn is_object(instance: Instance<'_>) -> bool
     }
 }
 
-/// Whether an object has a member of this name.
 fn is_named(members: &Map<String, Value>, name: &str) -> bool
     ensures named { result ≡ is_some (get_member name.now (fields members.now)) }
 {
     members.contains_key(name)
 }
 
-/// Whether the instance has a member of this name.
+/// Returns whether the instance has a member with this name.
 #[inline(always)]
 pub fn has_member(instance: Instance<'_>, name: &str) -> bool
     ensures member { result ≡ has_member name.now (subject_of instance.entry) }
@@ -41,7 +40,7 @@ pub fn has_member(instance: Instance<'_>, name: &str) -> bool
     }
 }
 
-/// How many members the instance has, which is none where it is no object.
+/// Returns the number of members of the instance, or 0 if it is no object.
 #[tactic(auto, using(crate::proofs::MemberCounts::names_in_length))]
 pub fn member_count(instance: Instance<'_>) -> usize
     ensures count { result ≡ member_count (subject_of instance.entry) }
@@ -55,7 +54,7 @@ pub fn member_count(instance: Instance<'_>) -> usize
     }
 }
 
-/// The name of the member of a number, in the order of an object; an empty text where there is none.
+/// The name of the member with this number, or an empty text if there is none.
 fn name_among(members: &Map<String, Value>, number: usize) -> &str
     ensures name { result.now ≡ slice_index_or (names_in (fields members.now)) number [] }
 {
@@ -69,8 +68,10 @@ fn name_among(members: &Map<String, Value>, number: usize) -> &str
     ""
 }
 
-/// The name of the instance's member of a number, in the order of the object; an empty text where there is none. It is found by a walk
-/// over the members before it.
+/// Returns the name of the instance's member with this number.
+///
+/// Members are numbered in the object's order. If there is no such member, the text is empty.
+/// Iterates over the members before it.
 pub fn name_at<'i>(instance: Instance<'i>, number: usize) -> &'i str
     ensures name { result.now ≡ name_at (subject_of instance.entry) number }
 {
@@ -83,7 +84,7 @@ pub fn name_at<'i>(instance: Instance<'i>, number: usize) -> &'i str
     }
 }
 
-/// The members of the instance, where it is an object.
+/// Returns the members of the instance, if it is an object.
 #[inline(always)]
 pub fn members_of<'i>(instance: Instance<'i>) -> Option<&'i Map<String, Value>>
     ensures members { IfSome result (λ members. subject_of instance.entry ≡ a_value (object (fields members.now))) }

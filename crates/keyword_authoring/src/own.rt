@@ -1,4 +1,6 @@
-//! Keywords of an author's own. An author says in which way a keyword goes about an instance and takes its turns; all laws of a
+//! Keywords that take their own turns.
+//!
+//! An author says of which kind a keyword is for an instance, and takes its turns. All laws of a
 //! keyword follow.
 ghost use Rattle.std.specs.Prelude.{◌≡◌, Bool};
 ghost use Rattle.theory_definitions.specs.Instance.{Subject};
@@ -14,29 +16,35 @@ use schema_reports::location::OutOfMemory;
 use schema_traits::keyword::{Answer, Mode, Reply, Step, Validate};
 use std::alloc::Global;
 
-/// A keyword of an author's own, which goes about each instance in one of the ways.
+/// A keyword of an author's own, of some kind for each instance.
 pub trait OwnKeyword: Drop {
-    /// What is known of the keyword apart from its representation: the keyword itself, where it owns nothing.
+    /// What is known of the keyword apart from its representation.
+    ///
+    /// This is the keyword itself if it owns nothing.
     type Shape;
 
     ghost shape: { Self → Self.Shape };
 
-    // the way in which it goes about an instance, with the texts of its errors
+    // Its kind for an instance, with the texts of its errors.
     ghost way: { Self.Shape → Subject → Way };
 
-    // whether no text of an error of it shows a fraction of the schema
+    // Whether none of its errors' texts shows a fraction of the schema.
     ghost shows_no_fraction: { Self.Shape → Bool };
 
-    // each question is asked at a place that is there
+    // Each question is asked at a place that exists.
     ghost present: { AlwaysPresent way };
 
-    // whether it says of itself that it is monotone
+    // Whether it declares that it is monotone.
     ghost says_monotone: { Self.Shape → Bool };
 
-    // where it does, its way of going about an instance is (`way_grows` of specs/WayGrows tells which ways are)
+    // If it does, then its kind for each instance is monotone (`way_grows` in specs/WayGrows says
+    // which kinds are).
     ghost grows: { EachGrows way says_monotone };
 
-    /// Takes a turn: by `turn_leaf`, `turn_judge`, `next_number`, `branch_on` or `match_on`, as its way is.
+    /// Takes a turn.
+    ///
+    /// An implementation calls `turn_leaf`, `turn_judge`, `next_number`, `branch_on` or `match_on`,
+    /// depending on its kind.
     fn take_turn<'s, 'i: 's>(
         &'s self,
         alloc: Global,
@@ -50,8 +58,10 @@ pub trait OwnKeyword: Drop {
         ensures steps { TellsStep shows_no_fraction way (shape self.now) instance.entry run.old answer.old reply.entry result }
         ensures borrows { Borrows reply.entry answer.old answer.new result };
 
-    /// Whether the keyword says of itself that it is monotone: a yes more among the answers never turns its own from yes to no.
-    /// `false` says nothing, and is always right.
+    /// Returns whether the keyword declares that it is monotone.
+    ///
+    /// A keyword is monotone if one more accepted question never turns it from accepting to
+    /// refusing. `false` declares nothing, and is always right.
     fn monotone(&self) -> bool
         ensures says { result ≡ says_monotone (shape self.now) };
 }

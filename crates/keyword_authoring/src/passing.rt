@@ -1,4 +1,6 @@
-//! A run that passes on: it asks one question after the other, and passes on what each answers.
+//! Runs that pass on.
+//!
+//! Such a run asks one question after the other, and passes on what each answers.
 ghost use Rattle.std.specs.Prelude.{◌≡◌, ◌≤◌, ◌+◌, ◌^◌, ◌<◌, ℕ, Bool, List, Option, length, option_map, IfOk};
 ghost use Rattle.theory_definitions.specs.Keywords.{Question};
 ghost use Rattle.schema_traits.specs.KeywordViews.{reply_of, turn_of};
@@ -15,7 +17,7 @@ use schema_reports::location::OutOfMemory;
 use schema_traits::keyword::{Answer, Below, Mode, Reply, Step};
 use std::alloc::Global;
 
-/// Takes the reply to what was asked; where nothing was, there is nothing to take.
+/// Takes the reply to a question, if one was asked.
 fn take_asked<'i>(
     alloc: Global,
     stage: Stage,
@@ -35,8 +37,10 @@ fn take_asked<'i>(
     }
 }
 
-/// Takes a reply, and says which question comes next, by its place in order; where not every number has a question, says from
-/// which number on the next one is looked for. There are at most `limit` of them.
+/// Takes a reply, and returns the position of the next question.
+///
+/// If not every number has a question, it returns the number from which on the next question is
+/// looked for. There are at most `limit` of them.
 #[inline(always)]
 pub fn onward<'i>(
     alloc: Global,
@@ -72,7 +76,7 @@ pub fn onward<'i>(
     }
 }
 
-/// The number that is asked about next, of `count` from `first` on; the run ends where there is none.
+/// Returns the number of the next question, or ends the run if there is none.
 #[tactic(auto, using(crate::proofs::EachQuestion::nth_each, crate::proofs::EachQuestion::nth_each_past))]
 fn number_at(place: Option<usize>, first: usize, count: usize, run: &mut Progress) -> Option<usize>
     requires { first + count < 2 ^ 64 }
@@ -89,8 +93,10 @@ fn number_at(place: Option<usize>, first: usize, count: usize, run: &mut Progres
     None
 }
 
-/// Takes a turn of a run that passes on the answers to numbered questions: takes the reply, and says the number that is asked
-/// about next, of `count` from `first` on. The run ends where there is none.
+/// Takes a turn of a run that passes on the answers to numbered questions.
+///
+/// There are `count` questions, numbered from `first` on. Takes the reply, and returns the number
+/// of the next question. If there is none, the run ends.
 pub fn next_number<'i>(
     alloc: Global,
     first: usize,
@@ -110,7 +116,7 @@ pub fn next_number<'i>(
     Ok(number_at(place, first, count, run))
 }
 
-/// The question of a child at the keyword's own place.
+/// Returns the step that asks a child at the keyword's own place.
 pub fn ask_here<'s>(number: Option<usize>, mode: Mode) -> Step<'s>
     ensures step { turn_of result ≡ asked mode (option_map child_here number) }
 {

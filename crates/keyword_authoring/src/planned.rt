@@ -1,4 +1,6 @@
-//! Keywords that say by a plan how they go about an instance. Their runs and their laws are the same for all of them.
+//! Keywords that describe by a plan how they evaluate an instance.
+//!
+//! Their runs and their laws are the same for all of them.
 ghost use Rattle.std.specs.Prelude.{◌≡◌, ℕ, Bool, IfOk, Some, false, refl, true};
 ghost use Rattle.theory_definitions.specs.Instance.{Subject, Text};
 ghost use Rattle.schema_reports.specs.InstanceViews.{subject_of};
@@ -27,30 +29,37 @@ use std::alloc::Global;
 /// What a keyword asks.
 #[derive(Clone, Copy)]
 pub enum Asks {
-    /// Each of so many children, at the keyword's own place.
+    /// This many children, at the keyword's own place.
     Children(usize),
     /// The first child, at each item of the instance.
     Items,
-    /// The first child, at the value of each member of the instance, in the order of the object. Each question takes a walk over the
-    /// members before its own.
+    /// The first child, at the value of each member of the instance.
+    ///
+    /// Members are in the object's order. Each question iterates over the members before its own.
     Members,
 }
 
-/// How a keyword goes about an instance.
+/// How a keyword evaluates an instance.
 #[derive(Clone, Copy)]
 pub enum Plan {
-    /// It asks nothing, and tells its error unless this is true. The error's text is that of no answer by yes.
+    /// It asks nothing, and reports its error unless this is `true`.
+    ///
+    /// The error's text is the one for no accepted question.
     Holds(bool),
-    /// It passes on what its questions answer.
+    /// It passes on the answers to its questions.
     PassesOn(Asks),
-    /// It tells its error unless at least so many of its questions are answered by yes. The error's text is given how many are.
+    /// It reports its error unless at least this many of its questions are accepted.
+    ///
+    /// The error's text is made from the number of accepted questions.
     AtLeast(Asks, usize),
-    /// It tells its error unless at least so many of its questions are answered by yes, and at most so many. The error's text is
-    /// given how many are; it asks no further than one more than the most, so that number stands for any above the most.
+    /// It reports its error unless the number of accepted questions is within bounds.
+    ///
+    /// The error's text is made from that number. The run stops asking one past the upper bound, so
+    /// that number stands for any above the bound.
     Within(Asks, usize, usize),
 }
 
-/// How many answers by yes a keyword wants to its questions.
+/// How many accepted questions a keyword requires.
 #[derive(Clone, Copy)]
 struct Wanted {
     asks: Asks,
@@ -58,30 +67,36 @@ struct Wanted {
     most: Option<usize>,
 }
 
-/// A keyword whose plan, name and error are functions of its shape and of the instance. `Planned` makes a keyword of the engine of
-/// it: each law follows, and nothing is left to prove but the three clauses.
+/// A keyword whose plan, name and error depend on its shape and on the instance.
+///
+/// `Planned` turns it into a keyword of the engine. All laws follow, and only the three clauses are
+/// left to prove.
 pub trait PlannedKeyword: Drop {
-    /// What is known of a keyword apart from its representation; a type that holds numbers alone is its own shape.
+    /// What is known of a keyword apart from its representation.
+    ///
+    /// A type that holds only numbers is its own shape.
     type Shape;
 
     ghost use Rattle.keyword_authoring.specs.declared.planned.Plan.{Plan};
     ghost use Rattle.keyword_authoring.specs.WayGrows.{PlansGrow};
 
-    // the shape of a keyword
+    // The shape of a keyword.
     ghost shape: { Self → Self.Shape };
-    // whether no text of it holds a fraction of the schema
+    // Whether none of its texts holds a fraction of the schema.
     ghost shows_no_fraction: { Self.Shape → Bool };
-    // its plan for an instance
+    // Its plan for an instance.
     ghost planned: { Self.Shape → Subject → Plan };
-    // the name that its error goes by
+    // The name of the keyword in its error.
     ghost called: { Self.Shape → Text };
-    // its error's text, by how many of its questions are answered by yes
+    // Its error's text, by the number of accepted questions.
     ghost error_text: { Self.Shape → Subject → ℕ → Text };
 
-    // whether it says of itself that it is monotone
+    // Whether it declares that it is monotone.
     ghost says_monotone: { Self.Shape → Bool };
 
-    /// Returns the keyword's plan for an instance. It is asked in each turn, so it should be cheap.
+    /// Returns the keyword's plan for an instance.
+    ///
+    /// It is called in each turn, so it should be cheap.
     fn plan(&self, instance: Instance<'_>) -> Plan
         ensures plan { result ≡ planned (shape self.now) (subject_of instance.entry) };
 
@@ -89,12 +104,9 @@ pub trait PlannedKeyword: Drop {
     fn name(&self) -> &str
         ensures name { result.now ≡ called (shape self.now) };
 
-    /// Returns the error's text, where so many of its questions are answered by yes. Nothing is promised of it where the instance or
-    /// the keyword holds a fraction.
+    /// Returns the error's text, if this many of its questions are accepted.
     ///
-    /// # Errors
-    ///
-    /// Memory cannot be allocated.
+    /// The contract does not cover the text if the instance or the keyword holds a fraction.
     fn text(
         &self,
         alloc: Global,
@@ -104,12 +116,15 @@ pub trait PlannedKeyword: Drop {
         ensures text { IfOk result (λ text. shows_no_fraction (shape self.now) ≡ true → ShowsText instance.entry (λ s. error_text
             (shape self.now) s accepted) text) };
 
-    /// Returns whether the keyword says of itself that it is monotone: a yes more among the answers never turns its own from yes to
-    /// no. So it is where none of its plans has a most. `false` says nothing, and is always right.
+    /// Returns whether the keyword declares that it is monotone.
+    ///
+    /// A keyword is monotone if one more accepted question never turns it from accepting to
+    /// refusing. This holds if none of its plans has an upper bound. `false` declares nothing, and
+    /// is always right.
     fn monotone(&self) -> bool
         ensures says { result ≡ says_monotone (shape self.now) };
 
-    // where it does, each of its plans is
+    // If it does, then each of its plans is monotone.
     ghost grows: { PlansGrow planned says_monotone };
 }
 
@@ -119,7 +134,7 @@ pub struct Planned<P> {
     pub keyword: P,
 }
 
-/// Notes the keyword's error. Where a verdict alone is wanted, no text is made.
+/// Notes the keyword's error. If only the verdict is wanted, no text is made.
 fn tell<'i, P: PlannedKeyword>(
     keyword: &P,
     alloc: Global,
@@ -140,7 +155,6 @@ fn tell<'i, P: PlannedKeyword>(
     note(alloc, mode, keyword.name(), text, answer)
 }
 
-/// The question of a number.
 fn ask<'s, 'i: 's>(asks: Asks, number: usize, mode: Mode, instance: Instance<'i>) -> Step<'s>
     ensures step { turn_of result ≡ asked mode (Some (question_of asks (subject_of instance.entry) number)) }
 {
@@ -151,7 +165,6 @@ fn ask<'s, 'i: 's>(asks: Asks, number: usize, mode: Mode, instance: Instance<'i>
     }
 }
 
-/// How many questions there are.
 fn count_of(asks: Asks, instance: Instance<'_>) -> usize
     ensures count { result ≡ asks_count asks (subject_of instance.entry) }
 {
@@ -162,7 +175,9 @@ fn count_of(asks: Asks, instance: Instance<'_>) -> usize
     }
 }
 
-/// A turn of a keyword that tells: the first one notes its error, unless it holds.
+/// Takes a turn of a keyword that asks nothing.
+///
+/// The first turn notes its error, if it refuses.
 fn turn_telling<'s, 'i, P: PlannedKeyword>(
     keyword: &P,
     alloc: Global,
@@ -185,7 +200,6 @@ fn turn_telling<'s, 'i, P: PlannedKeyword>(
     Ok(Step::Done)
 }
 
-/// A turn of a keyword that passes on.
 fn turn_passing<'s, 'i: 's>(
     alloc: Global,
     asks: Asks,
@@ -206,7 +220,6 @@ fn turn_passing<'s, 'i: 's>(
     }
 }
 
-/// Whether so many answers by yes are what is wanted.
 fn is_wanted(wanted: Wanted, accepted: usize) -> bool
     ensures wanted { result ≡ is_wanted wanted.least wanted.most accepted }
 {
@@ -216,7 +229,7 @@ fn is_wanted(wanted: Wanted, accepted: usize) -> bool
     }
 }
 
-/// After how many answers by yes further ones change nothing, of so many questions.
+/// Returns the number of accepted questions after which further ones change nothing.
 fn enough_of(wanted: Wanted, count: usize) -> usize
     ensures enough { result ≡ enough_of wanted.least wanted.most count }
 {
@@ -226,7 +239,6 @@ fn enough_of(wanted: Wanted, count: usize) -> usize
     }
 }
 
-/// How a keyword judges that wants so many yeses.
 fn judge_of(wanted: Wanted, instance: Instance<'_>) -> Judge
     ensures count { result.count ≡ asks_count wanted.asks (subject_of instance.entry) }
     ensures enough { result.enough ≡ enough_of wanted.least wanted.most (asks_count wanted.asks (subject_of instance.entry)) }
@@ -240,7 +252,6 @@ fn judge_of(wanted: Wanted, instance: Instance<'_>) -> Judge
     }
 }
 
-/// A turn of a keyword that wants so many yeses.
 fn turn_judging<'s, 'i: 's, P: PlannedKeyword>(
     keyword: &P,
     alloc: Global,

@@ -5,12 +5,14 @@ ghost use Rattle.keyword_authoring.specs.Ways.{way_begin};
 
 use schema_traits::keyword::Mode;
 
-/// How far a run has come: before its first turn, after the question of this place in order, or at its end.
+/// The stage of a run: before its first turn, after a question, or at its end.
+///
+/// A question is named by its position.
 #[derive(Clone, Copy)]
 pub enum Stage {
     Begun,
     Asked(usize),
-    /// After the question of this place in order, where so many accepted before it.
+    /// After the question at this position, with this many accepted before it.
     Counted(usize, usize),
     Ended,
 }
@@ -23,7 +25,7 @@ pub struct Progress {
 }
 
 impl Progress {
-    /// A run in this mode, before its first turn.
+    /// Returns a run in this mode, before its first turn.
     pub fn begin(mode: Mode) -> Progress
         ensures begins { way_begin (mode_of mode) ≡ result }
     {

@@ -1,4 +1,4 @@
-//! A run that tells: it notes the keyword's own errors in its first turn, and asks nothing.
+//! Runs that ask nothing, and note the keyword's own errors in their first turn.
 ghost use Rattle.std.specs.Prelude.{◌≡◌, if◌then◌else◌};
 ghost use Rattle.theory_definitions.specs.Keywords.{Answer as AnswerOfRun};
 ghost use Rattle.keyword_authoring.specs.declared.run.Stage.TheVariants.{Ended};
@@ -6,8 +6,9 @@ ghost use Rattle.keyword_authoring.specs.Ways.{at_first};
 
 use crate::run::{Progress, Stage};
 
-/// Takes a turn of a run that tells, and says whether the keyword's errors are to be noted in it: in the first turn, and in no
-/// other.
+/// Takes a turn of such a run, and returns whether the errors are noted in it.
+///
+/// They are noted in the first turn only.
 pub fn tell_on(run: &mut Progress) -> bool
     ensures stage { run.new ≡ record run.old { stage = Ended } }
     ensures first { (told answer : AnswerOfRun) → at_first run.old.stage told answer ≡ (if result then told else answer) }

@@ -6,7 +6,7 @@ ghost use Rattle.schema_traits.specs.Readings.{text_read};
 
 use schema_reports::instance::Instance;
 
-/// The instance's text, where it is one. The name of a member is a text too.
+/// Returns the instance's text, if it is one. The name of a member is a text too.
 pub fn as_text<'i>(instance: Instance<'i>) -> Option<&'i str>
     ensures text { text_read result ≡ as_text (subject_of instance.entry) }
 {

@@ -1,4 +1,4 @@
-//! Units that children gave, in the answer of a run.
+//! The units that children return, in the answer of a run.
 ghost use Rattle.std.specs.Prelude.{◌≡◌, [], Bool, false, IfOk};
 ghost use Rattle.schema_reports.specs.EvaluationResults.{gives_of};
 ghost use Rattle.schema_reports.specs.UnitViews.{unit_of};
@@ -19,7 +19,9 @@ use schema_traits::keyword::{Answer, Reply};
 use std::alloc::Global;
 use std::mem;
 
-/// Makes what an evaluation gives invalid. Its annotations, units and errors stay.
+/// Makes the result of an evaluation invalid.
+///
+/// Its annotations, units and errors stay.
 pub fn invalidate(alloc: Global, own: &mut EvaluationResult)
     ensures invalid { (texts : Bool) → gives_of texts own.new ≡ record (gives_of texts own.old) { valid = false } }
 {
@@ -44,7 +46,7 @@ fn push_unit(own: &mut EvaluationResult, node: EvaluationNode) -> Result<(), Out
     }
 }
 
-/// The answer with a child's unit, which refuses where that does.
+/// Returns the answer with a child's unit, which refuses if the unit does.
 pub fn with_unit<'i>(
     alloc: Global,
     node: EvaluationNode,
@@ -62,7 +64,7 @@ pub fn with_unit<'i>(
     Ok(Answer::Evaluation(found))
 }
 
-/// The answer with a child's unit, whatever that says.
+/// Returns the answer with a child's unit, and with its own verdict.
 fn with_kept<'i>(
     alloc: Global,
     node: EvaluationNode,
@@ -76,8 +78,7 @@ fn with_kept<'i>(
     Ok(Answer::Evaluation(found))
 }
 
-/// Puts the unit that a child gave into the answer, where a run counts its children. Its room on the stack is its own, so that a
-/// verdict pays nothing for it.
+/// Not inlined, so that a verdict does not pay for its stack frame.
 #[inline(never)]
 fn keep_unit<'i>(
     alloc: Global,
@@ -92,7 +93,7 @@ fn keep_unit<'i>(
     Ok(())
 }
 
-/// Puts what a child gave into the answer, where it is a unit and the run counts its children.
+/// Puts a child's reply into the answer, if it is a unit and the run counts.
 pub fn keep_child<'i>(
     alloc: Global,
     stage: Stage,
