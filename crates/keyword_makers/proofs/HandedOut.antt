@@ -1,4 +1,4 @@
--- What a maker has handed out is behind it.
+-- What a maker has moved out is behind it.
 use Rattle.std.proofs.Common.{List, drop, suc, ◌≡◌, ◌+◌, ℕ, arith}
 use Rattle.std.proofs.Math.ListN.{set}
 use Rattle.std.proofs.lemmas.List.{drop-set-lt}

@@ -1,4 +1,4 @@
--- The maker of `if` asks for what lies strictly below the object, and ends rightly.
+-- The maker of `if` requests only what lies strictly below the object, and ends as it should.
 use Rattle.std.specs.Prelude.{Bool, List, None, Option, Some, false, true, ℕ}
 use Rattle.serde_json.specs.Data.{Members}
 use Rattle.theory_definitions.specs.Instance.{Text}

@@ -1,4 +1,5 @@
--- The children of `if`: the values of `if`, `then` and `else`, in this order, as far as they are there (Core 2020-12, 10.2.2).
+-- The children of `if`: the values of `if`, `then` and `else`, in this order, if they are present.
+-- (Core 2020-12, 10.2.2)
 use Rattle.std.specs.Prelude.{Bool, List, None, Option, Some, [], codes, false, is_some, true, ℕ, ◌++◌, ◌+◌, ◌∷◌}
 use Rattle.serde_json.specs.Data.{Members}
 use Rattle.serde_json.specs.Find.{get_member}
@@ -13,7 +14,7 @@ abbrev pub branch_places : Bool → Text → List Place
 branch_places true name = (to_member name ∷ []) ∷ []
 branch_places false name = []
 
--- the number of a branch that is there
+-- the number of a branch, if it is present
 abbrev pub branch_child : Bool → ℕ → Option ℕ
 branch_child true n = Some n
 branch_child false n = None
@@ -25,7 +26,7 @@ after_branch false n = n
 abbrev pub if_places : Text → Bool → Bool → List Place
 if_places name has_then has_else = (to_member name ∷ []) ∷ (branch_places has_then (codes "then") ++ branch_places has_else (codes "else"))
 
--- `shape` says which keyword it is, by the numbers of its branches
+-- the script of `if`; `shape` makes the keyword from the numbers of its branches
 abbrev pub if_script : {K : Type 0} → (Option ℕ → Option ℕ → K) → Text → Bool → Bool → Script K
 if_script shape name has_then has_else = asks_for (if_places name has_then has_else)
     (a_keyword (shape (branch_child has_then 1) (branch_child has_else (after_branch has_then 1))) [])

@@ -1,4 +1,5 @@
--- A table whose keywords follow from a member's name and value, from the draft, and from the members beside it.
+-- A table whose keywords depend on a member's name and value, on the draft, and on the neighbouring
+-- members.
 use Rattle.std.proofs.Common.{Bor, refl}
 use Rattle.std.specs.Prelude.{All, Bool, List, None, Option, Some, String, [], false, map, string_bytes, true, ◌≡◌}
 use Rattle.std.specs.Global.{Global, Vec}
@@ -17,11 +18,11 @@ use Rattle.keyword_makers.specs.Making.{asks_for, malformed, refused_error}
 use Rattle.keyword_makers.specs.MakingLaws.{asked_rightly, member_whole}
 use Rattle.keyword_makers.specs.Members.{values_below}
 
--- what a member makes, of which the names and the text are known
+-- what a member makes, with names and texts as the definitions have them
 abbrev pub MadeHere : Type 0 → Type 0
 MadeHere K = ObjectKeyword K (Children Text) (List Text) Text Text
 
--- with what is known of the keyword, of the names and of the text apart from their representation
+-- what a member makes, in terms of the definitions
 abbrev pub formed : {C K : Type 0} → (C → K) → ObjectKeyword C (Children (Bor Text)) (Vec (String Global)) (Bor Text) (String Global) → MadeHere K
 formed shape (here.Keyword k c) = here.Keyword (shape k) (named c)
 formed shape (here.KeywordOver k names) = here.KeywordOver (shape k) (map string_bytes names.items)
@@ -30,7 +31,8 @@ formed shape here.Malformed = here.Malformed
 formed shape (here.MalformedBeside k) = here.MalformedBeside k.now
 formed shape (here.Refused t) = here.Refused (string_bytes t)
 
--- a refusal that shows the value of the member of a name beside the keyword, or the keyword's own where there is none
+-- a refusal that shows the value of the neighbouring member with this name, or the keyword's own if
+-- there is none
 abbrev pub malformed_beside : {K : Type 0} → Text → Data → Text → Option Data → Script K
 malformed_beside name d beside None = malformed name d
 malformed_beside name d beside (Some e) = malformed beside e
@@ -47,11 +49,11 @@ abbrev pub script_found : {K : Type 0} → (Draft → Members → Text → Data 
 script_found made draft object name None = then_end nothing
 script_found made draft object name (Some d) = script_here object name d (made draft object name d)
 
--- whether the name is the table's own or the standard's
+-- the script of a member is the same whether its name is the table's own or the standard's
 abbrev pub by_object : {K : Type 0} → (Draft → Members → Text → Data → MadeHere K) → Bool → Text → Members → Draft → Vocabularies → Bool → Script K
 by_object made own name object draft vocabularies formats = script_found made draft object name (get_member name object)
 
--- a keyword absorbs no other, and is whole where the object holds no fraction
+-- a keyword absorbs no other, and is whole if the object holds no fraction
 abbrev pub IsRightKeyword : {K : Type 0} → (K → List Text) → (K → Bool) → Members → K → Type 0
 IsRightKeyword absorbed is_whole object m = ([] ≡ absorbed m) × (members_have_float object ≡ false → is_whole m ≡ true)
 
@@ -64,7 +66,7 @@ IsRightHere absorbed is_whole object (here.MalformedBeside k) = Unit {0}
 IsRightHere absorbed is_whole object (here.Refused text) = Unit {0}
 
 module _ {K : Type 0} (absorbed : K → List Text) (is_whole : K → Bool) (none : (m : K) → [] ≡ absorbed m) where
-  -- so it is where no keyword of the type absorbs another, or holds a value of the schema
+  -- what is made is right if no keyword of the type absorbs another, or holds a value of the schema
   pub right_without_values : ((m : K) → is_whole m ≡ true) → (object : Members) (m : MadeHere K) → IsRightHere absorbed is_whole object m
   right_without_values whole object (here.Keyword m c) = (none m, λ h. whole m)
   right_without_values whole object (here.KeywordOver m ks) = (none m, λ h. whole m)
@@ -73,7 +75,7 @@ module _ {K : Type 0} (absorbed : K → List Text) (is_whole : K → Bool) (none
   right_without_values whole object (here.MalformedBeside k) = tt
   right_without_values whole object (here.Refused text) = tt
 
-  -- what is made is whole where this holds
+  -- what is made is whole on this condition
   abbrev pub IsWholeWhere : Type 0 → MadeHere K → Type 0
   IsWholeWhere Where (here.Keyword m c) = Where → is_whole m ≡ true
   IsWholeWhere Where (here.KeywordOver m ks) = Where → is_whole m ≡ true
@@ -90,11 +92,13 @@ module _ {K : Type 0} (absorbed : K → List Text) (is_whole : K → Bool) (none
   right_whole object Where holds (here.MalformedBeside k) h = tt
   right_whole object Where holds (here.Refused text) h = tt
 
-  -- or where a keyword that holds the value of its member is whole where that holds no fraction
+  -- what is made is right if a keyword that holds the value of its member is whole when that value
+  -- holds no fraction
   pub right_by_value : (object : Members) (name : Text) (d : Data) → get_member name object ≡ Some d → (m : MadeHere K) → IsWholeWhere (has_float d ≡ false) m → IsRightHere absorbed is_whole object m
   right_by_value object name d found m h = right_whole object (has_float d ≡ false) (member_whole name object d found) m h
 
-  -- or one that holds values of other members where the object holds no fraction
+  -- what is made is right if a keyword that holds values of other members is whole when the object
+  -- holds no fraction
   pub right_by_object : (object : Members) (m : MadeHere K) → IsWholeWhere (members_have_float object ≡ false) m → IsRightHere absorbed is_whole object m
   right_by_object object m h = right_whole object (members_have_float object ≡ false) (λ e. e) m h
 

@@ -1,4 +1,5 @@
--- A table whose keywords follow from a member's name and value: which children it has, and which keyword it is.
+-- A table whose keywords depend on a member's name and value: which children it has, and which
+-- keyword it is.
 use Rattle.std.proofs.Common.{Bor, refl}
 use Rattle.std.specs.Prelude.{Bool, List, None, Option, Some, [], false, true, ◌≡◌, ◌∷◌, All}
 use Rattle.std.proofs.lemmas.List.Elements.{All-cons, All-nil}
@@ -17,16 +18,16 @@ use Rattle.keyword_makers.specs.Making.{asks_for, items_from, malformed}
 use Rattle.keyword_makers.specs.MakingLaws.{asked_rightly, items_lie_below, member_whole}
 use Rattle.keyword_makers.specs.Members.{names_of, values_below}
 
--- what a member makes, of which the name of a child is known
+-- what a member makes, with names as the definitions have them
 abbrev pub MadeMember : Type 0 → Type 0
 MadeMember K = MemberKeyword K (Children Text)
 
--- a keyword with its children, where there is one; else the value is malformed
+-- a keyword with its children, if there is one; otherwise the value is malformed
 abbrev pub made_if : {K : Type 0} → Option K → Children Text → MadeMember K
 made_if None c = member_is.Malformed
 made_if (Some m) c = member_is.Keyword m c
 
--- the names apart from their representation
+-- the children, with names as the definitions have them
 abbrev pub named : Children (Bor Text) → Children Text
 named children.Childless = children.Childless
 named children.Itself = children.Itself
@@ -34,13 +35,13 @@ named children.Items = children.Items
 named children.Members = children.Members
 named (children.Member k) = children.Member k.now
 
--- with what is known of the keyword apart from its representation
+-- what a member makes, in terms of the definitions
 abbrev pub shaped : {C K : Type 0} → (C → K) → MemberKeyword C (Children (Bor Text)) → MadeMember K
 shaped shape (member_is.Keyword k c) = member_is.Keyword (shape k) (named c)
 shaped shape member_is.Nothing = member_is.Nothing
 shaped shape member_is.Malformed = member_is.Malformed
 
--- where the children stand, in order; a value of another shape has none
+-- the paths of the children, in order; a value of the wrong kind has none
 abbrev pub children_of : Children Text → Text → Data → List Place
 children_of children.Childless name d = []
 children_of children.Itself name d = (to_member name ∷ []) ∷ []
@@ -59,17 +60,17 @@ abbrev pub script_at : {K : Type 0} → (Text → Data → MadeMember K) → Tex
 script_at made name None = then_end nothing
 script_at made name (Some d) = script_of name d (made name d)
 
--- whether the name is the table's own or the standard's
+-- the script of a member is the same whether its name is the table's own or the standard's
 abbrev pub by_value : {K : Type 0} → (Text → Data → MadeMember K) → Bool → Text → Members → Draft → Vocabularies → Bool → Script K
 by_value made own name ms draft vocabularies formats = script_at made name (get_member name ms)
 
--- a keyword absorbs no other, and is whole where its value holds no fraction
+-- a keyword absorbs no other, and is whole if its value holds no fraction
 abbrev pub IsRightMember : {K : Type 0} → (K → List Text) → (K → Bool) → Data → MadeMember K → Type 0
 IsRightMember absorbed is_whole d (member_is.Keyword m c) = ([] ≡ absorbed m) × (has_float d ≡ false → is_whole m ≡ true)
 IsRightMember absorbed is_whole d member_is.Nothing = Unit {0}
 IsRightMember absorbed is_whole d member_is.Malformed = Unit {0}
 
--- so it is where no keyword of the type absorbs another, or holds a value of the schema
+-- what is made is right if no keyword of the type absorbs another, or holds a value of the schema
 pub right_where_whole : {K : Type 0} (absorbed : K → List Text) (is_whole : K → Bool) → ((m : K) → [] ≡ absorbed m) → ((m : K) → is_whole m ≡ true)
     → (d : Data) (m : MadeMember K) → IsRightMember absorbed is_whole d m
 right_where_whole absorbed is_whole none whole d (member_is.Keyword m c) = (none m, λ h. whole m)

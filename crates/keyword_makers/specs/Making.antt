@@ -1,4 +1,4 @@
--- What makers do that ask for the values at paths, one after the other, and then end.
+-- The scripts of makers that request the values at paths, one after the other, and then end.
 use Rattle.std.specs.Prelude.{List, None, Option, Some, [], codes, drop, suc, true, zero, ℕ, ◌++◌, ◌+◌, ◌∷◌}
 use Rattle.serde_json.specs.Data.{Data, Items, array, item, no_items}
 use Rattle.serde_json.specs.Find.{as_array}
@@ -21,7 +21,7 @@ makes m = then_end (a_keyword m [])
 abbrev pub only_child : {K : Type 0} → Text → K → Script K
 only_child name m = asks_for ((to_member name ∷ []) ∷ []) (a_keyword m [])
 
--- each item of a list, below a keyword
+-- the paths of the items of a list below a keyword, starting with this index
 abbrev pub items_from : Text → ℕ → Items → List Place
 items_from name i no_items = []
 items_from name i (item d ds) = (to_member name ∷ to_item i ∷ []) ∷ items_from name (i + 1) ds
@@ -30,7 +30,7 @@ items_from name i (item d ds) = (to_member name ∷ to_item i ∷ []) ∷ items_
 abbrev pub each_item : {K : Type 0} → Text → Items → K → Script K
 each_item name ds m = asks_for (items_from name 0 ds) (a_keyword m [])
 
--- a value of another shape than the keyword's: the error shows the value, at the keyword
+-- the text of the refusal of a malformed value
 abbrev pub malformed_text : Text → Text
 malformed_text name = codes "\"" ++ name ++ codes "\" has a value of another shape"
 
@@ -45,7 +45,7 @@ malformed_error name d = record {
   text = malformed_text name;
 }
 
--- a refusal with a text of its own, alike
+-- an error with this text that shows the value, at the keyword
 abbrev pub refused_error : Text → Data → Text → OwnedError
 refused_error name d text = record {
   instance = d;
@@ -69,11 +69,11 @@ abbrev pub each_schema : {K : Type 0} → Text → Data → K → Script K
 each_schema name (array ds) m = each_item name ds m
 each_schema name d m = malformed name d
 
--- the keyword knows how many there are
+-- each schema of a list, for a keyword that knows how many there are
 abbrev pub list_script : {K : Type 0} → (ℕ → K) → Text → Data → Script K
 list_script shape name d = each_schema name d (shape (count_in (as_array d)))
 
--- ---- a maker that has made so many requests
+-- ---- a maker that has made this many requests
 
 abbrev pub waiting_in : {K : Type 0} → List Place → ℕ → Option (Made K) → Waiting K
 waiting_in ps n None = ended

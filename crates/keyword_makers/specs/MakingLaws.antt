@@ -1,4 +1,5 @@
--- Makers that ask for paths ask for what lies strictly below the object, and end rightly.
+-- Makers that request paths request only what lies strictly below the object, and end as they
+-- should.
 use Rattle.std.proofs.Common.{ap, sym, ◌∙◌}
 use Rattle.std.specs.Prelude.{All, Bool, List, None, Option, Some, [], false, if◌then◌else◌, refl, true, ℕ, ◌+◌, ◌≡◌, ◌||◌, ◌∷◌}
 use Rattle.std.specs.Ordering.{match_ordering, nat_cmp}
@@ -15,7 +16,7 @@ use Rattle.schema_traits.specs.MakerViews.{IsMade, IsStrictlyBelow, MakesRightly
 use Rattle.keyword_authoring.specs.Items.{items_count}
 use Rattle.keyword_makers.specs.Making.{asks_for, items_from, list_script, makes_if, only_child}
 
--- the text of a member's value holds no fraction where the object holds none
+-- a member's value holds no fraction if the object holds none
 or_left : (a b : Bool) → (a || b) ≡ false → a ≡ false
 or_left true b h = cc
 or_left false b h = refl
@@ -43,7 +44,7 @@ module _ {K : Type 0} (absorbed : K → List Text) (is_whole : K → Bool) where
   asked_rightly owner m made [] below = made
   asked_rightly owner m made (p ∷ ps) below = (All-head IsStrictlyBelow p ps below, asked_rightly owner m made ps (All-tail IsStrictlyBelow p ps below))
 
-  -- a keyword that absorbs none, and is whole
+  -- a keyword that absorbs no other, and is whole
   abbrev pub IsPlain : K → Type 0
   IsPlain m = ([] ≡ absorbed m) × (is_whole m ≡ true)
 

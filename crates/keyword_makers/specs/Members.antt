@@ -1,4 +1,4 @@
--- The names of an object's members, and the places of their values below a keyword.
+-- The names of an object's members, and the paths of their values below a keyword.
 use Rattle.std.specs.Prelude.{List, [], ◌∷◌}
 use Rattle.serde_json.specs.Data.{Members, member, no_members}
 use Rattle.theory_definitions.specs.Instance.{Place, Text, to_member}

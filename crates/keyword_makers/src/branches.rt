@@ -10,18 +10,18 @@ use schema_traits::schema_place::SchemaPath;
 use serde_json::{Map, Value};
 use std::alloc::Global;
 
-/// The children of `if`: its own value, which is the first, and the branches that are there.
+/// The children of `if`: its own value, which comes first, and its branches.
 #[derive(Drop)]
 pub struct Branches {
-    /// Where they stand, in order.
+    /// The paths of the children, in order.
     pub paths: Vec<SchemaPath>,
-    /// The number of the child under `then`, where there is one.
+    /// The number of the child under `then`, if there is one.
     pub accepted: Option<usize>,
-    /// The number of the child under `else`, where there is one.
+    /// The number of the child under `else`, if there is one.
     pub refused: Option<usize>,
 }
 
-/// Adds the place of a member to those of children, where the object has it; and its number, which is the next one.
+/// Adds the path of a member and returns its number, if the object has it.
 fn push_branch(
     alloc: Global,
     object: &Map<String, Value>,
@@ -42,7 +42,7 @@ fn push_branch(
     }
 }
 
-/// The children of an `if` of this name in an object.
+/// Returns the children of an `if` with this name in an object.
 pub fn branches_of(
     alloc: Global,
     name: &str,

@@ -1,4 +1,4 @@
-//! A table whose keywords follow from a member's name and value, and also from the draft and from the members beside it.
+//! Tables whose keywords depend on name, value, draft and neighbouring members.
 ghost use Rattle.std.specs.Prelude.{◌≡◌, Bool, IfOk, Some};
 ghost use Rattle.serde_json.specs.Data.{Data, Members};
 ghost use Rattle.serde_json.specs.Find.{get_member};
@@ -26,37 +26,42 @@ use std::alloc::Global;
 #[derive(Drop)]
 pub enum ObjectKeyword<K, C = Children, L = Vec<String>, N = &'static str, T = String> {
     Keyword(K, C),
-    /// The children are the values of the members of these names of the value, which is an object that has them, in this order.
+    /// The children are the values of the members with these names, in this order.
+    ///
+    /// The keyword's value is an object that has them.
     KeywordOver(K, L),
     Nothing,
-    /// The value has another shape than its keyword's; the schema is refused.
+    /// The keyword does not allow this value. The schema is refused.
     Malformed,
-    /// So has the value of the member of this name beside it; the schema is refused by an error that shows that value, at its own
-    /// place. Where there is no such member, it is refused as `Malformed` is.
+    /// The keyword does not allow the value of a neighbouring member.
+    ///
+    /// The schema is refused. The error shows that value, at its own place. If there is no such
+    /// member, this is the same as `Malformed`.
     MalformedBeside(N),
     /// The schema is refused, with this text.
     Refused(T),
 }
 
-/// What keywords the members of a schema make, by name and value, by the draft, and by the other members. `TableByObject` makes a
-/// keyword table of it.
+/// Decides which keyword a member of a schema makes.
+///
+/// It depends on the member's name and value, on the draft, and on the other members.
+/// `TableByObject` turns an implementation into a keyword table.
 pub trait MakesByObject<K: Validate> {
-    // which names are its own
+    // The names that are its own.
     ghost owned: { Self → Text → Bool };
 
-    // what a member of an object makes in a draft
+    // What a member of an object makes in a draft.
     ghost made: { Self → drafts.Draft → Members → Text → Data → MadeHere K.Shape };
 
-    /// Returns whether a name is the table's own: one that the standard's drafts do not know, or make another keyword of.
+    /// Returns whether a name is the table's own.
+    ///
+    /// Such a name is unknown to the standard's drafts, or makes another keyword here.
     fn owns(&self, name: &str) -> bool
         ensures owned { result ≡ owned self.now name.now };
 
-    /// Returns what a member of this name and value makes in this object. It is asked for the names that are its own, and for those
-    /// that the draft knows.
+    /// Returns what a member with this name and value makes in this object.
     ///
-    /// # Errors
-    ///
-    /// Memory cannot be allocated.
+    /// It is called for the table's own names, and for those that the draft knows.
     fn make(
         &self,
         alloc: Global,
@@ -67,19 +72,19 @@ pub trait MakesByObject<K: Validate> {
     ) -> Result<ObjectKeyword<K>, OutOfMemory>
         ensures made { IfOk result (λ m. formed K.shape m ≡ made self.now (draft_of draft) (fields object.now) name.now (view value.now)) };
 
-    // the keyword absorbs no other, and holds no fraction where the object holds none
+    // The keyword absorbs no other, and holds no fraction if the object holds none.
     ghost right: { (t : Self) (draft : drafts.Draft) (object : Members) (name : Text) (value : Data)
         → get_member name object ≡ Some value → IsRightHere K.absorbed K.is_whole object (made t draft object name value) };
 }
 
-/// A keyword table of keywords that follow from name, value, draft and the other members. A malformed value is refused by an error
-/// that shows it and is located at its keyword.
+/// A keyword table whose keywords depend on the object.
+///
+/// A malformed value is refused. The error shows the value, and its location is the keyword's.
 #[derive(Drop)]
 pub struct TableByObject<T> {
     pub keywords: T,
 }
 
-/// The maker of a refusal for the sake of the member of a name beside a keyword.
 fn beside_maker<K: Validate>(
     alloc: Global,
     name: &str,
@@ -96,7 +101,6 @@ fn beside_maker<K: Validate>(
     }
 }
 
-/// The maker of what a member makes.
 fn maker_of<K: Validate>(
     alloc: Global,
     name: &str,
@@ -122,7 +126,6 @@ fn maker_of<K: Validate>(
     }
 }
 
-/// The maker of a member of an object, if there is one.
 fn member_maker<K: Validate, T: MakesByObject<K>>(
     keywords: &T,
     alloc: Global,

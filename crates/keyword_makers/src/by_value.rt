@@ -1,4 +1,4 @@
-//! A table whose keywords follow from a member's name and value: which keyword it is, and which children it has.
+//! Tables whose keywords depend on a member's name and value.
 ghost use Rattle.std.specs.Prelude.{◌≡◌, Bool, IfOk};
 ghost use Rattle.serde_json.specs.Data.{Data};
 ghost use Rattle.serde_json.specs.Find.{get_member};
@@ -20,17 +20,21 @@ use schema_traits::table::{KeywordOrigin, KeywordTable, MakerReply, MakerStep};
 use serde_json::{Map, Value};
 use std::alloc::Global;
 
-/// The children of a keyword, in the order of their numbers. A member goes by a name.
+/// The children of a keyword, in the order of their numbers.
+///
+/// `N` is the type of a member's name.
 #[derive(Clone, Copy)]
 pub enum Children<N = &'static str> {
     Childless,
-    /// The keyword's value is the only one.
+    /// The keyword's value is the only child.
     Itself,
     /// Each item of the value, which is a list.
     Items,
-    /// The value of each member of the value, which is an object, in the order of their names.
+    /// The value of each member of the value, which is an object, by name.
     Members,
-    /// The value of the member of this name of the value, which is an object that has it, is the only one.
+    /// The value of the member with this name is the only child.
+    ///
+    /// The keyword's value is an object that has it.
     Member(N),
 }
 
@@ -39,28 +43,29 @@ pub enum Children<N = &'static str> {
 pub enum MemberKeyword<K, C = Children> {
     Keyword(K, C),
     Nothing,
-    /// The value has another shape than its keyword's; the schema is refused.
+    /// The keyword does not allow this value. The schema is refused.
     Malformed,
 }
 
-/// What keywords the members of a schema make, by name and value. `TableByValue` makes a keyword table of it.
+/// Decides which keyword a member of a schema makes, by its name and value.
+///
+/// `TableByValue` turns an implementation into a keyword table.
 pub trait MakesByValue<K: Validate> {
-    // which names are its own
+    // The names that are its own.
     ghost owned: { Self → Text → Bool };
 
-    // what a member makes
+    // What a member makes.
     ghost made: { Self → Text → Data → MadeMember K.Shape };
 
-    /// Returns whether a name is the table's own: one that the standard's drafts do not know, or make another keyword of.
+    /// Returns whether a name is the table's own.
+    ///
+    /// Such a name is unknown to the standard's drafts, or makes another keyword here.
     fn owns(&self, name: &str) -> bool
         ensures owned { result ≡ owned self.now name.now };
 
-    /// Returns what a member of this name and value makes. It is asked for the names that are its own, and for those that the
-    /// standard's drafts know.
+    /// Returns what a member with this name and value makes.
     ///
-    /// # Errors
-    ///
-    /// Memory cannot be allocated.
+    /// It is called for the table's own names, and for those that the standard's drafts know.
     fn make(
         &self,
         alloc: Global,
@@ -69,18 +74,18 @@ pub trait MakesByValue<K: Validate> {
     ) -> Result<MemberKeyword<K>, OutOfMemory>
         ensures made { IfOk result (λ m. shaped K.shape m ≡ made self.now name.now (view value.now)) };
 
-    // the keyword absorbs no other, and holds no fraction where its value holds none
+    // The keyword absorbs no other, and holds no fraction if its value holds none.
     ghost right: { (t : Self) (name : Text) (value : Data) → IsRightMember K.absorbed K.is_whole value (made t name value) };
 }
 
-/// A keyword table of keywords that follow from name and value. A malformed value is refused by an error that shows it and is
-/// located at the keyword.
+/// A keyword table whose keywords depend on name and value.
+///
+/// A malformed value is refused. The error shows the value, and its location is the keyword's.
 #[derive(Drop)]
 pub struct TableByValue<T> {
     pub keywords: T,
 }
 
-/// The paths of the children.
 pub(crate) fn paths_of(
     alloc: Global,
     children: Children,
@@ -115,7 +120,6 @@ pub(crate) fn paths_of(
     }
 }
 
-/// The maker of what a member makes.
 fn maker_of<K: Validate>(
     alloc: Global,
     name: &str,
@@ -134,7 +138,6 @@ fn maker_of<K: Validate>(
     }
 }
 
-/// The maker of a member of an object, if there is one.
 fn member_maker<K: Validate, T: MakesByValue<K>>(
     keywords: &T,
     alloc: Global,

@@ -1,6 +1,9 @@
-//! What a table of keywords needs whose makers ask for paths, one after the other, and then end: their turns, paths below a keyword,
-//! refusals, and tables whose keywords follow from a member's name and value (`by_value`), and from the draft and the members beside it
-//! too (`by_object`).
+//! Building blocks for keyword tables whose makers request paths one by one.
+//!
+//! Such a maker requests its children in turn, and then ends. The crate has the turns of these
+//! makers (`maker`), paths below a keyword (`paths`), refusals (`refusals`), and tables whose
+//! keywords depend on a member's name and value (`by_value`), or also on the draft and on the
+//! neighbouring members (`by_object`).
 #![tactic(auto)]
 
 pub mod branches;

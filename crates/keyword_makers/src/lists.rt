@@ -13,7 +13,7 @@ use schema_traits::keyword::Validate;
 use serde_json::Value;
 use std::alloc::Global;
 
-/// How many items a value has, which is none where it is no list.
+/// Returns the number of items of a value, or 0 if it is no list.
 #[tactic(auto, using(keyword_authoring::proofs::MemberCounts::items_count_length))]
 pub fn list_length(value: &Value) -> usize
     ensures length { result ≡ count_in (as_array (view value.now)) }
@@ -24,7 +24,9 @@ pub fn list_length(value: &Value) -> usize
     }
 }
 
-/// A maker that asks for each schema of a keyword's value, or refuses a value that is no list.
+/// Returns a maker that requests each schema of the list.
+///
+/// It refuses a value that is no list.
 pub fn each_schema<K: Validate>(
     alloc: Global,
     name: &str,

@@ -24,8 +24,10 @@ pub enum Ending<K> {
     Refused(OwnedError),
 }
 
-/// A maker: the paths of the children, in order, of which those it has asked for are handed out, how many those are, and how it ends,
-/// until it has.
+/// A maker that requests paths in order, and then ends.
+///
+/// `asked` counts the paths that were requested; they have been moved out of `paths`. `ends` is
+/// `None` once the maker has ended.
 #[derive(Drop)]
 pub struct PathsMaker<K> {
     pub paths: Vec<SchemaPath>,
@@ -33,7 +35,7 @@ pub struct PathsMaker<K> {
     pub ends: Option<Ending<K>>,
 }
 
-/// A maker that ends at once.
+/// Returns a maker that ends at once.
 pub fn ends<K: Validate>(alloc: Global, ending: Ending<K>) -> PathsMaker<K>
     ensures maker { waiting_of K.shape result ≡ begun (then_end (made_of K.shape ending)) }
 {
@@ -44,7 +46,7 @@ pub fn ends<K: Validate>(alloc: Global, ending: Ending<K>) -> PathsMaker<K>
     }
 }
 
-/// A maker that asks for what stands at these paths, and ends with a keyword.
+/// Returns a maker that requests these paths, and ends with a keyword.
 pub fn asks_for<K: Validate>(paths: Vec<SchemaPath>, keyword: K) -> PathsMaker<K>
     ensures maker { waiting_of K.shape result ≡ begun (asks_for paths.items (a_keyword (K.shape keyword) [])) }
 {
@@ -55,7 +57,7 @@ pub fn asks_for<K: Validate>(paths: Vec<SchemaPath>, keyword: K) -> PathsMaker<K
     }
 }
 
-/// A maker whose keyword has its own value as its only schema.
+/// Returns a maker whose keyword has its own value as its only schema.
 pub fn only_child<K: Validate>(
     alloc: Global,
     name: &str,
@@ -68,7 +70,7 @@ pub fn only_child<K: Validate>(
     Ok(asks_for(paths, keyword))
 }
 
-/// A maker that asks for each item of a keyword's value, which is a list.
+/// Returns a maker that requests each item of a keyword's value, which is a list.
 pub fn each_item<K: Validate>(
     alloc: Global,
     name: &str,

@@ -1,4 +1,4 @@
-//! The members of an object that is a keyword's value: their names, and the places of their values.
+//! The members of an object that is a keyword's value: their names and paths.
 ghost use Rattle.std.specs.Prelude.{◌∷◌, [], map, string_bytes};
 ghost use Rattle.std.specs.Rc.{rc_str_bytes};
 ghost use Rattle.theory_definitions.specs.Instance.{to_member};
@@ -21,7 +21,7 @@ pub fn push_text(alloc: Global, text: &str, texts: &mut Vec<String>) -> Result<(
     Ok(())
 }
 
-/// The names of the members, in order.
+/// Returns the names of the members, in order.
 pub fn names_of(alloc: Global, members: &Map<String, Value>) -> Result<Vec<String>, OutOfMemory>
     ensures names { ListsTexts result (names_of (fields members.now)) }
 {
@@ -32,7 +32,9 @@ pub fn names_of(alloc: Global, members: &Map<String, Value>) -> Result<Vec<Strin
     Ok(names)
 }
 
-/// The places of the values of these names, below a keyword, whose name they share.
+/// Returns the paths of the values with these names, below a keyword.
+///
+/// They share the keyword's name.
 pub fn values_below(
     alloc: Global,
     keyword: &str,
@@ -48,7 +50,9 @@ pub fn values_below(
     Ok(paths)
 }
 
-/// The places of the values of these names, below a keyword, whose name they share; each shares its own name too.
+/// Returns the paths of the values with these names, below a keyword.
+///
+/// They share the keyword's name, and each shares its own name too.
 pub fn values_of(
     alloc: Global,
     keyword: &str,
@@ -64,7 +68,7 @@ pub fn values_of(
     Ok(paths)
 }
 
-/// The place of the value of a name, below a keyword.
+/// Returns the path of the value with this name, below a keyword.
 pub fn member_below(alloc: Global, keyword: &str, name: &str) -> Result<SchemaPath, OutOfMemory>
     ensures path { Yields result (to_member keyword.now ∷ to_member name.now ∷ []) }
 {
@@ -72,7 +76,7 @@ pub fn member_below(alloc: Global, keyword: &str, name: &str) -> Result<SchemaPa
     member_of(alloc, &first, name)
 }
 
-/// The place of the value of a name, below a keyword whose name it shares.
+/// The path shares the keyword's name.
 fn member_of(alloc: Global, keyword: &RcStr, name: &str) -> Result<SchemaPath, OutOfMemory>
     ensures path { Yields result (to_member (rc_str_bytes keyword.now) ∷ to_member name.now ∷ []) }
 {

@@ -15,14 +15,14 @@ use serde_json::{Map, Value};
 use std::alloc::Global;
 use std::rc::RcStr;
 
-/// The value of this name in an object.
+/// Returns the value with this name in an object.
 pub fn value_in<'o>(object: &'o Map<String, Value>, name: &str) -> Option<&'o Value>
     ensures value { value_read result ≡ get_member name.now (fields object.now) }
 {
     object.get(name)
 }
 
-/// The place of a keyword's own value.
+/// Returns the path of a keyword's own value.
 pub fn value_of(alloc: Global, keyword: &str) -> Result<SchemaPath, OutOfMemory>
     ensures path { Yields result (to_member keyword.now ∷ []) }
 {
@@ -32,7 +32,7 @@ pub fn value_of(alloc: Global, keyword: &str) -> Result<SchemaPath, OutOfMemory>
     Ok(path)
 }
 
-/// The path of a step below a keyword, whose name it shares.
+/// Returns the path one step below a keyword, whose name it shares.
 pub(crate) fn step_below(
     alloc: Global,
     keyword: &RcStr,
@@ -46,7 +46,7 @@ pub(crate) fn step_below(
     Ok(path)
 }
 
-/// The places of the items of a list, below a keyword, whose name they share.
+/// Returns the paths of the items of a list below a keyword, whose name they share.
 pub fn items_below(
     alloc: Global,
     keyword: &str,

@@ -1,4 +1,4 @@
-//! Refusals: of a value of another shape than its keyword's, and others.
+//! Refusals of values that a keyword does not allow, and others.
 ghost use Rattle.std.specs.Prelude.{◌∷◌, [], IfOk, option_map, string_bytes, true};
 ghost use Rattle.theory_definitions.specs.Making.{refused, then_end};
 ghost use Rattle.serde_json.specs.View.{view};
@@ -16,7 +16,6 @@ use schema_traits::keyword::Validate;
 use serde_json::Value;
 use std::alloc::Global;
 
-/// The pointer of a keyword in its object.
 #[tactic(auto, using(crate::proofs::Pointers::pointer_one))]
 fn keyword_pointer(alloc: Global, name: &str) -> Result<Location, OutOfMemory>
     ensures pointer { Yields result (pointer_to (to_member name.now ∷ [])) }
@@ -27,7 +26,6 @@ fn keyword_pointer(alloc: Global, name: &str) -> Result<Location, OutOfMemory>
     pointer
 }
 
-/// The text of a refusal.
 fn malformed_text(alloc: Global, name: &str) -> Result<String, OutOfMemory>
     ensures text { Shows string_bytes result (malformed_text name.now) }
 {
@@ -37,7 +35,7 @@ fn malformed_text(alloc: Global, name: &str) -> Result<String, OutOfMemory>
     Ok(text)
 }
 
-/// The error of a refusal: it shows the value, at the keyword.
+/// The error shows the value, and its location is the keyword's.
 fn refused_error(
     alloc: Global,
     name: &str,
@@ -57,7 +55,7 @@ fn refused_error(
     })
 }
 
-/// A maker that refuses the value.
+/// Returns a maker that refuses the value.
 pub fn malformed<K: Validate>(
     alloc: Global,
     name: &str,
@@ -70,7 +68,7 @@ pub fn malformed<K: Validate>(
     Ok(ends(alloc, Ending::Refused(error)))
 }
 
-/// A maker that refuses, with a text of its own, by an error that shows the keyword's value.
+/// Returns a maker that refuses the value, with a text of its own.
 pub fn refused<K: Validate>(
     alloc: Global,
     name: &str,
@@ -83,7 +81,7 @@ pub fn refused<K: Validate>(
     Ok(ends(alloc, Ending::Refused(error)))
 }
 
-/// A maker that makes a keyword, or refuses the value.
+/// Returns a maker that makes a keyword, or refuses the value if there is none.
 pub fn makes_if<K: Validate>(
     alloc: Global,
     name: &str,
