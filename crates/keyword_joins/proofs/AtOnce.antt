@@ -1,4 +1,4 @@
--- A keyword of one of two types that ends at once in its own type does so here.
+-- A keyword of one of two types ends at once if it does so in its own type.
 use Rattle.std.proofs.Common.{Bool, None, Option, Some, ap, sym, ◌∙◌}
 use Rattle.std.specs.Prelude.{IfSome}
 use Rattle.theory_definitions.specs.Instance.{Subject}
@@ -10,7 +10,7 @@ use Rattle.keyword_joins.specs.BothWords.{both_words}
 use Rattle.keyword_joins.specs.Sides.{by_side}
 use Rattle.keyword_joins.specs.declared.both.Both.TheVariants.{First, Second}
 
--- what a keyword says at once, where it says something
+-- what a keyword says at once, if it says something
 abbrev pub SaysAtOnce : {K R : Type 0} → (Bool → Keywords K R) → (K → Bool) → K → Subject → Option Bool → Type 0
 SaysAtOnce words is_whole m s o = IfSome o (λ valid. (texts : Bool) → Tells texts (is_whole m) s → EndsAtOnce (words texts) m s valid)
 

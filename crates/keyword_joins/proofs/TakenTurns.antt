@@ -1,4 +1,5 @@
--- A maker of one of two tables takes its turns as it does in its own, and the keyword that it ends with is one of both.
+-- A maker of one of two tables takes its turns as it does in its own, and ends with a keyword of
+-- one of the two types.
 use Rattle.std.proofs.Common.{ap, suc, ℕ, ◌≡◌, ◌∙◌}
 use Rattle.theory_definitions.specs.Making.{Script, a_keyword, nothing, refused, then_compile, then_end, then_pending, then_refer, then_reserve}
 use Rattle.schema_traits.specs.MakerViews.{IsStepOf, TakesTurn, Told, Waiting, a_reserved, a_skip, begun, none_pending, nothing_yet, one_pending, the_number, wants_pending, wants_reserved, waits}
@@ -6,7 +7,7 @@ use Rattle.schema_traits.specs.declared.table.MakerStep.{MakerStep}
 use Rattle.schema_traits.specs.declared.table.MakerStep.TheVariants.{Compile, Keyword, Nothing, Pending, Refer, Refuse, Reserve}
 use Rattle.keyword_joins.specs.BothScripts.{script_as, step_as, waiting_as}
 
--- where a keyword's shape follows the keyword
+-- where corresponding keywords have corresponding shapes
 module _ {C D M K : Type 0} (g : C → D) (f : M → K) (shape : C → M) (shape' : D → K) (alike : (c : C) → shape' (g c) ≡ f (shape c)) where
   steps_as : (n : ℕ) (s : Script M) (step : MakerStep C) (w : Waiting M) → IsStepOf shape n s step w → IsStepOf shape' n (script_as f s) (step_as g step) (waiting_as f w)
   steps_as n (then_compile path s) (Compile p) w h = (h.0, ap (waiting_as f) h.1)

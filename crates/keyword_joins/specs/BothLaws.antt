@@ -24,7 +24,7 @@ module _ {K L Q R : Type 0} (one : Keywords K Q) (k : K) (other : Keywords L R) 
   same_asks same absorbed done h = tt
 
   module _ (matches : Matching) (answers : Answers) (unit_at : Question → Unit_) (same : Marked → Marked → Bool) where
-    -- what answers a turn, and the marks after it, are no keyword's own
+    -- the reply to a turn, and the marks after it, do not depend on the keyword
     same_reply : (marks : List Marked) (t : Turn) → reply_to one k s matches answers unit_at same marks t ≡ reply_to other l s matches answers unit_at same marks t
     same_reply marks (ask q for_verdict) = refl
     same_reply marks (ask q for_first) = refl
@@ -53,11 +53,11 @@ module _ {K L Q R : Type 0} (one : Keywords K Q) (k : K) (other : Keywords L R) 
 
 -- ---- the turns of one of two types
 
--- a run says nothing of the answer that stands beside it
+-- the state of a run does not depend on the answer beside it
 abbrev pub ShowsAnswer : {M Q : Type 0} → (Bool → Keywords M (Q × Answer)) → Type 0
 ShowsAnswer {M} {Q} words = (texts : Bool) (r : Q) (a : Answer) → (words texts).answer (r, a) ≡ a
 
--- how a run stands after a turn, with these marks and this reply to it
+-- the state of a run after a turn, with these marks and this reply to it
 abbrev after : {M Q : Type 0} → Keywords M (Q × Answer) → M → Standing (Q × Answer) → List Marked → Reply → Standing (Q × Answer)
 after words m x marks reply = record x { marks = marks; state = turned words m x; reply = reply }
 
@@ -80,7 +80,7 @@ module _ {M N Q R : Type 0} (one : Bool → Keywords M (Q × Answer)) (other : B
   abbrev turns_left : Both M N → Subject → Both Q R × Answer → ℕ
   turns_left m s r = both_left left_one left_other m s r
 
-  -- the run, where it is this one
+  -- the same state, with this run in place of its own
   abbrev with_run : Both Q R → Standing (Both Q R × Answer) → Standing (Both Q R × Answer)
   with_run r x = record x { state = (r, x.state.1) }
 

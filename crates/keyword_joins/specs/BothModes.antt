@@ -1,4 +1,5 @@
--- A keyword of one of two types asks for what its own type asks for, hands units on as it does, and is monotone where it is.
+-- A keyword of one of two types requests what its own type requests, passes units on as that does,
+-- and is monotone if that is.
 use Rattle.std.proofs.Common.{◌≡◌, ℕ, zero, suc, Bool, List, true}
 use Rattle.theory_definitions.specs.Instance.{Subject, Text}
 use Rattle.theory_definitions.specs.Keywords.{Answer, Keywords, Reply, no_reply}

@@ -1,5 +1,5 @@
--- What the makers of two joined tables ask for and make: what the makers of the table do that the name goes to, and the keyword
--- that they make is one of both.
+-- What the makers of two joined tables request and make: the same as the makers of the table that
+-- the name goes to, with a keyword of one of two types.
 use Rattle.std.specs.List.{list_any}
 use Rattle.std.specs.Prelude.{Bool, bytes_eq, if◌then◌else◌, ◌||◌}
 use Rattle.serde_json.specs.Data.{Members}
@@ -13,7 +13,7 @@ use Rattle.keyword_joins.specs.declared.both.Both.{Both}
 use Rattle.keyword_joins.specs.declared.both.Both.TheVariants.{First, Second}
 use Rattle.keyword_joins.specs.declared.table.BothTable.{BothTable}
 
--- ---- the keywords of one type, as some of another
+-- ---- the keywords of one type as keywords of another
 
 abbrev pub made_as : {A B : Type 0} → (A → B) → Made A → Made B
 made_as f (a_keyword m names) = a_keyword (f m) names
@@ -45,14 +45,14 @@ step_as f (Refuse error) = Refuse error
 
 -- ---- two tables
 
--- a name of the list goes to the first table, and so does one that the first table owns
+-- a name of the list goes to the first table, and so does a name that the first table owns
 abbrev pub goes_first : {S T : Type 0} → (S → Text → Bool) → BothTable S T → Text → Bool
 goes_first owned t name = list_any (λ k. bytes_eq name k.now) t.first_names.now || owned t.first name
 
 abbrev pub both_owned : {S T : Type 0} → (S → Text → Bool) → (T → Text → Bool) → BothTable S T → Text → Bool
 both_owned one other t name = if goes_first one t name then one t.first name else other t.second name
 
--- what the makers of a table of this type do
+-- the scripts of the makers of a table of this type
 abbrev pub Scripts : Type 0 → Type 0 → Type 0
 Scripts T K = T → Bool → Text → Members → Draft → Vocabularies → Bool → Script K
 

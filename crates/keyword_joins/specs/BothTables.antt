@@ -1,4 +1,4 @@
--- The makers of two joined tables make rightly, as those of each do.
+-- The makers of two joined tables make as they should, since those of each table do.
 use Rattle.std.proofs.Common.{Bool, List, ap, false, refl, sym, true, ◌≡◌, ◌∙◌}
 use Rattle.std.specs.Prelude.{if◌then◌else◌}
 use Rattle.serde_json.specs.Data.{Members}
@@ -10,7 +10,7 @@ use Rattle.keyword_joins.specs.BothScripts.{Scripts, both_script, goes_first, ma
 use Rattle.keyword_joins.specs.Sides.{by_side}
 use Rattle.keyword_joins.specs.declared.both.Both.TheVariants.{First, Second}
 
--- ---- the keywords of one type, as some of another
+-- ---- the keywords of one type as keywords of another
 
 abbrev making_as : {A B : Type 0} → (A → B) → Making A → Making B
 making_as f m = record { requests = m.requests; ends = made_as f m.ends }
@@ -28,7 +28,7 @@ followed_as f is_self (then_pending purpose free held) = followed_as f is_self f
 followed_as f is_self (then_reserve purpose s) = followed_as f is_self s
 followed_as f is_self (then_end m) = refl
 
--- those absorb alike, and are whole alike
+-- corresponding keywords absorb the same names, and are whole alike
 module _ {A B : Type 0} (f : A → B) (absorbed : A → List Text) (absorbed' : B → List Text) (is_whole : A → Bool) (is_whole' : B → Bool)
     (absorb_alike : (m : A) → absorbed m ≡ absorbed' (f m)) (whole_alike : (m : A) → is_whole m ≡ is_whole' (f m)) (object : Members) where
   made_rightly : (m : Made A) → MakesRightly absorbed is_whole object (then_end m) → MakesRightly absorbed' is_whole' object (then_end (made_as f m))
@@ -49,7 +49,7 @@ module _ {A B : Type 0} (f : A → B) (absorbed : A → List Text) (absorbed' : 
 
 -- ---- two tables
 
--- each maker of a table of this type makes rightly
+-- each maker of a table of this type makes as it should
 abbrev pub EachMakesRightly : {T K : Type 0} → (K → List Text) → (K → Bool) → Scripts T K → Type 0
 EachMakesRightly {T} absorbed is_whole script = (t : T) (own : Bool) (name : Text) (object : Members) (draft : Draft) (vocabularies : Vocabularies) (formats : Bool)
     → MakesRightly absorbed is_whole object (script t own name object draft vocabularies formats)

@@ -1,5 +1,5 @@
--- What a keyword of one of two types says of an instance, and how its runs go: what its own type says. A run of the other type
--- cannot come up: it is done at once, and its answer stays as it is.
+-- What a keyword of one of two types says of an instance, and how its runs go: as its own type has
+-- it. A run of the other type cannot occur: it is done at once, and its answer stays as it is.
 use Rattle.std.specs.Prelude.{Bool, List, ℕ}
 use Rattle.theory_definitions.specs.Instance.{Subject}
 use Rattle.theory_definitions.specs.Reports.{Unit_}
@@ -9,7 +9,7 @@ use Rattle.theory_definitions.specs.Turns.{Standing}
 use Rattle.keyword_joins.specs.declared.both.Both.{Both}
 use Rattle.keyword_joins.specs.declared.both.Both.TheVariants.{First, Second}
 
--- a run with its answer, as one of two
+-- a run with its answer, as a run of one of two types
 abbrev pub as_first : {Q R : Type 0} → Q × Answer → Both Q R × Answer
 as_first r = (First r.0, r.1)
 
@@ -70,7 +70,7 @@ module _ {M N Q R : Type 0} (one : Keywords M (Q × Answer)) (other : Keywords N
 abbrev pub both_words : {M N Q R : Type 0} → (Bool → Keywords M (Q × Answer)) → (Bool → Keywords N (R × Answer)) → Bool → Keywords (Both M N) (Both Q R × Answer)
 both_words one other texts = joined (one texts) (other texts) texts
 
--- how a run of one type stands, where one of both stands so
+-- the state of a run of one type, taken from the state of a run of one of two
 abbrev pub seen : {Q R : Type 0} → Standing (R × Answer) → Q → Standing (Q × Answer)
 seen x r = record {
   subject = x.subject;
@@ -84,7 +84,7 @@ seen x r = record {
 }
 
 module _ {M N Q R : Type 0} where
-  -- the turns that are left at the most
+  -- the greatest number of turns that are left
   abbrev left_in : (M → Subject → Q × Answer → ℕ) → (N → Subject → R × Answer → ℕ) → Both M N → Subject → Both Q R → Answer → ℕ
   left_in one other (First m) s (First r) a = one m s (r, a)
   left_in one other (First m) s (Second r) a = 0
@@ -94,7 +94,7 @@ module _ {M N Q R : Type 0} where
   abbrev pub both_left : (M → Subject → Q × Answer → ℕ) → (N → Subject → R × Answer → ℕ) → Both M N → Subject → Both Q R × Answer → ℕ
   both_left one other m s r = left_in one other m s r.0 r.1
 
-  -- a run can be in those states of its own type
+  -- a run can be in the states that its own type allows
   abbrev can_be_in : (M → Subject → Q × Answer → Type 0) → (N → Subject → R × Answer → Type 0) → Both M N → Subject → Both Q R → Answer → Type 0
   can_be_in one other (First m) s (First r) a = one m s (r, a)
   can_be_in one other (First m) s (Second r) a = ⊥
@@ -104,7 +104,7 @@ module _ {M N Q R : Type 0} where
   abbrev pub both_can_be : (Bool → M → Subject → Q × Answer → Type 0) → (Bool → N → Subject → R × Answer → Type 0) → Bool → Both M N → Subject → Both Q R × Answer → Type 0
   both_can_be one other texts m s r = can_be_in (one texts) (other texts) m s r.0 r.1
 
-  -- the answer that a run ends in
+  -- the answer with which a run ends
   abbrev ends_in : (M → Standing (Q × Answer) → Answer) → (N → Standing (R × Answer) → Answer) → Both M N → Both Q R → Standing (Both Q R × Answer) → Answer
   ends_in one other (First m) (First r) x = one m (seen x r)
   ends_in one other (First m) (Second r) x = x.state.1

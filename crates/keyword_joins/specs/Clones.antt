@@ -1,4 +1,4 @@
--- A clone of one of two is of its source's side.
+-- A clone of one of two is on the side of its source.
 use Rattle.std.proofs.Common.{◌≡◌, ap}
 use Rattle.keyword_joins.specs.Sides.{side_of}
 use Rattle.keyword_joins.specs.declared.both.Both.{Both}
@@ -10,7 +10,7 @@ AreClones one other (First x) (Second y) = ⊥
 AreClones one other (Second x) (First y) = ⊥
 AreClones one other (Second x) (Second y) = other x y
 
--- so it has its source's shape, where that is so on each side
+-- a clone has the shape of its source, if that is so on each side
 pub cloned_alike : {A B M N : Type 0} {one : A → A → Type 0} {other : B → B → Type 0} {shape_one : A → M} {shape_other : B → N}
     → ((x y : A) → one x y → shape_one y ≡ shape_one x) → ((x y : B) → other x y → shape_other y ≡ shape_other x)
     → (m n : Both A B) → AreClones one other m n → side_of shape_one shape_other n ≡ side_of shape_one shape_other m

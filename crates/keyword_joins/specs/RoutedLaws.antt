@@ -1,4 +1,5 @@
--- The makers of two tables that are joined by a route make rightly, as those of each do.
+-- The makers of two tables that are joined by a route make as they should, since those of each
+-- table do.
 use Rattle.std.specs.Prelude.{Bool, List, refl}
 use Rattle.serde_json.specs.Data.{Members}
 use Rattle.theory_definitions.specs.Instance.{Text}

@@ -1,5 +1,5 @@
--- What the makers of two tables ask for and make that are joined by what is said of the standard's keywords: what the makers of
--- the table do that the member goes to.
+-- What the makers of two tables request and make that are joined by a route: the same as the makers
+-- of the table that the member goes to.
 use Rattle.std.specs.Prelude.{Bool, if◌then◌else◌, ◌||◌}
 use Rattle.serde_json.specs.Data.{Members}
 use Rattle.theory_definitions.specs.Instance.{Text}
@@ -10,7 +10,8 @@ use Rattle.keyword_joins.specs.declared.both.Both.TheVariants.{First, Second}
 use Rattle.keyword_joins.specs.declared.routed.RoutedTables.{RoutedTables}
 
 module _ {S R T : Type 0} where
-  -- a name of a table's own goes to the first where that owns it, and a keyword of the standard where the route leads there
+  -- a name of a table's own goes to the first table if that owns it, and a keyword of the standard
+  -- if the route leads there
   abbrev pub goes_to_first : (S → Text → Bool) → (R → Draft → Members → Text → Bool) → RoutedTables S R T → Bool → Draft → Members → Text → Bool
   goes_to_first owned leads t own draft object name = if own then owned t.first name else leads t.route draft object name
 

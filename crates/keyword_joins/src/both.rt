@@ -5,8 +5,10 @@ use schema_traits::asking::Asking;
 use schema_traits::keyword::{Answer, Mode, Reply, Step, Validate};
 use std::alloc::Global;
 
-/// One of two. Of two keyword types it is the type of the keywords of both; what is known of such a keyword, and its runs, are
-/// joined alike.
+/// One of two.
+///
+/// If both are keyword types, this is the type of the keywords of both. Their shapes and their runs
+/// are joined in the same way.
 #[derive(Clone, Drop)]
 pub enum Both<A, B> {
     First(A),
@@ -54,7 +56,9 @@ impl<A: Validate, B: Validate> Validate for Both<A, B> {
         }
     }
 
-    /// A run of the other type, which cannot come up, is done, and stays as it is.
+    /// Takes a turn.
+    ///
+    /// A run of the other type, which cannot occur, is done and stays as it is.
     fn turn<'s, 'i: 's>(
         &'s self,
         alloc: Global,

@@ -1,5 +1,7 @@
-//! The join of two keyword types, and of two keyword tables, by a list of names (`table`) or by what is said of each member of the
-//! standard, draft by draft (`routed`). It keeps the laws that each of the two keeps.
+//! Joins of two keyword types, and of two keyword tables.
+//!
+//! Tables are joined by a list of names (`table`), or by a route that decides for each keyword of
+//! the standard, draft by draft (`routed`). A join keeps the laws that each of the two keeps.
 #![tactic(auto)]
 
 pub mod both;

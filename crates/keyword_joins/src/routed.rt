@@ -1,4 +1,6 @@
-//! The join of two keyword tables by what is said of the standard's keywords, draft by draft.
+//! The join of two keyword tables by a route.
+//!
+//! The route decides draft by draft for each keyword of the standard.
 ghost use Rattle.std.specs.Prelude.{◌≡◌, Bool, if◌then◌else◌};
 ghost use Rattle.serde_json.specs.Data.{Members};
 ghost use Rattle.serde_json.specs.View.{members_view};
@@ -16,18 +18,23 @@ use schema_traits::table::{KeywordOrigin, KeywordTable, MakerReply, MakerStep};
 use serde_json::{Map, Value};
 use std::alloc::Global;
 
-/// Which of the standard's keywords go to the first of two tables, draft by draft.
+/// Decides which of the standard's keywords go to the first of two tables.
 pub trait Route: Drop {
     ghost leads: { Self → drafts.Draft → Members → Text → Bool };
 
-    /// Returns whether the member of a name goes to the first table, in a draft that knows the name.
+    /// Returns whether the member with this name goes to the first table.
+    ///
+    /// The draft is one that knows the name.
     fn leads_first(&self, draft: Draft, object: &Map<String, Value>, name: &str) -> bool
         ensures leads { result ≡ leads self.now (draft_of draft) (members_view object.now.entries) name.now };
 }
 
-/// Two tables as one. A keyword of the standard goes to the first table where the route says so, and else to the second. A name that
-/// the first table owns is its own; else one that the second owns is the second's. So a name that neither table makes makes nothing.
-/// The names that a keyword absorbs are to go to its own table, or the other table makes keywords of them as well.
+/// Two tables as one, joined by a route.
+///
+/// A keyword of the standard goes to the first table if the route says so, and otherwise to the
+/// second. A name that the first table owns is the first table's; any other name that the second
+/// owns is the second's. A name that neither table makes therefore makes nothing. The names that a
+/// keyword absorbs must go to its own table, or the other table makes keywords of them as well.
 #[derive(Drop)]
 pub struct RoutedTables<S, R, T> {
     pub first: S,
@@ -35,7 +42,6 @@ pub struct RoutedTables<S, R, T> {
     pub second: T,
 }
 
-/// Whether what a maker is asked for goes to the first table.
 fn goes_first<K: Validate, S: KeywordTable<K>, R: Route>(
     first: &S,
     route: &R,

@@ -1,4 +1,4 @@
-//! The join of two keyword tables.
+//! The join of two keyword tables by a list of names.
 ghost use Rattle.std.specs.Prelude.{◌≡◌, ◌||◌, bytes_eq, IfOk};
 ghost use Rattle.std.specs.List.{list_any};
 ghost use Rattle.schema_traits.specs.MakerViews as makers;
@@ -15,10 +15,13 @@ use schema_traits::table::{KeywordOrigin, KeywordTable, MakerReply, MakerStep};
 use serde_json::{Map, Value};
 use std::alloc::Global;
 
-/// Two tables as one. The names of the list, and those that the first table owns, go to the first table, and all others to the
-/// second: whether keywords of a name are a table's own, and what is made of a member, is what the table says that the name goes to.
-/// So a name that neither table makes makes nothing. The names that a keyword absorbs are to go to its own table, or the other
-/// table makes keywords of them as well.
+/// Two tables as one, joined by a list of names.
+///
+/// The names of the list, and those that the first table owns, go to the first table, and all
+/// others to the second. The table that a name goes to decides whether keywords of this name are a
+/// table's own, and what a member makes. A name that neither table makes therefore makes nothing.
+/// The names that a keyword absorbs must go to its own table, or the other table makes keywords of
+/// them as well.
 #[derive(Drop)]
 pub struct BothTable<S, T> {
     pub first: S,
@@ -26,7 +29,6 @@ pub struct BothTable<S, T> {
     pub second: T,
 }
 
-/// Whether the name is one of these.
 fn is_among(name: &str, names: &[&str]) -> bool
     ensures among { result ≡ list_any (λ k. bytes_eq name.now k.now) names.now }
 {
@@ -38,14 +40,12 @@ fn is_among(name: &str, names: &[&str]) -> bool
     false
 }
 
-/// Whether a name goes to the first table: it is one of these, or owned by it.
 fn goes_first<K: Validate, S: KeywordTable<K>>(first: &S, names: &[&str], name: &str) -> bool
     ensures goes { result ≡ (list_any (λ k. bytes_eq name.now k.now) names.now || S.owned first.now name.now) }
 {
     is_among(name, names) || first.owns(name)
 }
 
-/// The name of what a maker makes.
 fn name_of(origin: KeywordOrigin<'_>) -> &str
     ensures name { result.now ≡ makers.name_of origin.entry }
 {
@@ -55,7 +55,6 @@ fn name_of(origin: KeywordOrigin<'_>) -> &str
     }
 }
 
-/// A step of a maker of the first table, as one of both.
 fn first_step<A, B>(step: MakerStep<A>) -> MakerStep<Both<A, B>>
     ensures step { result ≡ step_as both.First step }
 {
@@ -70,7 +69,6 @@ fn first_step<A, B>(step: MakerStep<A>) -> MakerStep<Both<A, B>>
     }
 }
 
-/// A step of a maker of the second table, as one of both.
 fn second_step<A, B>(step: MakerStep<B>) -> MakerStep<Both<A, B>>
     ensures step { result ≡ step_as both.Second step }
 {
@@ -85,7 +83,7 @@ fn second_step<A, B>(step: MakerStep<B>) -> MakerStep<Both<A, B>>
     }
 }
 
-/// Takes a turn of a maker of one of two tables.
+/// Takes a turn of a maker of one of the two tables.
 pub(crate) fn turn_either<A: Validate, B: Validate, S: KeywordTable<A>, T: KeywordTable<B>>(
     first: &S,
     second: &T,
