@@ -1,4 +1,5 @@
--- What stands one step below a place: an item of a list, and a member of an object whose names ascend.
+-- The value one step below a place: an item of a list, and a member of an object whose names
+-- ascend.
 use Rattle.std.proofs.Common.{◌≡◌, ◌<◌, ◌++◌, ◌∷◌, ◌∙◌, [], Bool, false, Greater, Less, List, Option, Some, ap, arith, cond, get_or, length, nat_cmp, option_and_then, refl, string_bytes, string_cmp, suc, sym, zero, ℕ}
 use Rattle.std.specs.Prelude.{bytes_eq}
 use Rattle.std.specs.List.{AllByRecursion}
@@ -16,13 +17,13 @@ use Rattle.serde_json.proofs.Views.{Entry}
 use Rattle.theory_definitions.specs.Instance.{Place, Text, a_value, item_of, member_of, subject_at, subject_from, to_item, to_member}
 use Rattle.schema_traits.proofs.Replies.{stands_below}
 
--- the item of a number
+-- the item at an index
 pub item_there : (k : ℕ) (es : List Value) (e : Value) → k < length es → get_or es k e ≡ e → item_of k (items_view es) ≡ Some (view e)
 item_there k [] e l g = absurd (omega arith)
 item_there zero (x ∷ es) e l g = ap (λ (y : Value). Some (view y)) g
 item_there (suc k) (x ∷ es) e l g = item_there k es e (omega arith) g
 
--- the member of a name, all before it having names that are less
+-- the member with a name, if the names before it are less
 above_all : (first : Entry) (es : List Entry) (e : Entry) (more : List Entry) → AllByRecursion (λ y. string_cmp first.0 y ≡ Less) (keys_of (es ++ e ∷ more)) → string_cmp first.0 e.0 ≡ Less
 above_all first [] e more h = h.0
 above_all first (x ∷ es) e more h = above_all first es e more h.1

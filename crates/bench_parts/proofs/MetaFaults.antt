@@ -1,4 +1,4 @@
--- The first fault of a document, over what is left of items and of members.
+-- The first fault of a document, by the items and members that are left.
 use Rattle.std.proofs.Common.{◌≡◌, ◌∙◌, ◌+◌, ◌++◌, ◌∷◌, [], Bool, None, Option, Some, ap, false, sym, true, ℕ}
 use Rattle.std.specs.Prelude.{option_map}
 use Rattle.std.proofs.lemmas.Bool.{or_parts}
@@ -11,7 +11,7 @@ use Rattle.schema_reports.specs.ReportViews.{error_of}
 use Rattle.schema_reports.specs.declared.reports.ValidationError.{ValidationError}
 use Rattle.bench_parts.specs.BenchMeta.{earlier, fault_in, fault_in_items, fault_in_members, member_fault}
 
--- an error is this one, its text where there is no fraction
+-- an error is this one, with its text if there is no fraction
 abbrev pub Tells : Option ValidationError → Bool → (Bool → Option Error) → Type 0
 Tells o has_fraction fault = (texts : Bool) → (texts ≡ true → has_fraction ≡ false) → option_map (error_of texts) o ≡ fault texts
 
@@ -19,7 +19,7 @@ module _ (d : Draft) (place : Place) where
   abbrev pub in_value : Place → Data → Bool → Option Error
   in_value p v texts = fault_in texts d p v
 
-  -- items have the first fault of those that are left
+  -- the first fault of the items is the first of those that are left
   abbrev pub ItemsLeft : Items → ℕ → Items → Type 0
   ItemsLeft all n left = (texts : Bool) → (texts ≡ true → items_have_float all ≡ false)
       → (texts ≡ true → items_have_float left ≡ false) × (fault_in_items texts d place 0 all ≡ fault_in_items texts d place n left)
@@ -40,7 +40,7 @@ module _ (d : Draft) (place : Place) where
         let here : Some (error_of texts e) ≡ fault_in texts d (place ++ to_item n ∷ []) v = ap (option_map (error_of texts)) (sym is) ∙ item_fault texts whole in
         ap (λ (x : Option Error). earlier x (fault_in_items texts d place (n + 1) rest)) here ∙ sym left.1
 
-  -- members have the first fault of those that are left
+  -- the first fault of the members is the first of those that are left
   abbrev pub MembersLeft : Members → Members → Type 0
   MembersLeft all left = (texts : Bool) → (texts ≡ true → members_have_float all ≡ false)
       → (texts ≡ true → members_have_float left ≡ false) × (fault_in_members texts d place all ≡ fault_in_members texts d place left)

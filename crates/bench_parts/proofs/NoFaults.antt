@@ -1,4 +1,5 @@
--- What has no values inside has no fault inside, and where it is no `minLength` none itself.
+-- A value without values inside has no fault inside, and none itself unless it is a wrong
+-- `minLength`.
 use Rattle.std.proofs.Common.{◌≡◌, ◌∙◌, ◌&&◌, Bool, None, Some, ap, false, refl, true}
 use Rattle.std.specs.Prelude.{bytes_eq, codes, if◌then◌else◌, is_some}
 use Rattle.serde_json.specs.Data.{Data}

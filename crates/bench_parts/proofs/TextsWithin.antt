@@ -7,7 +7,7 @@ and-false : (b c : Bool) → c ≡ false → (b && c) ≡ false
 and-false true c h = h
 and-false false c h = refl
 
--- a longer text is no beginning
+-- a text does not begin with a longer one
 pub begins_with-long : (p xs : Text) → length xs < length p → begins_with p xs ≡ false
 begins_with-long [] xs h = absurd (omega arith)
 begins_with-long (a ∷ p) [] h = refl
@@ -18,11 +18,11 @@ contains_later-suc p [] i h none = absurd (omega arith)
 contains_later-suc p (x ∷ xs) zero h none = ap (λ b. b || contains_text p xs) none
 contains_later-suc p (x ∷ xs) (suc i) h none = contains_later-suc p xs i (omega arith) none
 
--- where it doesn't begin here, it stands later
+-- if the text does not begin with the pattern, then it contains it only further on
 pub contains_later : (p xs : Text) (i : ℕ) → i < length xs → begins_with p (drop i xs) ≡ false → contains_text p (drop i xs) ≡ contains_text p (drop (i + 1) xs)
 contains_later p xs i h none = contains_later-suc p xs i h none ∙ ap (λ n. contains_text p (drop n xs)) (sym (add-one i))
 
--- what begins a text stands in it
+-- a text contains what it begins with
 pub contains_here : (p xs : Text) → begins_with p xs ≡ true → contains_text p xs ≡ true
 contains_here p [] h = h
 contains_here p (x ∷ xs) h = ap (λ b. b || contains_text p xs) h

@@ -1,5 +1,6 @@
--- What the bench's meta validators refuse of a document: the first fault, members in the order of their names and items in
--- order, a member before what is inside it. A text counts as empty where texts are not spoken of. (Core 2020-12, 8.1.1 and 4.3.1; Validation 2020-12, 6.3.2)
+-- What the bench's meta validators refuse in a document: the first fault, with members in the order
+-- of their names, items in order, and a member before what is inside it. If texts are not covered,
+-- each text counts as empty. (Core 2020-12, 8.1.1 and 4.3.1; Validation 2020-12, 6.3.2)
 use Rattle.std.specs.Prelude.{Bool, None, Option, Some, [], bytes_eq, codes, false, if◌then◌else◌, is_some, not, true, ℕ, ◌&&◌, ◌++◌, ◌+◌, ◌≡◌, ◌∷◌}
 use Rattle.serde_json.specs.Data.{Data, Items, Members, array, boolean, item, member, no_items, no_members, null, number, object, string}
 use Rattle.serde_json.specs.Find.{as_array, as_number}
@@ -9,7 +10,7 @@ use Rattle.theory_definitions.specs.Drafts.{Draft, draft_2020_12, draft_unknown}
 use Rattle.theory_definitions.specs.Reports.{Error}
 use Rattle.schema_reports.specs.ReportViews.{spoken}
 
--- what the text says that a value is not of
+-- the types that the error's text names
 abbrev pub number_type : Text
 number_type = codes "type \"number\""
 
@@ -19,7 +20,7 @@ schema_types = codes "types \"boolean\", \"object\""
 abbrev pub type_text : Data → Text → Text
 type_text v types = compact_text v ++ codes " is not of " ++ types
 
--- the error of a value of another type, at its place
+-- the error for a value of another type, at its place
 abbrev pub mistyped : Bool → Place → Data → Text → Error
 mistyped texts place v types = record { place = place; schema_path = codes "/type"; evaluation_path = codes "/type"; absolute = None; name = codes "type"; text = spoken texts (type_text v types) }
 
@@ -33,7 +34,7 @@ is_2020_12 _ = false
 abbrev pub is_no_length : Text → Data → Bool
 is_no_length k v = bytes_eq k (codes "minLength") && not (is_some (as_number v))
 
--- in 2020-12 an `items` that is a list
+-- an `items` with a list, in 2020-12
 abbrev pub is_list_of_items : Draft → Text → Data → Bool
 is_list_of_items d k v = bytes_eq k (codes "items") && is_2020_12 d && is_some (as_array v)
 
@@ -45,7 +46,7 @@ abbrev pub earlier : Option Error → Option Error → Option Error
 earlier None o = o
 earlier (Some e) o = Some e
 
--- the first fault inside what stands at a place
+-- the first fault inside the value at a place
 abbrev mutual
   pub fault_in : Bool → Draft → Place → Data → Option Error
   fault_in texts d place null = None
@@ -64,7 +65,8 @@ abbrev mutual
   fault_in_members texts d place (member k v ms) = earlier (member_fault texts d (place ++ to_member k ∷ []) k v)
       (earlier (fault_in texts d (place ++ to_member k ∷ []) v) (fault_in_members texts d place ms))
 
--- whatever the draft and the place, there is no fault inside a value, and none of a member itself
+-- whatever the draft and the place, there is no fault inside a value; and (below) none of a member
+-- itself
 abbrev pub HasNoFaultInside : Data → Type 0
 HasNoFaultInside v = (texts : Bool) (d : Draft) (place : Place) → fault_in texts d place v ≡ None
 

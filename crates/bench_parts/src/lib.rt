@@ -1,5 +1,6 @@
-//! Parts that keep the laws, made for tests and for the program `engine_bench`: a keyword table, a matcher
-//! and meta validators.
+//! Parts of the engine made for tests and for the program `engine_bench`.
+//!
+//! They keep the laws of the traits that they implement, such as `Matcher` and `MetaValidators`.
 #![tactic(auto)]
 
 pub mod matcher;

@@ -1,4 +1,4 @@
-//! The matcher.
+//! A matcher for tests.
 ghost use Rattle.std.specs.Prelude.{◌≡◌, ◌≤◌, bytes_eq, drop, length, map, string_bytes};
 ghost use Rattle.std.specs.List.{list_any};
 ghost use Rattle.bench_parts.specs.BenchMatching.{begins_with, contains_text};
@@ -11,7 +11,9 @@ use std::alloc::{AllocError, Global};
 use std::marker::Model;
 use unfinished_matches::site::{Match, Reason};
 
-/// A matcher that leaves some patterns unfinished, whatever the subject, and finds any other pattern as a text.
+/// A matcher that leaves some patterns unfinished.
+///
+/// It does so whatever the subject. Any other pattern matches if the subject contains it as a text.
 #[derive(Drop)]
 pub struct BenchMatcher {
     unfinished: Vec<String>,
@@ -27,7 +29,7 @@ impl Model for BenchMatcher {
 }
 
 impl BenchMatcher {
-    /// A matcher that leaves these patterns unfinished.
+    /// Returns a matcher that leaves these patterns unfinished.
     pub fn new(unfinished: Vec<String>) -> BenchMatcher
         ensures patterns { result ≡ map string_bytes unfinished.items }
     {
@@ -35,7 +37,6 @@ impl BenchMatcher {
     }
 }
 
-/// Whether the text is one of these.
 #[inline(always)]
 fn is_among(text: &str, texts: &[String]) -> bool
     ensures among { result ≡ list_any (bytes_eq text.now) (map string_bytes texts.now) }
@@ -48,7 +49,6 @@ fn is_among(text: &str, texts: &[String]) -> bool
     false
 }
 
-/// Whether a text begins with the pattern.
 fn begins_with(pattern: &[u8], text: &[u8]) -> bool
     ensures begins { result ≡ begins_with pattern.now text.now }
 {
@@ -63,7 +63,6 @@ fn begins_with(pattern: &[u8], text: &[u8]) -> bool
     true
 }
 
-/// Whether a text begins with the pattern at a place.
 fn begins_at(pattern: &[u8], text: &[u8], place: usize) -> bool
     requires { place ≤ length text.now }
     ensures begins { result ≡ begins_with pattern.now (drop place text.now) }
@@ -71,7 +70,6 @@ fn begins_at(pattern: &[u8], text: &[u8], place: usize) -> bool
     begins_with(pattern, &text[place..])
 }
 
-/// Whether a text contains the pattern.
 fn contains_text(pattern: &[u8], text: &[u8]) -> bool
     ensures contains { result ≡ contains_text pattern.now text.now }
 {
@@ -93,7 +91,6 @@ impl Clone for BenchMatcher {
     }
 }
 
-/// Adds copies of texts.
 fn push_copies(texts: &[String], copies: &mut Vec<String>) -> Result<(), AllocError>
     ensures pushed { AddsTexts copies.old.items copies.new.items (map string_bytes texts.now) result }
 {

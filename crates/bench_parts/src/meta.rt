@@ -1,4 +1,4 @@
-//! The meta validators.
+//! Meta validators for tests.
 ghost use Rattle.std.specs.Prelude.{◌≡◌, [], Bool, IfOk, Some, true, false, is_some, string_bytes};
 ghost use Rattle.serde_json.specs.Data.{Data, array, object};
 ghost use Rattle.serde_json.specs.Find.{as_array};
@@ -23,11 +23,11 @@ use schema_traits::meta::MetaValidators;
 use serde_json::{Map, Value};
 use std::alloc::Global;
 
-/// Meta validators that look at the types of documents, of `minLength` and of `items`.
+/// Meta validators that check the type of documents, `minLength` and `items`.
 #[derive(Clone, Copy)]
 pub struct BenchMeta {}
 
-/// The text of a value that is not of these types.
+/// Returns the text of an error for a value that is of none of these types.
 fn type_text(alloc: Global, value: &Value, types: &str) -> Result<String, OutOfMemory>
     ensures text { IfOk result (λ text. has_float (view value.now) ≡ false → string_bytes text ≡ type_text (view value.now) types.now) }
 {
@@ -37,7 +37,7 @@ fn type_text(alloc: Global, value: &Value, types: &str) -> Result<String, OutOfM
     Ok(text)
 }
 
-/// The error of a value that is not of these types.
+/// Returns the error for a value that is of none of these types.
 fn mistyped<'v>(
     alloc: Global,
     place: Place<'v>,
@@ -61,35 +61,35 @@ fn mistyped<'v>(
     })
 }
 
-/// Whether a value is an object or a boolean.
+/// Returns whether a value is an object or a boolean.
 fn is_schema(value: &Value) -> bool
     ensures schema { result ≡ is_schema (view value.now) }
 {
     value.is_object() || value.is_boolean()
 }
 
-/// Whether `items` takes one schema alone in the draft.
+/// Returns whether `items` takes only a single schema in the draft.
 fn is_2020_12(draft: Draft) -> bool
     ensures later { result ≡ is_2020_12 (draft_of draft) }
 {
     matches!(draft, Draft::Draft202012 | Draft::Unknown)
 }
 
-/// Whether a member is a `minLength` that is no number.
+/// Returns whether a member is a `minLength` that is no number.
 fn is_no_length(name: &str, member: &Value) -> bool
     ensures no_length { result ≡ is_no_length name.now (view member.now) }
 {
     name == "minLength" && !member.is_number()
 }
 
-/// Whether a member is an `items` that is a list, where the draft takes one schema alone.
+/// Returns whether a member is an `items` list, in a draft that allows none.
 fn is_list_of_items(draft: Draft, name: &str, member: &Value) -> bool
     ensures list { result ≡ is_list_of_items (draft_of draft) name.now (view member.now) }
 {
     name == "items" && is_2020_12(draft) && member.is_array()
 }
 
-/// Whether there may be an error inside a value: it has values inside.
+/// Returns whether a value has values inside, in which there may be an error.
 fn has_inside(value: &Value) -> bool
     ensures none { result ≡ false → HasNoFaultInside (view value.now) }
     ensures no_list { result ≡ false → is_some (as_array (view value.now)) ≡ false }
@@ -97,7 +97,7 @@ fn has_inside(value: &Value) -> bool
     matches!(value, Value::Array(_) | Value::Object(_))
 }
 
-/// Whether there may be an error of a member or inside it.
+/// Returns whether there may be an error of a member or inside it.
 #[tactic(auto, using(crate::proofs::NoFaults::none_itself))]
 fn may_have_fault(name: &str, member: &Value) -> bool
     ensures own { result ≡ false → HasNoFaultItself name.now (view member.now) }
@@ -106,7 +106,7 @@ fn may_have_fault(name: &str, member: &Value) -> bool
     has_inside(member) || is_no_length(name, member)
 }
 
-/// The error of a member itself, at its place.
+/// Returns the error of a member itself, at its place.
 fn member_fault<'v>(
     alloc: Global,
     draft: Draft,
@@ -132,7 +132,7 @@ fn member_fault<'v>(
     Ok(None)
 }
 
-/// The first error inside the value at a place.
+/// Returns the first error inside the value at a place.
 #[cycle(walk)]
 fn fault_in<'v>(
     alloc: Global,
@@ -151,7 +151,7 @@ fn fault_in<'v>(
     }
 }
 
-/// The first error inside items, in order.
+/// Returns the first error inside items, in order.
 #[cycle(walk)]
 fn fault_in_items<'v>(
     alloc: Global,
@@ -175,7 +175,7 @@ fn fault_in_items<'v>(
     Ok(None)
 }
 
-/// The first error of members or inside them, in the order of their names.
+/// Returns the first error of members or inside them, in the order of their names.
 #[cycle(walk)]
 fn fault_in_members<'v>(
     alloc: Global,

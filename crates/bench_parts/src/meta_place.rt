@@ -1,4 +1,6 @@
-//! The place of a value in a schema under the meta check, which allocates nothing until it is asked for.
+//! The place of a value in a schema under the meta check.
+//!
+//! It allocates nothing until it is needed as an owned place.
 ghost use Rattle.std.specs.Prelude.{◌≡◌, ◌++◌, ◌∷◌, []};
 ghost use Rattle.schema_reports.specs.InstanceViews.{step_of};
 ghost use Rattle.bench_parts.specs.MetaPlaces.{steps_to};
@@ -8,7 +10,7 @@ use schema_reports::instance::{InstanceStep, Place};
 use schema_reports::location::OutOfMemory;
 use std::alloc::Global;
 
-/// The root, or the place above a step and the step.
+/// The root, or a step and the place above it.
 #[derive(Clone, Copy)]
 pub enum MetaPlace<'p, 'v> {
     Root,
@@ -16,14 +18,14 @@ pub enum MetaPlace<'p, 'v> {
 }
 
 impl<'p, 'v> MetaPlace<'p, 'v> {
-    /// The place one step below.
+    /// Returns the place one step below.
     pub fn below(&'p self, step: InstanceStep<'v>) -> MetaPlace<'p, 'v>
         ensures below { steps_to result ≡ steps_to self.now ++ step_of step.entry ∷ [] }
     {
         MetaPlace::Below(self, step)
     }
 
-    // Returns the place as an owned one, with room for so many steps more. Fails only if memory cannot be allocated.
+    // Returns the place as an owned one, with capacity for `more` further steps.
     fn with_room(&self, alloc: Global, more: usize) -> Result<Place<'v>, OutOfMemory>
         ensures same { Yields result (steps_to self.now) }
     {
@@ -37,7 +39,7 @@ impl<'p, 'v> MetaPlace<'p, 'v> {
         }
     }
 
-    /// Returns the place as an owned one. Fails only if memory cannot be allocated.
+    /// Returns the place as an owned one.
     pub fn made(&self, alloc: Global) -> Result<Place<'v>, OutOfMemory>
         ensures same { Yields result (steps_to self.now) }
     {

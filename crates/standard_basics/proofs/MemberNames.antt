@@ -1,4 +1,4 @@
--- The names of a map's entries are those of the object that it is.
+-- The names of a map's entries are those of the object that it represents.
 use Rattle.std.proofs.Common.{◌≡◌, ◌∷◌, [], List, ap, map, refl, string_bytes}
 use Rattle.std.specs.Map.{keys_of}
 use Rattle.serde_json.specs.View.{members_view}

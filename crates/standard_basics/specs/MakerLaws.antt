@@ -1,4 +1,4 @@
--- The makers ask for what lies strictly below the object, and end rightly.
+-- The makers request only what lies strictly below the object, and end as they should.
 use Rattle.std.proofs.Common.{ap}
 use Rattle.std.specs.Prelude.{Bool, List, None, Option, Some, [], bytes_eq, codes, false, if◌then◌else◌, not, option_map, refl, true, ℕ, ◌≡◌}
 use Rattle.serde_json.specs.Data.{Data, Members, array, boolean, null, number, object, string}
@@ -86,7 +86,7 @@ whole_rightly = made_rightly none_absorbed is_whole
 items_made_rightly : (owner : Members) (draft : Draft) (ms : Members) (name : Text) (d : Data) → Rightly owner (items_script draft ms name d)
 items_made_rightly owner draft ms name d = one_of owner (is_older_list draft d) _ _ tt (tt, (refl, (λ h. refl), tt))
 
--- the object is the owner, whose member is made
+-- `owner` is the object whose member is made
 schema_rightly : (owner : Members) (draft : Draft) (name : Text) (d : Data) → get_member name owner ≡ Some d → Rightly owner (schema_script draft owner name d)
 schema_rightly owner draft name d here =
     one_of owner (bytes_eq name (codes "allOf")) _ _ (list_rightly none_absorbed is_whole owner (λ n. applies (has_all_of n)) name d (λ n. (refl, refl)))

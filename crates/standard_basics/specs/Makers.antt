@@ -1,4 +1,4 @@
--- What the maker of each keyword asks for, and how it ends.
+-- What the maker of each keyword requests, and how it ends.
 use Rattle.std.specs.Prelude.{Bool, List, None, Option, Some, [], bytes_eq, codes, false, if◌then◌else◌, is_some, not, option_and_then, option_map, true, ℕ, ◌&&◌}
 use Rattle.serde_json.specs.Data.{Data, Items, Members, array, item, no_items, object, string}
 use Rattle.serde_json.specs.Written.{compact_text, has_float}
@@ -56,17 +56,17 @@ count_shape kind d = option_map (has_count kind) (option_and_then as_u64 (as_num
 
 -- ---- items
 
--- the editions in which `items` goes on after `prefixItems` (Core 2020-12, 10.3.1.2)
+-- the drafts in which `items` continues after `prefixItems` (Core 2020-12, 10.3.1.2)
 abbrev pub has_prefix : Draft → Bool
 has_prefix draft_2020_12 = true
 has_prefix draft_unknown = true
 has_prefix _ = false
 
--- how many items come before those of `items`
+-- the number of items that come before those of `items`
 abbrev pub items_before : Draft → Members → ℕ
 items_before draft ms = if has_prefix draft then count_in (option_and_then as_array (get_member (codes "prefixItems") ms)) else 0
 
--- in the other editions, a list makes no keyword
+-- in the other drafts, a list makes no keyword
 abbrev pub is_older_list : Draft → Data → Bool
 is_older_list draft d = not (has_prefix draft) && is_some (as_array d)
 

@@ -1,4 +1,4 @@
-//! The keyword table.
+//! The table of the basic keywords.
 ghost use Rattle.std.specs.Prelude.{IfOk};
 ghost use Rattle.serde_json.specs.Find.{get_member};
 ghost use Rattle.serde_json.specs.View.{view};
@@ -32,11 +32,11 @@ use std::alloc::Global;
 
 /// A table of some built-in keywords. No name is its own.
 ///
-/// A value of another shape than its keyword's is refused by an error that shows the value and is located at the keyword.
+/// A value of the wrong kind is refused. The error shows the value, and its location is the
+/// keyword's.
 #[derive(Drop)]
 pub struct BasicTable {}
 
-/// The maker of `properties`.
 #[tactic(auto, using(crate::proofs::MemberNames::names_are))]
 fn properties_maker(
     alloc: Global,
@@ -55,7 +55,7 @@ fn properties_maker(
     }
 }
 
-/// The maker of `items`. Before 2020-12 a list makes no keyword.
+/// Before 2020-12 a list makes no keyword.
 fn items_maker(
     alloc: Global,
     name: &str,
@@ -72,7 +72,6 @@ fn items_maker(
     only_child(alloc, name, BasicKeyword::Items(before))
 }
 
-/// The maker of a keyword with this value.
 fn value_maker(
     alloc: Global,
     name: &str,
@@ -96,7 +95,7 @@ fn value_maker(
     later_maker(alloc, name, value, object, draft)
 }
 
-/// The maker of one of the other keywords with this value.
+/// The remaining keywords.
 fn later_maker(
     alloc: Global,
     name: &str,
@@ -137,7 +136,7 @@ fn later_maker(
     schema_maker(alloc, name, value, object, draft)
 }
 
-/// The maker of a keyword whose value is a schema or a list of schemas.
+/// The keywords whose value is a schema or a list of schemas.
 fn schema_maker(
     alloc: Global,
     name: &str,
@@ -177,7 +176,6 @@ fn schema_maker(
     Ok(ends(alloc, Ending::Nothing))
 }
 
-/// The maker of a member of an object, if there is one.
 fn member_maker(
     alloc: Global,
     name: &str,

@@ -12,7 +12,7 @@ use schema_reports::location::OutOfMemory;
 use serde_json::Value;
 use std::alloc::Global;
 
-/// `type`.
+/// Returns the keyword `type` with this value, if there is one.
 pub fn type_keyword(alloc: Global, value: &Value) -> Result<Option<BasicKeyword>, OutOfMemory>
     ensures shaped { IfOk result (λ keyword. option_map shape_of keyword ≡ type_shape (view value.now)) }
 {
@@ -29,7 +29,7 @@ pub fn type_keyword(alloc: Global, value: &Value) -> Result<Option<BasicKeyword>
     }
 }
 
-/// The texts that values are, if each is one.
+/// Returns the texts of a list of values, if each value is a text.
 pub fn texts_of(alloc: Global, values: &[Value]) -> Result<Option<Vec<String>>, OutOfMemory>
     ensures texts { IfOk result (λ texts. option_map (λ v. map string_bytes v.items) texts ≡ texts_of (items_view values.now)) }
 {
@@ -43,7 +43,7 @@ pub fn texts_of(alloc: Global, values: &[Value]) -> Result<Option<Vec<String>>, 
     Ok(Some(texts))
 }
 
-/// `required`.
+/// Returns the keyword `required` with this value, if there is one.
 pub fn required_keyword(alloc: Global, value: &Value) -> Result<Option<BasicKeyword>, OutOfMemory>
     ensures shaped { IfOk result (λ keyword. option_map shape_of keyword ≡ required_shape (view value.now)) }
 {
@@ -56,7 +56,7 @@ pub fn required_keyword(alloc: Global, value: &Value) -> Result<Option<BasicKeyw
     }
 }
 
-/// `pattern`.
+/// Returns the keyword `pattern` with this value, if there is one.
 pub fn pattern_keyword(alloc: Global, value: &Value) -> Result<Option<BasicKeyword>, OutOfMemory>
     ensures shaped { IfOk result (λ keyword. option_map shape_of keyword ≡ pattern_shape (view value.now)) }
 {
@@ -69,7 +69,7 @@ pub fn pattern_keyword(alloc: Global, value: &Value) -> Result<Option<BasicKeywo
     }
 }
 
-/// A keyword that counts.
+/// Returns a keyword that counts, with this value, if there is one.
 pub fn count_keyword(kind: CountKind, value: &Value) -> Option<BasicKeyword>
     ensures shaped { option_map shape_of result ≡ count_shape kind (view value.now) }
 {

@@ -1,4 +1,4 @@
-//! What `items` reads of the values beside it.
+//! What `items` takes from the neighbouring members.
 ghost use Rattle.std.specs.Prelude.{◌≡◌, codes, option_and_then};
 ghost use Rattle.serde_json.specs.Find.{as_array, get_member};
 ghost use Rattle.serde_json.specs.View.{view};
@@ -12,7 +12,7 @@ use keyword_makers::paths::value_in;
 use schema_drafts::keywords::Draft;
 use serde_json::{Map, Value};
 
-/// Whether `items` goes on after `prefixItems` in this draft.
+/// Returns whether `items` continues after `prefixItems` in this draft.
 fn has_prefix(draft: Draft) -> bool
     ensures prefix { result ≡ has_prefix (draft_of draft) }
 {
@@ -23,14 +23,16 @@ fn has_prefix(draft: Draft) -> bool
     }
 }
 
-/// Whether a value of `items` is a list in a draft in which a list makes no keyword.
+/// Returns whether `items` has a list, in a draft in which a list makes no keyword.
 pub fn is_older_list(draft: Draft, value: &Value) -> bool
     ensures older { result ≡ is_older_list (draft_of draft) (view value.now) }
 {
     !has_prefix(draft) && value.is_array()
 }
 
-/// How many items come before those of `items`: as many as `prefixItems` has schemas, in the drafts that have it.
+/// Returns the number of items that come before those of `items`.
+///
+/// This is the number of schemas of `prefixItems`, in the drafts that have it.
 pub fn items_before(draft: Draft, object: &Map<String, Value>) -> usize
     ensures before { result ≡ items_before (draft_of draft) (fields object.now) }
 {
@@ -41,7 +43,7 @@ pub fn items_before(draft: Draft, object: &Map<String, Value>) -> usize
     }
 }
 
-/// How many schemas `prefixItems` has.
+/// Returns the number of schemas of `prefixItems`.
 fn prefix_length(object: &Map<String, Value>) -> usize
     ensures length { result ≡ count_in (option_and_then as_array (get_member (codes "prefixItems") (fields object.now))) }
 {

@@ -4,12 +4,12 @@ use Rattle.schema_traits.specs.MatcherViews.{FinishesEach}
 use Rattle.bench_parts.specs.BenchMatching.{bench_matcher, leaves_none}
 use Rattle.bench_parts.proofs.matcher.BenchMatcherMatcher.finishes.Goals as goal
 
--- where no pattern is left unfinished, no match is
+-- if no pattern is left unfinished, then no match is
 finishes_each : (b : Bool) (texts : List (String Global)) → b ≡ (length texts == 0) → b ≡ true → FinishesEach (bench_matcher (map string_bytes texts))
 finishes_each b [] e h = λ pattern subject reason left. absurd (cc left)
 finishes_each b (x ∷ texts) e h = absurd (let none : suc (length texts) ≡ 0 = eqb-true (suc (length texts)) 0 (sym e ∙ h) in omega arith)
 
--- it says so exactly where the list is empty
+-- the matcher says so exactly if the list is empty
 none_are_left : (texts : List (String Global)) → (length texts == 0) ≡ leaves_none (map string_bytes texts)
 none_are_left [] = refl
 none_are_left (x ∷ texts) = ne_eqb (suc (length texts)) 0 (λ same. let more : suc (length texts) ≡ 0 = same in omega arith)
