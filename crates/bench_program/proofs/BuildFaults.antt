@@ -1,4 +1,5 @@
--- The fault of a schema that is refused stands, where a cause of it stands or the meta validators refuse a document of it.
+-- The fault of a refused schema is real if a cause of it is, or if the meta validators refuse one
+-- of its documents.
 use Rattle.std.proofs.Common.{List, refl}
 use Rattle.theory_definitions.specs.Instance.{Text}
 use Rattle.schema_keys.specs.declared.error.BuildError.{BuildError}

@@ -1,4 +1,5 @@
--- What is said of every sense that a validator means is said of the plain meaning of schema and parts, which it means.
+-- A fact about every sense that a validator means is a fact about the plain meaning of schema and
+-- parts, which it means.
 use Rattle.std.proofs.Common.{Bool, IfOk, List, Result, string_bytes, subst, sym, ◌≡◌}
 use Rattle.std.proofs.lemmas.Result.{IfOk-weaker}
 use Rattle.serde_json.specs.Data.{Data}
@@ -46,7 +47,7 @@ answers_plainly resolver table matcher options schema p instance Evaluate accept
   listed = answered.listed;
 }
 
--- the same of what a call answers
+-- the same for the answer of a call
 pub answered_plainly : {E : Type 0} (p : Program BasicKeyword (List Text)) (instance : Data) (asked call : Call) (r : Result Answer E) → asked ≡ call
     → IfOk r (λ a. AnswersInEverySense p instance call a.accepted (string_bytes a.text))
     → IfOk r (λ a. (resolver : Resolver Point) (table : Table BasicShape) (matcher : Matcher) (options : Options) (schema : Data)

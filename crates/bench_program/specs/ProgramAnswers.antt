@@ -1,4 +1,5 @@
--- What the program prints of an instance, and what that says by what the validator's nodes mean.
+-- What the program prints about an instance, and what that says of the meaning of the validator's
+-- nodes.
 use Rattle.std.specs.Prelude.{Bool, List, Option, is_none, map, option_map, true, ℕ, ◌≡◌}
 use Rattle.theory_definitions.specs.Instance.{Text}
 use Rattle.theory_definitions.specs.Cover.{Sense, is_valid}
@@ -16,7 +17,8 @@ use Rattle.bench_program.specs.ProgramTexts.{IsJsonLine, errors_text, first_text
 use Rattle.bench_program.specs.declared.program.requests.Call.{Call}
 use Rattle.bench_program.specs.declared.program.requests.Call.TheVariants.{Evaluate, IsValid, IterErrors, Validate}
 
--- an evaluation by a call that makes so many runs at most, of which its sentence is said, and that it has the units that are said of it, its verdict, and the line of its list
+-- an evaluation by a call that makes at most this many runs, with what is said of such a call and
+-- of its units, with its verdict, and with the line of its list
 pub record AnswersEvaluate (most : ℕ) (Of : (Bool → Sense → Type 0) → Type 0) (HasUnits : EvaluationNode → Type 0) (accepted : Bool) (text : Text) : Type 0 where
   pub evaluation : EvaluationNode
   pub said : Of (λ spoken v. EvaluationAnswered v most spoken evaluation)
@@ -24,8 +26,8 @@ pub record AnswersEvaluate (most : ℕ) (Of : (Bool → Sense → Type 0) → Ty
   pub verdict : accepted ≡ (report_of (unit_of true evaluation)).valid
   pub listed : IsJsonLine (output_list (unit_of true evaluation)) text
 
--- a verdict, a first error, a list of errors or an evaluation of which the sentence of its call is said, and its text; of an
--- evaluation it is said too that it has the units
+-- a verdict, a first error, a list of errors or an evaluation, with what is said of its call, and
+-- its text; for an evaluation also what is said of its units
 abbrev pub Answers : ℕ → ((Bool → Sense → Type 0) → Type 0) → (EvaluationNode → Type 0) → Call → Bool → Text → Type 0
 Answers most Of HasUnits IsValid accepted text = Of (λ spoken v. VerdictSays v most is_valid accepted) × (text ≡ verdict_text accepted)
 Answers most Of HasUnits Validate accepted text = (first : Option ValidationError) × Of (λ spoken v. FirstAnswered v most spoken first)

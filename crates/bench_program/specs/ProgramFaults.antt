@@ -1,5 +1,5 @@
--- Why the program answers nothing: a fault in the words, in the order in which faults are found, a refused schema, or want
--- of memory; and what is printed of it.
+-- Why the program has no answer: a fault in the arguments, in the order in which faults are found,
+-- a refused schema, or a lack of memory; and what is printed then.
 use Rattle.std.specs.Prelude.{List, None, Some, [], codes, decimal, ◌++◌, ◌∷◌, ◌≡◌, ◌⊎◌}
 use Rattle.theory_definitions.specs.Instance.{Text}
 use Rattle.schema_keys.specs.Refusing.{number_of}
@@ -27,17 +27,17 @@ fault_text OutOfMemory = codes "out of memory"
 abbrev pub fault_line : Fault → Text
 fault_line f = fault_text f ++ 10 ∷ []
 
--- a refused schema, or want of memory
+-- a refused schema, or a lack of memory
 abbrev pub fault_of : BuildError → Fault
 fault_of build.OutOfMemory = OutOfMemory
 fault_of e = BuildRefused (number_of e)
 
--- words of a right number with a right mode, of which this holds
+-- there is the right number of arguments, and this holds of them
 abbrev pub InWords : List Text → (FourWords → Type 0) → Type 0
 InWords ts P = (w : FourWords) × (words_in ts ≡ Some w) × P w
 
--- the words have this fault, and none that is found before it; a schema is refused by a cause that stands, of this number, or as the
--- meta validators refuse one of its documents
+-- the arguments have this fault, and none that is found before it; a schema is refused for a real
+-- cause with this number, or because the meta validators refuse one of its documents
 abbrev pub FaultStands : List Text → Fault → Type 0
 FaultStands ts Usage = call_in ts ≡ None
 FaultStands ts (NotJson Schema) = ¬ (call_in ts ≡ None) × InWords ts (λ w. ¬ IsJson w.schema)
@@ -46,10 +46,10 @@ FaultStands ts (NotJson Unfinished) = ¬ (call_in ts ≡ None) × InWords ts (λ
 FaultStands ts (BuildRefused number) = (asked : Asked ts) × (error : BuildError) × (fault_of error ≡ BuildRefused number) × IsRefused asked error
 FaultStands ts OutOfMemory = Unit {0}
 
--- why a word gives no value: it is not JSON, or want of memory
+-- why an argument has no value: it is not JSON, or memory is lacking
 abbrev pub Unread : Text → Word → Fault → Type 0
 Unread text word f = (f ≡ OutOfMemory) ⊎ ((f ≡ NotJson word) × ¬ IsJson text)
 
--- why UNFINISHED gives no texts: it lists none, or want of memory
+-- why UNFINISHED has no texts: it is not a list of texts, or memory is lacking
 abbrev pub Unlisted : Text → Fault → Type 0
 Unlisted text f = (f ≡ OutOfMemory) ⊎ ((f ≡ NotJson Unfinished) × ¬ IsList text)

@@ -1,4 +1,4 @@
--- What the program prints, by the plain meaning of schema and parts.
+-- What the program prints, by the plain meaning of the schema and of the engine's parts.
 use Rattle.std.specs.Prelude.{Bool, IfOk, List, Result, [], false, string_bytes, ℕ, ◌≡◌, ◌⊎◌}
 use Rattle.serde_json.specs.Data.{Data}
 use Rattle.serde_json.specs.View.{view}
@@ -37,19 +37,21 @@ use Rattle.bench_program.specs.declared.program.answers.Answer.{Answer}
 use Rattle.bench_program.specs.declared.program.requests.Call.{Call}
 
 module _ (resolver : Resolver Point) (table : Table BasicShape) (matcher : Matcher) (options : Options) (schema : Data) where
-  -- said of the plain meaning for each root key of the schema, of texts too where they are spoken rightly
+  -- a fact about the plain meaning for each root key of the schema, and also about its texts if
+  -- they are covered
   abbrev pub OfPlainMeaning : Data → (Bool → Sense → Type 0) → Type 0
   OfPlainMeaning instance fact = OfSchema resolver table matcher words options schema instance (λ spoken w root. Plainly w root instance (fact spoken))
 
-  -- where no match stays unfinished, the units are those of the plain meaning, under every outcome
+  -- if no match stays unfinished, then the units are those of the plain meaning, under every
+  -- outcome
   abbrev pub PlainUnitsOf : Data → EvaluationNode → Type 0
   PlainUnitsOf instance u = OfSchema resolver table matcher words options schema instance (λ spoken w root. PlainlyWithUnits w root instance (λ v units. UnitsAnswered v spoken units u))
 
-  -- what calls answer that make so many runs at most
+  -- the answers of calls that make at most this many runs
   abbrev pub AnswersPlainly : ℕ → Data → Call → Bool → Text → Type 0
   AnswersPlainly most instance call accepted text = Answers most (OfPlainMeaning instance) (PlainUnitsOf instance) call accepted text
 
-  -- the validator means schema and parts
+  -- the validator has the meaning of the schema and the parts
   abbrev pub BenchMeans : Program BasicKeyword (List Text) → Type 0
   BenchMeans p = MeansSchema resolver table matcher words options schema shape_of is_whole bench_matcher p
 
@@ -64,23 +66,23 @@ module _ (p : Program BasicKeyword (List Text)) (instance : Data) where
   AnswersInEverySense = Answers p.runs (OfEverySense shape_of words is_whole bench_matcher p instance)
       (λ u. OfEveryEvaluation shape_of words is_whole bench_matcher p instance (λ spoken v units. UnitsAnswered v spoken units u))
 
-  -- from some depth on, where chains of references return too
+  -- from some depth on, also if chains of references return
   abbrev pub AnswersFromSomeDepth : Call → Bool → Text → Type 0
   AnswersFromSomeDepth = Answers p.runs (FromSomeDepth shape_of words is_whole bench_matcher p instance) (HasUnits shape_of words is_whole bench_matcher p instance)
 
-  -- both of the answer, where there is one
+  -- both of the answer, if the result is `Ok`
   abbrev pub InEverySense : {E : Type 0} → Call → Result Answer E → Type 0
   InEverySense call result = IfOk result (λ a. AnswersInEverySense call a.accepted (string_bytes a.text))
 
   abbrev pub FromDepth : {E : Type 0} → Call → Result Answer E → Type 0
   FromDepth call result = IfOk result (λ a. AnswersFromSomeDepth call a.accepted (string_bytes a.text))
 
--- the bench table with the standard's names
+-- the basic table, with the names of the standard
 abbrev pub bench_table : Table BasicShape
 bench_table = table_of (λ name. false) builtin_in basic_script
 
--- a resolver of this document alone by the narrow rule, under its own URI, in 2020-12, where no vocabulary is required beside the
--- draft's own
+-- a resolver of this document alone by the narrow rule, under its own URI, in 2020-12, with no
+-- required vocabularies apart from the draft's own
 pub record Resolves (schema : Data) (r : HeldDocuments) : Type 0 where
   pub rule : r.rule ≡ Narrow
   pub document : view r.document ≡ schema
@@ -90,7 +92,8 @@ pub record Resolves (schema : Data) (r : HeldDocuments) : Type 0 where
   pub drafts : HasDrafts [] r.vocabularies
   pub custom : HasCustom [] r.vocabularies
 
--- what the words hold: a call, its schema and instance, the patterns that stay unfinished, and a resolver of the schema
+-- what the arguments hold: a call, its schema and instance, the patterns that stay unfinished, and
+-- a resolver of the schema
 pub record Asked (ts : List Text) : Type 0 where
   pub call : Call
   pub schema : Data
@@ -101,15 +104,16 @@ pub record Asked (ts : List Text) : Type 0 where
   pub resolves : Resolves schema resolver
 
 module _ {ts : List Text} (a : Asked ts) where
-  -- the schema builds with the bench's parts and default options
+  -- the schema builds with these parts and the default options
   abbrev pub IsBuilt : Type 0
   IsBuilt = (texts : Bool) → Builds (parts_of (document_resolving a.resolver) bench_table (bench_matcher a.unfinished) (words texts) default_options) a.schema default_options.limit
 
-  -- each of its documents is accepted by the bench's meta validators
+  -- each of its documents is accepted by the meta validators
   abbrev pub IsPassed : Type 0
   IsPassed = PassesCheck (document_resolving a.resolver) document_fault default_options a.schema
 
-  -- it is refused, by a cause that stands, or as the meta validators refuse one of its documents
+  -- the schema is refused for a real cause, or because the meta validators refuse one of its
+  -- documents
   abbrev pub IsRefused : BuildError → Type 0
   IsRefused e = ((texts : Bool) → RefusesBuild (parts_of (document_resolving a.resolver) bench_table (bench_matcher a.unfinished) (words texts) default_options) a.schema default_options.limit e)
       ⊎ FailsCheck (document_resolving a.resolver) document_fault default_options a.schema e
@@ -118,9 +122,9 @@ module _ {ts : List Text} (a : Asked ts) where
   abbrev pub IsCompiledFrom : Program BasicKeyword (List Text) → Type 0
   IsCompiledFrom p = IsProgramOf (document_resolving a.resolver) bench_table (bench_matcher a.unfinished) default_options default_nested a.schema shape_of bench_matcher p
 
--- what the words ask for, of a schema that builds and that the meta validators accept: answered by the plain meaning of their
--- schema with the bench's parts and default options, and, where chains of references return, by what the nodes compiled from it
--- say from some depth on
+-- what the arguments request, if the schema builds and the meta validators accept it: the answer is
+-- the one by the plain meaning of the schema with these parts and the default options, and, if
+-- chains of references return, the one by what the compiled nodes say from some depth on
 pub record AnswersWords (ts : List Text) (accepted : Bool) (text : Text) : Type 0 where
   pub asked : Asked ts
   pub builds : IsBuilt asked

@@ -24,7 +24,7 @@ fault_status (NotJson word) = status.BadWords
 fault_status (BuildRefused number) = status.BuildRefused
 fault_status OutOfMemory = status.OutOfMemory
 
--- this status, unless a text could not be written
+-- this status, unless the output could not be written
 abbrev pub UnlessUnwritten : Status → Status → Type 0
 UnlessUnwritten wanted s = (s ≡ wanted) ⊎ (s ≡ status.WriteFailed)
 

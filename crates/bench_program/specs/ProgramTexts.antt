@@ -12,7 +12,7 @@ abbrev pub verdict_text : Bool → Text
 verdict_text true = codes "true" ++ 10 ∷ []
 verdict_text false = codes "false" ++ 10 ∷ []
 
--- instance path, schema path, evaluation path and text with one tab between, and a line feed
+-- instance path, schema path, evaluation path and text, separated by tabs, and a line feed
 abbrev pub error_line : Error → Text
 error_line e = instance_path e ++ 9 ∷ [] ++ e.schema_path ++ 9 ∷ [] ++ e.evaluation_path ++ 9 ∷ [] ++ e.text ++ 10 ∷ []
 
@@ -20,13 +20,14 @@ abbrev pub first_text : Option Error → Text
 first_text None = codes "ok" ++ 10 ∷ []
 first_text (Some e) = error_line e
 
--- a line for each
+-- a line for each error
 abbrev pub errors_text : List Error → Text
 errors_text = flat_map error_line
 
--- a value as JSON and a line feed: the compact text of a value that holds no fraction. The digits of a fraction are not said; of
--- any value, the text has no space, has its items and members in their order, members in the byte order of their names, and is read
--- as the value where that nests no deeper than a reader goes
+-- a value as JSON and a line feed; this is the compact text of a value that holds no fraction. The
+-- digits of a fraction are not covered. The text of any value has no space, has its items and
+-- members in order, with members in the byte order of their names, and is read back as the value if
+-- that nests no deeper than a reader goes
 pub record IsJsonLine (d : Data) (text : Text) : Type 0 where
   pub json : Text
   pub ended : text ≡ json ++ 10 ∷ []

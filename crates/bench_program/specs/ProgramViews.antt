@@ -1,4 +1,4 @@
--- The words as the program holds them, apart from its memory.
+-- The arguments as the program holds them, apart from its memory.
 use Rattle.std.specs.Prelude.{List, map, ℕ}
 use Rattle.std.specs.declared.alloc.Global.{Global}
 use Rattle.std.specs.declared.vec.Vec.{Vec}

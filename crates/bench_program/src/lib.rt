@@ -1,4 +1,4 @@
-//! The program `engine_bench`: what it answers to its words, which are bytes.
+//! The program `engine_bench`: how it answers its arguments, which are bytes.
 #![tactic(auto)]
 
 pub mod program;

@@ -1,4 +1,4 @@
-//! The program: from words to what is printed, and a status.
+//! The program, from its arguments to its output and status.
 ghost use Rattle.std.specs.Prelude.{◌≡◌, Bool, IfOk, IfErr, OnErr, OnOk, string_bytes};
 ghost use Rattle.std.specs.Io.KnownBytes.{Appends, Keeps};
 ghost use Rattle.theory_definitions.specs.Instance.{Text};
@@ -37,17 +37,17 @@ pub enum Status {
     Refused,
     /// The schema is refused.
     BuildRefused,
-    /// The words are not those of the usage line, or one is not JSON.
+    /// The arguments are not as the usage line says, or one is not JSON.
     BadWords,
     OutOfMemory,
-    /// A text could not be written.
+    /// The output could not be written.
     WriteFailed,
 }
 
 impl Status {
     ghost use Rattle.bench_program.specs.ProgramRuns.{code_of};
 
-    /// The status that the process ends with, from 0 to 5 in the order of the variants.
+    /// Returns the status of the process, from 0 to 5 in the order of the variants.
     pub fn code(self) -> u8
         ensures code { result ≡ code_of self }
     {
@@ -62,7 +62,7 @@ impl Status {
     }
 }
 
-/// What the words' call answers of their instance.
+/// Returns the answer to the arguments.
 fn answer_to(alloc: Global, words: &[Vec<u8>]) -> Result<Answer, Fault>
     ensures answer { IfOk result (λ a. AnswersWords (texts words.now) a.accepted (string_bytes a.text)) }
     ensures fault { IfErr result (FaultStands (texts words.now)) }
@@ -87,7 +87,6 @@ fn answer_to(alloc: Global, words: &[Vec<u8>]) -> Result<Answer, Fault>
     Ok(ask(alloc, &validator, call, &instance)?)
 }
 
-/// Writes a text.
 fn print<W: Write>(out: &mut W, text: &str) -> io::Result<()>
     ensures printed { OnOk result (Appends (W.contents out.old) (W.contents out.new) text.now) }
 {
@@ -95,7 +94,7 @@ fn print<W: Write>(out: &mut W, text: &str) -> io::Result<()>
     out.flush()
 }
 
-/// Writes the line of a fault. It takes no memory.
+/// Writes the line of a fault. Allocates nothing.
 fn tell<E: Write>(err: &mut E, fault: Fault) -> io::Result<()>
     ensures told { OnOk result (Appends (E.contents err.old) (E.contents err.new) (fault_line fault)) }
 {
@@ -103,7 +102,7 @@ fn tell<E: Write>(err: &mut E, fault: Fault) -> io::Result<()>
     err.flush()
 }
 
-/// A status, unless a text could not be written.
+/// Returns a status, unless the output could not be written.
 fn written(writing: io::Result<()>, status: Status) -> Status
     ensures written { OnOk writing (result ≡ status) }
     ensures unwritten { OnErr writing (result ≡ Status.WriteFailed) }
@@ -114,7 +113,7 @@ fn written(writing: io::Result<()>, status: Status) -> Status
     }
 }
 
-/// Writes the line of a fault, and answers its status.
+/// Writes the line of a fault, and returns its status.
 pub fn refuse<E: Write>(err: &mut E, fault: Fault) -> Status
     ensures status { UnlessUnwritten (fault_status fault) result }
     ensures line { result ≡ fault_status fault → Appends (E.contents err.old) (E.contents err.new) (fault_line fault) }
@@ -122,8 +121,10 @@ pub fn refuse<E: Write>(err: &mut E, fault: Fault) -> Status
     written(tell(err, fault), fault.status())
 }
 
-/// Runs the program on its words, which are bytes: MODE, SCHEMA, INSTANCE and perhaps UNFINISHED. The answer is written to
-/// `out`, or why there is none to `err`, a line feed after each line.
+/// Runs the program on its arguments.
+///
+/// These are MODE, SCHEMA, INSTANCE and perhaps UNFINISHED, as bytes. The answer is written to
+/// `out`, or the reason why there is none to `err`, with a line feed after each line.
 pub fn run<W: Write, E: Write>(alloc: Global, words: &[Vec<u8>], out: &mut W, err: &mut E) -> Status
     ensures answer { IsAnswer result → (accepted : Bool) × (result ≡ answer_status accepted)
         × (text : Text) × AnswersWords (texts words.now) accepted text × Appends (W.contents out.old) (W.contents out.new) text }

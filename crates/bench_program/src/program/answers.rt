@@ -1,4 +1,4 @@
-//! What is printed of an instance.
+//! What the program prints about an instance.
 ghost use Rattle.std.specs.Prelude.{◌≡◌, ◌++◌, true, IfOk, string_bytes};
 ghost use Rattle.serde_json.specs.Data.{Data};
 ghost use Rattle.serde_json.specs.View.{view};
@@ -29,7 +29,7 @@ use serde_json::Value;
 use standard_basics::keyword::BasicKeyword;
 use std::alloc::Global;
 
-/// What is printed of an instance, and whether it is accepted.
+/// What the program prints about an instance, and whether it is accepted.
 #[derive(Drop)]
 pub struct Answer {
     pub accepted: bool,
@@ -38,7 +38,7 @@ pub struct Answer {
 }
 
 impl Answer {
-    /// The status that the program ends with. It takes no memory.
+    /// Returns the status with which the program ends. Allocates nothing.
     pub fn status(&self) -> Status
         ensures status { result ≡ answer_status self.now.accepted }
     {
@@ -50,7 +50,9 @@ impl Answer {
     }
 }
 
-/// Adds the line of an error: instance path, schema path, evaluation path and text, with one tab between.
+/// Adds the line of an error.
+///
+/// It has instance path, schema path, evaluation path and text, separated by tabs.
 fn push_error(text: &mut String, alloc: Global, error: &ValidationError) -> Result<(), OutOfMemory>
     ensures line { IfOk result (λ _. string_bytes text.new ≡ string_bytes text.old ++ error_line (error_of true error.now)) }
 {
@@ -64,7 +66,6 @@ fn push_error(text: &mut String, alloc: Global, error: &ValidationError) -> Resu
     text.push_str("\n")
 }
 
-/// The verdict of an instance, as `true` or `false`.
 fn verdict(
     alloc: Global,
     validator: &Validator<BasicKeyword, BenchMatcher>,
@@ -79,7 +80,6 @@ fn verdict(
     Ok(Answer { accepted, text })
 }
 
-/// The line of a verdict.
 fn verdict_text(alloc: Global, accepted: bool) -> Result<String, OutOfMemory>
     ensures text { Shows string_bytes result (verdict_text accepted) }
 {
@@ -90,7 +90,7 @@ fn verdict_text(alloc: Global, accepted: bool) -> Result<String, OutOfMemory>
     }
 }
 
-/// The first error of an instance, or `ok`.
+/// The text is the first error of the instance, or `ok`.
 fn first(
     alloc: Global,
     validator: &Validator<BasicKeyword, BenchMatcher>,
@@ -116,7 +116,7 @@ fn first(
     }
 }
 
-/// All errors of an instance, a line for each.
+/// The text has a line for each error of the instance.
 fn errors(
     alloc: Global,
     validator: &Validator<BasicKeyword, BenchMatcher>,
@@ -135,7 +135,7 @@ fn errors(
     Ok(Answer { accepted, text })
 }
 
-/// The list of an instance's evaluation, as JSON on one line.
+/// The text is the list of the instance's evaluation.
 fn evaluation(
     alloc: Global,
     validator: &Validator<BasicKeyword, BenchMatcher>,
@@ -151,7 +151,7 @@ fn evaluation(
     Ok(Answer { accepted, text })
 }
 
-/// The list of an evaluation as JSON on one line, with a line feed.
+/// Returns the list of an evaluation as JSON on one line, with a line feed.
 fn list_line(alloc: Global, evaluation: &Evaluation) -> Result<String, OutOfMemory>
     ensures line { IfOk result (λ text. IsJsonLine (output_list (unit_of true evaluation.now)) (string_bytes text)) }
 {
@@ -160,11 +160,13 @@ fn list_line(alloc: Global, evaluation: &Evaluation) -> Result<String, OutOfMemo
     Ok(text)
 }
 
-/// What a call of the validator answers of an instance. It asks any number of nodes, whatever limit the validator has.
+/// Returns the answer of a call of the validator about an instance.
+///
+/// It visits any number of nodes, whatever limit the validator has.
 ///
 /// # Errors
 ///
-/// If memory cannot be allocated.
+/// Out of memory.
 #[tactic(auto, using(crate::proofs::MeantAnswers::answered_plainly))]
 pub fn ask(
     alloc: Global,

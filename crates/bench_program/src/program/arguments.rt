@@ -1,16 +1,18 @@
-//! The words that the process is given.
+//! The arguments of the process.
 use schema_reports::location::OutOfMemory;
 use std::alloc::{AllocError, Global};
 use std::env::{Env, FillError};
 
-/// How much is tried first for a word, in bytes.
+/// The size in bytes that is tried first for an argument.
 const FIRST_SIZE: usize = 256;
 
-/// The words after the program's own name, as bytes, which need not be UTF-8. What a process is given stands in no clause.
+/// Returns the arguments after the program's name, as bytes that need not be UTF-8.
+///
+/// No clause says which arguments a process is given.
 ///
 /// # Errors
 ///
-/// If memory cannot be allocated.
+/// Out of memory.
 pub fn given_words<R: Env>(alloc: Global, rt: &R) -> Result<Vec<Vec<u8>>, OutOfMemory> {
     let mut words = Vec::new(alloc);
     for place in 1..usize::MAX {
@@ -22,7 +24,9 @@ pub fn given_words<R: Env>(alloc: Global, rt: &R) -> Result<Vec<Vec<u8>>, OutOfM
     Ok(words)
 }
 
-/// The word at a place. Where it needs more, twice as much is tried, until memory wants.
+/// Returns the argument with this number.
+///
+/// If it does not fit, twice the size is tried next.
 fn word_at<R: Env>(alloc: Global, rt: &R, place: usize) -> Result<Option<Vec<u8>>, OutOfMemory> {
     let mut size = FIRST_SIZE;
     for _ in 0..usize::BITS {

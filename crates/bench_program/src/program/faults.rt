@@ -1,4 +1,4 @@
-//! Why the program answers nothing.
+//! The reasons why the program has no answer.
 ghost use Rattle.bench_program.specs.ProgramFaults.{fault_of, fault_text, word_name};
 ghost use Rattle.bench_program.specs.ProgramRuns.{fault_status};
 ghost use Rattle.std.specs.Prelude.{◌≡◌, Some};
@@ -8,7 +8,7 @@ use schema_keys::error::BuildError;
 use std::alloc::{AllocError, AllocFailed};
 use std::fmt;
 
-/// A word that is to be JSON.
+/// An argument that must be JSON.
 #[derive(Clone, Copy, Debug, PartialEq, Eq)]
 pub enum Word {
     Schema,
@@ -16,20 +16,20 @@ pub enum Word {
     Unfinished,
 }
 
-/// Why the program answers nothing.
+/// The reason why the program has no answer.
 #[derive(Clone, Copy, Debug, PartialEq, Eq)]
 pub enum Fault {
-    /// Too few words or too many, or a MODE that is none.
+    /// There are too few or too many arguments, or MODE names no call.
     Usage,
-    /// A word that is not JSON, or an UNFINISHED that is no list of texts.
+    /// An argument is not JSON, or UNFINISHED is not a list of texts.
     NotJson(Word),
-    /// The schema is refused, with the refusal's number.
+    /// The schema is refused, with the number of the refusal.
     BuildRefused(u8),
     OutOfMemory,
 }
 
 impl Fault {
-    /// The status that the program ends with.
+    /// Returns the status with which the program ends.
     pub fn status(self) -> Status
         ensures status { result ≡ fault_status self }
     {

@@ -1,4 +1,4 @@
-//! What the words ask for.
+//! What the arguments request.
 ghost use Rattle.std.specs.Prelude.{◌≡◌, IfOk, IfErr, map, option_map, string_bytes};
 ghost use Rattle.serde_json.specs.View.{view};
 ghost use Rattle.standard_basics.specs.Makers.{texts_of};
@@ -22,7 +22,7 @@ pub enum Call {
     Evaluate,
 }
 
-/// What the words ask for.
+/// What the arguments request.
 #[derive(Drop)]
 pub struct Request {
     pub call: Call,
@@ -32,7 +32,7 @@ pub struct Request {
     pub unfinished: Vec<String>,
 }
 
-/// The words, each for what it is to be.
+/// The arguments, by what each of them must be.
 #[derive(Drop)]
 pub struct Words<'w> {
     pub mode: &'w [u8],
@@ -41,7 +41,6 @@ pub struct Words<'w> {
     pub unfinished: &'w [u8],
 }
 
-/// The call of this name. It takes no memory.
 fn call_named(mode: &[u8]) -> Option<Call>
     ensures named { result ≡ call_named mode.now }
 {
@@ -58,7 +57,9 @@ fn call_named(mode: &[u8]) -> Option<Call>
     }
 }
 
-/// The words, if they are three or four; UNFINISHED is `[]` where it is absent. It takes no memory.
+/// Returns the arguments, if there are three or four.
+///
+/// UNFINISHED is `[]` if it is absent.
 fn words_in(words: &[Vec<u8>]) -> Option<Words<'_>>
     ensures words { option_map words_of result ≡ words_in (texts words.now) }
 {
@@ -79,7 +80,6 @@ fn words_in(words: &[Vec<u8>]) -> Option<Words<'_>>
     }
 }
 
-/// The value of a JSON text.
 fn json_in(alloc: Global, text: &[u8], word: Word) -> Result<Value, Fault>
     ensures read { IfOk result (λ v. IsTextOf (view v) text.now) }
     ensures fault { IfErr result (λ f. Unread text.now word f) }
@@ -93,7 +93,7 @@ fn json_in(alloc: Global, text: &[u8], word: Word) -> Result<Value, Fault>
     }
 }
 
-/// The texts that a value lists, if it is a list of texts.
+/// Returns the texts of a list, if the value is a list of texts.
 fn listed(alloc: Global, value: &Value) -> Result<Option<Vec<String>>, OutOfMemory>
     ensures listed { Shows (option_map (λ v. map string_bytes v.items)) result (listed (view value.now)) }
 {
@@ -103,7 +103,6 @@ fn listed(alloc: Global, value: &Value) -> Result<Option<Vec<String>>, OutOfMemo
     texts_of(alloc, items.as_slice())
 }
 
-/// The texts that the JSON text of a list of texts holds.
 fn list_in(alloc: Global, text: &[u8]) -> Result<Vec<String>, Fault>
     ensures read { IfOk result (λ found. IsListOf (map string_bytes found.items) text.now) }
     ensures fault { IfErr result (Unlisted text.now) }
@@ -115,12 +114,13 @@ fn list_in(alloc: Global, text: &[u8]) -> Result<Vec<String>, Fault>
     }
 }
 
-/// What the words ask for.
+/// Returns what the arguments request.
 ///
 /// # Errors
 ///
-/// The first of the faults in the words, or that memory cannot be allocated: a number of words other than three or four, or a MODE that is
-/// none; a SCHEMA, then an INSTANCE that is not JSON; an UNFINISHED that is no list of texts.
+/// The first fault in the arguments, or a lack of memory. The faults, in this order: there are not
+/// three or four arguments, or MODE names no call; SCHEMA is not JSON; INSTANCE is not JSON;
+/// UNFINISHED is not a list of texts.
 pub fn request_in(alloc: Global, words: &[Vec<u8>]) -> Result<Request, Fault>
     ensures holds { IfOk result
         (λ r. Holds (texts words.now) r.call (view r.schema) (view r.instance) (map string_bytes r.unfinished.items)) }
