@@ -1,5 +1,8 @@
-//! `engine_bench MODE SCHEMA INSTANCE [UNFINISHED]`: what the schema engine answers of an instance, with a keyword type, a
-//! table, a resolver and a matcher that are made for tests and for this program.
+//! Prints what the engine says of an instance.
+//!
+//! The usage is `engine_bench MODE SCHEMA INSTANCE [UNFINISHED]`. The program runs the engine with
+//! the basic keywords and their table, the document resolver, and a matcher and meta validators
+//! that are made for tests and for this program.
 #![tactic(auto)]
 
 use bench_program::program::arguments::given_words;
