@@ -16,7 +16,7 @@ use Rattle.keyword_makers.specs.declared.by_value.MemberKeyword.TheVariants.{Key
 use Rattle.example_keywords.specs.declared.arrays.ArrayKeyword.{ArrayKeyword}
 use Rattle.example_keywords.specs.declared.arrays.ArrayKeyword.TheVariants.{Contains, MinItems}
 
--- what is no list is accepted
+-- an instance that is no list is accepted
 abbrev pub planned : ArrayKeyword → Subject → Plan
 planned (MinItems limit) s = if is_list s then Holds (nat_le limit (item_count s)) else Holds true
 planned Contains s = if is_list s then AtLeast asks.Items 1 else Holds true
@@ -29,7 +29,7 @@ abbrev pub told : ArrayKeyword → Subject → ℕ → Text
 told (MinItems limit) s accepted = subject_text s ++ (codes " has less than " ++ (decimal limit ++ codes " items"))
 told Contains s accepted = subject_text s ++ codes " has no item that is valid"
 
--- neither has a plan with a most
+-- no plan of either has an upper bound
 pub grows : PlansGrow planned (λ k. true)
 grows (MinItems limit) s h = either_says_monotone (is_list s) _ _ refl refl
 grows Contains s h = either_says_monotone (is_list s) _ _ refl refl

@@ -17,7 +17,7 @@ use Rattle.keyword_makers.specs.declared.by_value.MemberKeyword.TheVariants.{Not
 use Rattle.example_keywords.specs.declared.strings.StringKeyword.{StringKeyword}
 use Rattle.example_keywords.specs.declared.strings.StringKeyword.TheVariants.{Both, ContainsBetween, Suffix}
 
--- a keyword whose text is known
+-- a keyword with its text as the definitions have it
 abbrev pub Shape : Type 0
 Shape = StringKeyword Text
 
@@ -26,7 +26,7 @@ shape_of (Suffix end) = Suffix (string_bytes end)
 shape_of Both = Both
 shape_of (ContainsBetween least most) = ContainsBetween least most
 
--- what is no text has any end
+-- an instance that is no text is accepted by `x-suffix`
 abbrev pub planned : Shape → Subject → Plan
 planned (Suffix end) s = Holds (unwrap_or (option_map (λ text. ends_with nat_eq text end) (as_text s)) true)
 planned Both s = PassesOn (asks.Children 2)
@@ -37,7 +37,7 @@ called (Suffix end) = codes "x-suffix"
 called Both = codes "x-both"
 called (ContainsBetween least most) = codes "x-contains-between"
 
--- `x-both` tells no error of its own
+-- `x-both` reports no error of its own
 abbrev pub error_text : Shape → Subject → ℕ → Text
 error_text (Suffix end) s n = subject_text s ++ (codes " does not end with \"" ++ (end ++ codes "\""))
 error_text Both s n = subject_text s
@@ -53,7 +53,7 @@ owned name = bytes_eq name (codes "x-suffix") || bytes_eq name (codes "x-both") 
 abbrev pub number : Data → Option ℕ
 number d = option_and_then as_u64 (as_number d)
 
--- from `min` to `max`, of a value that has a `schema` too
+-- `x-contains-between` from `min` to `max`, if its value also has a `schema`
 abbrev pub between : Option Data → Option ℕ → Option ℕ → Option Shape
 between (Some schema) (Some least) (Some most) = if nat_le least most then Some (ContainsBetween least most) else None
 between schema least most = None

@@ -1,4 +1,6 @@
-//! `minItems` and `contains`, and the table that makes them: an example of keywords of one's own.
+//! An example of keywords of one's own, with their table.
+//!
+//! The keywords are `minItems` and `contains`.
 use keyword_authoring::items::{is_list, item_count};
 use keyword_authoring::planned::{Asks, Plan, Planned, PlannedKeyword};
 use keyword_makers::by_value::{Children, MakesByValue, MemberKeyword};

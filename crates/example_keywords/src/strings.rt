@@ -1,4 +1,6 @@
-//! `x-suffix`, `x-both` and `x-contains-between`, and the table that makes them: an example of keywords of one's own.
+//! An example of keywords of one's own, with their table.
+//!
+//! The keywords are `x-suffix`, `x-both` and `x-contains-between`.
 ghost use Rattle.std.specs.Prelude.{◌≡◌, option_map};
 ghost use Rattle.serde_json.specs.View.{view};
 ghost use Rattle.example_keywords.specs.Strings.{by_members, shape_of};
@@ -16,15 +18,15 @@ use std::marker::Model;
 /// A keyword.
 #[derive(Drop)]
 pub enum StringKeyword<T = String> {
-    /// `x-suffix`, with the end that a text is to have.
+    /// `x-suffix`, with the end that a text must have.
     Suffix(T),
     /// `x-both`, whose value is a list of two schemas.
     Both,
-    /// `x-contains-between`, with how many items are to fit at least and at most.
+    /// `x-contains-between`, with the least and the greatest number of items that fit.
     ContainsBetween(usize, usize),
 }
 
-/// What is known of a `String` apart from its representation; it holds no value.
+/// What is known of a `String` apart from its representation. It holds no value.
 #[derive(Drop)]
 pub struct KnownText {}
 
@@ -105,7 +107,7 @@ impl PlannedKeyword for StringKeyword {
     ghost grows = { λ k s h. absurd (cc h) };
 }
 
-/// `x-contains-between`, by the members of a value, where they are as they should be.
+/// Returns `x-contains-between`, if the members of its value are well-formed.
 fn contains_between(value: &Value) -> Option<StringKeyword>
     ensures shape { option_map shape_of result ≡ by_members (view value.now) }
 {

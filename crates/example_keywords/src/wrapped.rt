@@ -1,5 +1,7 @@
-//! Three keywords without a plan, each by the wrapper that its trait has, and the table that makes them: `x-no-text` asks nothing,
-//! `x-one-of` judges, and `x-all-of` takes turns of its own.
+//! Three keywords without a plan, with their table.
+//!
+//! Each uses the wrapper of its trait: `x-no-text` asks nothing, `x-one-of` judges, and `x-all-of`
+//! takes turns of its own.
 ghost use Rattle.std.specs.Prelude.{◌≡◌};
 ghost use Rattle.keyword_authoring.specs.Items.{item_count};
 ghost use Rattle.theory_definitions.specs.Instance.{a_value};
@@ -20,7 +22,7 @@ use schema_traits::keyword::{Answer, Below, Mode, Reply, Step};
 use serde_json::Value;
 use std::alloc::Global;
 
-/// `x-no-text`: an instance is no text.
+/// `x-no-text`: the instance must be no text.
 #[derive(Clone, Copy)]
 pub struct NoText {}
 
@@ -173,14 +175,14 @@ impl OwnKeyword for AllOf {
     }
 }
 
-/// How many schemas a value lists.
+/// Returns the number of schemas that a value lists.
 fn schemas_in(value: &Value) -> usize
     ensures count { result ≡ item_count (a_value (view value.now)) }
 {
     item_count(Instance::Value(value))
 }
 
-/// The table of each of the three.
+/// The table of the three keywords.
 #[derive(Drop)]
 pub struct WrappedTable {}
 
