@@ -1,4 +1,5 @@
--- A keyword of the bench's that ends at once does so here; one of an array does where it asks at no item.
+-- A basic keyword that ends at once by itself does so here; an array's keyword does if it asks at
+-- no item.
 use Rattle.std.proofs.Common.{Bool, None, Option, Some, ap, ◌≡◌}
 use Rattle.std.specs.Prelude.{IfSome}
 use Rattle.theory_definitions.specs.Instance.{Subject}

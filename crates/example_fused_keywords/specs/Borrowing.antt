@@ -4,10 +4,10 @@ use Rattle.serde_json.specs.Data.{Data}
 use Rattle.schema_traits.specs.FaultViews.{PassesBorrowed}
 use Rattle.schema_traits.specs.declared.keyword.Fault.{Fault}
 
--- each that is passed on borrows its place
+-- each error that is passed on borrows its place
 abbrev pub BorrowsAll : List Fault → Type 0
 BorrowsAll faults = (root : Data) → All (PassesBorrowed root) faults
 
--- so does each after, where each before does
+-- each error after the call borrows its place, if each before it does
 abbrev pub KeepsAll : List Fault → List Fault → Type 0
 KeepsAll old new = (root : Data) → All (PassesBorrowed root) old → All (PassesBorrowed root) new

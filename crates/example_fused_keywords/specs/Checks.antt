@@ -1,5 +1,6 @@
--- What an array is checked for beside its items: that it is one, and that it has so many items at least, with the errors and the
--- units of these checks. A text counts as empty where texts are not spoken of. (Validation 2020-12, 6.1.1 and 6.4.2)
+-- Checks of an array apart from its items: that it is one, and that it has at least this many
+-- items, with the errors and the units of these checks. If texts are not covered, each text counts
+-- as empty. (Validation 2020-12, 6.1.1 and 6.4.2)
 use Rattle.std.specs.Prelude.{Bool, List, None, Option, Some, [], codes, decimal, if◌then◌else◌, nat_le, not, ℕ, ◌++◌, ◌==◌, ◌||◌, ◌∷◌}
 use Rattle.theory_definitions.specs.Instance.{Subject, Text}
 use Rattle.theory_definitions.specs.Meaning.{subject_text}
@@ -15,7 +16,7 @@ abbrev pub name : Check → Text
 name IsArray = codes "type"
 name (HasLeast n) = codes "minItems"
 
--- what is no array has items enough
+-- an instance that is no array has enough items
 abbrev pub holds : Check → Subject → Bool
 holds IsArray s = is_list s
 holds (HasLeast n) s = not (is_list s) || nat_le n (item_count s)
@@ -27,9 +28,9 @@ abbrev pub error_text : Check → Subject → Text
 error_text IsArray s = subject_text s ++ codes " is not of type \"array\""
 error_text (HasLeast n) s = subject_text s ++ codes " has less than " ++ decimal n ++ counted_items n
 
--- ---- its error
+-- ---- the error of a check
 
--- at the keyword itself, or at the one of this name that it absorbs
+-- at the keyword itself, or at the absorbed keyword of this name
 abbrev pub spot_name : Bool → Text → Option Text
 spot_name absorbed k = if absorbed then Some k else None
 
@@ -45,7 +46,7 @@ check_error texts absorbed c s = error_at (spot_name absorbed (name c)) (name c)
 abbrev pub errors_at : Bool → Bool → Check → Subject → List Fault
 errors_at texts absorbed c s = unless (holds c s) (check_error texts absorbed c s)
 
--- ---- its unit, as a keyword's own and as one that is absorbed
+-- ---- the unit of a check, as a keyword's own and as that of an absorbed keyword
 
 abbrev pub described : Bool → Check → Subject → List Described
 described texts c s = unless (holds c s) (record { name = name c; text = spoken texts (error_text c s) })

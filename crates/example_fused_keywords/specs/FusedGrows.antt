@@ -1,6 +1,7 @@
--- Which keywords say that they are monotone: those of the bench as they say it there, and each of an array, since its checks ask
--- nothing and it passes on what its questions answer. Each hands on the units that its questions answer; those that an array's
--- keyword gives for others have none inside.
+-- Which keywords declare that they are monotone: the basic ones as they do by themselves, and each
+-- of an array, since its checks ask nothing and it passes on the answers to its questions. Each
+-- passes on the units that answer its questions; the units that an array's keyword reports for
+-- others have none inside.
 use Rattle.std.proofs.Common.{◌≡◌, ◌&&◌, ◌∷◌, [], zero, suc, Bool, arith, false, refl, true}
 use Rattle.std.specs.Prelude.{All, Contains}
 use Rattle.std.proofs.lemmas.List.Elements.{All-cons, All-nil}
@@ -24,7 +25,7 @@ use Rattle.example_fused_keywords.specs.declared.array.ArrayKeyword.{ArrayKeywor
 use Rattle.example_fused_keywords.specs.declared.array.ArrayKeyword.TheVariants.{ArrayShape, MinItems}
 use Rattle.example_fused_keywords.specs.declared.checks.Check.TheVariants.{HasLeast, IsArray}
 
--- what the checks find stays
+-- the verdict of the checks stays
 checked : (c x y : Bool) → (x ≡ true → y ≡ true) → (c && x) ≡ true → (c && y) ≡ true
 checked true x y rest h = rest h
 checked false x y rest h = h
@@ -36,7 +37,7 @@ fused_grows texts (of_array k) h s matches a b where_yes holds =
 
 -- ---- the units
 
--- how the items are gone about
+-- the kind of the part that evaluates the items
 abbrev items_way : Bool → ArrayKeyword → Subject → Way
 items_way texts k s = passes_on (questions_of k s)
 

@@ -1,5 +1,5 @@
--- The keywords keep the laws: those of the bench as they keep the bench's, those of an array by their checks and as a run keeps
--- them that passes on what its questions answer.
+-- The keywords keep the laws: the basic ones as they do by themselves, and those of an array by
+-- their checks, and like any run that passes on the answers to its questions.
 use Rattle.std.proofs.Common.{◌≡◌, ◌∙◌, ℕ, zero, suc, ◌+◌, ◌<◌, ◌&&◌, ◌++◌, ◌∷◌, [], List, Bool, true, false, Option, Some, None, refl, sym, ap, ap₂, subst, arith, length, map, append_assoc, append-nil}
 use Rattle.std.specs.List.{list_all}
 use Rattle.std.specs.Prelude.{All, Contains, flat_map, if◌then◌else◌, ◌↔◌}
@@ -35,7 +35,7 @@ use Rattle.example_fused_keywords.specs.declared.array.ArrayKeyword.{ArrayKeywor
 use Rattle.example_fused_keywords.specs.declared.array.ArrayKeyword.TheVariants.{ArrayShape, MinItems}
 use Rattle.example_fused_keywords.specs.declared.checks.Check.TheVariants.{HasLeast, IsArray}
 
--- ---- those of the bench
+-- ---- the basic keywords
 
 module _ (texts : Bool) (m : BasicShape) where
   bench_asks : (s : Subject) (t : Turn) → AsksRightly (bench.words texts) m s [] t → AsksRightly (fused_words texts) (of_bench m) s [] t
@@ -53,7 +53,7 @@ module _ (texts : Bool) (m : BasicShape) where
   bench_right s matches a u same for_all answer h = h
   bench_right s matches a u same for_units answer h = h
 
-  -- a run after a turn that asked for this
+  -- a run after a turn that made this request
   abbrev bench_after : Standing (NamesRun × Answer) → Turn → Standing (NamesRun × Answer)
   bench_after x t = record x {
     marks = marks_after (bench.words texts) m x.subject x.matches x.answers x.unit_at x.same x.marks t;
@@ -104,7 +104,7 @@ module _ (texts : Bool) (m : BasicShape) where
     passes = laws.passes;
   }
 
--- ---- the checks of those of an array
+-- ---- the checks of an array's keyword
 
 nil_unless : {A : Type 0} (b : Bool) (x : A) → is_nil (unless b x) ≡ b
 nil_unless true x = refl
@@ -115,7 +115,7 @@ nil_both true true f g = refl
 nil_both true false f g = refl
 nil_both false b f g = refl
 
--- no error where the checks hold, and one at least else
+-- there is no error if the checks hold, and at least one otherwise
 no_errors : (texts : Bool) (k : ArrayKeyword) (s : Subject) → is_nil (errors texts k s) ≡ checks_hold k s
 no_errors texts (MinItems n) s = nil_unless _ _
 no_errors texts (ArrayShape before n) s = nil_both _ _ _ _
@@ -124,12 +124,12 @@ and_true : (b : Bool) → (b && true) ≡ b
 and_true true = refl
 and_true false = refl
 
--- its own unit and those that it absorbs are valid where they hold
+-- its own unit and those that it absorbs are valid if the checks hold
 first_valid : (texts : Bool) (k : ArrayKeyword) (s : Subject) → all_valid (first_gives texts k s) ≡ checks_hold k s
 first_valid texts (MinItems n) s = and_true _
 first_valid texts (ArrayShape before n) s = ap (λ b. is_list s && b) (and_true _)
 
--- ---- how a run of an array ends
+-- ---- how a run of an array's keyword ends
 
 valid_step : (b accepted all : Bool) → (if b then accepted else false) && all ≡ accepted && (b && all)
 valid_step true accepted all = refl
@@ -152,7 +152,7 @@ led_valid a u valid [] x = sym (and_true x.verdict)
 led_valid a u valid (q ∷ qs) x = led_valid a u valid qs (with_unit x (u q)) ∙ (valid_step (report_of (u q)).valid x.verdict (list_all (λ q. (a q).verdict) qs)
     ∙ ap (λ b. x.verdict && (b && list_all (λ q. (a q).verdict) qs)) (valid q))
 
--- questions from a place on, so many of them
+-- this many questions, from an index on
 abbrev some : ℕ → ℕ → List Question
 some before n = each_from first_at_item before n
 
@@ -238,7 +238,7 @@ module _ (texts : Bool) (k : ArrayKeyword) where
   same_answer x mode.All q = refl
   same_answer x mode.Evaluate q = refl
 
-  -- the first turn is behind a run that has taken one
+  -- a run that has taken a turn is past the first one
   at_behind : (i : ℕ) (o : Option Question) (told a : Answer) → at_first (stage_at i o) told a ≡ a
   at_behind i None told a = refl
   at_behind i (Some q) told a = refl
@@ -290,7 +290,7 @@ valid_both true false absorbed false h = refl
 valid_both false all absorbed true h = cc
 valid_both false all absorbed false h = refl
 
--- an error of a check stands at the keyword, or at one that it absorbs
+-- an error of a check is at the keyword, or at one that it absorbs
 all_unless : (P : Fault → Type 0) (b : Bool) (f : Fault) → P f → All P (unless b f)
 all_unless P true f h = All-nil P
 all_unless P false f h = All-cons P f [] h (All-nil P)

@@ -1,4 +1,4 @@
--- The makers ask for what lies strictly below the object, and end rightly.
+-- The makers request only what lies strictly below the object, and end as they should.
 use Rattle.std.proofs.Common.{◌∙◌, ap, refl, sym, zero, suc}
 use Rattle.std.specs.Prelude.{Bool, List, None, Option, Some, [], bytes_eq, codes, false, if◌then◌else◌, is_some, option_map, true, ℕ, ◌≡◌, ◌∷◌, drop}
 use Rattle.serde_json.specs.Data.{Data, Members}
@@ -22,7 +22,7 @@ use Rattle.example_fused_keywords.specs.FusedShape.{FusedShape, absorbed_by, is_
 abbrev pub Rightly : Members → Script FusedShape → Type 0
 Rightly = MakesRightly absorbed_by is_free
 
--- ---- the bench's keywords
+-- ---- the basic keywords
 
 abbrev making_among : {A B : Type 0} → (A → B) → Making A → Making B
 making_among f m = record { requests = m.requests; ends = made_among f m.ends }
@@ -60,7 +60,7 @@ asks_among : {A B : Type 0} (f : A → B) (ps : List Place) (m : Made A) → scr
 asks_among f [] m = refl
 asks_among f (p ∷ ps) m = ap (then_compile p) (asks_among f ps m)
 
--- a maker of the bench, as one of all
+-- a maker of the basic table, as one of this table
 pub waits_among : {A B : Type 0} (f : A → B) (ps : List Place) (n : ℕ) (m : Option (Made A)) → waiting_in ps n (option_map (made_among f) m) ≡ waiting_among f (waiting_in ps n m)
 waits_among f ps n None = refl
 waits_among f ps zero (Some m) = ap begun (sym (asks_among f ps m))

@@ -1,4 +1,4 @@
--- The code's makers, as the definitions have them.
+-- The code's makers, in terms of the definitions.
 use Rattle.schema_traits.specs.MakerViews.{Waiting, begun, ended, waits}
 use Rattle.keyword_makers.specs.MakerViews.{waiting_of}
 use Rattle.example_fused_keywords.specs.FusedScripts.{asks_fused, ends_fused}

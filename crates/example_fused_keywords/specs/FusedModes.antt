@@ -1,4 +1,4 @@
--- A run asks for units in an evaluation alone, and a run for the verdict asks for verdicts.
+-- A run asks for units only in an evaluation, and a run for the verdict asks for verdicts.
 use Rattle.std.proofs.Common.{Bool, refl, suc, sym, zero, ℕ, ◌∙◌}
 use Rattle.theory_definitions.specs.Instance.{Subject}
 use Rattle.theory_definitions.specs.Keywords.{Answer, Reply, for_verdict, no_reply}
@@ -16,7 +16,7 @@ use Rattle.example_fused_keywords.specs.FusedWords.{fused_words, run_way}
 use Rattle.example_fused_keywords.specs.declared.array.ArrayKeyword.{ArrayKeyword}
 
 module _ (texts : Bool) (s : Subject) where
-  -- a run of the bench's goes as in the bench
+  -- a run of a basic keyword goes as it does by itself
   bench_for_less : (m : BasicShape) (n : ℕ) (r : NamesRun × Answer) (reply : Reply) → AlwaysAsksForLess (words texts) m s n r reply → AlwaysAsksForLess (fused_words texts) (of_bench m) s n r reply
   bench_for_less m zero r reply h = tt
   bench_for_less m (suc n) r reply h = (h.0, λ next. bench_for_less m n ((words texts).turn m s r reply) next (h.1 next))

@@ -1,5 +1,6 @@
--- What the makers ask for and make: the bench's keywords as the bench does, and where an object has `items` that is no list,
--- `minItems` with a whole number and `type` with "array", the three in one by the maker of `items`, and none by the other two.
+-- What the makers request and make: the basic keywords as the basic table does. If an object has an
+-- `items` that is no list, a `minItems` that is a whole number, and "array" as `type`, then the
+-- maker of `items` makes the three in one, and the other two make nothing.
 use Rattle.std.specs.Prelude.{Bool, None, Option, Some, [], bytes_eq, codes, false, if◌then◌else◌, is_some, not, option_and_then, true, ℕ, ◌&&◌, ◌||◌, ◌∷◌}
 use Rattle.serde_json.specs.Data.{Data, Members, string}
 use Rattle.serde_json.specs.Find.{as_array, as_number, as_u64, get_member}
@@ -17,7 +18,7 @@ use Rattle.example_fused_keywords.specs.Openings.{absorbs}
 use Rattle.example_fused_keywords.specs.declared.array.ArrayKeyword.{ArrayKeyword}
 use Rattle.example_fused_keywords.specs.declared.array.ArrayKeyword.TheVariants.{ArrayShape, MinItems}
 
--- ---- the bench's keywords, as some of all
+-- ---- the basic keywords, as some of all
 
 abbrev pub made_among : {A B : Type 0} → (A → B) → Made A → Made B
 made_among f (a_keyword m names) = a_keyword (f m) names
@@ -56,19 +57,19 @@ abbrev pub says_array : Data → Bool
 says_array (string t) = bytes_eq t (codes "array")
 says_array _ = false
 
--- by the values of `type` and `items`, the limit that that of `minItems` is
+-- the limit that is the value of `minItems`, if the values of `type` and `items` allow the fusion
 abbrev pub limit_of : Option Data → Option Data → Option Data → Option ℕ
 limit_of (Some t) (Some i) (Some l) = if says_array t && not (is_some (as_array i)) then least_in l else None
 limit_of _ _ _ = None
 
--- the draft has this keyword, and the vocabulary is in force that it needs
+-- the draft has this keyword, and the vocabulary that it needs is in force
 abbrev pub is_known : Draft → Vocabularies → Text → Bool
 is_known draft vocabularies name = is_some (builtin_in draft vocabularies name)
 
 abbrev pub are_known : Draft → Vocabularies → Bool
 are_known draft vocabularies = is_known draft vocabularies (codes "type") && (is_known draft vocabularies (codes "minItems") && is_known draft vocabularies (codes "items"))
 
--- the limit of the keyword that an object makes of the three, where it makes one
+-- the limit of the keyword that an object fuses of the three, if it does
 abbrev pub fused_limit : Draft → Vocabularies → Members → Option ℕ
 fused_limit draft vocabularies ms =
     if are_known draft vocabularies then limit_of (get_member (codes "type") ms) (get_member (codes "items") ms) (get_member (codes "minItems") ms) else None

@@ -15,12 +15,12 @@ abbrev pub absorbed_by : FusedShape → List Text
 absorbed_by (of_bench m) = []
 absorbed_by (of_array k) = absorbs k
 
--- whether no text of it holds a fraction of the schema
+-- whether none of its texts holds a fraction of the schema
 abbrev pub is_free : FusedShape → Bool
 is_free (of_bench m) = is_whole m
 is_free (of_array k) = true
 
--- whether it says of itself that it is monotone
+-- whether it declares that it is monotone
 abbrev pub says_monotone : FusedShape → Bool
 says_monotone (of_bench m) = bench.says_monotone m
 says_monotone (of_array k) = true

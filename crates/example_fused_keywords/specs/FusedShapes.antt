@@ -1,4 +1,4 @@
--- What is known of a keyword apart from its representation, by the keyword.
+-- The shape of a keyword of the code.
 use Rattle.standard_basics.specs.Shapes.{shape_of}
 use Rattle.example_fused_keywords.specs.FusedShape.{FusedShape, of_array, of_bench}
 use Rattle.example_fused_keywords.specs.declared.keyword.FusedKeyword.{FusedKeyword}

@@ -1,5 +1,6 @@
--- What each keyword says of an instance: one of the bench's what the bench says, and one of an array that its checks hold and that
--- its child accepts each item that it asks. `items` that absorbs two others has its items' units in its own, and theirs beside it.
+-- What each keyword says of an instance: a basic one the same as by itself, and one of an array
+-- that its checks hold and that its child accepts each item that it asks. The `items` that absorbs
+-- two others has the units of its items in its own unit, and their units beside it.
 use Rattle.std.specs.List.{list_all}
 use Rattle.std.specs.Prelude.{Bool, List, [], map, ℕ, ◌&&◌, ◌++◌, ◌+◌}
 use Rattle.theory_definitions.specs.Instance.{Subject}
@@ -17,15 +18,15 @@ use Rattle.example_fused_keywords.specs.FusedShape.{FusedShape, of_array, of_ben
 use Rattle.example_fused_keywords.specs.Openings.{checks_hold, count_of, errors, first_gives, opening, questions_of, run_questions}
 use Rattle.example_fused_keywords.specs.declared.array.ArrayKeyword.{ArrayKeyword}
 
--- with the units of questions inside, valid where each of them is
+-- with the units of questions inside, valid if each of them is
 abbrev pub with_units : Gives → (Question → Unit_) → List Question → Gives
 with_units g u qs = record g { valid = g.valid && list_all (λ q. (report_of (u q)).valid) qs; children = g.children ++ map u qs }
 
--- how a run goes about an instance in its mode
+-- the kind of a run in its mode
 abbrev pub run_way : ArrayKeyword → Subject → NamesRun × Answer → Way
 run_way k s r = passes_on (run_questions r.0.progress.mode k s)
 
--- its state with the answer, in which the first turn puts what the checks find
+-- the state of a run with its answer, after the first turn has added what the checks find
 abbrev pub opened : Bool → ArrayKeyword → Subject → NamesRun × Answer → NamesRun × Answer
 opened texts k s r = (r.0, at_first r.0.progress.stage (opening texts r.0.progress.mode k s) r.1)
 
@@ -76,7 +77,7 @@ module _ (texts : Bool) where
     answer = λ r. r.1;
   }
 
--- the turns that are left at the most
+-- the greatest number of turns that are left
 abbrev pub fused_left : FusedShape → Subject → NamesRun × Answer → ℕ
 fused_left (of_bench m) s r = bench.turns_left m s r
 fused_left (of_array k) s r = way_left (run_way k s r) r.0.progress.stage
@@ -85,7 +86,7 @@ fused_left (of_array k) s r = way_left (run_way k s r) r.0.progress.stage
 abbrev pub fused_can_be : Bool → FusedShape → Subject → NamesRun × Answer → Type 0
 fused_can_be texts m s r = Unit {0}
 
--- the answer that a run ends in
+-- the answer with which a run ends
 abbrev pub fused_ends : Bool → FusedShape → Standing (NamesRun × Answer) → Answer
 fused_ends texts (of_bench m) x = bench.ends_in texts m x
 fused_ends texts (of_array k) x = end_at (run_way k x.subject x.state) (run_replies (bench.seen x)) x.state.0.progress.mode x.state.0.progress.stage (opened texts k x.subject x.state).1

@@ -1,4 +1,5 @@
--- `minItems`, and `items` that absorbs it and `type`: their checks, what a run has found before it asks of items, and what it asks.
+-- `minItems`, and the `items` that absorbs it and `type`: their checks, what a run has found before
+-- it asks about items, and what it asks.
 use Rattle.std.specs.Prelude.{Bool, List, [], codes, false, if◌then◌else◌, true, ℕ, ◌&&◌, ◌++◌, ◌-◌, ◌∷◌}
 use Rattle.theory_definitions.specs.Instance.{Subject, Text}
 use Rattle.theory_definitions.specs.Keywords.{Answer, Fault, Gives, Question, for_all, for_first, for_verdict}
@@ -16,7 +17,7 @@ abbrev pub absorbs : ArrayKeyword → List Text
 absorbs (MinItems n) = []
 absorbs (ArrayShape before n) = codes "type" ∷ codes "minItems" ∷ []
 
--- ---- its checks
+-- ---- the checks
 
 abbrev pub checks_hold : ArrayKeyword → Subject → Bool
 checks_hold (MinItems n) s = holds (HasLeast n) s
@@ -26,12 +27,13 @@ abbrev pub errors : Bool → ArrayKeyword → Subject → List Fault
 errors texts (MinItems n) s = errors_at texts false (HasLeast n) s
 errors texts (ArrayShape before n) s = errors_at texts true IsArray s ++ errors_at texts true (HasLeast n) s
 
--- in an evaluation: the unit of its own, without those of items, and those of the keywords that it absorbs
+-- in an evaluation: the keyword's own unit, without those of items, and the units of the keywords
+-- that it absorbs
 abbrev pub first_gives : Bool → ArrayKeyword → Subject → Gives
 first_gives texts (MinItems n) s = own_unit texts (HasLeast n) s
 first_gives texts (ArrayShape before n) s = record no_gives { absorbed = absorbed_unit texts IsArray s ∷ absorbed_unit texts (HasLeast n) s ∷ [] }
 
--- what a run has found by them
+-- what a run has found by the checks
 abbrev pub answered : Mode → Bool → List Fault → Gives → Answer
 answered mode.Verdict b es g = record { mode = for_verdict; verdict = b; errors = []; gives = record no_gives { valid = b } }
 answered mode.First b es g = with_errors for_first (first_fault es)
@@ -41,9 +43,9 @@ answered mode.Evaluate b es g = with_gives g
 abbrev pub opening : Bool → Mode → ArrayKeyword → Subject → Answer
 opening texts m k s = answered m (checks_hold k s) (errors texts k s) (first_gives texts k s)
 
--- ---- its questions
+-- ---- the questions
 
--- how many items come before those that are asked
+-- the number of items before those that are asked
 abbrev pub before_of : ArrayKeyword → ℕ
 before_of (MinItems n) = 0
 before_of (ArrayShape before n) = before
@@ -55,7 +57,7 @@ count_of (ArrayShape before n) s = item_count s - before
 abbrev pub questions_of : ArrayKeyword → Subject → List Question
 questions_of k s = each_from first_at_item (before_of k) (count_of k s)
 
--- a verdict or a first error that the checks give ends the run
+-- a failed check ends a run for the verdict or for the first error
 abbrev pub count_in : Mode → Bool → ℕ → ℕ
 count_in mode.Verdict b n = if b then n else 0
 count_in mode.First b n = if b then n else 0

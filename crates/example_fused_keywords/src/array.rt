@@ -1,4 +1,4 @@
-//! `minItems`, and `items` that absorbs it and `type`.
+//! `minItems`, and an `items` that absorbs it and `type`.
 ghost use Rattle.std.specs.Prelude.{◌≡◌, ◌+◌, ◌^◌, ◌<◌, Bool, IfOk, IfSome, map, option_map, true};
 ghost use Rattle.schema_reports.specs.InstanceViews.{subject_of};
 ghost use Rattle.theory_definitions.specs.Keywords.{for_first};
@@ -23,16 +23,17 @@ use schema_reports::location::OutOfMemory;
 use schema_traits::keyword::{Answer, Below, Fault, Found, Mode, Reply, Step};
 use std::alloc::Global;
 
-/// A keyword of an array: some checks, and then its only child at each of its items, or at none.
+/// A keyword of an array: some checks, and then perhaps its only child at items.
 #[derive(Clone, Copy)]
 pub enum ArrayKeyword {
     /// `minItems`, with its limit.
     MinItems(u64),
-    /// `items`, which absorbs `type` "array" and `minItems`: how many items come before its own, and the limit.
+    /// `items`, which absorbs `type` "array" and `minItems`.
+    ///
+    /// It holds the number of items before its own, and the limit.
     ArrayShape(usize, u64),
 }
 
-/// The question of the only child at an item.
 fn ask_at_item<'s>(number: Option<usize>, mode: Mode) -> Step<'s>
     ensures step { turn_of result ≡ asked mode (option_map first_at_item number) }
 {
@@ -42,7 +43,7 @@ fn ask_at_item<'s>(number: Option<usize>, mode: Mode) -> Step<'s>
     }
 }
 
-/// The first of these errors, if there is one.
+/// Returns an answer with the first of these errors, if there is one.
 fn first_of<'i>(alloc: Global, faults: Vec<Fault<'i>>) -> Result<Answer<'i>, OutOfMemory>
     ensures first { IfOk result (λ a. (texts : Bool) → answer_of texts a
         ≡ with_errors for_first (first_fault (map (fault_of texts) faults.entry.items))) }
@@ -55,7 +56,7 @@ fn first_of<'i>(alloc: Global, faults: Vec<Fault<'i>>) -> Result<Answer<'i>, Out
 }
 
 impl ArrayKeyword {
-    /// How many items come before those that are asked.
+    /// Returns the number of items before those that are asked.
     fn before(self) -> usize
         ensures before { result ≡ before_of self }
     {
@@ -65,7 +66,7 @@ impl ArrayKeyword {
         }
     }
 
-    /// Whether the instance passes its checks.
+    /// Returns whether the instance passes the keyword's checks.
     fn checks_hold(self, instance: Instance<'_>) -> bool
         ensures holds { result ≡ checks_hold self (subject_of instance.entry) }
     {
@@ -77,7 +78,9 @@ impl ArrayKeyword {
         }
     }
 
-    /// How many items a run in this mode asks: none, where a check that fails has ended it.
+    /// Returns the number of items that a run in this mode asks.
+    ///
+    /// It is 0 if a failed check has ended the run.
     fn asked_count(self, mode: Mode, instance: Instance<'_>) -> usize
         ensures count { result ≡ asked_count mode self (subject_of instance.entry) }
         ensures fits { before_of self + result < 2 ^ 64 }
@@ -95,7 +98,9 @@ impl ArrayKeyword {
         }
     }
 
-    /// Whether the keyword holds of the instance, where a run for the verdict asks at no item: its checks alone decide then.
+    /// Returns the verdict, if a run for the verdict asks at no item.
+    ///
+    /// Then the checks alone decide.
     pub fn holds_at_once(self, instance: Instance<'_>) -> Option<bool>
         ensures asks_none { IfSome result (λ _. asked_count Mode.Verdict self (subject_of instance.entry) ≡ 0) }
         ensures holds { IfSome result (λ valid. checks_hold self (subject_of instance.entry) ≡ valid) }
@@ -106,7 +111,7 @@ impl ArrayKeyword {
         Some(self.checks_hold(instance))
     }
 
-    /// The errors of its checks.
+    /// Returns the errors of the keyword's checks.
     fn errors<'i>(
         self,
         alloc: Global,
@@ -130,7 +135,7 @@ impl ArrayKeyword {
         }
     }
 
-    /// What its checks give in an evaluation.
+    /// Returns what the checks contribute to an evaluation.
     fn evaluation<'i>(
         self,
         alloc: Global,
@@ -157,7 +162,7 @@ impl ArrayKeyword {
         }
     }
 
-    /// What a run in this mode finds by its checks.
+    /// Returns what a run in this mode finds by the checks.
     fn opened<'i>(
         self,
         alloc: Global,
@@ -199,8 +204,10 @@ impl ArrayKeyword {
         }
     }
 
-    /// Takes a turn: the first one puts what the checks find into the answer, and then the child is asked at one item after the
-    /// other. Fails only if memory cannot be allocated.
+    /// Takes a turn.
+    ///
+    /// The first turn puts what the checks find into the answer. After that the child is asked at
+    /// one item after the other.
     pub fn turn<'s, 'i>(
         self,
         alloc: Global,

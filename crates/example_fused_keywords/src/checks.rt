@@ -1,4 +1,4 @@
-//! What an array is checked for beside its items.
+//! Checks of an array apart from its items.
 ghost use Rattle.std.specs.Prelude.{◌≡◌, ◌++◌, Bool, IfOk, decimal, map, string_bytes, true};
 ghost use Rattle.serde_json.specs.Data.{Data};
 ghost use Rattle.schema_reports.specs.EvaluationResults.{gives_of, named_of};
@@ -23,27 +23,26 @@ use std::alloc::Global;
 /// A check of an instance.
 #[derive(Clone, Copy)]
 pub enum Check {
-    /// It is an array: `type` with the value "array".
+    /// The instance is an array: `type` with the value "array".
     IsArray,
-    /// It is no array, or one of so many items at least: `minItems`.
+    /// The instance is no array, or has at least this many items: `minItems`.
     HasLeast(u64),
 }
 
-/// What stands after the limit in an error's text.
+/// Returns what follows the limit in an error's text.
 fn counted_items(limit: u64) -> &'static str
     ensures counted { result.now ≡ counted_items limit }
 {
     if limit == 1 { " item" } else { " items" }
 }
 
-/// Adds a number in decimal.
 fn push_decimal(text: &mut String, number: u64) -> Result<(), OutOfMemory>
     ensures decimal { IfOk result (λ _. Adds (decimal number) text.old text.new) }
 {
     write!(text, "{number}")
 }
 
-/// An error of this name at the keyword itself, or at the one of the same name that it absorbs.
+/// Returns an error of this name, at the keyword or at the absorbed one.
 fn own_fault<'i>(
     alloc: Global,
     absorbed: bool,
@@ -69,7 +68,7 @@ fn own_fault<'i>(
 }
 
 impl Check {
-    /// The name of its keyword.
+    /// Returns the name of the check's keyword.
     pub fn name(self) -> &'static str
         ensures name { result.now ≡ name self }
     {
@@ -79,7 +78,7 @@ impl Check {
         }
     }
 
-    /// Whether the instance passes it.
+    /// Returns whether the instance passes the check.
     pub fn holds(self, instance: Instance<'_>) -> bool
         ensures holds { result ≡ holds self (subject_of instance.entry) }
     {
@@ -89,7 +88,7 @@ impl Check {
         }
     }
 
-    /// The text of its error.
+    /// Returns the text of the check's error.
     fn text(self, alloc: Global, instance: Instance<'_>) -> Result<String, OutOfMemory>
         ensures text { IfOk result (ShowsText instance.entry (error_text self)) }
     {
@@ -108,8 +107,9 @@ impl Check {
         }
     }
 
-    /// Adds its error where the instance does not pass it: at the keyword itself, or at the one that it absorbs. Fails only if
-    /// memory cannot be allocated.
+    /// Adds the check's error, if the instance does not pass it.
+    ///
+    /// The error is at the keyword itself, or at the one that it absorbs.
     pub fn push_error<'i>(
         self,
         alloc: Global,
@@ -129,7 +129,7 @@ impl Check {
         Ok(())
     }
 
-    /// What it gives in an evaluation: it is valid, or has its error. Fails only if memory cannot be allocated.
+    /// Returns the result of the check in an evaluation: valid, or with its error.
     pub fn result(
         self,
         alloc: Global,
@@ -147,7 +147,7 @@ impl Check {
         Ok(EvaluationResult::invalid_empty(alloc, errors))
     }
 
-    /// What it gives as a keyword that is absorbed. Fails only if memory cannot be allocated.
+    /// Returns the result of the check as that of an absorbed keyword.
     pub fn absorbed_result(
         self,
         alloc: Global,

@@ -9,14 +9,14 @@ use standard_basics::names::{Names, NamesRun};
 use std::alloc::Global;
 use std::marker::Model;
 
-/// A keyword: one of the bench's, or one of an array.
+/// A keyword: a basic one, or one of an array.
 #[derive(Drop)]
 pub enum FusedKeyword {
     Bench(BasicKeyword),
     Array(ArrayKeyword),
 }
 
-/// What is known of a keyword apart from its representation; it holds no value.
+/// What is known of a keyword apart from its representation. It holds no value.
 #[derive(Drop)]
 pub struct Shape {}
 

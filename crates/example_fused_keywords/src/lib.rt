@@ -1,5 +1,8 @@
-//! A keyword that checks three members of a schema at once: `items`, with `minItems` and `"type": "array"` beside it, which it
-//! absorbs. With it come `minItems` by itself, the bench's keywords as they are, and the table of all of them.
+//! A keyword that checks three members of a schema at once.
+//!
+//! This is `items`, which absorbs the neighbouring members `minItems` and `"type": "array"`. The
+//! crate also has `minItems` by itself, the basic keywords as they are, and the table of all of
+//! them.
 #![tactic(auto)]
 
 pub mod array;

@@ -28,13 +28,17 @@ use standard_basics::table::BasicTable;
 use standard_basics::table::schema_values::items_before;
 use std::alloc::Global;
 
-/// The bench's table, with `minItems`, and with `items` that absorbs `minItems` and `type` where an object has the three, `type`
-/// with "array" and `items` with one schema. No name is its own.
+/// The basic table, with `minItems` and the `items` that absorbs others.
+///
+/// `items` absorbs `minItems` and `type` if an object has the three, with "array" as `type` and one
+/// schema as `items`. No name is the table's own.
 #[derive(Drop)]
 pub struct FusedTable {}
 
-/// A maker: one that asks for paths, or that of `items` where it absorbs two others, by how many items come before its own and by
-/// the limit, before it asks for its schema and after.
+/// A maker.
+///
+/// It requests paths, or is the one of the `items` that absorbs two others, before or after it
+/// requests its schema. The latter holds the number of items before its own, and the limit.
 #[derive(Drop)]
 pub enum FusedMaker {
     Plain(PathsMaker<FusedKeyword>),
@@ -79,7 +83,7 @@ impl MakesByValue<FusedKeyword> for LeastTable {
     ghost right = { λ t. least_rightly };
 }
 
-/// Whether a value is the text "array".
+/// Returns whether a value is the text "array".
 fn says_array(value: &Value) -> bool
     ensures says { result ≡ says_array (view value.now) }
 {
@@ -89,14 +93,14 @@ fn says_array(value: &Value) -> bool
     }
 }
 
-/// The limit that a value is.
+/// Returns the limit that a value stands for.
 fn least_in(value: &Value) -> Option<u64>
     ensures least { result ≡ least_in (view value.now) }
 {
     value.as_u64()
 }
 
-/// The limit of the three in one by their values.
+/// Returns the limit of the fused keyword by the three values.
 fn limit_of(type_value: Option<&Value>, items: Option<&Value>, least: Option<&Value>) -> Option<u64>
     ensures limit { result ≡ limit_of (value_read type_value.entry) (value_read items.entry) (value_read least.entry) }
 {
@@ -110,14 +114,14 @@ fn limit_of(type_value: Option<&Value>, items: Option<&Value>, least: Option<&Va
     }
 }
 
-/// Whether the draft has the keyword of this name, and the vocabulary is in force that it needs.
+/// Returns whether the draft has this keyword, with its vocabulary in force.
 fn is_known(draft: Draft, vocabularies: &VocabularySet, name: &str) -> bool
     ensures known { result ≡ is_known (draft_of draft) vocabularies.now name.now }
 {
     builtin_row(draft, vocabularies, name).is_some()
 }
 
-/// The limit of the keyword that an object makes of the three, where it makes one.
+/// Returns the limit of the keyword that the object fuses of the three, if it does.
 fn fused_limit(
     object: &Map<String, Value>,
     draft: Draft,
@@ -139,7 +143,6 @@ fn fused_limit(
     }
 }
 
-/// How a maker of the bench ends, among all.
 fn ending_of(ending: Ending<BasicKeyword>) -> Ending<FusedKeyword>
     ensures ending { made_of fused_shape result ≡ made_among of_bench (made_of shape_of ending) }
 {
@@ -150,7 +153,7 @@ fn ending_of(ending: Ending<BasicKeyword>) -> Ending<FusedKeyword>
     }
 }
 
-/// A maker of the bench, as one of all.
+/// Returns a maker of the basic table as one of this table.
 #[tactic(auto, using(crate::specs::FusedMakerLaws::waits_among))]
 fn among(maker: PathsMaker<BasicKeyword>) -> PathsMaker<FusedKeyword>
     ensures maker { waiting_of fused_shape result ≡ waiting_among of_bench (waiting_of shape_of maker) }
@@ -163,7 +166,7 @@ fn among(maker: PathsMaker<BasicKeyword>) -> PathsMaker<FusedKeyword>
     PathsMaker { paths, asked, ends }
 }
 
-/// The maker of a member that nothing absorbs and that absorbs nothing.
+/// Returns the maker of a member that nothing absorbs and that absorbs nothing.
 fn plain_maker(
     alloc: Global,
     name: &str,
@@ -186,7 +189,6 @@ fn plain_maker(
     Ok(among(maker))
 }
 
-/// The maker of a member.
 fn member_maker(
     alloc: Global,
     name: &str,
@@ -210,7 +212,6 @@ fn member_maker(
     Ok(FusedMaker::Plain(maker))
 }
 
-/// The names of the keywords that `items` absorbs.
 fn absorbed_names(alloc: Global) -> Result<Vec<String>, OutOfMemory>
     ensures names { ListsTexts result (codes "type" ∷ codes "minItems" ∷ []) }
 {
