@@ -64,7 +64,7 @@ fn asked_in(units: bool) -> Mode
     if units { Mode::Evaluate } else { Mode::Verdict }
 }
 
-/// Returns the number of accepted questions after one more answer, at most `enough`.
+/// Returns the number of accepted questions after one more, at most `enough`.
 fn tallied(enough: usize, accepts: bool, before: usize) -> usize
     ensures tallied { result ≡ min enough (counted accepts before) }
 {

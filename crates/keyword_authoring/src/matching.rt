@@ -52,7 +52,7 @@ pub fn ask_match<'s>(pattern: &'s str, text: &'s str, mode: Mode) -> Step<'s>
     Step::Match(pattern, text, is_located(mode))
 }
 
-/// A match is shown with evaluation path and place unless only the verdict is wanted.
+/// A match is shown with path and place unless only the verdict is wanted.
 fn is_located(mode: Mode) -> bool
     ensures located { result ≡ is_located mode }
 {

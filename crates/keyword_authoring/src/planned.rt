@@ -229,7 +229,7 @@ fn is_wanted(wanted: Wanted, accepted: usize) -> bool
     }
 }
 
-/// Returns the number of accepted questions after which further ones change nothing.
+/// Returns after how many accepted questions further ones change nothing.
 fn enough_of(wanted: Wanted, count: usize) -> usize
     ensures enough { result ≡ enough_of wanted.least wanted.most count }
 {
