@@ -2,9 +2,9 @@
 //!
 //! An author says how a keyword evaluates an instance, and its laws follow.
 //!
-//! There are five kinds of keywords: it reports errors of its own, or passes on what its children
-//! answer, or judges by how many children accept, or branches by the verdict of one child, or asks
-//! whether a pattern matches.
+//! There are five kinds of keywords: a keyword reports errors of its own, or passes on what its
+//! children answer, or judges by how many children accept, or branches by the verdict of one child,
+//! or asks whether a pattern matches.
 //!
 //! An author's type implements one of these traits, and a wrapper turns it into what the engine
 //! takes, with all laws:

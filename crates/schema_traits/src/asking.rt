@@ -1,6 +1,6 @@
-//! What a keyword asks of an instance, declared up front.
+//! The questions that a keyword asks about an instance, declared up front.
 //!
-//! A keyword can say this if the verdict of its run follows from the answers alone.
+//! A keyword can declare them if the verdict of its run follows from the answers alone.
 use crate::ascending::AscendingNames;
 use serde_json::{Map, Value};
 

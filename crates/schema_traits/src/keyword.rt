@@ -76,7 +76,7 @@ pub struct SpotMatch<'s> {
     pub located: bool,
 }
 
-/// Where a match is requested. The engine makes it of a step.
+/// Where a match is requested. The engine makes it from a step.
 ///
 /// The Boolean says whether evaluation path and place are shown.
 #[derive(Clone, Copy)]

@@ -81,7 +81,9 @@ pub enum MakerStep<K> {
     Nothing,
     /// Ends with a refusal of the schema.
     ///
-    /// Made for keywords whose value the standard does not allow, such as `minimum` with a text.
+    /// Made for keywords whose value the standard does not allow, such as `minimum` with a text,
+    /// and for keywords that the table of the standard does not support, such as
+    /// `unevaluatedItems`.
     Refuse(OwnedError),
 }
 

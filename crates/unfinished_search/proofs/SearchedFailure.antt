@@ -30,7 +30,7 @@ shown (Some x) q d = refl
 shown None q d = refl
 
 module _ (v : Sense) (call : Call) (most : ℕ) (u : Failure) where
-  -- the failure is of the first match, at a site that one of so many runs gives for it
+  -- the failure is of the first match, at a site that one of this many runs returns for it
   pub record IsAt (f : Failure) : Type 0 where
     pub run : Assumptions
     pub is_made : IsMade v most call run

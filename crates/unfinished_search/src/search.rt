@@ -165,7 +165,7 @@ fn take<'i, T: Drop>(
 ///
 /// # Errors
 ///
-/// Out of memory, also if a run is.
+/// Out of memory, here or in a run.
 pub fn assume_within<
     'i,
     T: Drop,
@@ -224,7 +224,7 @@ pub fn assume_within<
 ///
 /// # Errors
 ///
-/// Out of memory, also if a run is.
+/// Out of memory, here or in a run.
 pub fn assume_each_outcome<
     'i,
     T: Drop,

@@ -33,7 +33,7 @@ use unfinished_matches::assumptions::MatchAssumptions;
 ///
 /// # Errors
 ///
-/// Out of memory, also if a run is.
+/// Out of memory, here or in a run.
 pub fn validity_under_each<
     'i,
     F: FnMut(MatchAssumptions<'i>) -> Result<(MatchAssumptions<'i>, bool), OutOfMemory>,
@@ -58,7 +58,7 @@ pub fn validity_under_each<
     Ok(validity(assume_each_outcome(alloc, run, first, run_limit)?))
 }
 
-/// Returns the errors of the instance that it has however unfinished matches end.
+/// Returns the errors that hold however the unfinished matches come out.
 ///
 /// Returns one failure if there is no such error although the instance is not always valid, or if
 /// the call cannot decide within `run_limit` runs. The limit includes the first run, which has been
@@ -68,7 +68,7 @@ pub fn validity_under_each<
 ///
 /// # Errors
 ///
-/// Out of memory, also if a run is.
+/// Out of memory, here or in a run.
 pub fn errors_under_each<
     'i,
     F: FnMut(
