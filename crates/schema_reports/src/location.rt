@@ -49,7 +49,9 @@ fn push_escaped_char(text: &mut String, c: char) -> Result<(), OutOfMemory>
     }
 }
 
-// Returns whether a name needs no escapes. The loop has no early exit, so that it is vectorized.
+// Returns whether a name needs no escapes.
+//
+// The loop has no early exit, so that it tests many bytes in one step.
 fn is_bare(name: &[u8]) -> bool
     ensures bare { result ≡ true → escaped name.now ≡ name.now }
 {

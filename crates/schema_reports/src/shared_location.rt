@@ -20,7 +20,7 @@ fn is_plain_byte(byte: u8) -> bool
 pub fn is_plain(text: &[u8]) -> bool
     ensures plain { result ≡ true → escape text.now ≡ text.now }
 {
-    // (the loop has no early exit, so that it is vectorized)
+    // (the loop has no early exit, so that it tests many bytes in one step)
     let mut plain = true;
     for byte in text {
         plain &= is_plain_byte(*byte);

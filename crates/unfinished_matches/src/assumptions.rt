@@ -308,7 +308,7 @@ impl<'i> MatchAssumptions<'i> {
         self.unassumed.is_some()
     }
 
-    /// Returns the outcome of an unfinished match, if nothing more is remembered.
+    /// Returns the outcome of an unfinished match, if nothing is left to remember.
     ///
     /// `None` means that it has to be resolved with its site. `has_place` says whether that site
     /// has an instance path. Allocates nothing.

@@ -66,6 +66,7 @@ fn push_error(text: &mut String, alloc: Global, error: &ValidationError) -> Resu
     text.push_str("\n")
 }
 
+/// The verdict of an instance, as `true` or `false`.
 fn verdict(
     alloc: Global,
     validator: &Validator<BasicKeyword, BenchMatcher>,
