@@ -1,4 +1,4 @@
--- The clauses of a build, put together; and what is built of the sources by a resolver of them.
+-- The clauses of a build, put together; and what a resolver of the sources builds from them.
 use Rattle.std.proofs.Common.{Err, IfErr, IfOk, List, Ok, Result, ap, inl, inr, subst, ◌∙◌, ◌≡◌, ◌⊎◌}
 use Rattle.serde_json.specs.Data.{Data}
 use Rattle.serde_json.specs.View.{view}
@@ -27,11 +27,11 @@ use Rattle.jsonschema.specs.Sources.{IsResolverOf, SchemaSources, options_by}
 
 module _ {State S C Maker Run K : Type 0} (resolvers : ResolverMembers HeldDocuments State S) (tables : TableMembers StandardTable C Maker Run K)
     (keywords : KeywordMembers C Run K) where
-  -- what is handed in with a table and a matcher
+  -- the parts of a build with a table and a matcher
   abbrev parts : HeldDocuments → StandardTable → Kept → Handed S K (Run × Answer) C Kept
   parts r table m = handed resolvers tables keywords regexes r table m
 
-  -- the table refuses what cannot be read, and the matcher is that of the patterns
+  -- the table refuses patterns that cannot be read, and the matcher is that of the patterns
   same_parts : (r : HeldDocuments) (patterns : List Text) (table : StandardTable) (m : Kept) → table.unreadable ≡ unreadable.Refused
       → m ≡ careful_matcher patterns → parts r table m ≡ parts_by resolvers tables keywords r patterns
   same_parts r patterns table m refuses same = ap (λ u. parts r (record { unreadable = u }) m) refuses ∙ ap (λ k. parts r (record { unreadable = unreadable.Refused }) k) same

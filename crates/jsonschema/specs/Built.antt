@@ -1,5 +1,7 @@
--- What a build promises of its validator, over all that is handed in: what the clauses of `ValidationOptions::build` say, in one; and
--- over the sources, which a resolver of them, the standard's table and the matcher of their patterns are made for. (Core 2020-12, 8.2)
+-- What a build promises of its validator: the clauses of `ValidationOptions::build` in one record,
+-- over all the parts that the build takes; and the same over the sources. Then the resolver is one
+-- of the sources, the table is the standard's, and the matcher is that of the sources' patterns.
+-- (Core 2020-12, 8.2)
 use Rattle.std.specs.Prelude.{List}
 use Rattle.serde_json.specs.Data.{Data}
 use Rattle.serde_json.specs.View.{view}
@@ -23,18 +25,18 @@ use Rattle.standard_keywords.specs.declared.table.StandardTable.{StandardTable}
 use Rattle.standard_meta.specs.DraftMeanings.{handed_by}
 use Rattle.jsonschema.specs.Sources.{IsResolverOf, SchemaSources, options_by}
 
--- the matcher that has these patterns at hand, and leaves unfinished what cannot be read, if there is any
+-- the matcher with these patterns; it leaves a match unfinished if a pattern cannot be read
 abbrev pub careful_matcher : List Text → Kept
 careful_matcher patterns = record { unreadable = careful patterns; patterns = patterns }
 
 module _ {State S C Maker Run K : Type 0} (resolvers : ResolverMembers HeldDocuments State S) (tables : TableMembers StandardTable C Maker Run K)
     (keywords : KeywordMembers C Run K) where
-  -- what is handed in with a resolver and patterns
+  -- the parts of a build with this resolver and these patterns
   abbrev pub parts_by : HeldDocuments → List Text → Handed S K (Run × Answer) C Kept
   parts_by r patterns = handed_by resolvers tables keywords r (careful_matcher patterns)
 
   module _ (r : HeldDocuments) (patterns : List Text) (refuses : MetaChecks) (options : Options) (schema : Data) where
-    -- what is built of a schema by a resolver that has it
+    -- the validator that is built from a schema of the resolver
     pub record IsBuilt (p : Program C Kept) : Type 0 where
       pub means : MeansPlainly (parts_by r patterns) options schema p
       pub units : HasPlainUnits (parts_by r patterns) options schema p
@@ -46,19 +48,20 @@ module _ {State S C Maker Run K : Type 0} (resolvers : ResolverMembers HeldDocum
       pub builds : SchemaBuilds (parts_by r patterns) options schema
       pub passed : PassesCheck (resolvers.resolving r) refuses options schema
 
-    -- the error names a cause that stands, and the first of several
+    -- the error names a cause that holds, and the first one if there are several
     pub record IsRefused (e : BuildError) : Type 0 where
       pub refused : BuildRefused (parts_by r patterns) refuses options schema e
       pub first : FirstOfBuild (parts_by r patterns) refuses options schema e
 
   module _ (refuses : MetaChecks) (options : Options) (s : SchemaSources) (patterns : List Text) where
-    -- what is built of the schema by a resolver of the sources, with their draft and URI among the options
+    -- the validator is built from the schema by a resolver of the sources; their draft and URI are
+    -- among the options
     pub record IsBuiltOf (p : Program C Kept) : Type 0 where
       pub resolver : HeldDocuments
       pub resolves : IsResolverOf s resolver
       pub built : IsBuilt resolver patterns refuses (options_by s options) (view s.schema) p
 
-    -- an error of such a build
+    -- the error of such a build
     pub record IsRefusedOf (e : BuildError) : Type 0 where
       pub resolver : HeldDocuments
       pub resolves : IsResolverOf s resolver

@@ -1,5 +1,6 @@
--- What a validator is built from: a schema, the URI that it is found under and the draft of what says none, where they are set, and the
--- documents that its references may lead to, each under its URI. (Core 2020-12, 8.2 and 9.1)
+-- What a validator is built from: a schema, the URI that it is found under, the draft of schemas
+-- that do not name theirs (both optional), and the documents that its references may lead to, each
+-- under its URI. (Core 2020-12, 8.2 and 9.1)
 use Rattle.std.specs.Prelude.{List, None, Option, Some, [], codes, map, unwrap_or, ◌∷◌, ◌≡◌}
 use Rattle.serde_json.specs.Data.{Data}
 use Rattle.serde_json.specs.Find.{get}
@@ -17,14 +18,14 @@ pub record SchemaSources : Type 0 where
   pub draft : Option Draft
   pub documents : List GivenDocument
 
--- the values, the schema's first
+-- the values of the schema and the documents, the schema's first
 abbrev pub values_of : SchemaSources → List Data
 values_of s = view s.schema ∷ map (λ d. view d.value) s.documents
 
 abbrev pub default_draft_of : SchemaSources → Draft
 default_draft_of s = unwrap_or s.draft draft_2020_12
 
--- what says its draft keeps it
+-- a schema that names its draft keeps it
 abbrev pub draft_option : SchemaSources → Option Draft → Option Draft
 draft_option s o = elim (get (codes "$schema") (view s.schema)) [ Some d ↦ o | None ↦ elim s.draft [ Some draft ↦ Some draft | None ↦ o ] ]
 
@@ -32,11 +33,12 @@ draft_option s o = elim (get (codes "$schema") (view s.schema)) [ Some d ↦ o |
 abbrev pub uri_of : SchemaSources → Text
 uri_of s = unwrap_or s.uri (codes "json-schema:///")
 
--- the options of a build, with the sources' draft and URI
+-- the options of a build, with the draft and URI of the sources
 abbrev pub options_by : SchemaSources → Options → Options
 options_by s options = record options { draft = draft_option s options.draft; base = Some (uri_of s) }
 
--- the resolver holds the schema and the documents, and requires no vocabularies beside those of each draft
+-- the resolver holds the schema and the documents, and requires no vocabularies but those of each
+-- draft
 pub record IsResolverOf (s : SchemaSources) (r : HeldDocuments) : Type 0 where
   pub rule : r.rule ≡ Standard
   pub uri : r.uri ≡ uri_of s

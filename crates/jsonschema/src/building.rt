@@ -1,4 +1,4 @@
-//! Builds of validators.
+//! Building a validator from sources.
 ghost use Rattle.std.specs.Prelude.{◌≡◌, ◌⊎◌, [], IfErr, IfOk};
 ghost use Rattle.serde_json.specs.View.{view};
 ghost use Rattle.standard_subschemas.specs.declared.rules.Rule.TheVariants.{Standard};
@@ -23,10 +23,10 @@ use standard_resolver::resolver::StandardResolver;
 use standard_resolver::resolver::documents::Document;
 use std::alloc::Global;
 
-/// A validator of the standard's keywords, which borrows the patterns that its schema has.
+/// A validator with the standard's keywords; it borrows its schema's patterns.
 pub type StandardValidator<'p> = Validator<StandardKeyword, RegexMatcher<'p>>;
 
-/// The URI that the schema is found under: the one that is set, or else `json-schema:///`.
+/// Returns the schema's URI: the one that is set, or else `json-schema:///`.
 fn uri_of<'s>(sources: &'s Sources<'_>) -> &'s str
     ensures uri { result.now ≡ uri_of sources.now }
 {
@@ -36,7 +36,9 @@ fn uri_of<'s>(sources: &'s Sources<'_>) -> &'s str
     }
 }
 
-/// The options, with the default draft where the schema does not say its own, and with the URI that it is found under.
+/// Returns the options with the URI and the default draft of the sources.
+///
+/// The default draft is set only if the schema names none.
 fn options_for(
     alloc: Global,
     options: ValidationOptions,
@@ -53,7 +55,6 @@ fn options_for(
     options.with_base_uri(alloc, uri_of(sources))
 }
 
-/// The resolver of the schema and the documents.
 fn resolver_of<'a>(alloc: Global, sources: Sources<'a>) -> Result<StandardResolver<'a>, OutOfMemory>
     ensures rule { GoesBy result Standard }
     ensures uri { IsUnder result (uri_of sources.entry) }
@@ -77,7 +78,7 @@ fn resolver_of<'a>(alloc: Global, sources: Sources<'a>) -> Result<StandardResolv
     )
 }
 
-/// Builds a validator of a schema that a resolver has, by the standard's keywords and by the patterns.
+/// Builds a validator of a schema that the resolver holds.
 fn build_by<'p, V: MetaValidators>(
     alloc: Global,
     schema: &Value,
@@ -97,13 +98,15 @@ fn build_by<'p, V: MetaValidators>(
     options.build(alloc, schema, &table, resolver, &matcher, metas)
 }
 
-/// Builds a validator of a schema by the standard's keywords. Patterns are those of the sources (`Sources::patterns`); the meta
-/// validators check the schema first, unless the options have it unchecked.
+/// Builds a validator of a schema, with the standard's keywords.
+///
+/// The patterns are those of the sources (`Sources::patterns`). The meta validators check the
+/// schema first, unless the options turn that off.
 ///
 /// # Errors
 ///
-/// Fails if the schema, or one that it reaches, is refused, if the meta validators refuse it, if more keys are reached than the
-/// limit, or out of memory.
+/// The schema, or one that it reaches, is refused; the meta validators refuse it; more keys are
+/// reached than the limit allows; or out of memory.
 pub fn build<'p, V: MetaValidators>(
     alloc: Global,
     sources: Sources<'_>,

@@ -1,5 +1,7 @@
-//! Validators of schemas that people write, in one call: the standard's keywords, regular expressions, the documents that references lead
-//! to by their URIs, and the check by the meta-schemas.
+//! JSON Schema validators for real-world schemas, built in one call.
+//!
+//! They have the standard's keywords, regular expressions, the documents that references lead to by
+//! their URIs, and the check against the meta-schemas.
 #![tactic(auto)]
 
 pub mod building;

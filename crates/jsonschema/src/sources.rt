@@ -1,4 +1,4 @@
-//! What a validator is built from.
+//! The schema and the documents that a validator is built from.
 ghost use Rattle.std.specs.Prelude.{◌≡◌, ◌++◌, ◌∷◌, [], IfErr, IfOk, None, Some, map};
 ghost use Rattle.schema_drafts.specs.KeywordViews.{draft_of};
 ghost use Rattle.standard_resolver.specs.DocumentViews.{given_of};
@@ -17,7 +17,9 @@ use standard_resolver::resolver::documents::Document;
 use std::alloc::Global;
 use std::marker::Model;
 
-/// A schema, and the documents that its references may lead to, each under its URI.
+/// A schema and the documents that its references may lead to.
+///
+/// Each document has its URI.
 #[derive(Drop)]
 pub struct Sources<'a> {
     pub(crate) schema: &'a Value,
@@ -46,7 +48,6 @@ impl<'a> Model for Sources<'a> {
     } };
 }
 
-/// Adds the meta-schemas to documents.
 fn add_meta_schemas<'a>(
     alloc: Global,
     metas: &'a MetaDocuments,
@@ -64,7 +65,7 @@ fn add_meta_schemas<'a>(
 }
 
 impl<'a> Sources<'a> {
-    /// A schema alone. Allocates nothing.
+    /// Creates sources with a schema alone. Does not allocate.
     pub fn new(alloc: Global, schema: &'a Value) -> Sources<'a>
         ensures alone { result ≡ record { schema = schema.now; uri = None; draft = None; documents = [] } }
     {
@@ -76,11 +77,11 @@ impl<'a> Sources<'a> {
         }
     }
 
-    /// Finds the schema under this URI, whatever identifier it has.
+    /// Puts the schema under this URI, whatever identifier it has.
     ///
     /// # Errors
     ///
-    /// Fails only if memory cannot be allocated.
+    /// Out of memory.
     pub fn with_uri(self, alloc: Global, uri: &str) -> Result<Sources<'a>, OutOfMemory>
         ensures uri { Yields result (record self.entry { uri = Some uri.now }) }
     {
@@ -89,7 +90,9 @@ impl<'a> Sources<'a> {
         Ok(sources)
     }
 
-    /// Reads what does not say its draft in this one; where this is not set, in 2020-12. Allocates nothing.
+    /// Sets the draft of schemas that do not name theirs.
+    ///
+    /// If it is not set, they are read as 2020-12. Does not allocate.
     pub fn with_default_draft(self, draft: Draft) -> Sources<'a>
         ensures draft { result ≡ record self.entry { draft = Some (draft_of draft) } }
     {
@@ -102,7 +105,7 @@ impl<'a> Sources<'a> {
     ///
     /// # Errors
     ///
-    /// Fails only if memory cannot be allocated.
+    /// Out of memory.
     pub fn with_document(
         self,
         alloc: Global,
@@ -120,12 +123,14 @@ impl<'a> Sources<'a> {
         Ok(sources)
     }
 
-    /// Adds the meta-schemas of the drafts and of the vocabularies, after the documents that are there. References find them under the
-    /// standard's URIs.
+    /// Adds the meta-schemas of the drafts and of the vocabularies.
+    ///
+    /// They come after the documents added so far. References find them under the URIs of the
+    /// standard.
     ///
     /// # Errors
     ///
-    /// Fails only if memory cannot be allocated.
+    /// Out of memory.
     pub fn with_meta_schemas(
         self,
         alloc: Global,
@@ -138,7 +143,7 @@ impl<'a> Sources<'a> {
         Ok(sources)
     }
 
-    // The values of the schema and of the documents, in this order.
+    // Returns the values of the schema and of the documents, the schema's first.
     fn values(&self, alloc: Global) -> Result<Vec<&'a Value>, OutOfMemory>
         ensures values { IfOk result (λ vs. map (λ v. view v.now) vs.items ≡ values_of self.now) }
     {
@@ -150,11 +155,13 @@ impl<'a> Sources<'a> {
         Ok(values)
     }
 
-    /// Compiles the patterns of the schema and of the documents, each once. A validator borrows them.
+    /// Compiles the patterns of the schema and of the documents, each once.
+    ///
+    /// A validator borrows them.
     ///
     /// # Errors
     ///
-    /// Fails if memory cannot be allocated, or if a pattern can be read and is too big to compile.
+    /// Out of memory, or a pattern that can be read is too big to compile.
     pub fn patterns(&self, alloc: Global) -> Result<Patterns, PatternError>
         ensures patterns { IfOk result (IsAdded [] (patterns_of (values_of self.now))) }
         ensures fault { IfErr result (IsFaultOf (patterns_of (values_of self.now))) }
