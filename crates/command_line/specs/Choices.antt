@@ -1,17 +1,17 @@
--- What the words of a call choose.
+-- The options that the words of a call choose.
 use Rattle.std.specs.Prelude.{None, Option, Some, bytes_eq, codes, if◌then◌else◌}
 use Rattle.theory_definitions.specs.Drafts.{Draft, draft_2019_09, draft_2020_12, draft_4, draft_6, draft_7}
 use Rattle.theory_definitions.specs.Instance.{Text}
 use Rattle.command_line.specs.declared.options.Output.{Output}
 use Rattle.command_line.specs.declared.options.Output.TheVariants as output
 
--- the word that asks for an output
+-- the word that chooses an output
 abbrev pub name_of : Output → Text
 name_of output.Text = codes "text"
 name_of output.Flag = codes "flag"
 name_of output.List = codes "list"
 
--- the output that a word asks for
+-- the output that a word chooses
 abbrev pub output_named : Text → Option Output
 output_named name =
     if bytes_eq name (codes "text") then Some output.Text
@@ -19,7 +19,7 @@ output_named name =
     else if bytes_eq name (codes "list") then Some output.List
     else None
 
--- the draft that a word asks for: the number, or the year and the month, of its release
+-- the draft that a word chooses: the number of its release, or the year and the month
 abbrev pub draft_named : Text → Option Draft
 draft_named name =
     if bytes_eq name (codes "4") then Some draft_4

@@ -1,4 +1,4 @@
--- The objects in JSON that are printed of instances and lines, one on a line.
+-- The JSON objects that are printed for instances and lines, each on a line of its own.
 use Rattle.std.specs.Prelude.{None, Option, Some, [], codes, decimal, ◌++◌, ◌∷◌, ℕ}
 use Rattle.json.specs.Print.{quoted}
 use Rattle.theory_definitions.specs.Instance.{Text}

@@ -7,16 +7,16 @@ use Rattle.command_line.specs.declared.tally.Tally.{Tally}
 abbrev pub one_more : ℕ → ℕ
 one_more n = min (n + 1) (2 ^ 64 - 1)
 
--- the tally with one line more, which came out so
+-- the tally with one more line, which has this outcome
 abbrev pub counted : Outcome → Tally → Tally
 counted outcome.Accepted t = record t { lines = one_more t.lines }
 counted outcome.Refused t = record t { lines = one_more t.lines; refused = one_more t.refused }
 counted outcome.Unanswered t = record t { lines = one_more t.lines; unanswered = one_more t.unanswered }
 
--- how the lines come out, taken together
+-- the outcome of the lines, taken together
 abbrev pub outcome_of : Tally → Outcome
 outcome_of t = if nat_lt 0 t.unanswered then outcome.Unanswered else if nat_lt 0 t.refused then outcome.Refused else outcome.Accepted
 
--- how many lines a second there are, over so many milliseconds
+-- the number of lines a second, over this many milliseconds
 abbrev pub rate_of : ℕ → ℕ → ℕ
 rate_of lines millis = min (lines * 1000 / max millis 1) (2 ^ 64 - 1)

@@ -4,7 +4,8 @@ use Rattle.theory_definitions.specs.Instance.{Text}
 use Rattle.command_line.specs.declared.reports.Paint.{Paint}
 use Rattle.command_line.specs.declared.reports.Paint.TheVariants.{Coloured, Plain}
 
--- green where it accepts and red where it does not, by the sequences of ECMA-48 (8.3.117), if it is coloured
+-- if verdicts are coloured, green for valid and red for invalid, by the sequences of ECMA-48
+-- (8.3.117)
 abbrev pub verdict_text : Paint → Bool → Text
 verdict_text Plain true = codes "VALID"
 verdict_text Plain false = codes "INVALID"

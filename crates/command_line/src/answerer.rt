@@ -1,4 +1,4 @@
-//! What answers an instance, as a validator does, and how it is asked.
+//! Answers for instances, one by one.
 ghost use Rattle.std.specs.Prelude.{◌≤◌, IfOk};
 ghost use Rattle.command_line.specs.Outcomes.{code_of};
 
@@ -13,17 +13,19 @@ use schema_reports::location::OutOfMemory;
 use serde_json::Value;
 use std::alloc::Global;
 
-/// How an instance comes out, and what is printed of it.
+/// The outcome for an instance, and the text that is printed about it.
 pub type Answer = Result<(Outcome, String), OutOfMemory>;
 
-/// What answers instances by one schema.
+/// Answers for instances by one schema.
 pub trait Answerer {
-    /// Answers an instance: of a file all that is wrong with it is printed as text, of a line what is wrong first. Nothing is printed
-    /// where the text is empty.
+    /// Answers for an instance; nothing is printed if the text is empty.
+    ///
+    /// For an instance that is a file, the text lists every error; for one that is a line, the
+    /// first error.
     ///
     /// # Errors
     ///
-    /// Fails only if memory cannot be allocated.
+    /// Out of memory.
     fn answer(
         &self,
         alloc: Global,
@@ -35,7 +37,9 @@ pub trait Answerer {
         ensures answered { IfOk result (λ a. code_of a.0 ≤ 1) };
 }
 
-/// Answers each of the files that the options name, and then the lines, if they name a file of them.
+/// Answers for each file that the options name.
+///
+/// Then answers for the lines, if the options name a file of lines.
 pub fn answer_by<A: Answerer>(
     rt: &HostRuntime,
     desk: &mut Desk,

@@ -1,4 +1,4 @@
-//! Where answers are written.
+//! The place where answers are written.
 ghost use Rattle.std.specs.Prelude.{◌≡◌, IsSome, false, is_some};
 ghost use Rattle.command_line.specs.Outcomes.{outcome_told};
 
@@ -12,10 +12,10 @@ const MORE_MEMORY: &str = "ask of smaller documents, or give the process more me
 
 const WRITTEN: &str = "write where there is room, to a file or a pipe that stays open to the end";
 
-/// Why a run ends before all is answered.
+/// Why a run ends before every instance is answered.
 #[derive(Clone, Copy, Debug, PartialEq, Eq)]
 pub enum Stop {
-    /// It is told on standard error already.
+    /// The reason is already reported on standard error.
     Told,
     OutOfMemory,
 }
@@ -32,7 +32,7 @@ impl<T: Drop> From<AllocFailed<T>> for Stop {
     }
 }
 
-// How a run comes out that answered so, or was stopped, where each answer is written. That memory could not be had is told.
+// Returns the outcome of a run that may have been stopped. Reports lack of memory.
 fn unless_stopped(rt: &HostRuntime, answered: Result<Outcome, Stop>) -> Outcome
     ensures told { result ≡ outcome_told false answered }
 {
@@ -54,7 +54,9 @@ pub struct Desk {
 }
 
 impl Desk {
-    /// Standard output, on which verdicts are coloured if it is a terminal.
+    /// Creates a desk on standard output.
+    ///
+    /// Verdicts are coloured if it is a terminal.
     pub fn new(rt: &HostRuntime) -> Desk {
         let out = rt.stdout();
         let paint = if out.is_terminal() {
@@ -68,7 +70,7 @@ impl Desk {
         }
     }
 
-    /// Writes what is printed of an instance, if anything is, and says how the instance comes out.
+    /// Writes the text about an instance, if there is any, and returns its outcome.
     pub fn write(&mut self, answer: (Outcome, String)) -> Outcome
         ensures outcome { result ≡ answer.0 }
         ensures stopped { IsSome self.old.page.fault → self.new ≡ self.old }
@@ -80,8 +82,9 @@ impl Desk {
         outcome
     }
 
-    /// How a run comes out that answered so, or was stopped. It tells what was not told yet: that memory could not be had, or
-    /// that an answer could not be written.
+    /// Returns the outcome of a run, which may have been stopped.
+    ///
+    /// Reports what is not reported yet: lack of memory, or an answer that could not be written.
     pub fn outcome_of(&self, rt: &HostRuntime, answered: Result<Outcome, Stop>) -> Outcome
         ensures told { result ≡ outcome_told (is_some self.now.page.fault) answered }
     {

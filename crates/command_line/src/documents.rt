@@ -12,7 +12,9 @@ pub struct Document<'w> {
     pub value: Value,
 }
 
-/// The documents of the resources, in their order. What is wrong with one is told.
+/// Returns the documents of the resources, in order.
+///
+/// If one cannot be read, that is reported.
 pub fn documents_of<'w>(
     rt: &HostRuntime,
     resources: &[Resource<'w>],

@@ -1,4 +1,4 @@
-//! The command, over an engine that makes validators of schemas.
+//! The command, over an engine that builds validators of schemas.
 
 use crate::desk::{Desk, Stop};
 use crate::documents::{Document, documents_of};
@@ -8,10 +8,11 @@ use crate::reading::value_of;
 use crate::words::{given_words, options_in, say};
 use serde_json::Value;
 
-/// What makes validators of schemas.
+/// Builds validators of schemas.
 pub trait Engine {
-    /// Answers by a validator of the schema, which may refer to the documents, as `answer_by` does. Where there is no such validator,
-    /// it tells why.
+    /// Answers by a validator of the schema, as `answer_by` does.
+    ///
+    /// The schema may refer to the documents. If no validator is built, the reason is reported.
     fn answer(
         &self,
         rt: &HostRuntime,
@@ -22,7 +23,7 @@ pub trait Engine {
     ) -> Result<Outcome, Stop>;
 }
 
-/// Answers by a schema, and reads the documents that it may refer to.
+/// Answers by a schema, after reading the documents that it may refer to.
 fn answer_by_schema<E: Engine>(
     rt: &HostRuntime,
     desk: &mut Desk,
@@ -36,7 +37,6 @@ fn answer_by_schema<E: Engine>(
     answered
 }
 
-/// Answers as the options ask.
 fn answer<E: Engine>(
     rt: &HostRuntime,
     desk: &mut Desk,
@@ -49,7 +49,7 @@ fn answer<E: Engine>(
     answered
 }
 
-/// Answers as the options ask, and tells why there is no answer.
+/// Answers as the options request, and reports why if there is no answer.
 fn run<E: Engine>(rt: &HostRuntime, options: &Options<'_>, engine: &E) -> Outcome {
     let mut desk = Desk::new(rt);
     let answered = answer(rt, &mut desk, options, engine);
@@ -58,7 +58,6 @@ fn run<E: Engine>(rt: &HostRuntime, options: &Options<'_>, engine: &E) -> Outcom
     outcome
 }
 
-/// Reads the words, and answers as they ask.
 fn obey<E: Engine>(rt: &HostRuntime, words: &[String], engine: &E) -> Outcome {
     match options_in(rt.alloc(), words) {
         Ok(options) => {
@@ -70,7 +69,7 @@ fn obey<E: Engine>(rt: &HostRuntime, words: &[String], engine: &E) -> Outcome {
     }
 }
 
-/// Answers as the words of the call ask, and says how the call comes out.
+/// Answers as the words of the call request, and returns the call's outcome.
 pub fn answer_call<E: Engine>(rt: &HostRuntime, engine: &E) -> Outcome {
     match given_words(rt) {
         Ok(words) => {

@@ -1,4 +1,4 @@
-//! What is printed of instances and lines, for programs to read: an object in JSON on a line.
+//! The output for programs: a JSON object on a line for each instance or line.
 ghost use Rattle.std.specs.Prelude.{◌≡◌, ◌++◌, IfOk, string_bytes};
 ghost use Rattle.json.specs.Print.{quoted};
 ghost use Rattle.command_line.specs.Envelopes.{answered_text, front_text, line_text, subject_text};
@@ -10,16 +10,17 @@ use schema_reports::location::OutOfMemory;
 use serde_json::Value;
 use std::alloc::Global;
 
-/// An instance: a file, or a line of a file, and the schema that is asked.
+/// An instance and the schema that it is validated against.
+///
+/// The instance is a file, or a line of a file.
 #[derive(Clone, Copy)]
 pub struct Subject<'s> {
     pub schema: &'s str,
     pub instance: &'s str,
-    /// From 1.
+    /// Counted from 1.
     pub line: Option<u64>,
 }
 
-/// A text as a string of JSON.
 fn quoted_text(alloc: Global, part: &str) -> Result<String, OutOfMemory>
     ensures text { IfOk result (λ s. string_bytes s ≡ quoted part.now) }
 {
@@ -27,7 +28,6 @@ fn quoted_text(alloc: Global, part: &str) -> Result<String, OutOfMemory>
     value.to_string(alloc)
 }
 
-/// Adds a text as a string of JSON.
 fn push_quoted(text: &mut String, alloc: Global, part: &str) -> Result<(), OutOfMemory>
     ensures quoted { IfOk result (λ _. string_bytes text.new ≡ string_bytes text.old ++ quoted part.now) }
 {
@@ -57,7 +57,9 @@ fn push_subject(text: &mut String, alloc: Global, subject: Subject<'_>) -> Resul
     push_line(text, subject.line)
 }
 
-/// The front of an object: the output's name, the schema's, the instance's, and its line.
+/// Returns the front of an object.
+///
+/// It has the names of the output, the schema and the instance, and the line number.
 fn envelope_front(
     alloc: Global,
     output: Output,
@@ -72,11 +74,13 @@ fn envelope_front(
     Ok(text)
 }
 
-/// What is printed of an instance: an object with what the engine's output is, which is JSON.
+/// Returns the object printed for an instance, with the engine's output.
+///
+/// That output is JSON.
 ///
 /// # Errors
 ///
-/// Fails only if memory cannot be allocated.
+/// Out of memory.
 pub fn answered(
     alloc: Global,
     output: Output,
@@ -93,7 +97,7 @@ pub fn answered(
     Ok(text)
 }
 
-/// What the engine's output is in the flag format.
+/// Returns the engine's output in the flag format.
 pub fn flag(valid: bool) -> &'static str
     ensures flag { result.now ≡ flag_text valid }
 {
@@ -104,11 +108,11 @@ pub fn flag(valid: bool) -> &'static str
     }
 }
 
-/// What is printed of a line that is not JSON: an object with what is wrong with it.
+/// Returns the object printed for a line that is not JSON, with the fault.
 ///
 /// # Errors
 ///
-/// Fails only if memory cannot be allocated.
+/// Out of memory.
 pub fn unread(
     alloc: Global,
     output: Output,

@@ -1,4 +1,4 @@
-//! Answers of files of one instance each.
+//! Answers for files that hold one instance each.
 
 use crate::answerer::Answerer;
 use crate::desk::{Desk, Stop};
@@ -7,7 +7,6 @@ use crate::options::{Options, Output};
 use crate::outcomes::Outcome;
 use crate::reading::value_of;
 
-/// Answers a file.
 fn answer_file<A: Answerer>(
     rt: &HostRuntime,
     desk: &mut Desk,
@@ -26,7 +25,7 @@ fn answer_file<A: Answerer>(
     Ok(desk.write(answer?))
 }
 
-/// Answers each of the files, also after one that has no answer.
+/// Answers for each of the files, and continues after one that has no answer.
 pub(crate) fn answer_files<A: Answerer>(
     rt: &HostRuntime,
     desk: &mut Desk,

@@ -1,5 +1,7 @@
-//! The command `jsonschema` over an engine: its words, how it reads files and lines and tells of faults, what it prints of an instance and
-//! of a line, how it counts lines, and the status that it ends with.
+//! The command `jsonschema`, over an engine.
+//!
+//! It has the words of the command, the reading of files and lines, the reports of faults, the text
+//! printed for an instance or a line, the counts of lines, and the exit status.
 #![tactic(auto)]
 
 pub mod answerer;

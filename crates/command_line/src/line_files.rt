@@ -1,4 +1,4 @@
-//! Answers of files of an instance a line, which are read line by line.
+//! Answers for files with an instance on each line, read line by line.
 
 use crate::answerer::Answerer;
 use crate::desk::{Desk, Stop};
@@ -16,10 +16,10 @@ use std::alloc::AllocError;
 use std::fs;
 use std::io::{BufRead, BufReader, Read};
 
-/// How much of a file is read at once, in bytes.
+/// The number of bytes of a file that are read at once.
 const AT_ONCE: usize = 65536;
 
-/// A file of lines, and who asks it.
+/// A file of lines, and the parts that answer for it.
 #[derive(Clone, Copy)]
 struct Asked<'a, 'w> {
     rt: &'a HostRuntime,
@@ -28,7 +28,6 @@ struct Asked<'a, 'w> {
 }
 
 impl<'a, 'w> Asked<'a, 'w> {
-    /// What a line is asked as.
     fn subject(&self, number: u64) -> Subject<'a> {
         Subject {
             schema: self.options.schema,
@@ -37,7 +36,6 @@ impl<'a, 'w> Asked<'a, 'w> {
         }
     }
 
-    /// Answers the instance of a line.
     fn answer<A: Answerer>(
         &self,
         answerer: &A,
@@ -51,7 +49,7 @@ impl<'a, 'w> Asked<'a, 'w> {
         Ok(desk.write(answer))
     }
 
-    /// What is printed of a line that is not JSON.
+    /// Returns the text printed for a line that is not JSON.
     fn unread(&self, number: u64, fault: &serde_json::Error) -> Result<String, OutOfMemory> {
         let alloc = self.rt.alloc();
         match self.options.output {
@@ -60,7 +58,6 @@ impl<'a, 'w> Asked<'a, 'w> {
         }
     }
 
-    /// Answers a line.
     fn take<A: Answerer>(
         &self,
         answerer: &A,
@@ -79,7 +76,7 @@ impl<'a, 'w> Asked<'a, 'w> {
         }
     }
 
-    /// Answers a line and counts it, unless it is blank.
+    /// Answers for a line and counts it, unless it is blank.
     fn count<A: Answerer>(
         &self,
         answerer: &A,
@@ -94,7 +91,9 @@ impl<'a, 'w> Asked<'a, 'w> {
         Ok(())
     }
 
-    /// Reads the next line into `line`, answers it and counts it, and returns whether there was one.
+    /// Reads the next line into `line`, answers for it and counts it.
+    ///
+    /// Returns whether there was one.
     fn answer_next<A: Answerer, R: BufRead>(
         &self,
         answerer: &A,
@@ -116,7 +115,6 @@ impl<'a, 'w> Asked<'a, 'w> {
         }
     }
 
-    /// Answers each line of a reader.
     fn answer_each<A: Answerer, R: BufRead>(
         &self,
         answerer: &A,
@@ -137,7 +135,9 @@ impl<'a, 'w> Asked<'a, 'w> {
         Ok(())
     }
 
-    /// Answers the lines of a reader, and sums up, also where the reading ends before its time.
+    /// Answers for the lines of a reader, and sums up.
+    ///
+    /// It sums up even if the reading ends early.
     fn answer_reader<A: Answerer, R: Read + Drop>(
         &self,
         answerer: &A,
@@ -157,7 +157,7 @@ impl<'a, 'w> Asked<'a, 'w> {
     }
 }
 
-/// Answers the lines of a file, or of standard input.
+/// Answers for the lines of a file, or of standard input.
 pub(crate) fn answer_lines<A: Answerer>(
     rt: &HostRuntime,
     desk: &mut Desk,

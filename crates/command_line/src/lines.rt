@@ -4,7 +4,7 @@ ghost use Rattle.std.specs.Char.{is_ascii_whitespace};
 ghost use Rattle.std.specs.List.{list_all};
 ghost use Rattle.command_line.specs.Lines.{without_ending, without_last};
 
-// Takes this byte away, where it is the last.
+// Removes this byte if it is the last.
 fn cut_last(line: &mut Vec<u8>, byte: u8)
     ensures cut { line.new.items ≡ without_last byte line.old.items }
 {
@@ -13,7 +13,9 @@ fn cut_last(line: &mut Vec<u8>, byte: u8)
     }
 }
 
-/// Takes the bytes that end a line away: a line feed, and then a carriage return. Allocates nothing.
+/// Removes the bytes that end a line: a line feed, and then a carriage return.
+///
+/// Does not allocate.
 pub fn cut_ending(line: &mut Vec<u8>)
     ensures cut { line.new.items ≡ without_ending line.old.items }
 {
@@ -21,7 +23,7 @@ pub fn cut_ending(line: &mut Vec<u8>)
     cut_last(line, b'\r');
 }
 
-/// Returns whether a line holds nothing but spaces. Allocates nothing.
+/// Returns whether a line contains only spaces. Does not allocate.
 pub fn is_blank(line: &[u8]) -> bool
     ensures blank { result ≡ list_all is_ascii_whitespace line.now }
 {

@@ -1,4 +1,4 @@
-//! What the words of a call ask for.
+//! The options that the words of a call choose.
 ghost use Rattle.std.specs.Prelude.{◌≡◌, ◌++◌, ◌∷◌, IfSome, option_map};
 ghost use Rattle.schema_drafts.specs.KeywordViews.{draft_of};
 ghost use Rattle.command_line.specs.Choices.{draft_named, name_of, output_named};
@@ -8,19 +8,19 @@ use schema_drafts::keywords::Draft;
 /// The word for standard input.
 pub const STANDARD_INPUT: &str = "-";
 
-/// In which form it is printed what was answered.
+/// The form in which answers are printed.
 #[derive(Clone, Copy, Debug, PartialEq, Eq)]
 pub enum Output {
-    /// For people.
+    /// Text for people.
     Text,
-    /// In JSON, the verdict.
+    /// The verdict, in JSON.
     Flag,
-    /// In JSON, the list of units.
+    /// The list of units, in JSON.
     List,
 }
 
 impl Output {
-    /// The word that asks for it.
+    /// Returns the word that chooses this output.
     pub fn name(self) -> &'static str
         ensures name { result.now ≡ name_of self }
     {
@@ -31,7 +31,7 @@ impl Output {
         }
     }
 
-    /// The output of this name.
+    /// Returns the output that this word chooses.
     pub fn named(name: &str) -> Option<Output>
         ensures named { result ≡ output_named name.now }
     {
@@ -44,7 +44,7 @@ impl Output {
     }
 }
 
-/// The draft of this name.
+/// Returns the draft of this name.
 pub fn draft_named(name: &str) -> Option<Draft>
     ensures named { option_map draft_of result ≡ draft_named name.now }
 {
@@ -66,7 +66,9 @@ pub struct Resource<'w> {
 }
 
 impl<'w> Resource<'w> {
-    /// The resource of the words `URI=FILE`, whose URI ends before the first `=`. `None` where there is no `=`, or nothing on a side.
+    /// Reads the words `URI=FILE`, whose URI ends before the first `=`.
+    ///
+    /// Returns `None` if there is no `=`, or nothing on one of its sides.
     pub fn named(words: &'w str) -> Option<Resource<'w>>
         ensures parts { IfSome result (λ r. words.now ≡ r.uri.now ++ 61 ∷ r.file.now) }
     {
@@ -80,16 +82,16 @@ impl<'w> Resource<'w> {
     }
 }
 
-/// What the words of a call ask for.
+/// The options that the words of a call choose.
 #[derive(Drop)]
 pub struct Options<'w> {
     pub schema: &'w str,
     /// Files of one instance each.
     pub instances: Vec<&'w str>,
-    /// A file of an instance a line.
+    /// A file with an instance on each line.
     pub lines: Option<&'w str>,
     pub resources: Vec<Resource<'w>>,
-    /// The draft of schemas that do not say theirs.
+    /// The draft of schemas that do not name theirs.
     pub draft: Option<Draft>,
     pub output: Output,
     /// Whether the schema is checked by its meta-schema.
@@ -97,12 +99,12 @@ pub struct Options<'w> {
     pub run_limit: Option<u32>,
     pub work_limit: Option<u64>,
     pub nested_limit: Option<usize>,
-    /// Whether it is told how far the lines are read.
+    /// Whether the progress through the lines is reported.
     pub progress: bool,
 }
 
 impl<'w> Options<'w> {
-    /// How many of the files are standard input.
+    /// Returns how many of the files are standard input.
     pub fn inputs(&self) -> usize {
         let mut count = usize::from(self.schema == STANDARD_INPUT);
         for file in &self.instances {

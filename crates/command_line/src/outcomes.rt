@@ -1,20 +1,20 @@
-//! How an instance, and a run, comes out.
+//! The outcome for an instance, and for a run.
 ghost use Rattle.std.specs.Prelude.{◌≡◌, if◌then◌else◌, max};
 ghost use Rattle.command_line.specs.Outcomes.{code_of};
 
-/// What was answered of an instance, or of several.
+/// The outcome for an instance, or for several taken together.
 #[derive(Clone, Copy, Debug, PartialEq, Eq)]
 pub enum Outcome {
-    /// It is accepted; of several, all are.
+    /// The instance is accepted; of several, all are.
     Accepted,
-    /// It is refused; of several, one is, and each has an answer.
+    /// The instance is refused; of several, one is, and each has an answer.
     Refused,
     /// There is no answer; of several, one has none.
     Unanswered,
 }
 
 impl Outcome {
-    /// How an instance comes out that is accepted, or is not.
+    /// Returns the outcome for an instance that is accepted or not.
     pub fn of(accepted: bool) -> Outcome
         ensures code { code_of result ≡ (if accepted then 0 else 1) }
     {
@@ -25,7 +25,7 @@ impl Outcome {
         }
     }
 
-    /// The status that the process ends with.
+    /// Returns the exit status of the process.
     pub fn code(self) -> u8
         ensures code { result ≡ code_of self }
     {
@@ -36,7 +36,7 @@ impl Outcome {
         }
     }
 
-    /// How both come out, taken together: as the one with the greater status.
+    /// Returns the outcome of both taken together: the one with the greater status.
     pub fn and(self, other: Outcome) -> Outcome
         ensures greater { code_of result ≡ max (code_of self) (code_of other) }
     {

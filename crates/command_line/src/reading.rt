@@ -7,7 +7,6 @@ use serde_json::Value;
 use std::io::Read;
 use std::{fs, io};
 
-/// The bytes of a file, or of standard input.
 fn bytes_of(rt: &HostRuntime, file: &str) -> io::Result<Vec<u8>> {
     if file == STANDARD_INPUT {
         let mut bytes = Vec::new(rt.alloc());
@@ -18,7 +17,7 @@ fn bytes_of(rt: &HostRuntime, file: &str) -> io::Result<Vec<u8>> {
     }
 }
 
-/// The value of a JSON file. What is wrong with it is told.
+/// Returns the value of a JSON file. Reports a fault of it.
 pub fn value_of(rt: &HostRuntime, file: &str) -> Result<Value, Stop> {
     match bytes_of(rt, file) {
         Ok(bytes) => {

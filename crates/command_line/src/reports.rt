@@ -1,4 +1,4 @@
-//! What is printed of instances and lines, for people to read.
+//! The output for people: the text printed for instances and lines.
 ghost use Rattle.std.specs.Prelude.{◌≡◌, ◌++◌, IfOk, string_bytes};
 ghost use Rattle.command_line.specs.Verdicts.{verdict_text};
 
@@ -6,14 +6,14 @@ use schema_reports::location::OutOfMemory;
 use schema_reports::reports::{ErrorIterator, ValidationError};
 use std::alloc::Global;
 
-/// Whether verdicts are coloured, as a terminal shows them.
+/// Whether verdicts are coloured, for a terminal.
 #[derive(Clone, Copy, Debug, PartialEq, Eq)]
 pub enum Paint {
     Plain,
     Coloured,
 }
 
-/// The word for a verdict, green or red where it is coloured.
+/// Returns the word for a verdict, green or red if it is coloured.
 fn verdict_word(paint: Paint, accepted: bool) -> &'static str
     ensures word { result.now ≡ verdict_text paint accepted }
 {
@@ -25,14 +25,15 @@ fn verdict_word(paint: Paint, accepted: bool) -> &'static str
     }
 }
 
-/// Adds a word, green or red where it is coloured.
 fn push_verdict(text: &mut String, paint: Paint, accepted: bool) -> Result<(), OutOfMemory>
     ensures verdict { IfOk result (λ _. string_bytes text.new ≡ string_bytes text.old ++ verdict_text paint accepted) }
 {
     text.push_str(verdict_word(paint, accepted))
 }
 
-/// Adds a character, or, if it is one that rules a terminal or ends a line, its number: `\u{a}`.
+/// Adds a character, or its number if it controls a terminal or ends a line.
+///
+/// A number is added as `\u{a}`.
 fn push_shown_char(text: &mut String, c: char) -> Result<(), OutOfMemory> {
     if c.is_control() {
         let number = u32::from(c);
@@ -42,7 +43,7 @@ fn push_shown_char(text: &mut String, c: char) -> Result<(), OutOfMemory> {
     }
 }
 
-/// Adds a text of which nothing rules a terminal.
+/// Adds a text with nothing in it that controls a terminal.
 fn push_shown(text: &mut String, part: &str) -> Result<(), OutOfMemory> {
     for c in part.chars() {
         push_shown_char(text, c)?;
@@ -50,7 +51,7 @@ fn push_shown(text: &mut String, part: &str) -> Result<(), OutOfMemory> {
     Ok(())
 }
 
-/// Adds a pointer, or `(root)` where it is empty.
+/// Adds a pointer, or `(root)` if it is empty.
 fn push_pointer(text: &mut String, pointer: &str) -> Result<(), OutOfMemory> {
     if pointer.is_empty() {
         text.push_str("(root)")
@@ -59,7 +60,7 @@ fn push_pointer(text: &mut String, pointer: &str) -> Result<(), OutOfMemory> {
     }
 }
 
-/// Adds where an error is: `instance: /age; schema: /properties/age/type`.
+/// Adds the place of an error: `instance: /age; schema: /properties/age/type`.
 fn push_place(
     text: &mut String,
     alloc: Global,
@@ -71,7 +72,7 @@ fn push_place(
     push_pointer(text, error.schema_path.as_str())
 }
 
-/// Adds an error as its number, its text, and on a second line where it is.
+/// Adds an error: its number and its text, and on a second line its place.
 fn push_error(
     text: &mut String,
     alloc: Global,
@@ -85,11 +86,13 @@ fn push_error(
     text.push_str("\n")
 }
 
-/// What is printed of a file with these errors: `FILE - VALID`, or `FILE - INVALID. Errors:` and each error.
+/// Returns the text for a file with these errors.
+///
+/// It is `FILE - VALID`, or `FILE - INVALID. Errors:` and each error.
 ///
 /// # Errors
 ///
-/// Fails only if memory cannot be allocated.
+/// Out of memory.
 pub fn file_report(
     alloc: Global,
     paint: Paint,
@@ -110,7 +113,7 @@ pub fn file_report(
     Ok(text)
 }
 
-/// The front of what is printed of a line: `FILE:12 - `.
+/// Returns the front of the text for a line: `FILE:12 - `.
 fn line_front(alloc: Global, file: &str, number: u64) -> Result<String, OutOfMemory> {
     let mut text = String::new(alloc);
     push_shown(&mut text, file)?;
@@ -118,11 +121,13 @@ fn line_front(alloc: Global, file: &str, number: u64) -> Result<String, OutOfMem
     Ok(text)
 }
 
-/// What is printed of a line that is refused: `FILE:12 - INVALID. `, the error's text, and where it is.
+/// Returns the text for a line that is refused.
+///
+/// It is `FILE:12 - INVALID. `, the error's text, and its place.
 ///
 /// # Errors
 ///
-/// Fails only if memory cannot be allocated.
+/// Out of memory.
 pub fn line_report(
     alloc: Global,
     paint: Paint,
@@ -140,7 +145,7 @@ pub fn line_report(
     Ok(text)
 }
 
-/// Adds a fault's text without its place.
+/// Adds the text of a fault without its place.
 fn push_fault(text: &mut String, told: &str) -> Result<(), OutOfMemory> {
     match told.split_once(" at line ") {
         Some((what, _place)) => text.push_str(what),
@@ -148,11 +153,13 @@ fn push_fault(text: &mut String, told: &str) -> Result<(), OutOfMemory> {
     }
 }
 
-/// What is wrong with a line that is not JSON, and the column, which counts bytes from 1: `invalid JSON at column 7`.
+/// Returns the fault of a line that is not JSON: `invalid JSON at column 7`.
+///
+/// The column counts bytes from 1.
 ///
 /// # Errors
 ///
-/// Fails only if memory cannot be allocated.
+/// Out of memory.
 pub fn line_fault(alloc: Global, fault: &serde_json::Error) -> Result<String, OutOfMemory> {
     let told = format!(in alloc; "{fault}")?;
     let column = fault.column();
@@ -162,11 +169,13 @@ pub fn line_fault(alloc: Global, fault: &serde_json::Error) -> Result<String, Ou
     Ok(text)
 }
 
-/// What is printed of a line that is not JSON: `FILE:12 - NOT JSON. `, and what is wrong with it.
+/// Returns the text for a line that is not JSON.
+///
+/// It is `FILE:12 - NOT JSON. `, and the fault.
 ///
 /// # Errors
 ///
-/// Fails only if memory cannot be allocated.
+/// Out of memory.
 pub fn unread_report(
     alloc: Global,
     file: &str,
@@ -180,11 +189,13 @@ pub fn unread_report(
     Ok(text)
 }
 
-/// What is printed where there is no answer: `FILE`, why, and on a second line what to do next.
+/// Returns the text printed if there is no answer.
+///
+/// It is `FILE` and the reason, and on a second line what to do next.
 ///
 /// # Errors
 ///
-/// Fails only if memory cannot be allocated.
+/// Out of memory.
 pub fn fault_report(
     alloc: Global,
     file: &str,

@@ -6,7 +6,9 @@ ghost use Rattle.command_line.specs.Tallies.{counted, outcome_of, rate_of};
 use crate::outcomes::Outcome;
 use std::fmt;
 
-/// How many lines there were, and of them how many were refused, and how many had no answer. The counts stop at the greatest number.
+/// The number of lines, and how many of them were refused or had no answer.
+///
+/// The counts stop at the greatest number.
 #[derive(Clone, Copy, Debug, PartialEq, Eq)]
 pub struct Tally {
     pub lines: u64,
@@ -15,7 +17,7 @@ pub struct Tally {
 }
 
 impl Tally {
-    /// No line yet.
+    /// Creates a tally without lines.
     pub fn new() -> Tally
         ensures none { result ≡ record { lines = 0; refused = 0; unanswered = 0 } }
     {
@@ -26,7 +28,7 @@ impl Tally {
         }
     }
 
-    /// Counts a line that came out so.
+    /// Counts a line with this outcome.
     pub fn count(&mut self, outcome: Outcome)
         ensures counted { self.new ≡ counted outcome self.old }
         ensures together { code_of (outcome_of self.new) ≡ max (code_of (outcome_of self.old)) (code_of outcome) }
@@ -39,7 +41,7 @@ impl Tally {
         }
     }
 
-    /// How the lines come out, taken together.
+    /// Returns the outcome of all lines taken together.
     pub fn outcome(&self) -> Outcome
         ensures outcome { result ≡ outcome_of self.now }
     {
@@ -52,7 +54,9 @@ impl Tally {
         }
     }
 
-    /// How many lines a second there were, over so many milliseconds, which count as one where they are none.
+    /// Returns the number of lines a second over this many milliseconds.
+    ///
+    /// No milliseconds count as one.
     pub fn rate(&self, millis: u64) -> u64
         ensures rate { result ≡ rate_of self.now.lines millis }
     {
@@ -62,7 +66,7 @@ impl Tally {
     }
 }
 
-/// `3 lines: 1 refused, 1 not JSON`.
+/// Displays as `3 lines: 1 refused, 1 not JSON`.
 impl fmt::Display for Tally {
     fn fmt<W: fmt::Write>(&self, f: &mut fmt::Formatter<W>) -> fmt::Result {
         write!(

@@ -1,4 +1,4 @@
-//! Tells on standard error why there is no answer, and what to do next.
+//! Reports on standard error why there is no answer, and what to do next.
 
 use crate::desk::Stop;
 use crate::reports::fault_report;
@@ -11,7 +11,7 @@ const READ: &str =
 
 const PARSED: &str = "mend the text there; columns count bytes from 1";
 
-/// What is told of a file: what went wrong with it, why, and what to do next.
+/// Returns the report about a file: what went wrong, why, and what to do next.
 fn report_of<W: fmt::Display>(
     alloc: Global,
     file: &str,
@@ -23,7 +23,7 @@ fn report_of<W: fmt::Display>(
     fault_report(alloc, file, told.as_str(), hint)
 }
 
-/// Tells what went wrong with a file.
+/// Reports what went wrong with a file.
 pub fn tell<W: fmt::Display>(
     rt: &HostRuntime,
     file: &str,
@@ -41,12 +41,12 @@ pub fn tell<W: fmt::Display>(
     }
 }
 
-/// Tells why a file cannot be read.
+/// Reports why a file cannot be read.
 pub fn tell_unread(rt: &HostRuntime, file: &str, fault: &std::io::Error) -> Stop {
     tell(rt, file, "cannot be read", fault, READ)
 }
 
-/// Tells why a file is not JSON, and where.
+/// Reports why a file is not JSON, and where.
 pub fn tell_unparsed(rt: &HostRuntime, file: &str, fault: &serde_json::Error) -> Stop {
     if fault.is_memory() {
         return Stop::OutOfMemory;

@@ -1,4 +1,4 @@
-//! How long the lines of a file take.
+//! The time that the lines of a file take.
 ghost use Rattle.std.specs.Prelude.{◌≡◌, ◌+◌, ◌≤◌, ◌⊎◌, IfSome, IsNone};
 
 use crate::desk::Desk;
@@ -7,19 +7,21 @@ use crate::tally::Tally;
 use schema_reports::location::OutOfMemory;
 use std::time::Instant;
 
-/// How long it is between two lines that tell how far it is, in milliseconds.
+/// The milliseconds between two lines that report progress.
 const BETWEEN: u64 = 1000;
 
-/// When the lines were begun, and how much of the time is told, in milliseconds.
+/// The time when the lines began, and how much of the time since is reported.
+///
+/// That time is in milliseconds.
 #[derive(Clone, Copy)]
 pub struct Watch {
-    /// There is none where the clock cannot be read.
+    /// `None` if the clock cannot be read.
     pub begun: Option<Instant>,
     pub told: u64,
 }
 
 impl Watch {
-    /// Begins now.
+    /// Starts a watch now.
     pub fn new(rt: &HostRuntime) -> Watch
         ensures untold { result.told ≡ 0 }
     {
@@ -29,7 +31,7 @@ impl Watch {
         }
     }
 
-    /// Returns how many milliseconds it is since the beginning, if the clock says.
+    /// Returns the milliseconds since the beginning, if the clock can be read.
     pub fn millis(&self, rt: &HostRuntime) -> Option<u64>
         ensures begun { IsNone self.now.begun → IsNone result }
     {
@@ -37,7 +39,8 @@ impl Watch {
         u64::try_from(elapsed.as_millis()).ok()
     }
 
-    // How many milliseconds it is since the beginning, which are taken for told, if a second of them or more is not told yet.
+    // Returns the milliseconds since the beginning if a second or more of them is not reported yet,
+    // and marks them as reported.
     fn to_tell(&mut self, rt: &HostRuntime) -> Option<u64>
         ensures begun { self.new.begun ≡ self.old.begun }
         ensures told { IfSome result (λ millis. self.new.told ≡ millis) }
@@ -52,7 +55,9 @@ impl Watch {
         Some(millis)
     }
 
-    /// Tells on standard error how far a file is, if a second or more is not told yet. Allocates nothing.
+    /// Reports progress on standard error if a second or more is not reported yet.
+    ///
+    /// Does not allocate.
     pub fn tell(&mut self, rt: &HostRuntime, file: &str, tally: &Tally)
         ensures begun { self.new.begun ≡ self.old.begun }
         ensures told { (self.new.told ≡ self.old.told) ⊎ (self.old.told + 1000 ≤ self.new.told) }
@@ -63,11 +68,13 @@ impl Watch {
         }
     }
 
-    /// Tells how many lines a file has, on the desk where text is asked for and else on standard error; and there how long they took.
+    /// Reports how many lines a file has, and on standard error how long they took.
+    ///
+    /// The number goes to the desk if text is requested, and otherwise to standard error.
     ///
     /// # Errors
     ///
-    /// Fails out of memory.
+    /// Out of memory.
     pub fn sum_up(
         &self,
         rt: &HostRuntime,

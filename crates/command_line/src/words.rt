@@ -23,7 +23,7 @@ const AFTER: &str =
 The status is 0 where all is accepted, 1 where one instance is refused, and 2 where one has no answer: a file that cannot be
 read, text that is not JSON, a schema that is refused, words that are wrong, memory that cannot be had, or a write that failed.";
 
-/// An option that takes a value.
+/// Returns an option that takes a value.
 fn option<'a>(alloc: Global, name: &'a str, value: &'a str, help: &'a str) -> Arg<'a> {
     Arg::new(alloc, name)
         .long(name)
@@ -32,7 +32,7 @@ fn option<'a>(alloc: Global, name: &'a str, value: &'a str, help: &'a str) -> Ar
         .help(help)
 }
 
-/// An option that takes none.
+/// Returns an option that takes no value.
 fn flag<'a>(alloc: Global, name: &'a str, help: &'a str) -> Arg<'a> {
     Arg::new(alloc, name)
         .long(name)
@@ -101,7 +101,9 @@ fn nested_limit_option<'a>(alloc: Global) -> Arg<'a> {
     option(alloc, "nested-limit", "N", help).value_parser(clap::value_parser!(usize))
 }
 
-/// The command with the files that it reads. One argument is made after the other, so that few are there at each way out.
+/// Adds the options that name files.
+///
+/// Arguments are made one after the other, so that few of them have to be dropped at each exit.
 fn files<'a>(alloc: Global, command: Command<'a>) -> Result<Command<'a>, OutOfMemory> {
     let command = command.arg(schema_word(alloc))?;
     let command = command.arg(instance_option(alloc))?;
@@ -109,7 +111,7 @@ fn files<'a>(alloc: Global, command: Command<'a>) -> Result<Command<'a>, OutOfMe
     command.arg(resource_option(alloc))
 }
 
-/// The command with what says how it answers.
+/// Adds the options that choose how the command answers.
 fn manners<'a>(alloc: Global, command: Command<'a>) -> Result<Command<'a>, OutOfMemory> {
     let command = command.arg(draft_option(alloc))?;
     let command = command.arg(output_option(alloc))?;
@@ -118,14 +120,14 @@ fn manners<'a>(alloc: Global, command: Command<'a>) -> Result<Command<'a>, OutOf
     command.arg(progress)
 }
 
-/// The command with the limits of the engine.
+/// Adds the limits of the engine.
 fn limits<'a>(alloc: Global, command: Command<'a>) -> Result<Command<'a>, OutOfMemory> {
     let command = command.arg(run_limit_option(alloc))?;
     let command = command.arg(work_limit_option(alloc))?;
     command.arg(nested_limit_option(alloc))
 }
 
-/// The command, as `--help` shows it.
+/// Returns the command, as `--help` shows it.
 fn command<'a>(alloc: Global) -> Result<Command<'a>, OutOfMemory> {
     let command = Command::new(alloc, "jsonschema")
         .version("0.1.0")
@@ -134,7 +136,6 @@ fn command<'a>(alloc: Global) -> Result<Command<'a>, OutOfMemory> {
     limits(alloc, manners(alloc, files(alloc, command)?)?)
 }
 
-/// The values of an argument, in their order.
 fn values_of<'w>(
     alloc: Global,
     matches: &ArgMatches<'w>,
@@ -146,7 +147,9 @@ fn values_of<'w>(
     }
 }
 
-/// The resources of their words; the first words that name none are an inner `Err`.
+/// Returns the resources of these words.
+///
+/// The first words that name none are an inner `Err`.
 fn resources_of<'w>(
     alloc: Global,
     words: &[&'w str],
@@ -161,7 +164,6 @@ fn resources_of<'w>(
     Ok(Ok(resources))
 }
 
-/// What the matches ask for, with these resources.
 fn options_of<'w>(
     alloc: Global,
     matches: &ArgMatches<'w>,
@@ -185,7 +187,9 @@ fn options_of<'w>(
     })
 }
 
-/// The resources that the matches name; the first words that name none are an inner `Err`.
+/// Returns the resources that the matches name.
+///
+/// The first words that name none are an inner `Err`.
 fn resources_in<'w>(
     alloc: Global,
     matches: &ArgMatches<'w>,
@@ -196,7 +200,7 @@ fn resources_in<'w>(
     resources
 }
 
-/// The error of words that name no resource, with the command's usage.
+/// Returns the error for words that name no resource, with the command's usage.
 fn no_resource<'w>(
     alloc: Global,
     command: &mut Command<'w>,
@@ -208,7 +212,9 @@ fn no_resource<'w>(
     error
 }
 
-/// The options, or an error with the command's usage where they read standard input more than once.
+/// Returns the options, or an error with the command's usage.
+///
+/// It is an error if the options read standard input more than once.
 fn reading_once<'w>(command: &mut Command<'w>, options: Options<'w>) -> Result<Options<'w>, Error> {
     if options.inputs() <= 1 {
         return Ok(options);
@@ -218,7 +224,7 @@ fn reading_once<'w>(command: &mut Command<'w>, options: Options<'w>) -> Result<O
     Err(command.error(ErrorKind::ArgumentConflict, told)?)
 }
 
-/// What the matches ask for, or an error with the command's usage.
+/// Returns the chosen options, or an error with the command's usage.
 fn checked_options<'w>(
     alloc: Global,
     command: &mut Command<'w>,
@@ -233,7 +239,6 @@ fn checked_options<'w>(
     }
 }
 
-/// What the words ask for, as the command reads them.
 fn options_by<'w>(
     alloc: Global,
     command: &mut Command<'w>,
@@ -245,11 +250,14 @@ fn options_by<'w>(
     options
 }
 
-/// What the words ask for, of which the first is the program's name.
+/// Returns the options that the words choose.
+///
+/// The first word is the program's name.
 ///
 /// # Errors
 ///
-/// Fails if the words are wrong, if they ask for help or the version, or out of memory; the error prints what to say.
+/// The words are wrong, they request help or the version, or out of memory. The error prints the
+/// text to show.
 pub fn options_in<'w>(alloc: Global, words: &'w [String]) -> Result<Options<'w>, Error> {
     let mut command = command(alloc)?;
     let options = options_by(alloc, &mut command, words);
@@ -257,17 +265,19 @@ pub fn options_in<'w>(alloc: Global, words: &'w [String]) -> Result<Options<'w>,
     options
 }
 
-/// The words of the call, the program's name first.
+/// Returns the words of the call, the program's name first.
 ///
 /// # Errors
 ///
-/// Fails if they are not UTF-8, or out of memory.
+/// A word is not UTF-8, or out of memory.
 pub fn given_words(rt: &HostRuntime) -> io::Result<Vec<String>> {
     let words: Vec<String> = env::args(rt)?.collect(rt.alloc())?;
     Ok(words)
 }
 
-/// Prints what is to be said in place of an answer, and says how the call comes out: help and the version are accepted.
+/// Prints the text shown in place of an answer, and returns the outcome.
+///
+/// Help and the version count as accepted.
 pub fn say(rt: &HostRuntime, told: Error) -> Outcome
     ensures wrong { kind_of told ≢ ErrorKind.DisplayHelp → kind_of told ≢ ErrorKind.DisplayVersion → code_of result ≡ 2 }
     ensures no_refusal { code_of result ≢ 1 }
