@@ -1,4 +1,4 @@
-//! Builds the validator of the schema.
+//! Builds the validator of the schema, and answers by it.
 
 use crate::validating::Validating;
 use command_line::answerer::answer_by;
@@ -17,7 +17,7 @@ use schema_engine::location::OutOfMemory;
 use serde_json::Value;
 use std::alloc::Global;
 
-/// Options with this limit of runs, if there is one that lets a run be made.
+/// Sets this limit on runs, if there is one that allows a run.
 fn with_runs(options: ValidationOptions, limit: Option<u32>) -> ValidationOptions {
     match limit {
         Some(limit) if limit >= 1 => options.with_run_limit(limit),
@@ -25,7 +25,6 @@ fn with_runs(options: ValidationOptions, limit: Option<u32>) -> ValidationOption
     }
 }
 
-/// Options with this limit of steps, if there is one.
 fn with_work(options: ValidationOptions, limit: Option<u64>) -> ValidationOptions {
     match limit {
         Some(limit) => options.with_work_limit(limit),
@@ -33,7 +32,6 @@ fn with_work(options: ValidationOptions, limit: Option<u64>) -> ValidationOption
     }
 }
 
-/// Options with this limit of targets one inside another, if there is one.
 fn with_nested(options: ValidationOptions, limit: Option<usize>) -> ValidationOptions {
     match limit {
         Some(limit) => options.with_nested_limit(limit),
@@ -41,7 +39,6 @@ fn with_nested(options: ValidationOptions, limit: Option<usize>) -> ValidationOp
     }
 }
 
-/// What the engine is told of the options.
 fn engine_options(alloc: Global, options: &Options<'_>) -> ValidationOptions {
     let chosen = ValidationOptions::new(alloc).should_validate_schema(options.checked);
     let chosen = with_runs(chosen, options.run_limit);
@@ -49,7 +46,6 @@ fn engine_options(alloc: Global, options: &Options<'_>) -> ValidationOptions {
     with_nested(chosen, options.nested_limit)
 }
 
-/// Sources with these documents too.
 fn with_documents<'a>(
     alloc: Global,
     sources: Sources<'a>,
@@ -62,7 +58,6 @@ fn with_documents<'a>(
     Ok(sources)
 }
 
-/// Sources that are read in this draft where they name none, if there is one.
 fn with_draft<'a>(sources: Sources<'a>, draft: Option<Draft>) -> Sources<'a> {
     match draft {
         Some(draft) => sources.with_default_draft(draft),
@@ -70,7 +65,6 @@ fn with_draft<'a>(sources: Sources<'a>, draft: Option<Draft>) -> Sources<'a> {
     }
 }
 
-/// What the validator is built from.
 fn sources_of<'a>(
     alloc: Global,
     options: &Options<'_>,
@@ -82,7 +76,7 @@ fn sources_of<'a>(
     with_documents(alloc, sources, documents)?.with_meta_schemas(alloc, metas)
 }
 
-/// What may be done about a refusal of the schema.
+/// Returns what the user can do about a refusal of the schema.
 fn hint_of(refused: &BuildError) -> &'static str {
     match refused {
         BuildError::NotASchema(_) => "a schema is an object, true or false",
@@ -101,7 +95,7 @@ fn hint_of(refused: &BuildError) -> &'static str {
     }
 }
 
-/// Tells why the schema is refused.
+/// Reports why the schema is refused.
 fn refuse(rt: &HostRuntime, options: &Options<'_>, refused: &BuildError) -> Stop {
     match refused {
         BuildError::OutOfMemory => Stop::OutOfMemory,
@@ -109,7 +103,7 @@ fn refuse(rt: &HostRuntime, options: &Options<'_>, refused: &BuildError) -> Stop
     }
 }
 
-/// Tells which pattern is too big.
+/// Reports which pattern is too big.
 fn refuse_pattern(rt: &HostRuntime, options: &Options<'_>, fault: &PatternError) -> Stop {
     match fault {
         PatternError::OutOfMemory => Stop::OutOfMemory,
@@ -123,7 +117,7 @@ fn refuse_pattern(rt: &HostRuntime, options: &Options<'_>, fault: &PatternError)
     }
 }
 
-/// Tells why the meta-schemas are not to be had.
+/// Reports why the meta-schemas are not available.
 fn refuse_metas(rt: &HostRuntime, fault: &MetaError) -> Stop {
     match fault {
         MetaError::OutOfMemory => Stop::OutOfMemory,
@@ -137,7 +131,6 @@ fn refuse_metas(rt: &HostRuntime, fault: &MetaError) -> Stop {
     }
 }
 
-/// Answers by the validator of the sources and their patterns.
 fn answer_built(
     rt: &HostRuntime,
     desk: &mut Desk,
@@ -160,7 +153,6 @@ fn answer_built(
     }
 }
 
-/// Answers by the validator of the sources.
 fn answer_by_sources(
     rt: &HostRuntime,
     desk: &mut Desk,
@@ -178,7 +170,6 @@ fn answer_by_sources(
     }
 }
 
-/// Answers by the validator of a schema, with the meta-schemas at hand.
 fn answer_by_metas(
     rt: &HostRuntime,
     desk: &mut Desk,

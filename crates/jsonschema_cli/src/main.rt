@@ -1,6 +1,8 @@
-//! `jsonschema SCHEMA [-i FILE].. [--lines FILE]`: checks JSON by a JSON Schema, one document a file or one a line. `--help` says the rest.
-//! It ends with 0 where all is accepted, with 1 where an instance is refused, and with 2 where one has no answer; then standard error
-//! says why.
+//! The program: validates JSON against a JSON Schema.
+//!
+//! `jsonschema SCHEMA [-i FILE].. [--lines FILE]` reads one document from each file, or one from
+//! each line of a file. `--help` lists the other options. The exit status is 0 if all documents are
+//! valid, 1 if one is not, and 2 if one could not be checked; then standard error says why.
 #![tactic(auto)]
 
 mod building;

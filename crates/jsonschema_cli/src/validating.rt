@@ -1,4 +1,4 @@
-//! Answers instances by a validator.
+//! Answers for instances by a validator.
 ghost use Rattle.std.specs.Prelude.{◌≤◌, IfOk};
 ghost use Rattle.command_line.specs.Outcomes.{code_of};
 
@@ -11,14 +11,14 @@ use jsonschema::StandardValidator;
 use serde_json::Value;
 use std::alloc::Global;
 
-/// A validator that is asked.
+/// Answers by this validator.
 #[derive(Clone, Copy)]
 pub(crate) struct Validating<'v, 'p> {
     pub(crate) validator: &'v StandardValidator<'p>,
 }
 
 impl Validating<'_, '_> {
-    /// All errors of an instance, as text.
+    /// Returns all errors of an instance, as text.
     fn errors(&self, alloc: Global, paint: Paint, file: &str, instance: &Value) -> Answer
         ensures answered { IfOk result (λ a. code_of a.0 ≤ 1) }
     {
@@ -28,7 +28,7 @@ impl Validating<'_, '_> {
         Ok((outcome, text))
     }
 
-    /// The first error of a line, as text, if it has one.
+    /// Returns the first error of a line as text, which is empty if there is none.
     fn first_error(
         &self,
         alloc: Global,
@@ -49,7 +49,7 @@ impl Validating<'_, '_> {
         }
     }
 
-    /// The verdict of an instance, in JSON.
+    /// Returns the verdict on an instance, in JSON.
     fn verdict(&self, alloc: Global, subject: Subject<'_>, instance: &Value) -> Answer
         ensures answered { IfOk result (λ a. code_of a.0 ≤ 1) }
     {
@@ -58,7 +58,7 @@ impl Validating<'_, '_> {
         Ok((Outcome::of(accepted), text))
     }
 
-    /// The list of an instance's units, in JSON.
+    /// Returns the list of an instance's units, in JSON.
     fn list(&self, alloc: Global, subject: Subject<'_>, instance: &Value) -> Answer
         ensures answered { IfOk result (λ a. code_of a.0 ≤ 1) }
     {
