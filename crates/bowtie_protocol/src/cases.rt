@@ -1,11 +1,11 @@
-//! Cases: a schema, and instances that it is asked about.
+//! Cases: a schema, and the instances to validate against it.
 
 use crate::replies::{answered, fault, fault_of_test, verdict};
 use schema_drafts::keywords::Draft;
 use serde_json::Value;
 use std::alloc::{AllocError, Global};
 
-/// A case with a schema, and the number that its command goes by, if it has one.
+/// A case with a schema, and the number of its command, if it has one.
 #[derive(Clone, Copy)]
 pub struct Case<'c> {
     pub seq: Option<&'c Value>,
@@ -13,28 +13,30 @@ pub struct Case<'c> {
     pub schema: &'c Value,
 }
 
-/// What accepts instances or refuses them, as a validator does.
+/// Accepts or refuses instances, as a validator does.
 pub trait Judge {
-    /// Whether the instance is accepted.
+    /// Returns whether the instance is accepted.
     ///
     /// # Errors
     ///
-    /// Fails only if memory cannot be allocated.
+    /// Out of memory.
     fn accepts(&self, alloc: Global, instance: &Value) -> Result<bool, AllocError>;
 }
 
-/// What answers cases.
+/// Answers cases.
 pub trait Engine {
-    /// What is answered of a case whose schema is read in this draft where it does not say its own: what the judge of the schema says of
-    /// the tests (`Case::results`), or why there is none (`Case::fault`).
+    /// Answers a case; the draft is that of a schema that does not name its own.
+    ///
+    /// The answer is the judge's verdicts on the tests (`Case::results`), or the reason why there
+    /// are none (`Case::fault`).
     ///
     /// # Errors
     ///
-    /// Fails only if memory cannot be allocated.
+    /// Out of memory.
     fn answer(&self, alloc: Global, draft: Draft, case: Case<'_>) -> Result<Value, AllocError>;
 }
 
-/// What is answered of a test.
+/// Returns the answer to a test.
 fn result_of<J: Judge>(alloc: Global, judge: &J, test: &Value) -> Result<Value, AllocError> {
     match test.get("instance") {
         Some(instance) => verdict(alloc, judge.accepts(alloc, instance)?),
@@ -42,7 +44,6 @@ fn result_of<J: Judge>(alloc: Global, judge: &J, test: &Value) -> Result<Value, 
     }
 }
 
-/// Adds what is answered of each test.
 fn add_results<J: Judge>(
     alloc: Global,
     judge: &J,
@@ -55,7 +56,6 @@ fn add_results<J: Judge>(
     Ok(())
 }
 
-/// What is answered of each test.
 fn results_of<J: Judge>(alloc: Global, judge: &J, tests: &[Value]) -> Result<Value, AllocError> {
     let mut results = Vec::new(alloc);
     add_results(alloc, judge, tests, &mut results)?;
@@ -63,11 +63,11 @@ fn results_of<J: Judge>(alloc: Global, judge: &J, tests: &[Value]) -> Result<Val
 }
 
 impl Case<'_> {
-    /// What is answered where the judge is asked about each instance.
+    /// Returns the answer with the judge's verdict on each instance.
     ///
     /// # Errors
     ///
-    /// Fails only if memory cannot be allocated.
+    /// Out of memory.
     pub fn results<J: Judge>(&self, alloc: Global, judge: &J) -> Result<Value, AllocError> {
         match self.body.get("tests").and_then(Value::as_array) {
             Some(tests) => answered(alloc, self.seq, results_of(alloc, judge, tests.as_slice())?),
@@ -75,11 +75,11 @@ impl Case<'_> {
         }
     }
 
-    /// What is answered where nothing can be asked.
+    /// Returns the answer if no instance can be validated, with the reason.
     ///
     /// # Errors
     ///
-    /// Fails only if memory cannot be allocated.
+    /// Out of memory.
     pub fn fault(&self, alloc: Global, message: &str) -> Result<Value, AllocError> {
         fault(alloc, self.seq, message)
     }

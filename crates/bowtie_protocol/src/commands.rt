@@ -1,4 +1,4 @@
-//! Commands, and what is replied.
+//! Commands, and the replies to them.
 
 use crate::cases::{Case, Engine};
 use crate::replies::{STARTED, fault, obeyed};
@@ -6,14 +6,14 @@ use schema_drafts::keywords::Draft;
 use serde_json::Value;
 use std::alloc::{AllocError, Global};
 
-/// What comes of a line: a line that is replied, or the end.
+/// The result of a line: a reply, or the end.
 #[derive(Drop)]
 pub(crate) enum Turn {
     Reply(String),
     Stop,
 }
 
-/// What a command asks for.
+/// The kind of a command.
 #[derive(Clone, Copy)]
 enum Word {
     Start,
@@ -23,7 +23,6 @@ enum Word {
     Unknown,
 }
 
-/// What a command asks for, by its word.
 fn word_named(name: &str) -> Word {
     match name {
         "start" => Word::Start,
@@ -34,7 +33,7 @@ fn word_named(name: &str) -> Word {
     }
 }
 
-/// The draft of a dialect.
+/// Returns the draft of a dialect.
 fn draft_of(uri: &str) -> Option<Draft> {
     match uri {
         "http://json-schema.org/draft-04/schema" | "http://json-schema.org/draft-04/schema#" =>
@@ -51,29 +50,28 @@ fn draft_of(uri: &str) -> Option<Draft> {
     }
 }
 
-/// The text that a command has under a name, or no text.
+/// Returns the text that a command has under a name, or the empty text.
 fn text_in<'c>(command: &'c Value, name: &str) -> &'c str {
     command.get(name).and_then(Value::as_str).unwrap_or("")
 }
 
-/// The number that a command goes by, if it has one.
+/// Returns the number of a command, if it has one.
 fn seq_of(command: &Value) -> Option<&Value> {
     command.get("seq")
 }
 
-/// A reply, as a line.
 fn reply(alloc: Global, value: Value) -> Result<Turn, AllocError> {
     let text = value.to_string(alloc);
     drop(value);
     Ok(Turn::Reply(text?))
 }
 
-/// Tells what is wrong with a command.
+/// Replies with the fault of a command.
 fn refuse(alloc: Global, seq: Option<&Value>, message: &str) -> Result<Turn, AllocError> {
     reply(alloc, fault(alloc, seq, message)?)
 }
 
-/// Tells what the implementation is.
+/// Replies with what the implementation is.
 fn start(alloc: Global, command: &Value) -> Result<Turn, AllocError> {
     if command.get("version").and_then(Value::as_u64) == Some(1) {
         Ok(Turn::Reply(String::from_str(alloc, STARTED)?))
@@ -82,7 +80,7 @@ fn start(alloc: Global, command: &Value) -> Result<Turn, AllocError> {
     }
 }
 
-/// Sets the draft of schemas that do not say theirs.
+/// Sets the draft of schemas that do not name theirs.
 fn speak(alloc: Global, draft: &mut Draft, command: &Value) -> Result<Turn, AllocError> {
     match draft_of(text_in(command, "dialect")) {
         Some(spoken) => {
@@ -93,7 +91,7 @@ fn speak(alloc: Global, draft: &mut Draft, command: &Value) -> Result<Turn, Allo
     }
 }
 
-/// Asks a schema of several instances.
+/// Validates several instances against a schema.
 fn run<E: Engine>(
     alloc: Global,
     engine: &E,
@@ -110,7 +108,6 @@ fn run<E: Engine>(
     }
 }
 
-/// What comes of a command.
 fn obey<E: Engine>(
     alloc: Global,
     engine: &E,
@@ -130,13 +127,13 @@ fn obey<E: Engine>(
     }
 }
 
-/// Tells why a line is no command.
+/// Replies with the reason why a line is no command.
 fn refuse_line(alloc: Global, error: &serde_json::Error) -> Result<Turn, AllocError> {
     let text = format!(in alloc; "the line cannot be read: {error}")?;
     refuse(alloc, None, text.as_str())
 }
 
-/// What comes of a line.
+/// Takes a line and returns its result.
 pub(crate) fn take<E: Engine>(
     alloc: Global,
     engine: &E,

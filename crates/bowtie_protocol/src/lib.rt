@@ -1,7 +1,9 @@
-//! The protocol by which implementations of JSON Schema are tested side by side, over what answers a case: commands in JSON, one in a
-//! line, and a line in JSON for each. `start` is answered by what the implementation is, `dialect` sets the draft of schemas that do not
-//! say theirs, `run` asks a schema of several instances, and `stop` ends. A line that is no command is answered too, by what is wrong
-//! with it, and the next one is read.
+//! The protocol for testing implementations of JSON Schema side by side.
+//!
+//! Commands and replies are JSON, one on a line. `start` asks what the implementation is, `dialect`
+//! sets the draft of schemas that do not name theirs, `run` validates several instances against a
+//! schema, and `stop` ends. For a line that is no command, the reply says what is wrong with it,
+//! and the next line is read.
 #![tactic(auto)]
 
 pub mod cases;

@@ -6,7 +6,7 @@ use anyhow::Result;
 use schema_drafts::keywords::Draft;
 use std::io::{BufRead, BufReader};
 
-/// Answers a line, and returns whether another one is to be read.
+/// Answers a line, and returns whether another one is read.
 fn answer_line<E: Engine>(
     rt: &HostRuntime,
     engine: &E,
@@ -22,12 +22,13 @@ fn answer_line<E: Engine>(
     }
 }
 
-/// Reads lines until `stop` or the end, and answers each. Schemas that do not say their draft are read in this one until a command sets
-/// another.
+/// Reads lines until `stop` or the end of input, and answers each.
+///
+/// Schemas that do not name their draft are read in this one until a command sets another.
 ///
 /// # Errors
 ///
-/// Fails if standard input cannot be read, if standard output cannot be written, or out of memory.
+/// Standard input cannot be read, standard output cannot be written, or out of memory.
 pub fn answer_lines<E: Engine>(rt: &HostRuntime, engine: &E, draft: Draft) -> Result<()> {
     let mut draft = draft;
     let reader = BufReader::new(rt.alloc(), rt.reader())?;

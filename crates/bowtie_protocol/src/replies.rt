@@ -1,9 +1,11 @@
-//! What is replied.
+//! Replies to commands.
 
 use serde_json::{Value, json};
 use std::alloc::{AllocError, Global};
 
-/// What the implementation is, with the dialects by the URIs of their meta-schemas, the newest first: a line that is replied.
+/// The reply to `start`: what the implementation is.
+///
+/// It has the URIs of the dialects' meta-schemas, newest first.
 pub(crate) const STARTED: &str = concat!(
     r#"{"implementation":{"dialects":["https://json-schema.org/draft/2020-12/schema","https://json-schema.org/draft/2019-09/schema","#,
     r#""http://json-schema.org/draft-07/schema#","http://json-schema.org/draft-06/schema#","http://json-schema.org/draft-04/schema#"],"#,
@@ -11,7 +13,7 @@ pub(crate) const STARTED: &str = concat!(
     r#""source":"https://lubhaxeni.example/source","version":"0.1.0"},"version":1}"#,
 );
 
-/// The number that a command goes by, or null.
+/// Returns the number of a command, or null.
 fn number_of(seq: Option<&Value>) -> Result<Value, AllocError> {
     match seq {
         Some(seq) => seq.clone(),
@@ -19,17 +21,17 @@ fn number_of(seq: Option<&Value>) -> Result<Value, AllocError> {
     }
 }
 
-/// Whether a command is obeyed.
+/// Returns the reply that says whether a command was obeyed.
 pub(crate) fn obeyed(alloc: Global, ok: bool) -> Result<Value, AllocError> {
     json!(in alloc; {"ok": Value::Bool(ok)})
 }
 
-/// What a judge says of an instance.
+/// Returns a judge's verdict on an instance.
 pub(crate) fn verdict(alloc: Global, valid: bool) -> Result<Value, AllocError> {
     json!(in alloc; {"valid": Value::Bool(valid)})
 }
 
-/// The results of the command that goes by this number.
+/// Returns the results of the command with this number.
 pub(crate) fn answered(
     alloc: Global,
     seq: Option<&Value>,
@@ -39,23 +41,22 @@ pub(crate) fn answered(
     json!(in alloc; {"results": results, "seq": seq})
 }
 
-/// What is wrong, as a fault has it.
+/// Returns the member of a fault that says what is wrong.
 fn context(alloc: Global, message: &str) -> Result<Value, AllocError> {
     json!(in alloc; {"message": message})
 }
 
-/// That a test is not answered, and why.
+/// Returns the fault of a test that is not answered.
 pub(crate) fn fault_of_test(alloc: Global, message: &str) -> Result<Value, AllocError> {
     let context = context(alloc, message)?;
     json!(in alloc; {"context": context, "errored": Value::Bool(true)})
 }
 
-/// That a command is not answered, whose number is this, and why.
 fn fault_by(alloc: Global, seq: Value, context: Value) -> Result<Value, AllocError> {
     json!(in alloc; {"context": context, "seq": seq, "errored": Value::Bool(true)})
 }
 
-/// That something is not answered, and why.
+/// Returns the fault of a command that is not answered.
 pub(crate) fn fault(
     alloc: Global,
     seq: Option<&Value>,
