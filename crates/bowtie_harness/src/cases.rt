@@ -29,7 +29,7 @@ impl Judge for Asked<'_, '_> {
     }
 }
 
-/// Sources with the documents of the registry of a case too.
+/// Adds the documents of a case's registry.
 fn with_registry<'c>(
     alloc: Global,
     sources: Sources<'c>,
@@ -44,7 +44,9 @@ fn with_registry<'c>(
     Ok(sources)
 }
 
-/// The schema of a case, the documents of its registry, and the meta-schemas.
+/// Returns the schema of a case, with the documents of its registry.
+///
+/// The meta-schemas are among the documents too.
 fn sources_of<'c>(
     alloc: Global,
     documents: &'c MetaDocuments,
@@ -55,13 +57,13 @@ fn sources_of<'c>(
     with_registry(alloc, sources, case.body)?.with_meta_schemas(alloc, documents)
 }
 
-/// What is answered of a case whose schema is refused.
+/// Answers a case whose schema is refused.
 fn refuse(alloc: Global, case: Case<'_>, refused: &BuildError) -> Result<Value, OutOfMemory> {
     let text = format!(in alloc; "{refused}")?;
     case.fault(alloc, text.as_str())
 }
 
-/// What is answered of a case that has a pattern which is not compiled.
+/// Answers a case with a pattern that is not compiled.
 fn refuse_pattern(
     alloc: Global,
     case: Case<'_>,
@@ -71,7 +73,6 @@ fn refuse_pattern(
     case.fault(alloc, text.as_str())
 }
 
-/// Builds the validator of a case.
 fn built<'p>(
     alloc: Global,
     metas: &StandardMeta<'_>,
@@ -82,7 +83,7 @@ fn built<'p>(
     build(alloc, sources, patterns, metas, options)
 }
 
-/// What is answered of a case whose patterns are compiled.
+/// Answers a case whose patterns are compiled.
 fn answer_by_patterns(
     alloc: Global,
     metas: &StandardMeta<'_>,
@@ -107,7 +108,7 @@ fn answer_by_patterns(
     }
 }
 
-/// What is answered of a case with these sources.
+/// Answers a case with these sources.
 fn answer_by_sources(
     alloc: Global,
     metas: &StandardMeta<'_>,

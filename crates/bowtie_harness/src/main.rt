@@ -1,7 +1,9 @@
-//! Speaks the protocol by which implementations of JSON Schema are tested side by side: reads commands in JSON, one in a line, and
-//! writes a line in JSON for each. `start` is answered by what the implementation is, `dialect` sets the draft of schemas that do not
-//! say theirs, `run` asks a schema of several instances, and `stop` ends. A line that is no command is answered too, by what is wrong
-//! with it, and the next one is read.
+//! The harness for testing implementations of JSON Schema side by side.
+//!
+//! It reads commands in JSON, one on a line, and writes a line in JSON for each. `start` asks what
+//! the implementation is, `dialect` sets the draft of schemas that do not name theirs, `run`
+//! validates several instances against a schema, and `stop` ends. For a line that is no command,
+//! the reply says what is wrong with it, and the next line is read.
 #![tactic(auto)]
 
 mod cases;
