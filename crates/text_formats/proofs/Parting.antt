@@ -1,4 +1,4 @@
--- The parts of a text, from where it is cut.
+-- The parts of a text, from the cut at the first mark.
 use Rattle.std.proofs.Common.{◌≡◌, ◌∙◌, ◌+◌, ◌==◌, ◌&&◌, ◌<◌, ◌≤◌, Bool, List, [], ◌∷◌, None, Option, Some, ap, arith, false, inl, inr, length, refl, true, ℕ, option_map}
 use Rattle.std.specs.List.{after_first, before_first, list_all, position_or_len}
 use Rattle.std.proofs.lemmas.Bool.{cases_Bool, cases_lt, le-ltb, lt-ltb}
@@ -18,7 +18,7 @@ abbrev pair_in : Option (Text × Text) → Text × Text
 pair_in None = ([], [])
 pair_in (Some p) = p
 
--- a text with no mark is one part
+-- a text without a mark is one part
 alone : (m : ℕ) (t : Text) → length t ≤ position_or_len (λ c. c == m) t → parts m t ≡ t ∷ []
 alone m [] past = refl
 alone m (c ∷ cs) past = elim (cases_Bool (c == m)) [
@@ -35,7 +35,7 @@ parts_alone m t none = elim (cases_lt (position_or_len (λ c. c == m) t) (length
   | inr past ↦ alone m t past
 ]
 
--- the first part is what stands before the first mark
+-- the first part is the text before the first mark
 pub parts_after : (m : ℕ) (t front back : Text) → Some (front, back) ≡ cut m t → parts m t ≡ front ∷ parts m back
 parts_after m t front back is = elim (cases_lt (position_or_len (λ c. c == m) t) (length t)) [
   | inl within ↦
@@ -46,7 +46,7 @@ parts_after m t front back is = elim (cases_lt (position_or_len (λ c. c == m) t
   | inr past ↦ absurd (let off : Some (front, back) ≡ None = is ∙ cut_past m t past in cc)
 ]
 
--- each part is one, where the first is and the others are
+-- all parts satisfy a predicate if the first does and the others do
 pub each_after : (p : Text → Bool) (m : ℕ) (t front back : Text) → Some (front, back) ≡ cut m t
     → list_all p (parts m t) ≡ (p front && list_all p (parts m back))
 each_after p m t front back is = rw (parts_after m t front back is) refl
@@ -90,7 +90,7 @@ groups_counted may t u front back count before is group =
     before ∙ ap (λ ps. option_map (λ n. count + n) (groups may ps)) (parts_after 58 u front back is)
     ∙ ap (option_map (λ n. count + n)) (groups_cons may front (parts 58 back) (some_part 58 back) group) ∙ one_more count (groups may (parts 58 back))
 
--- and what is no group ends all
+-- a part that is no group makes the whole no groups
 pub groups_refused : (may : Bool) (t u front back : Text) (count : ℕ)
     → groups may (parts 58 t) ≡ option_map (λ n. count + n) (groups may (parts 58 u)) → Some (front, back) ≡ cut 58 u → is_group front ≡ false
     → groups may (parts 58 t) ≡ None

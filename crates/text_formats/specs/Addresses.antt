@@ -4,7 +4,7 @@ use Rattle.std.specs.List.{list_all}
 use Rattle.text_formats.specs.Characters.{Text, is_digit, is_hex_digit, value}
 use Rattle.text_formats.specs.Cutting.{is_empty, parts}
 
--- dec-octet: a number of 0 to 255 in decimal digits, with no leading zero
+-- dec-octet: a number from 0 to 255 in decimal digits, without a leading zero
 abbrev pub is_octet : Text → Bool
 is_octet [] = false
 is_octet (a ∷ []) = is_digit a
@@ -20,21 +20,22 @@ is_ipv4 t = (count_by (λ c. c == 46) t == 3) && list_all is_octet (parts 46 t)
 abbrev pub is_group : Text → Bool
 is_group t = nat_le 1 (length t) && nat_le (length t) 4 && list_all is_hex_digit t
 
--- the last group of 16 bits, or an IPv4 address, which is two, where one may stand
+-- the number of groups of 16 bits in the last part: one, or two for an IPv4 address, if one is
+-- allowed
 abbrev pub last_groups : Bool → Text → Option ℕ
 last_groups may p = if is_group p then Some 1 else if may && is_ipv4 p then Some 2 else None
 
--- how many groups of 16 bits parts round `:` are
+-- the number of groups of 16 bits in the parts between colons
 abbrev pub groups : Bool → List Text → Option ℕ
 groups may [] = None
 groups may (p ∷ []) = last_groups may p
 groups may (p ∷ q ∷ ps) = if is_group p then option_map (λ n. n + 1) (groups may (q ∷ ps)) else None
 
--- the same, where there may be none
+-- the same, but no groups are allowed too
 abbrev pub groups_if_any : Bool → Text → Option ℕ
 groups_if_any may t = if is_empty t then Some 0 else groups may (parts 58 t)
 
--- where the first `::` stands, counted from n
+-- the place of the first `::`, counted from n
 abbrev pub gap_from : ℕ → Text → Option ℕ
 gap_from n [] = None
 gap_from n (c ∷ []) = None
@@ -44,13 +45,14 @@ abbrev pub is_eight : Option ℕ → Bool
 is_eight None = false
 is_eight (Some n) = n == 8
 
--- together seven at most: `::` stands for one group at least
+-- both together have at most seven groups: `::` replaces at least one
 abbrev pub leave_a_group : Option ℕ → Option ℕ → Bool
 leave_a_group None right = false
 leave_a_group (Some m) None = false
 leave_a_group (Some m) (Some n) = nat_le (m + n) 7
 
--- eight groups, or fewer where `::` stands for those that are left out; an IPv4 address may stand for the last two
+-- eight groups, or fewer if `::` replaces the missing ones; an IPv4 address may replace the last
+-- two
 abbrev pub is_ipv6_with : Text → Option ℕ → Bool
 is_ipv6_with t None = is_eight (groups_if_any true t)
 is_ipv6_with t (Some n) = leave_a_group (groups_if_any false (take n t)) (groups_if_any true (drop (n + 2) t))

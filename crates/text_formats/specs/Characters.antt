@@ -4,7 +4,7 @@ use Rattle.std.specs.Prelude.{Bool, List, [], false, if◌then◌else◌, length
 abbrev pub Text : Type 0
 Text = List ℕ
 
--- from one character to another, both within
+-- a character from low to high, both included
 abbrev pub is_between : ℕ → ℕ → ℕ → Bool
 is_between low high c = nat_le low c && nat_le c high
 
@@ -20,28 +20,29 @@ is_letter c = is_between 65 90 c || is_between 97 122 c
 abbrev pub is_hex_digit : ℕ → Bool
 is_hex_digit c = is_digit c || is_between 65 70 c || is_between 97 102 c
 
--- what a decimal digit stands for
+-- the number that a decimal digit writes
 abbrev pub value : ℕ → ℕ
 value c = c - 48
 
--- what two decimal digits, the first of which has a place in the text, stand for
+-- the number that two decimal digits write, the first of them at this place of the text
 abbrev pub two : Text → ℕ → ℕ
 two t k = 10 * value (slice_index t k) + value (slice_index t (k + 1))
 
--- what four stand for
+-- the number that four decimal digits write
 abbrev pub four : Text → ℕ → ℕ
 four t k = 100 * two t k + two t (k + 2)
 
--- a character is like one of a picture: a digit like `0`, a hex digit like `x`, and else the same
+-- a character matches one of a picture: a digit matches `0`, a hex digit matches `x`, and any other
+-- character matches itself
 abbrev pub is_like : ℕ → ℕ → Bool
 is_like p c = if p == 48 then is_digit c else if p == 120 then is_hex_digit c else c == p
 
--- the characters of a text are like those of a picture, one by one
+-- each character of a text matches the one at its place in a picture
 abbrev pub are_like : Text → Text → Bool
 are_like [] cs = true
 are_like (p ∷ ps) [] = false
 are_like (p ∷ ps) (c ∷ cs) = is_like p c && are_like ps cs
 
--- a text is as long as a picture, and like it
+-- a text has the length of a picture, and matches it
 abbrev pub fits : Text → Text → Bool
 fits ps cs = (length cs == length ps) && are_like ps cs

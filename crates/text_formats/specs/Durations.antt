@@ -3,11 +3,11 @@ use Rattle.std.specs.Prelude.{Bool, None, Option, Some, [], false, option_and_th
 use Rattle.text_formats.specs.Characters.{Text}
 use Rattle.text_formats.specs.Cutting.{after, after_digits, is_empty}
 
--- what follows 1*DIGIT and a unit
+-- the text after 1*DIGIT and a unit
 abbrev pub after_count : ℕ → Text → Option Text
 after_count unit t = option_and_then (after unit) (after_digits t)
 
--- nothing follows
+-- there is such a text, and it is empty
 abbrev pub is_last : Option Text → Bool
 is_last None = false
 is_last (Some t) = is_empty t
@@ -37,7 +37,7 @@ abbrev pub is_clock : Text → Bool
 is_clock [] = false
 is_clock (c ∷ cs) = (c == 84) && (is_hours cs || is_minutes cs || is_seconds cs)
 
--- what may follow the days, the months, the years of a dur-date, up to the end: [dur-time]
+-- the rest after the days, months or years of a dur-date, up to the end: [dur-time]
 abbrev pub is_end : Text → Bool
 is_end t = is_empty t || is_clock t
 

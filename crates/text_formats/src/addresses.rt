@@ -1,4 +1,6 @@
-//! Addresses of the Internet Protocol. (RFC 3986, section 3.2.2; RFC 4291, section 2.2)
+//! Addresses of the Internet Protocol.
+//!
+//! RFC 3986, section 3.2.2; RFC 4291, section 2.2.
 ghost use Rattle.std.specs.Prelude.{◌≡◌, ◌≤◌, ◌+◌, IfSome, length, ◌<◌, ◌^◌};
 ghost use Rattle.std.specs.List.{list_all};
 ghost use Rattle.text_formats.specs.Addresses as spec;
@@ -7,7 +9,7 @@ ghost use Rattle.text_formats.specs.Cutting.{parts};
 use crate::characters::{are_hex_digits, is_digit, value};
 use crate::cutting::cut;
 
-// Whether a text is a number of 0 to 255 with no leading zero.
+// Returns whether a text is a number from 0 to 255 without a leading zero.
 fn is_octet(text: &[u8]) -> bool
     ensures octet { result ≡ spec.is_octet text.now }
 {
@@ -26,7 +28,7 @@ fn is_octet(text: &[u8]) -> bool
 }
 
 #[tactic(auto, using(crate::proofs::Parting::each_after, crate::proofs::Parting::each_alone))]
-// Whether each part of a text round a dot is such a number.
+// Returns whether each part of a text between dots is such a number.
 fn are_octets(text: &[u8]) -> bool
     ensures each { result ≡ list_all spec.is_octet (parts 46 text.now) }
 {
@@ -40,14 +42,14 @@ fn are_octets(text: &[u8]) -> bool
     is_octet(rest)
 }
 
-/// Whether the characters of a text are those of an IPv4 address.
+/// Returns whether the characters of a text are an IPv4 address.
 pub fn is_ipv4_in(text: &[u8]) -> bool
     ensures ipv4 { result ≡ spec.is_ipv4 text.now }
 {
     text.iter().filter(|byte| **byte == b'.').count() == 3 && are_octets(text)
 }
 
-/// Whether a text is an IPv4 address, as `127.0.0.1`.
+/// Returns whether a text is an IPv4 address, as `127.0.0.1`.
 pub fn is_ipv4(text: &str) -> bool
     ensures ipv4 { result ≡ spec.is_ipv4 text.now }
 {
@@ -103,7 +105,7 @@ fn groups_if_any(may_be_ipv4: bool, text: &[u8]) -> Option<usize>
     }
 }
 
-// Where the first `::` stands.
+// Returns the place of the first `::`.
 fn gap(text: &[u8]) -> Option<usize>
     ensures gap { result ≡ spec.gap_from 0 text.now }
     ensures within { IfSome result (λ n. n + 2 ≤ length text.now) }
@@ -136,7 +138,7 @@ fn leave_a_group(left: Option<usize>, right: Option<usize>) -> bool
     }
 }
 
-/// Whether the characters of a text are those of an IPv6 address.
+/// Returns whether the characters of a text are an IPv6 address.
 pub fn is_ipv6_in(text: &[u8]) -> bool
     ensures ipv6 { result ≡ spec.is_ipv6 text.now }
 {
@@ -149,7 +151,7 @@ pub fn is_ipv6_in(text: &[u8]) -> bool
     }
 }
 
-/// Whether a text is an IPv6 address, as `2001:db8::1`.
+/// Returns whether a text is an IPv6 address, as `2001:db8::1`.
 pub fn is_ipv6(text: &str) -> bool
     ensures ipv6 { result ≡ spec.is_ipv6 text.now }
 {

@@ -1,44 +1,44 @@
-//! Classes of ASCII characters, and what decimal digits stand for.
+//! Classes of ASCII characters, and the numbers that decimal digits write.
 ghost use Rattle.std.specs.Prelude.{◌≡◌, ◌<◌, ◌+◌, IsTrue, length};
 ghost use Rattle.std.specs.List.{list_all};
 ghost use Rattle.text_formats.specs.Characters as spec;
 
-/// Whether a character is `0` to `9`.
+/// Returns whether a character is `0` to `9`.
 pub fn is_digit(byte: u8) -> bool
     ensures digit { result ≡ spec.is_digit byte }
 {
     byte.is_ascii_digit()
 }
 
-/// Whether a character is `A` to `Z` or `a` to `z`.
+/// Returns whether a character is `A` to `Z` or `a` to `z`.
 pub fn is_letter(byte: u8) -> bool
     ensures letter { result ≡ spec.is_letter byte }
 {
     byte.is_ascii_alphabetic()
 }
 
-/// Whether a character is a digit, `A` to `F` or `a` to `f`.
+/// Returns whether a character is a digit, `A` to `F` or `a` to `f`.
 pub fn is_hex_digit(byte: u8) -> bool
     ensures hex_digit { result ≡ spec.is_hex_digit byte }
 {
     byte.is_ascii_hexdigit()
 }
 
-/// Whether each character of a text is a digit.
+/// Returns whether each character of a text is a digit.
 pub fn are_digits(text: &[u8]) -> bool
     ensures digits { result ≡ list_all spec.is_digit text.now }
 {
     text.iter().all(|byte| is_digit(*byte))
 }
 
-/// Whether each character of a text is a hex digit.
+/// Returns whether each character of a text is a hex digit.
 pub fn are_hex_digits(text: &[u8]) -> bool
     ensures digits { result ≡ list_all spec.is_hex_digit text.now }
 {
     text.iter().all(|byte| is_hex_digit(*byte))
 }
 
-// What a decimal digit stands for.
+// Returns the number that a decimal digit writes.
 pub(crate) fn value(byte: u8) -> u32
     ensures value { result ≡ spec.value byte }
     ensures small { result < 256 }
@@ -46,7 +46,7 @@ pub(crate) fn value(byte: u8) -> u32
     u32::from(byte.saturating_sub(b'0'))
 }
 
-// What two decimal digits stand for.
+// Returns the number that two decimal digits write.
 pub(crate) fn two(text: &[u8], at: usize) -> u32
     requires { at + 1 < length text.now }
     ensures two { result ≡ spec.two text.now at }
@@ -55,7 +55,7 @@ pub(crate) fn two(text: &[u8], at: usize) -> u32
     10 * value(text[at]) + value(text[at + 1])
 }
 
-// What four decimal digits stand for.
+// Returns the number that four decimal digits write.
 pub(crate) fn four(text: &[u8], at: usize) -> u32
     requires { at + 3 < length text.now }
     ensures four { result ≡ spec.four text.now at }
@@ -73,7 +73,7 @@ fn is_like(like: u8, byte: u8) -> bool
     }
 }
 
-// Whether the characters of a text are like those of a picture, one by one.
+// Returns whether each character of a text matches the one at its place in a picture.
 fn are_like(picture: &[u8], text: &[u8]) -> bool
     ensures like { result ≡ spec.are_like picture.now text.now }
 {
@@ -91,7 +91,9 @@ fn are_like(picture: &[u8], text: &[u8]) -> bool
     true
 }
 
-/// Whether a text is as long as a picture, and like it: `0` stands for a digit and `x` for a hex digit.
+/// Returns whether a text matches a picture and has its length.
+///
+/// In a picture, `0` matches any digit and `x` any hex digit.
 pub fn fits(picture: &[u8], text: &[u8]) -> bool
     ensures fits { result ≡ spec.fits picture.now text.now }
     ensures same_length { IsTrue result → length text.now ≡ length picture.now }

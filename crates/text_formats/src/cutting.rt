@@ -1,10 +1,10 @@
-//! Where a text is cut: at the first of a mark, after a character, after digits.
+//! Cutting a text: at the first mark, after a character, after digits.
 ghost use Rattle.std.specs.Prelude.{◌≡◌, ◌<◌, ◌==◌, IfSome, length, option_map, position, take, drop};
 ghost use Rattle.text_formats.specs.Cutting as spec;
 
 use crate::characters::is_digit;
 
-/// A text cut after so many characters, or at its end.
+/// Splits a text after this many characters, or at its end.
 pub fn split(text: &[u8], count: usize) -> (&[u8], &[u8])
     ensures front { result.0.now ≡ take count text.now }
     ensures back { result.1.now ≡ drop count text.now }
@@ -16,7 +16,7 @@ pub fn split(text: &[u8], count: usize) -> (&[u8], &[u8])
     }
 }
 
-// Where the first of a mark stands.
+// Returns the place of the first mark.
 fn place_of(text: &[u8], mark: u8) -> Option<usize>
     ensures place { result ≡ position (λ c. c == mark) text.now }
     ensures within { IfSome result (λ n. n < length text.now) }
@@ -24,7 +24,7 @@ fn place_of(text: &[u8], mark: u8) -> Option<usize>
     text.iter().position(|byte| *byte == mark)
 }
 
-/// The text before the first of a mark, and the text after it.
+/// Returns the texts before and after the first mark.
 pub fn cut(text: &[u8], mark: u8) -> Option<(&[u8], &[u8])>
     ensures cut { option_map (λ p. (p.0.now, p.1.now)) result ≡ spec.cut mark text.now }
     ensures shorter { IfSome result (λ p. length p.1.now < length text.now) }
@@ -35,7 +35,7 @@ pub fn cut(text: &[u8], mark: u8) -> Option<(&[u8], &[u8])>
     }
 }
 
-/// What follows a character with which the text begins.
+/// Returns the text after this character, if the text begins with it.
 pub fn after(text: &[u8], mark: u8) -> Option<&[u8]>
     ensures after { option_map (λ t. t.now) result ≡ spec.after mark text.now }
 {
@@ -45,7 +45,7 @@ pub fn after(text: &[u8], mark: u8) -> Option<&[u8]>
     }
 }
 
-/// What follows the digits with which a text begins, if any.
+/// Returns the text after the digits that it begins with, if there are any.
 pub fn past_digits(text: &[u8]) -> &[u8]
     ensures past { result.now ≡ spec.past_digits text.now }
 {
@@ -58,7 +58,7 @@ pub fn past_digits(text: &[u8]) -> &[u8]
     }
 }
 
-// What follows at least one digit.
+// Returns the text after its first digits, if it begins with one or more.
 pub(crate) fn after_digits(text: &[u8]) -> Option<&[u8]>
     ensures after { option_map (λ t. t.now) result ≡ spec.after_digits text.now }
 {

@@ -34,14 +34,14 @@ fn is_date_in(text: &[u8]) -> bool
     fits(b"0000-00-00", text) && is_day(four(text, 0), two(text, 5), two(text, 8))
 }
 
-/// Whether a text is a date, as `2024-02-29`.
+/// Returns whether a text is a date, as `2024-02-29`.
 pub fn is_date(text: &str) -> bool
     ensures date { result ≡ spec.is_date text.now }
 {
     is_date_in(text.as_bytes())
 }
 
-// The minutes by which UTC is ahead of a time with a signed offset.
+// Returns the minutes by which UTC is ahead of a time with this signed offset.
 fn signed_offset(sign: u8, text: &[u8]) -> Option<u32>
     ensures offset { result ≡ spec.signed_offset sign text.now }
     ensures small { IfSome result (λ n. n ≤ 1440) }
@@ -58,7 +58,7 @@ fn signed_offset(sign: u8, text: &[u8]) -> Option<u32>
     }
 }
 
-// The minutes by which UTC is ahead of a time with an offset.
+// Returns the minutes by which UTC is ahead of a time with this offset.
 fn offset(text: &[u8]) -> Option<u32>
     ensures offset { result ≡ spec.offset text.now }
     ensures small { IfSome result (λ n. n ≤ 1440) }
@@ -70,7 +70,7 @@ fn offset(text: &[u8]) -> Option<u32>
     }
 }
 
-// What follows a fraction of a second, where there is one.
+// Returns the text after a fraction of a second, if it begins with one.
 fn after_fraction(text: &[u8]) -> Option<&[u8]>
     ensures after { option_map (λ t. t.now) result ≡ spec.after_fraction text.now }
 {
@@ -90,7 +90,7 @@ fn offset_after(text: Option<&[u8]>) -> Option<u32>
     }
 }
 
-// Whether there is such a second in a minute of a day.
+// Returns whether a minute of a day has this second.
 fn is_second(second: u32, minutes: u32, minutes_ahead: Option<u32>) -> bool
     requires day { minutes < 1440 }
     requires small { IfSome minutes_ahead (λ n. n ≤ 1440) }
@@ -123,7 +123,9 @@ fn is_time_in(text: &[u8]) -> bool
     is_time_of_day(time, left)
 }
 
-/// Whether a text is a time of day with an offset from UTC, as `23:20:50.52Z`.
+/// Returns whether a text is a time of day with an offset, as `23:20:50.52Z`.
+///
+/// The offset is from UTC.
 pub fn is_time(text: &str) -> bool
     ensures time { result ≡ spec.is_time text.now }
 {
@@ -139,7 +141,9 @@ fn is_time_after_t(text: &[u8]) -> bool
     }
 }
 
-/// Whether a text is a date and a time of day with an offset from UTC, as `1985-04-12T23:20:50.52Z`.
+/// Returns whether a text is a date and a time, as `1985-04-12T23:20:50.52Z`.
+///
+/// The time of day has an offset from UTC.
 pub fn is_date_time(text: &str) -> bool
     ensures date_time { result ≡ spec.is_date_time text.now }
 {

@@ -4,7 +4,7 @@ ghost use Rattle.text_formats.specs.Durations as spec;
 
 use crate::cutting::{after, after_digits};
 
-// What follows at least one digit and a unit.
+// Returns the text after one or more digits and a unit.
 fn after_count(text: &[u8], unit: u8) -> Option<&[u8]>
     ensures after { option_map (λ t. t.now) result ≡ spec.after_count unit text.now }
 {
@@ -14,7 +14,7 @@ fn after_count(text: &[u8], unit: u8) -> Option<&[u8]>
     }
 }
 
-// Whether a text is a number of a unit, and no more.
+// Returns whether a text is a number with a unit, and nothing more.
 fn is_last(text: &[u8], unit: u8) -> bool
     ensures last { result ≡ spec.is_last (spec.after_count unit text.now) }
 {
@@ -84,7 +84,7 @@ fn is_years(text: &[u8]) -> bool
     }
 }
 
-/// Whether a text is a duration, as `P4DT12H30M5S`.
+/// Returns whether a text is a duration, as `P4DT12H30M5S`.
 pub fn is_duration(text: &str) -> bool
     ensures duration { result ≡ spec.is_duration text.now }
 {
