@@ -1,4 +1,5 @@
--- The formats that are checked by their grammar, each with its name and its texts. (JSON Schema Validation, draft 2020-12, section 7.3)
+-- The formats that are checked by their grammar, each with its name and the texts that have it.
+-- (JSON Schema Validation, draft 2020-12, section 7.3)
 use Rattle.std.specs.Prelude.{Bool, None, Option, Some, bytes_eq, codes, if◌then◌else◌}
 use Rattle.text_formats.specs.Addresses.{is_ipv4, is_ipv6}
 use Rattle.text_formats.specs.Characters.{Text}
@@ -52,7 +53,7 @@ name_of UriReference = codes "uri-reference"
 name_of UriTemplate = codes "uri-template"
 name_of Uuid = codes "uuid"
 
--- the format of a name, if there is one
+-- the format with this name, if there is one
 abbrev pub pointer_named : Text → Option Format
 pointer_named name =
     if bytes_eq name (codes "json-pointer") then Some JsonPointer

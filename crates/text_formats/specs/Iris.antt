@@ -1,4 +1,5 @@
--- Internationalized resource identifiers and references to them: as URIs, with characters outside ASCII. (RFC 3987, section 2.2)
+-- Internationalized resource identifiers and references to them: like URIs, but with characters
+-- outside ASCII. (RFC 3987, section 2.2)
 use Rattle.std.specs.Prelude.{Bool, None, Option, Some, is_some, nat_le, true, ◌%◌, ◌&&◌, ◌||◌, ℕ}
 use Rattle.std.specs.List.{list_all}
 use Rattle.std.specs.Str.{chars}
@@ -6,7 +7,8 @@ use Rattle.uri_references.specs.Components.{Components, components}
 use Rattle.text_formats.specs.Characters.{Text, is_between}
 use Rattle.text_formats.specs.Uris.{fit}
 
--- ucschar: of the planes after the first, all but the last two characters of each, and of the fourteenth those from the 4096th on
+-- ucschar: of each plane after the first, all characters but the last two; of the fourteenth plane,
+-- only those from the 4096th on
 abbrev pub is_universal : ℕ → Bool
 is_universal c =
     is_between 0xA0 0xD7FF c || is_between 0xF900 0xFDCF c || is_between 0xFDF0 0xFFEF c
@@ -16,7 +18,7 @@ is_universal c =
 abbrev pub is_private : ℕ → Bool
 is_private c = is_between 0xE000 0xF8FF c || is_between 0xF0000 0xFFFFD c || is_between 0x100000 0x10FFFD c
 
--- a character of a component: ASCII characters are those of URIs
+-- a character of a component; the ASCII characters are those of URIs
 abbrev pub is_universal_or_ascii : ℕ → Bool
 is_universal_or_ascii c = nat_le c 127 || is_universal c
 

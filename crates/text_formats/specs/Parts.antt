@@ -1,4 +1,4 @@
--- What each part of a text round a mark may be.
+-- What each part of a text between marks may be.
 use Rattle.std.specs.Prelude.{Bool}
 use Rattle.text_formats.specs.Characters.{Text}
 use Rattle.text_formats.specs.Emails.{is_atom}

@@ -1,10 +1,10 @@
--- Pointers into JSON values. (section 3 of RFC 6901; for relative ones section 3 of the Internet-Draft on relative JSON pointers, in the state
--- that draft 7 cites)
+-- Pointers into JSON values. (RFC 6901, section 3; for relative ones, section 3 of the
+-- Internet-Draft on relative JSON pointers, in the version that draft 7 cites)
 use Rattle.std.specs.Prelude.{Bool, [], false, if◌then◌else◌, true, ◌&&◌, ◌==◌, ◌||◌, ◌∷◌}
 use Rattle.text_formats.specs.Characters.{Text, is_digit}
 use Rattle.text_formats.specs.Cutting.{is_empty, past_digits}
 
--- escaped = "~" ( "0" / "1" ): a tilde stands before `0` or `1` only
+-- escaped = "~" ( "0" / "1" ): a tilde is followed by `0` or `1`
 abbrev pub is_escaped : Text → Bool
 is_escaped [] = true
 is_escaped (c ∷ []) = if c == 126 then false else true

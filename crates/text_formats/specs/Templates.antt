@@ -1,6 +1,7 @@
--- Templates of URIs: URI-Template, of any level. (RFC 6570, section 2) The operators that it keeps for extensions, `=`, `,`, `!`, `@` and
--- `|`, make templates too: its grammar has them, as op-reserve. That a processor does not know one is an error of expansion (section 3),
--- and no text is expanded here.
+-- Templates of URIs: URI-Template, of any level. (RFC 6570, section 2) The operators that the RFC
+-- reserves for extensions, `=`, `,`, `!`, `@` and `|`, are allowed: its grammar has them, as
+-- op-reserve. A processor that does not know an operator reports an error of expansion (section 3),
+-- and no template is expanded here.
 use Rattle.std.specs.Prelude.{Bool, None, Option, Some, [], codes, false, if◌then◌else◌, length, nat_le, not, true, ◌&&◌, ◌==◌, ◌∷◌, ℕ}
 use Rattle.std.specs.List.{list_all, list_any}
 use Rattle.std.specs.Str.{chars}
@@ -10,7 +11,7 @@ use Rattle.text_formats.specs.Iris.{is_of_query}
 use Rattle.text_formats.specs.Uris.{is_made}
 use Rattle.text_formats.specs.declared.uris.Class.TheVariants.{Literal, Variable}
 
--- no dot stands first, last or beside another
+-- no dot is first, last or beside another dot
 abbrev pub are_dots_apart : Text → Bool
 are_dots_apart [] = false
 are_dots_apart (c ∷ []) = not (c == 46)
@@ -43,7 +44,7 @@ is_variable t = is_variable_with t (cut 58 t)
 abbrev pub is_operator : ℕ → Bool
 is_operator c = list_any (λ m. m == c) (codes "+#./;?&=,!@|")
 
--- what follows [ operator ]
+-- the text after [ operator ]
 abbrev pub past_operator : Text → Text
 past_operator [] = []
 past_operator (c ∷ cs) = if is_operator c then cs else c ∷ cs
@@ -52,7 +53,8 @@ past_operator (c ∷ cs) = if is_operator c then cs else c ∷ cs
 abbrev pub are_variables : Text → Bool
 are_variables t = list_all is_variable (parts 44 (past_operator t))
 
--- what follows the brace that opens an expression = "{" [ operator ] variable-list "}", and *literals
+-- the text after the brace that opens an expression = "{" [ operator ] variable-list "}", and
+-- *literals
 abbrev pub is_expression_end : Option (Text × Text) → Bool
 is_expression_end None = false
 is_expression_end (Some p) = are_variables p.0 && is_made true Literal p.1
@@ -60,11 +62,13 @@ is_expression_end (Some p) = are_variables p.0 && is_made true Literal p.1
 abbrev pub is_after_brace : Text → Bool
 is_after_brace t = is_expression_end (cut 125 t)
 
--- *literals, and after each brace an expression's end and *literals: none of them has such a brace
+-- *literals, and after each brace the end of an expression and *literals; no literal contains such
+-- a brace
 abbrev pub is_cut_as_template : Text → Option (Text × Text) → Bool
 is_cut_as_template t None = is_made true Literal t
 is_cut_as_template t (Some p) = is_made true Literal p.0 && list_all is_after_brace (parts 123 p.1)
 
--- URI-Template = *( literals / expression ); a character outside ASCII, which only a literal has, is of ucschar or of iprivate
+-- URI-Template = *( literals / expression ); a character outside ASCII, which only a literal may
+-- have, is in ucschar or iprivate
 abbrev pub is_template : Text → Bool
 is_template t = is_cut_as_template t (cut 123 t) && list_all is_of_query (chars t)

@@ -1,6 +1,7 @@
--- Uniform resource identifiers and references to them: URI, URI-reference. Their components are those of `uri_references`; each is made
--- of characters of a class of its own and of octets after `%`. (RFC 3986, sections 2.1 to 2.3, 3 and 4.1) Where `wide` is true, characters
--- outside ASCII may stand too. (RFC 3987, section 2.2)
+-- Uniform resource identifiers and references to them: URI, URI-reference. Their components are
+-- those of `uri_references`; each consists of characters of a class of its own and of
+-- percent-encoded octets. (RFC 3986, sections 2.1 to 2.3, 3 and 4.1) If `wide` is true, characters
+-- outside ASCII are allowed too. (RFC 3987, section 2.2)
 use Rattle.std.specs.Prelude.{Bool, None, Option, Some, [], codes, false, if◌then◌else◌, is_some, nat_le, not, true, ◌&&◌, ◌==◌, ◌||◌, ◌∷◌, ℕ}
 use Rattle.std.specs.List.{list_all, list_any}
 use Rattle.uri_references.specs.Components.{Components, components}
@@ -17,21 +18,23 @@ is_unreserved c = is_letter c || is_digit c || list_any (λ m. m == c) (codes "-
 abbrev pub is_sub_delim : ℕ → Bool
 is_sub_delim c = list_any (λ m. m == c) (codes "!$&'()*+,;=")
 
--- what each component may have
+-- the characters that every component may have
 abbrev pub is_common : ℕ → Bool
 is_common c = is_unreserved c || is_sub_delim c
 
--- a character of a template that stands for itself, in ASCII (RFC 6570, section 2.1)
+-- an ASCII character that stands for itself in a template (RFC 6570, section 2.1)
 abbrev pub is_literal : ℕ → Bool
 is_literal c =
     (c == 0x21) || is_between 0x23 0x24 c || (c == 0x26) || is_between 0x28 0x3B c || (c == 0x3D) || is_between 0x3F 0x5B c
     || (c == 0x5D) || (c == 0x5F) || is_between 0x61 0x7A c || (c == 0x7E)
 
--- a character of a variable's name, octets after `%` aside; and the dot between two (RFC 6570, section 2.3)
+-- a character of a variable's name, percent-encoded octets aside, or the dot between two of them
+-- (RFC 6570, section 2.3)
 abbrev pub is_of_variable : ℕ → Bool
 is_of_variable c = is_letter c || is_digit c || (c == 95) || (c == 46)
 
--- a class in ASCII: of what components have beside the common, pchar has ":" and "@", a path "/", a query and a fragment "/" and "?"
+-- the ASCII characters of a class: in addition to the common ones, pchar has ":" and "@", a path
+-- has "/", and a query and a fragment have "/" and "?"
 abbrev pub is_ascii_of : Class → ℕ → Bool
 is_ascii_of Name c = is_common c
 is_ascii_of User c = is_common c || (c == 58)
@@ -82,7 +85,7 @@ abbrev pub is_bracketed : Option (Text × Text) → Bool
 is_bracketed None = false
 is_bracketed (Some p) = (is_ipv6 p.0 || is_future p.0) && is_port_end p.1
 
--- reg-name [ ":" port ]; an IPv4 address is a reg-name too
+-- reg-name [ ":" port ]; an IPv4 address is also a reg-name
 abbrev pub is_named : Bool → Text → Option (Text × Text) → Bool
 is_named wide t None = is_made wide Name t
 is_named wide t (Some p) = is_made wide Name p.0 && list_all is_digit p.1
@@ -100,7 +103,7 @@ is_authority_with wide t (Some p) = is_made wide User p.0 && is_host wide p.1
 abbrev pub is_authority : Bool → Text → Bool
 is_authority wide t = is_authority_with wide t (cut 64 t)
 
--- each component that is there
+-- each component, if it is present
 abbrev pub scheme_fits : Option Text → Bool
 scheme_fits None = true
 scheme_fits (Some t) = is_scheme t
@@ -117,7 +120,8 @@ abbrev pub begins_with_colon : Text → Bool
 begins_with_colon [] = false
 begins_with_colon (c ∷ cs) = c == 58
 
--- a path that comes first has no colon in its first segment (RFC 3986, section 4.2); one further on would end a scheme
+-- if a path comes first, its first segment has no colon (RFC 3986, section 4.2); only a leading
+-- colon is tested, since a later one would end a scheme
 abbrev pub path_fits : Bool → Components → Bool
 path_fits wide c = is_made wide Path c.path && (is_some c.scheme || is_some c.authority || not (begins_with_colon c.path))
 

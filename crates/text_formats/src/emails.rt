@@ -1,5 +1,7 @@
-//! Addresses of electronic mail. (RFC 5321, section 4.1.2; RFC 6531, section 3.3) Where `wide` is true, they are internationalized ones,
-//! with characters outside ASCII.
+//! Addresses of electronic mail.
+//!
+//! RFC 5321, section 4.1.2; RFC 6531, section 3.3. If `wide` is true, the addresses are
+//! internationalized: characters outside ASCII are allowed.
 ghost use Rattle.std.specs.Prelude.{◌≡◌, option_map};
 ghost use Rattle.std.specs.List.{list_all};
 ghost use Rattle.text_formats.specs.Cutting as Cutting;
@@ -25,7 +27,8 @@ fn are_atom_characters(wide: bool, text: &[u8]) -> bool
     text.iter().all(|byte| is_atom_character(wide, *byte))
 }
 
-// Whether a text is an atom: one character at least, and no space, quotation mark or other mark that has a sense of its own.
+// Returns whether a text is an atom: at least one character, and no space, quotation mark or other
+// mark with a meaning of its own.
 pub(crate) fn is_atom(wide: bool, text: &[u8]) -> bool
     ensures atom { result ≡ spec.is_atom wide text.now }
 {
@@ -38,7 +41,7 @@ fn is_quoted_character(wide: bool, byte: u8) -> bool
     matches!(byte, 32..=33 | 35..=91 | 93..=126) || wide && 128 <= byte
 }
 
-// What follows the quotation mark that closes a text.
+// Returns the text after the quotation mark that closes a quoted text.
 fn after_quoted(wide: bool, text: &[u8]) -> Option<&[u8]>
     ensures after { option_map (λ t. t.now) result ≡ spec.after_quoted wide text.now }
 {
@@ -62,7 +65,7 @@ fn after_dot_string(wide: bool, text: &[u8]) -> Option<&[u8]>
     }
 }
 
-// What follows a local part and `@`.
+// Returns the text after a local part and `@`.
 fn after_local_part(wide: bool, text: &[u8]) -> Option<&[u8]>
     ensures after { option_map (λ t. t.now) result ≡ spec.after_local_part wide text.now }
 {
@@ -112,14 +115,14 @@ fn is_mailbox(wide: bool, text: &[u8]) -> bool
     }
 }
 
-/// Whether a text is an address of electronic mail, as `joe.bloggs@example.com`.
+/// Returns whether a text is a mail address, as `joe.bloggs@example.com`.
 pub fn is_email(text: &str) -> bool
     ensures email { result ≡ spec.is_email text.now }
 {
     is_mailbox(false, text.as_bytes())
 }
 
-/// Whether a text is an internationalized address of electronic mail, as `실례@실례.테스트`.
+/// Returns whether a text is an internationalized mail address, as `실례@실례.테스트`.
 pub fn is_idn_email(text: &str) -> bool
     ensures email { result ≡ spec.is_idn_email text.now }
 {

@@ -36,7 +36,7 @@ pub enum Format {
 }
 
 impl Format {
-    /// Returns the format of a name that JSON Schema has, if it is one of these.
+    /// Returns the format with this name in JSON Schema, if it is one of these.
     pub fn named(name: &str) -> Option<Format>
         ensures named { result ≡ spec.named name.now }
     {
@@ -53,7 +53,7 @@ impl Format {
         }
     }
 
-    /// Returns its name.
+    /// Returns the name of the format.
     pub fn name(self) -> &'static str
         ensures name { result.now ≡ spec.name_of self }
     {
@@ -78,7 +78,7 @@ impl Format {
         }
     }
 
-    /// Returns whether a text is of the format.
+    /// Returns whether a text has the format.
     pub fn accepts(self, text: &str) -> bool
         ensures accepts { result ≡ spec.accepts self text.now }
     {

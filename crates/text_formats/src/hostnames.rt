@@ -30,7 +30,8 @@ fn is_short_label(text: &[u8]) -> bool
     text.len() <= 63 || has_wide(text)
 }
 
-// Whether a text is a label: letters, digits and hyphens, with no hyphen at its ends; where `wide` is true, characters outside ASCII too.
+// Returns whether a text is a label: letters, digits and hyphens, without a hyphen at either end.
+// If `wide` is true, characters outside ASCII are allowed too.
 pub(crate) fn is_label(wide: bool, text: &[u8]) -> bool
     ensures label { result ≡ spec.is_label wide text.now }
 {
@@ -41,7 +42,7 @@ pub(crate) fn is_label(wide: bool, text: &[u8]) -> bool
         && text[text.len() - 1] != b'-'
 }
 
-/// Whether a text is the name of a host, as `www.example.com`.
+/// Returns whether a text is the name of a host, as `www.example.com`.
 pub fn is_hostname(text: &str) -> bool
     ensures hostname { result ≡ spec.is_hostname text.now }
 {

@@ -8,7 +8,7 @@ ghost use Rattle.text_formats.specs.Iris as spec;
 use crate::uris::fit;
 use uri_references::components::Components;
 
-// A character that an IRI may have beside those of ASCII.
+// Returns whether an IRI may have this character outside ASCII.
 fn is_universal(code: u32) -> bool
     ensures universal { result ≡ spec.is_universal code }
 {
@@ -18,7 +18,7 @@ fn is_universal(code: u32) -> bool
             && (code <= 0xDFFFF || 0xE1000 <= code)
 }
 
-// One that a query may have too.
+// Returns whether a query may have this character in addition.
 fn is_private(code: u32) -> bool
     ensures private { result ≡ spec.is_private code }
 {
@@ -78,7 +78,7 @@ fn characters_fit(components: &Components<'_>) -> bool
         && universal_fits(components.fragment)
 }
 
-/// Whether a text is a reference to an IRI, as `/ƒøø`.
+/// Returns whether a text is a reference to an IRI, as `/ƒøø`.
 pub fn is_iri_reference(text: &str) -> bool
     ensures iri_reference { result ≡ spec.is_iri_reference text.now }
 {
@@ -86,7 +86,9 @@ pub fn is_iri_reference(text: &str) -> bool
     fit(true, &components) && characters_fit(&components)
 }
 
-/// Whether a text is an IRI, as `http://ƒøø.ßår/?∂éœ=πîx`: it names its scheme.
+/// Returns whether a text is an IRI, as `http://ƒøø.ßår/?∂éœ=πîx`.
+///
+/// An IRI names its scheme.
 pub fn is_iri(text: &str) -> bool
     ensures iri { result ≡ spec.is_iri text.now }
 {

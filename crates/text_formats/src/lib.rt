@@ -1,5 +1,7 @@
-//! Whether a text is of a format that JSON Schema names: dates and times, addresses, references, pointers and more, each by the grammar of
-//! the standard that defines it.
+//! The formats that JSON Schema names.
+//!
+//! They are dates and times, addresses, references, pointers and more. Each is recognized by the
+//! grammar of the standard that defines it.
 #![tactic(auto)]
 
 pub mod addresses;

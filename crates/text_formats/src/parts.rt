@@ -1,4 +1,4 @@
-//! The parts of a text round a mark.
+//! The parts of a text between marks.
 ghost use Rattle.std.specs.Prelude.{◌≡◌};
 ghost use Rattle.std.specs.List.{list_all};
 ghost use Rattle.text_formats.specs.Cutting.{parts};
@@ -9,8 +9,8 @@ use crate::emails::is_atom;
 use crate::hostnames::is_label;
 use crate::templates::is_variable;
 
-// What each part may be: an atom of an address of mail, a label of a host's name, where true characters outside ASCII are allowed; a
-// variable of a template.
+// What each part is: an atom of a mail address or a label of a host's name, where `true` allows
+// characters outside ASCII; or a variable of a template.
 #[derive(Clone, Copy)]
 pub(crate) enum Part {
     Atom(bool),
@@ -30,7 +30,7 @@ impl Part {
     }
 
     #[tactic(auto, using(crate::proofs::Parting::each_after, crate::proofs::Parting::each_alone))]
-    // Whether each part of a text round a mark is one.
+    // Returns whether each part of a text between marks is one.
     pub(crate) fn is_each(self, text: &[u8], mark: u8) -> bool
         ensures each { result ≡ list_all (spec.is_part self) (parts mark text.now) }
     {

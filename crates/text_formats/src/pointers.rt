@@ -5,7 +5,7 @@ ghost use Rattle.text_formats.specs.Pointers as spec;
 use crate::characters::is_digit;
 use crate::cutting::past_digits;
 
-// Whether each tilde of a text stands before `0` or `1`.
+// Returns whether each tilde of a text is followed by `0` or `1`.
 fn is_escaped(text: &[u8]) -> bool
     ensures escaped { result ≡ spec.is_escaped text.now }
 {
@@ -29,7 +29,7 @@ fn is_pointer(text: &[u8]) -> bool
     }
 }
 
-/// Whether a text is a JSON pointer, as `/foo/0`.
+/// Returns whether a text is a JSON pointer, as `/foo/0`.
 pub fn is_json_pointer(text: &str) -> bool
     ensures pointer { result ≡ spec.is_pointer text.now }
 {
@@ -45,7 +45,7 @@ fn is_hash_or_pointer(text: &[u8]) -> bool
     }
 }
 
-/// Whether a text is a relative JSON pointer, as `1/objects`.
+/// Returns whether a text is a relative JSON pointer, as `1/objects`.
 pub fn is_relative_json_pointer(text: &str) -> bool
     ensures relative_pointer { result ≡ spec.is_relative_pointer text.now }
 {

@@ -10,7 +10,7 @@ use crate::iris::are_of_query;
 use crate::parts::Part;
 use crate::uris::Class;
 
-// Whether no dot stands first, last or beside another.
+// Returns whether no dot is first, last or beside another dot.
 fn are_dots_apart(text: &[u8]) -> bool
     ensures apart { result ≡ spec.are_dots_apart text.now }
 {
@@ -25,14 +25,15 @@ fn are_dots_apart(text: &[u8]) -> bool
     }
 }
 
-// Whether a text is the name of a variable: letters, digits, underscores and octets after `%`, with single dots between them.
+// Returns whether a text is the name of a variable: letters, digits, underscores and
+// percent-encoded octets, with single dots between them.
 fn is_name(text: &[u8]) -> bool
     ensures name { result ≡ spec.is_name text.now }
 {
     Class::Variable.makes(false, text) && are_dots_apart(text)
 }
 
-// Whether a text is a number of 1 to 9999 with no leading zero.
+// Returns whether a text is a number from 1 to 9999 without a leading zero.
 fn is_max_length(text: &[u8]) -> bool
     ensures length { result ≡ spec.is_max_length text.now }
 {
@@ -51,7 +52,7 @@ fn is_exploded(text: &[u8]) -> bool
     }
 }
 
-// Whether a text is the name of a variable, with how much of its value is meant.
+// Returns whether a text is the name of a variable, with the part of its value that is meant.
 pub(crate) fn is_variable(text: &[u8]) -> bool
     ensures variable { result ≡ spec.is_variable text.now }
 {
@@ -76,14 +77,14 @@ fn past_operator(text: &[u8]) -> &[u8]
     }
 }
 
-// Whether a text is what stands between the braces of an expression.
+// Returns whether a text may be between the braces of an expression.
 fn are_variables(text: &[u8]) -> bool
     ensures variables { result ≡ spec.are_variables text.now }
 {
     Part::Variable.is_each(past_operator(text), b',')
 }
 
-// Whether a text is the rest of an expression after its first brace, and literals.
+// Returns whether a text is the rest of an expression after its opening brace, and then literals.
 fn is_after_brace(text: &[u8]) -> bool
     ensures after { result ≡ spec.is_after_brace text.now }
 {
@@ -118,7 +119,9 @@ fn is_cut_as_template(text: &[u8]) -> bool
     }
 }
 
-/// Whether a text is a template of a URI, of any level, as `http://example.com/~{username}/`.
+/// Returns whether a text is a URI template, as `http://example.com/~{user}/`.
+///
+/// Templates of any level are allowed.
 pub fn is_uri_template(text: &str) -> bool
     ensures template { result ≡ spec.is_template text.now }
 {

@@ -10,8 +10,8 @@ use crate::characters::{are_digits, are_hex_digits, is_digit, is_hex_digit, is_l
 use crate::cutting::cut;
 use uri_references::components::Components;
 
-// What characters a component may have: a name of a host, what stands before a host, a path, a query or a fragment; or the literals
-// of a template, or the names of its variables.
+// The class of characters that a component may have: a host's name, the part before a host, a path,
+// a query or fragment; the literals of a template, or the names of its variables.
 #[derive(Clone, Copy)]
 pub(crate) enum Class {
     Name,
@@ -40,7 +40,7 @@ fn is_common(byte: u8) -> bool
     is_unreserved(byte) || is_sub_delim(byte)
 }
 
-// Whether a byte stands for itself in a template.
+// Returns whether a byte stands for itself in a template.
 fn is_literal(byte: u8) -> bool
     ensures literal { result ≡ spec.is_literal byte }
 {
@@ -68,14 +68,15 @@ impl Class {
         }
     }
 
-    // Whether a byte is of the class; where `wide` is true, so are those of characters outside ASCII.
+    // Returns whether a byte is in the class. If `wide` is true, bytes of characters outside ASCII
+    // are in it too.
     fn has(self, wide: bool, byte: u8) -> bool
         ensures of { result ≡ spec.is_of wide self byte }
     {
         self.has_ascii(byte) || wide && 128 <= byte
     }
 
-    // Whether a text is of characters of the class and of octets after `%`.
+    // Returns whether a text consists of characters of the class and percent-encoded octets.
     pub(crate) fn makes(self, wide: bool, text: &[u8]) -> bool
         ensures made { result ≡ spec.is_made wide self text.now }
     {
@@ -255,14 +256,16 @@ pub(crate) fn fit(wide: bool, components: &Components<'_>) -> bool
         && end_fits(wide, components.fragment)
 }
 
-/// Whether a text is a reference to a URI, as `../other?query`.
+/// Returns whether a text is a reference to a URI, as `../other?query`.
 pub fn is_uri_reference(text: &str) -> bool
     ensures uri_reference { result ≡ spec.is_uri_reference text.now }
 {
     fit(false, &Components::of(text))
 }
 
-/// Whether a text is a URI, as `http://example.com/path`: it names its scheme.
+/// Returns whether a text is a URI, as `http://example.com/path`.
+///
+/// A URI names its scheme.
 pub fn is_uri(text: &str) -> bool
     ensures uri { result ≡ spec.is_uri text.now }
 {

@@ -4,7 +4,9 @@ ghost use Rattle.text_formats.specs.Uuids as spec;
 
 use crate::characters::fits;
 
-/// Whether a text is a universally unique identifier, as `f81d4fae-7dec-11d0-a765-00a0c91e6bf6`.
+/// Returns whether a text is a universally unique identifier.
+///
+/// One is `f81d4fae-7dec-11d0-a765-00a0c91e6bf6`.
 pub fn is_uuid(text: &str) -> bool
     ensures uuid { result ≡ spec.is_uuid text.now }
 {
