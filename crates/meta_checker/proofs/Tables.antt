@@ -1,4 +1,4 @@
--- What is computed over a table of nodes is what each of its numbers has.
+-- The result computed over a table of nodes agrees with the property of each of its numbers.
 use Rattle.std.proofs.Common.{◌≡◌, ◌∷◌, ◌&&◌, ◌+◌, ◌∙◌, ℕ, Bool, false, true, List, [], Option, Some, ap, refl, sym, subst, inl, inr, arith, map, length, take, get_or}
 use Rattle.std.specs.Prelude.{All, flat_map, option_map, slice_get, slice_index_or, unwrap_or}
 use Rattle.std.specs.List.{list_all}
@@ -29,11 +29,11 @@ entries_say {K} says es =
 pub form_in : {K : Type 0} (says : K → Bool) (n : Node K) (form : CodeForm K) → n.form ≡ Some form → node_is_whole says (node_of n) ≡ list_all says (node_words (plan_of form))
 form_in says n form is = ap (λ f. list_all says (node_words (unwrap_or (option_map plan_of f) node_always))) is
 
--- a table of which one node says no
+-- one node of the table fails the test
 pub one_says_no : {K : Type 0} (says : K → Bool) (ns : List (NodeEntry K)) (i : ℕ) (n : NodeEntry K) → slice_get ns i ≡ Some n → node_is_whole says n ≡ false → table_is_whole says ns ≡ false
 one_says_no says ns i n there is = list_all_at (node_is_whole says) ns i n (slice_get_within ns i n there) (ap (node_is_whole says) (get_or_from_slice_get ns i n n there) ∙ is)
 
--- its first nodes, and one more
+-- the first nodes of a table, and one more
 pub one_more_says : {K : Type 0} (says : K → Bool) (ns : List (NodeEntry K)) (i : ℕ) (n : NodeEntry K) → slice_get ns i ≡ Some n → node_is_whole says n ≡ true → table_is_whole says (take i ns) ≡ true → table_is_whole says (take (i + 1) ns) ≡ true
 one_more_says says ns i n there is before =
     list_all_more (node_is_whole says) ns i n (slice_get_within ns i n there)
@@ -41,7 +41,7 @@ one_more_says says ns i n there is before =
     ∙ ap (node_is_whole says) (get_or_from_slice_get ns i n n there)
     ∙ is
 
--- ---- what is known of keywords in their place
+-- ---- the facts about keywords at their places
 
 module _ {K S : Type 0} (shape : K → S) where
   shaped_form_words : (form : NodeForm K) → form_words (shaped_form shape form) ≡ map shape (form_words form)

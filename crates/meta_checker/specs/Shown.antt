@@ -1,5 +1,6 @@
--- Whether no keyword of a table of nodes shows a fraction of its schema. References show none. (Core 2020-12, 6.3: how numbers are
--- written is not told apart by the standard, so texts that show fractions are not spoken of)
+-- Whether no keyword of a table of nodes shows a fraction of its schema. References show none.
+-- (Core 2020-12, 6.3: the standard does not distinguish the ways to write a number, so nothing is
+-- promised of texts that show fractions)
 use Rattle.std.specs.List.{list_all}
 use Rattle.std.specs.Prelude.{Bool, List, Some}
 use Rattle.theory_definitions.specs.Guarded.{NodeForm}

@@ -11,14 +11,16 @@ use schema_node_table::node::{Entry, EntryForm, Node, NodeForm, Nodes};
 use schema_traits::keyword::Validate;
 use schema_traits::numbers::SchemaNode;
 
-/// What tells of a keyword whether it shows a fraction of the schema.
+/// Reports of a keyword whether it shows a fraction of the schema.
 pub trait TellsFractions<K: Validate> {
-    /// Returns whether no text of the keyword shows a fraction of the schema. It allocates nothing.
+    /// Returns whether no text of the keyword shows a fraction of the schema.
+    ///
+    /// Does not allocate.
     fn shows_none(&self, keyword: &K) -> bool
         ensures whole { result ≡ K.is_whole (K.shape keyword.now) };
 }
 
-// Whether the keyword of an entry shows none; a reference shows none.
+// Returns whether the keyword of an entry shows no fraction; a reference shows none.
 fn entry_shows_none<K: Validate, F: TellsFractions<K>>(fractions: &F, entry: &Entry<K>) -> bool
     ensures shows { result ≡ form_is_whole (λ k. K.is_whole (K.shape k)) (form_of entry.now.form) }
 {
@@ -28,7 +30,6 @@ fn entry_shows_none<K: Validate, F: TellsFractions<K>>(fractions: &F, entry: &En
     }
 }
 
-// Whether no keyword of some entries shows one.
 fn entries_show_none<K: Validate, F: TellsFractions<K>>(fractions: &F, entries: &[Entry<K>]) -> bool
     ensures shows { result ≡ list_all (λ (e : Entry K). form_is_whole (λ k. K.is_whole (K.shape k)) (form_of e.form)) entries.now }
 {
@@ -37,7 +38,6 @@ fn entries_show_none<K: Validate, F: TellsFractions<K>>(fractions: &F, entries: 
         .all(|entry| entry_shows_none(fractions, entry))
 }
 
-// Whether no keyword of a node shows one.
 fn node_shows_none<K: Validate, F: TellsFractions<K>>(fractions: &F, node: &Node<K>) -> bool
     ensures shows { result ≡ node_is_whole (λ k. K.is_whole (K.shape k)) (node_of node.now) }
 {
@@ -51,7 +51,6 @@ fn node_shows_none<K: Validate, F: TellsFractions<K>>(fractions: &F, node: &Node
     }
 }
 
-// Whether no keyword of each node shows one.
 fn table_shows_none<K: Validate, F: TellsFractions<K>>(fractions: &F, nodes: &Nodes<K>) -> bool
     ensures shows { result ≡ table_is_whole (λ k. K.is_whole (K.shape k)) nodes.now }
 {
@@ -63,7 +62,9 @@ fn table_shows_none<K: Validate, F: TellsFractions<K>>(fractions: &F, nodes: &No
     true
 }
 
-/// Returns whether no text of a keyword of these nodes shows a fraction of the schema; references show none. It allocates nothing.
+/// Returns whether no keyword of these nodes shows a fraction of the schema.
+///
+/// References show none. Does not allocate.
 pub fn show_no_fraction<K: Validate, F: TellsFractions<K>>(fractions: &F, nodes: &Nodes<K>) -> bool
     ensures exactly { (result ≡ true) ↔ AreWhole K.is_whole (numbered K.shape nodes.now) (length nodes.now) }
 {

@@ -1,4 +1,4 @@
-//! Whether a value holds a fraction: a number that is read as a float.
+//! Whether a value contains a fraction: a number that is read as a float.
 ghost use Rattle.std.specs.Prelude.{◌≡◌};
 ghost use Rattle.serde_json.specs.Written.{has_float, items_have_float, members_have_float};
 ghost use Rattle.serde_json.specs.View.{items_view, members_view, view};
@@ -20,7 +20,7 @@ pub fn has_fraction(value: &Value) -> bool
     }
 }
 
-// Whether a number in one of the items is.
+// Returns whether a number in one of the items is a float.
 #[cycle(walk)]
 fn items_have_fraction(items: &Vec<Value>) -> bool
     ensures fraction { result ≡ items_have_float (items_view items.now.items) }
@@ -33,7 +33,7 @@ fn items_have_fraction(items: &Vec<Value>) -> bool
     false
 }
 
-// Whether a number in one of the members is.
+// Returns whether a number in one of the members is a float.
 #[cycle(walk)]
 fn members_have_fraction(members: &Map<String, Value>) -> bool
     ensures fraction { result ≡ members_have_float (members_view members.now.entries) }

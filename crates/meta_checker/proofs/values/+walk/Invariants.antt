@@ -3,7 +3,7 @@ use Rattle.serde_json.specs.Written.{items_have_float, members_have_float}
 use Rattle.serde_json.specs.View.{items_view, members_view}
 use Rattle.meta_checker.proofs.values.+walk.Given as goal
 
--- what holds a fraction is among what is left
+-- an item with a fraction is among the items that are left
 abbrev pub invariant-items_have_fraction-loop-item : goal.invariant-items_have_fraction-loop-item
 invariant-items_have_fraction-loop-item l = items_have_float (items_view l.items.items) ≡ items_have_float (items_view (drop l.item-index l.item-items))
 
