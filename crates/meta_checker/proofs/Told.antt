@@ -1,4 +1,5 @@
--- With a matcher that finishes every match, the first error that a call answers is a function of the instance.
+-- If the matcher finishes every match, the first error that a call returns is a function of the
+-- instance.
 use Rattle.std.proofs.Common.{◌≡◌, ◌≤◌, ◌∙◌, ◌+◌, ℕ, suc, List, [], ◌∷◌, refl, sym, ap, subst, arith}
 use Rattle.std.specs.Prelude.{None, Option, Some, find, is_some, not}
 use Rattle.theory_definitions.specs.Cover.{Decides, Sense, branch_at, validate, whole}

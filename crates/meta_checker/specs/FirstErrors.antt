@@ -1,6 +1,7 @@
--- What numbered nodes say first of an instance, where the matcher leaves no match unfinished: it is a function of the instance, the
--- first error that they give with questions as deep as is enough. A call that answers by what they say from some depth on answers it,
--- also where chains of references return. (Core 2020-12, 4.3.5 and 8.1)
+-- The first error that numbered nodes report of an instance, if the matcher leaves no match
+-- unfinished. It is a function of the instance: the first error at a depth of questions that is
+-- enough. A call that answers by the nodes from some depth on returns this error, also if chains of
+-- references return. (Core 2020-12, 4.3.5 and 8.1)
 use Rattle.std.specs.Prelude.{None, Option, [], suc, ℕ, ◌<◌, ◌≡◌, ◌≤◌}
 use Rattle.serde_json.specs.Data.{Data}
 use Rattle.theory_definitions.specs.Cover.{Sense, branch_at, validate}
@@ -16,11 +17,11 @@ use Rattle.theory_meaning.specs.Members.{Finishes}
 use Rattle.theory_meaning.specs.Numbered.{Ranked, left, subject_in}
 
 module _ {K R : Type 0} (keywords : Keywords K R) (matcher : Matcher) (nodes : Nodes K) (count root : ℕ) (instance : Data) where
-  -- from this depth on, more depth changes nothing
+  -- a depth from which on more depth changes nothing
   abbrev pub enough : ℕ
   enough = suc (left nodes count root (a_value instance) [])
 
-  -- what the nodes say
+  -- what the nodes report of the instance at that depth
   abbrev pub settled_sense : Sense
   settled_sense = guarded_sense keywords matcher nodes (subject_in instance) enough root
 
@@ -28,11 +29,12 @@ module _ {K R : Type 0} (keywords : Keywords K R) (matcher : Matcher) (nodes : N
   abbrev pub first_told : Option Error
   first_told = first_error ((settled_sense.says (completion_of [])).errors)
 
--- a call answers this first error, or none, where its first run meets no unfinished match
+-- a call returns this first error, or none, if its first run meets no unfinished match
 abbrev pub FirstAlone : Sense → ℕ → Option Error → Type 0
 FirstAlone v most o = branch_at v validate [] ≡ None → FirstSays v most o
 
--- with a matcher that finishes every match, what a call answers is what is told of the instance
+-- if the matcher finishes every match, then a call that returns this first error returns the one
+-- that the nodes report of the instance
 abbrev pub FirstIsTold : {K R : Type 0} → Keywords K R → Type 0
 FirstIsTold {K} keywords = EachKeeps keywords → (matcher : Matcher) → Finishes matcher → (nodes : Nodes K) (count : ℕ) → Ranked nodes count
     → (instance : Data) (root : ℕ) → root < count → (most : ℕ) → 1 ≤ most → (o : Option Error)
