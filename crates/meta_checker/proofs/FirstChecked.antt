@@ -1,4 +1,5 @@
--- What a checker's validator says first of an instance is what its nodes tell first of it.
+-- The first error that a checker's validator reports of an instance is the one that its nodes
+-- report first.
 use Rattle.std.proofs.Common.{◌≡◌, ◌∙◌, ℕ, Bool, true, false, refl, subst, sym}
 use Rattle.std.specs.Prelude.{None, Option, Some, is_some, length, option_map}
 use Rattle.serde_json.specs.Data.{Data}
@@ -19,12 +20,12 @@ use Rattle.meta_checker.specs.FirstErrors.{FirstAlone}
 use Rattle.meta_checker.proofs.Told.{first_is_told}
 use Rattle.meta_checker.specs.Checks.{Checks, first_by}
 
--- where no match is met, what is answered is what the sentence says, texts being spoken of or not
+-- if no unfinished match is met, the answer is the one of the sentence, with texts covered or not
 alone : (v : Sense) (most : _) (texts : Bool) (o : Option ValidationError) → FirstAnswered v most texts o → FirstAlone v most (option_map (error_of texts) o)
 alone v most true o says = λ none. says
 alone v most false o says = λ none. says.alone none
 
--- a limit that a validator tells of is its own; here there is none
+-- a limit that a validator reports is its own; here there is none
 none_of : (limit : Option ℕ) → is_some limit ≡ false → limit ≡ None
 none_of None absent = refl
 none_of (Some n) absent = cc
@@ -42,6 +43,6 @@ module _ {C Run K M : Type 0} (keywords : KeywordMembers C Run K) (matchers : Ma
       (numbered keywords.shape p.nodes) (length p.nodes) checks.ranked instance p.root checks.inside p.runs checks.some (option_map (error_of texts) o)
       (deep, λ n more. alone _ p.runs texts o (says n more))
 
-  -- a call of it stops at no limit
+  -- a call of the validator stops at no limit
   pub unstopped : Checks keywords matchers p → (stopped : ℕ → Type 0) (fact : Type 0) → UnlessStopped p.work stopped fact → fact
   unstopped checks stopped fact said = subst (λ (o : Option ℕ). UnlessStopped o stopped fact) checks.unlimited said

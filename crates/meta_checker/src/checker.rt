@@ -17,8 +17,11 @@ use serde_json::Value;
 use std::alloc::Global;
 use std::marker::Model;
 
-/// A validator whose calls ask any number of nodes, whose matcher finishes every match, and whose keywords show no fraction of the schema:
-/// what it says first of an instance is a function of the instance, and so is the error's text where the instance holds no fraction.
+/// A validator whose first error is a function of the instance.
+///
+/// Its calls have no limit on steps, its matcher finishes every match, and its keywords show no
+/// fraction of the schema. The text of the error is a function of the instance too if the instance
+/// contains no fraction.
 #[derive(Drop)]
 pub struct Checker<K: Validate, M: Matcher> {
     validator: Validator<K, M>,
@@ -39,7 +42,6 @@ impl<K: Validate, M: Matcher> Model for Checker<K, M> {
     ghost invariant = { λ c. Checks K.Validate M.Matcher c.validator };
 }
 
-/// The error of a refusal.
 fn error_in<'v>(refusal: Result<(), ValidationError<'v>>) -> Option<ValidationError<'v>>
     ensures error { result ≡ refusal_of refusal.entry }
 {
@@ -50,8 +52,10 @@ fn error_in<'v>(refusal: Result<(), ValidationError<'v>>) -> Option<ValidationEr
 }
 
 impl<K: Validate, M: Matcher> Checker<K, M> {
-    /// Makes one of a validator, if its calls ask any number of nodes, and if its keywords show no fraction of the schema. Allocates
-    /// nothing.
+    /// Creates a checker from a validator.
+    ///
+    /// Returns `None` if the validator has a work limit, or if one of its keywords shows a fraction
+    /// of the schema. Does not allocate.
     pub fn of<F: TellsFractions<K>>(
         fractions: &F,
         validator: Validator<K, M>,
@@ -62,7 +66,7 @@ impl<K: Validate, M: Matcher> Checker<K, M> {
         ensures is { IfSome result (λ c. c ≡ validator) }
     {
         let nodes = validator.nodes();
-        // (the call says that edges which nothing guards fall in rank)
+        // (the call proves that unguarded edges decrease in rank)
         let _ranked = nodes.len();
         if !show_no_fraction(fractions, nodes) {
             return None;
@@ -73,8 +77,11 @@ impl<K: Validate, M: Matcher> Checker<K, M> {
         Some(Checker { validator })
     }
 
-    /// Makes one of a validator that finishes its matches where a matcher does, if this matcher says that it finishes every match, if the
-    /// validator's calls make runs and ask any number of nodes, and if its keywords show no fraction of the schema. Allocates nothing.
+    /// Creates a checker from a validator with the help of a matcher.
+    ///
+    /// The validator's matcher finishes its matches if `matcher` does. Returns `None` if `matcher`
+    /// does not say that it finishes every match, if the validator's calls make no runs or have a
+    /// work limit, or if one of its keywords shows a fraction of the schema. Does not allocate.
     pub fn by_matcher<F: TellsFractions<K>>(
         fractions: &F,
         matcher: &M,
@@ -96,7 +103,7 @@ impl<K: Validate, M: Matcher> Checker<K, M> {
     ///
     /// # Errors
     ///
-    /// Fails only if memory cannot be allocated.
+    /// Out of memory.
     pub fn check<'v>(
         &self,
         alloc: Global,

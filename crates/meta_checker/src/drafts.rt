@@ -1,4 +1,4 @@
-//! Meta validators by a checker for each draft.
+//! Meta validators with a checker for each draft.
 ghost use Rattle.std.specs.Prelude.{◌≡◌, IfOk};
 ghost use Rattle.theory_definitions.specs.Drafts as drafts;
 ghost use Rattle.schema_drafts.specs.KeywordViews.{draft_of};
@@ -16,24 +16,24 @@ use serde_json::Value;
 use std::alloc::Global;
 use std::marker::Model;
 
-/// What makes the checkers of the drafts.
+/// Makes the checkers of the drafts.
 pub trait CheckerMaker<K: Validate, M: Matcher> {
-    /// Why no checker is made.
+    /// The reason why a checker is not made.
     type Error: Drop;
 
-    /// Whether a program checks a draft as the maker has it.
+    /// The program checks the draft as the maker specifies.
     ghost checks: { Self → drafts.Draft → Program K M → Type 0 };
 
     /// Returns the checker of a draft.
     ///
     /// # Errors
     ///
-    /// Fails where the maker says so.
+    /// The checker is not made, for a reason of the maker's.
     fn checker(&self, alloc: Global, draft: Draft) -> Result<Checker<K, M>, Self::Error>
         ensures checks { IfOk result (λ c. checks self.now (draft_of draft) c) };
 }
 
-/// A checker for each draft. A draft that is not known has that of 2020-12.
+/// A checker for each draft. An unknown draft has the checker of 2020-12.
 #[derive(Drop)]
 pub struct DraftCheckers<K: Validate, M: Matcher> {
     draft4: Checker<K, M>,
@@ -62,11 +62,13 @@ impl<K: Validate, M: Matcher> Model for DraftCheckers<K, M> {
 }
 
 impl<K: Validate, M: Matcher> DraftCheckers<K, M> {
-    /// Asks a maker for the checker of each draft, the oldest first. Allocates nothing itself.
+    /// Requests the checker of each draft from a maker, the oldest draft first.
+    ///
+    /// Does not allocate by itself.
     ///
     /// # Errors
     ///
-    /// Fails with the maker's error for the first draft that it makes none of.
+    /// The maker's error for the first draft that it makes no checker for.
     pub fn by<C: CheckerMaker<K, M>>(
         alloc: Global,
         maker: &C,
@@ -82,7 +84,6 @@ impl<K: Validate, M: Matcher> DraftCheckers<K, M> {
         })
     }
 
-    /// The check by the meta-schema of a draft.
     fn of_draft(&self, draft: Draft) -> &Checker<K, M>
         ensures program { result.now ≡ program_of self.now (draft_of draft) }
     {

@@ -1,5 +1,6 @@
-//! A validator whose first error is a function of the instance, as meta validators owe it, and meta validators
-//! by one for each draft.
+//! Checkers: validators whose first error is a function of the instance.
+//!
+//! Meta validators have to have this property. Those of this crate have one checker for each draft.
 #![tactic(auto)]
 
 pub mod checker;
