@@ -1,4 +1,4 @@
--- Lists of values, beside the items that they stand for.
+-- Lists of values, and the items that they represent.
 use Rattle.std.proofs.Common.{◌≡◌, ◌<◌, ◌≤◌, ◌==◌, List, [], ◌∷◌, length, false, refl, arith}
 use Rattle.serde_json.specs.Events.{items_len}
 use Rattle.serde_json.specs.View.{items_view}

@@ -1,4 +1,4 @@
--- What holds of each row so far.
+-- A property of each row so far.
 use Rattle.std.proofs.Common.{All, List, Some, length, slice_index_or, subst, sym, take, ℕ, ◌+◌, ◌<◌, ◌≡◌, add-one, ap}
 use Rattle.std.proofs.lemmas.List.Elements.{All-push}
 use Rattle.std.proofs.Math.Seq.{take-suc}
@@ -11,7 +11,7 @@ one_more P xs i d inside so_far here = subst (λ n. All P (take n xs)) (sym (add
 some_is : {X : Type 0} (a b : X) → Some a ≡ Some b → a ≡ b
 some_is a b e = cc
 
--- a value with items is their list
+-- a value with items is the array of them
 pub is_list : (d : Data) (ds : Items) → Some ds ≡ as_array d → d ≡ array ds
 is_list null ds e = cc
 is_list (boolean b) ds e = cc

@@ -1,4 +1,4 @@
--- What the members of a case ask for.
+-- The calls that the members of a case name.
 use Rattle.std.specs.Prelude.{Option, Some, None, bytes_eq, codes, if◌then◌else◌, option_and_then}
 use Rattle.serde_json.specs.Data.{Data, member, no_members, object, string}
 use Rattle.serde_json.specs.Find.{as_str, get}
@@ -10,7 +10,7 @@ use Rattle.test_rows.specs.declared.call.MapQuestion.TheVariants as by_map
 use Rattle.test_rows.specs.declared.call.Question.{Question}
 use Rattle.test_rows.specs.declared.call.Question.TheVariants as by_validator
 
--- the question of a name that asks for errors or a verdict
+-- the question of this name that requests errors or a verdict
 abbrev pub errors_question_named : Text → Option Question
 errors_question_named t =
     if bytes_eq t (codes "errors") then Some by_validator.Errors
@@ -19,7 +19,7 @@ errors_question_named t =
     else (if bytes_eq t (codes "iter_errors") then Some by_validator.IterErrors
     else (if bytes_eq t (codes "errors_count") then Some by_validator.ErrorsCount else None))))
 
--- the question of a name that asks for an evaluation
+-- the question of this name that requests an evaluation
 abbrev pub evaluation_question_named : Text → Option Question
 evaluation_question_named t =
     if bytes_eq t (codes "evaluate") then Some by_validator.Evaluate
@@ -27,7 +27,7 @@ evaluation_question_named t =
     else (if bytes_eq t (codes "evaluation_errors") then Some by_validator.EvaluationErrors
     else (if bytes_eq t (codes "list_count") then Some by_validator.ListCount else None)))
 
--- the question of a name that asks what was built
+-- the question of this name about the result of the build
 abbrev pub build_question_named : Text → Option Question
 build_question_named t =
     if bytes_eq t (codes "build") then Some by_validator.Build
@@ -35,24 +35,24 @@ build_question_named t =
     else (if bytes_eq t (codes "entries") then Some by_validator.Entries
     else (if bytes_eq t (codes "monotone") then Some by_validator.Monotone else None)))
 
--- the first of three questions that is there
+-- the first of three questions that is present
 abbrev pub first_question : Option Question → Option Question → Option Question → Option Question
 first_question (Some question) _ _ = Some question
 first_question None (Some question) _ = Some question
 first_question None None question = question
 
--- the question of a name to a validator
+-- the question of this name to a validator
 abbrev pub question_named : Text → Option Question
 question_named t = first_question (errors_question_named t) (evaluation_question_named t) (build_question_named t)
 
--- the question of a name to a map
+-- the question of this name to a map
 abbrev pub map_question_named : Text → Option MapQuestion
 map_question_named t =
     if bytes_eq t (codes "map") then Some by_map.Names
     else (if bytes_eq t (codes "map_errors") then Some by_map.Errors
     else (if bytes_eq t (codes "map_draft") then Some by_map.Draft else None))
 
--- the call of a name that is no question
+-- the call of this name that is no question
 abbrev pub other_call_named : Text → Option Call
 other_call_named t =
     if bytes_eq t (codes "clone") then Some (Clones by_validator.Errors)
@@ -66,7 +66,7 @@ call_of (Some question) _ _ = Some (Validator question)
 call_of None (Some question) _ = Some (Map question)
 call_of None None call = call
 
--- the call of a name
+-- the call of this name
 abbrev pub call_named : Text → Option Call
 call_named t = call_of (question_named t) (map_question_named t) (other_call_named t)
 
@@ -74,6 +74,6 @@ call_named t = call_of (question_named t) (map_question_named t) (other_call_nam
 abbrev pub call_in : Data → Option Call
 call_in case = option_and_then call_named (option_and_then as_str (get (codes "call") case))
 
--- what a value that is no case is answered
+-- the answer to a value that is no case
 abbrev pub no_case : Data
 no_case = object (member (codes "fault") (string (codes "no case")) no_members)

@@ -1,4 +1,4 @@
--- What a value has to be, to be read as a case.
+-- The conditions under which a value is read as a case.
 use Rattle.std.specs.Prelude.{◌≡◌, ◌⊎◌, Bool, None, Option, Some, bytes_eq, codes, false, if◌then◌else◌, option_and_then, true}
 use Rattle.serde_json.specs.Data.{Data}
 use Rattle.serde_json.specs.Find.{as_str, get}
@@ -9,7 +9,7 @@ use Rattle.test_rows.specs.declared.call.Call.TheVariants.{Check, Clones, Free, 
 use Rattle.test_rows.specs.declared.case.Table.{Table}
 use Rattle.test_rows.specs.declared.case.Table.TheVariants.{Bench, Fused, Items, Standard, Strings}
 
--- the table of a name
+-- the table of this name
 abbrev pub table_named : Text → Option Table
 table_named t =
     if bytes_eq t (codes "bench") then Some Bench
@@ -18,7 +18,7 @@ table_named t =
     else (if bytes_eq t (codes "strings") then Some Strings
     else (if bytes_eq t (codes "standard") then Some Standard else None))))
 
--- the table that a member names; the bench's where there is no such member
+-- the table that a member names, or that of `bench_parts` if there is no member
 abbrev pub table_of : Option Data → Option Table
 table_of None = Some Bench
 table_of (Some name) = option_and_then table_named (as_str name)
@@ -34,7 +34,7 @@ is_bench Items = false
 is_bench Strings = false
 is_bench Standard = false
 
--- a call can be asked by a table: clones by the bench's alone, all else by each
+-- a table supports a call: clones only by that of `bench_parts`, all others by each
 abbrev pub is_asked_by : Call → Table → Bool
 is_asked_by (Validator question) table = true
 is_asked_by (Clones question) table = is_bench table
@@ -42,7 +42,7 @@ is_asked_by (Map question) table = true
 is_asked_by Free table = true
 is_asked_by Check table = true
 
--- a call and a table, where the call can be asked by the table
+-- a call, if the table supports it
 abbrev pub call_by : Call → Option Table → Option Call
 call_by call None = None
 call_by call (Some table) = if is_asked_by call table then Some call else None
@@ -53,18 +53,18 @@ case_of None _ _ = None
 case_of (Some schema) None _ = None
 case_of (Some schema) (Some call) table = call_by call table
 
--- the call of the case that a value is, or that it is none
+-- the call of the case that a value is, or nothing if it is no case
 abbrev pub case_in : Data → Option Call
 case_in value = case_of (get (codes "schema") value) (call_in value) (table_in value)
 
--- a call that cannot be asked by the table that is named with it
+-- the table does not support the call that is named with it
 abbrev pub IsAskedByAnother : Data → Type 0
 IsAskedByAnother value =
     (call : Call) × (table : Table) × (call_in value ≡ Some call) × (table_in value ≡ Some table) × (is_asked_by call table ≡ false)
 
--- what is wrong with a value that is no case: it has no member `schema`, as nothing but an object has; its member `call` is missing,
--- or no text, or the name of no call; its member `table` is there, and no text or the name of no table; or it asks of clones by
--- another table than the bench's
+-- why a value is no case: it has no member `schema` (only an object can have one); its member
+-- `call` is missing, is no text, or names no call; its member `table` is present, and is no text or
+-- names no table; or it asks of clones by another table than that of `bench_parts`
 abbrev pub IsNoCase : Data → Type 0
 IsNoCase value =
     (get (codes "schema") value ≡ None) ⊎ (call_in value ≡ None) ⊎ (table_in value ≡ None) ⊎ IsAskedByAnother value

@@ -9,15 +9,16 @@ is_same_truth true b = b
 is_same_truth false true = false
 is_same_truth false false = true
 
--- the same number in the same kind: a whole number is no fraction; two fractions are compared as floats are
+-- the same number of the same kind: a whole number is no fraction; two fractions are compared as
+-- floats
 abbrev pub is_same_number : Num → Num → Bool
 is_same_number (unsigned m) (unsigned n) = m == n
 is_same_number (negative x) (negative y) = int_eq x y
 is_same_number (float x) (float y) = eq x y
 is_same_number _ _ = false
 
--- the same kind of value, with the same number, text, items in their order or members: an object's members stand in the order of their
--- names
+-- the same kind of value, with the same number, text, items in their order, or members; the members
+-- of an object are in the order of their names
 abbrev mutual
   pub is_same : Data → Data → Bool
   is_same null null = true

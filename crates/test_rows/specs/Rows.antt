@@ -9,17 +9,18 @@ use Rattle.test_rows.specs.Wanted.{is_wanted}
 use Rattle.test_rows.specs.declared.asking.RowAnswer.{RowAnswer}
 use Rattle.test_rows.specs.declared.asking.RowAnswer.TheVariants.{Fault, Given}
 
--- what a call gives is what is wanted, where there is a call and something is wanted
+-- the result of a call is the wanted one, if there is a call and something is wanted
 abbrev pub is_answered : Option Call → Option Data → Data → Bool
 is_answered None want given = false
 is_answered (Some call) None given = false
 is_answered (Some call) (Some want) given = is_wanted call given want
 
--- a row is right with an answer: it is a case, and the answer is the one that its member `want` wants of the case's call
+-- a row is right with an answer if it is a case, and the answer is the one that its member `want`
+-- wants of the case's call
 abbrev pub is_right : Data → Data → Bool
 is_right row given = is_answered (case_in row) (get (codes "want") row) given
 
--- what came of a line is right: nothing is wrong with the row itself, and the row is right with the answer
+-- the result of a line is right if the row itself has no fault, and is right with the answer
 abbrev pub is_right_answer : RowAnswer → Bool
 is_right_answer (Fault fault) = false
 is_right_answer (Given row given) = is_right (view row) (view given)

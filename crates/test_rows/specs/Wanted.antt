@@ -1,4 +1,4 @@
--- What a row wants of an answer.
+-- The answer that a row wants.
 use Rattle.std.specs.Prelude.{Bool, None, Option, Some, codes, eqb, false, if◌then◌else◌, is_some, option_and_then, option_map, true, unwrap_or, ◌&&◌, ◌==◌, ◌||◌}
 use Rattle.std.specs.List.{ends_with}
 use Rattle.serde_json.specs.Data.{Data, Items, item, no_items}
@@ -17,7 +17,7 @@ use Rattle.test_rows.specs.Equality.{is_same}
 abbrev pub is_list : (Items → Bool) → Data → Bool
 is_list test given = unwrap_or (option_map test (as_array given)) false
 
--- where a list is wanted, a list that passes a test with it; else the same data
+-- if a list is wanted, a list that passes a test with it; otherwise the same data
 abbrev pub is_list_or_same : (Items → Items → Bool) → Data → Data → Bool
 is_list_or_same test given want =
     unwrap_or (option_map (λ wanted. is_list (λ items. test items wanted) given) (as_array want)) (is_same given want)
@@ -28,16 +28,16 @@ begins_with columns no_items = true
 begins_with no_items (item name names) = false
 begins_with (item column columns) (item name names) = is_same column name && begins_with columns names
 
--- the same, where at least one is named
+-- the columns of an error begin with those that are named, and at least one is named
 abbrev pub has_columns : Items → Items → Bool
 has_columns columns no_items = false
 has_columns columns (item name names) = begins_with columns (item name names)
 
--- an error with the columns that are wanted, and maybe more after them; or `null` where that is wanted
+-- an error with the wanted columns, and possibly more after them; or `null` if that is wanted
 abbrev pub is_error : Data → Data → Bool
 is_error = is_list_or_same has_columns
 
--- as many errors as are wanted, each with the wanted columns, in their order
+-- as many errors as are wanted, each with the wanted columns, in order
 abbrev pub are_these_errors : Items → Items → Bool
 are_these_errors no_items no_items = true
 are_these_errors (item error errors) (item wanted more) = is_error error wanted && are_these_errors errors more
@@ -60,39 +60,40 @@ abbrev pub is_in : Data → Items → Bool
 is_in value no_items = false
 is_in value (item other others) = is_same value other || is_in value others
 
--- each value of a list is in another one
+-- each value of a list is in another list
 abbrev pub are_in : Items → Items → Bool
 are_in no_items all = true
 are_in (item value values) all = is_in value all && are_in values all
 
--- as many names as are wanted, in any order: each is wanted, and each that is wanted is there
+-- as many names as are wanted, in any order: each name is wanted, and each wanted one is present
 abbrev pub are_these_names : Items → Items → Bool
 are_these_names names wanted = (items_len names == items_len wanted) && (are_in wanted names && are_in names wanted)
 
 abbrev pub are_names : Data → Data → Bool
 are_names = is_list_or_same are_these_names
 
--- what is wanted of a member that was found or not: nothing, or that it is there and the same
+-- a member that was found or not: nothing is wanted, or it is present and the same
 abbrev pub is_found : Option Data → Option Data → Bool
 is_found found None = true
 is_found None (Some wanted) = false
 is_found (Some value) (Some wanted) = is_same value wanted
 
--- a member is as it is wanted, where it is wanted
+-- a member is the wanted one, if one is wanted
 abbrev pub is_as_wanted : Text → Data → Data → Bool
 is_as_wanted name given want = is_found (get name given) (get name want)
 
--- a text ends with another one, where both are there
+-- a text ends with another text, if both are present
 abbrev pub ends_by : Option Text → Option Text → Bool
 ends_by (Some text) (Some end) = ends_with eqb text end
 ends_by _ _ = false
 
--- a text ends as it is wanted to, where that is wanted
+-- a text ends as wanted, if an end is wanted
 abbrev pub ends_as : Option Text → Option Data → Bool
 ends_as text None = true
 ends_as text (Some end) = ends_by text (as_str end)
 
--- a refusal that has the wanted number, place and text, and the wanted end of its text, of these what is wanted
+-- a refusal has the wanted number, place and text, and the wanted end of its text, as far as these
+-- are wanted
 abbrev pub is_refusal : Data → Data → Bool
 is_refusal given want =
     is_some (get (codes "refused") given)
@@ -101,7 +102,8 @@ is_refusal given want =
     && (is_as_wanted (codes "text") given want
     && ends_as (option_and_then as_str (get (codes "text") given)) (get (codes "ends") want))))
 
--- what a validator answers: errors and counts of errors by the columns that are wanted, all else as the same data
+-- the answer of a validator: errors and counts of errors are compared by the wanted columns, all
+-- else as data
 abbrev pub is_answer : Question → Data → Data → Bool
 is_answer by_validator.Errors = are_errors
 is_answer by_validator.IterErrors = are_errors
@@ -117,13 +119,14 @@ is_answer by_validator.Draft = is_same
 is_answer by_validator.Entries = is_same
 is_answer by_validator.Monotone = is_same
 
--- what a map answers: names in any order, errors by the columns that are wanted, a draft as the same data
+-- the answer of a map: names are compared in any order, errors by the wanted columns, a draft as
+-- data
 abbrev pub is_map_answer : MapQuestion → Data → Data → Bool
 is_map_answer by_map.Names = are_names
 is_map_answer by_map.Errors = are_errors
 is_map_answer by_map.Draft = is_same
 
--- what a call answers where no refusal is wanted
+-- the answer to a call if no refusal is wanted
 abbrev pub is_answer_of : Call → Data → Data → Bool
 is_answer_of (Validator question) = is_answer question
 is_answer_of (Clones question) = is_answer question
@@ -131,7 +134,8 @@ is_answer_of (Map question) = is_map_answer question
 is_answer_of Free = are_errors
 is_answer_of Check = is_same
 
--- an answer to a call is the one that is wanted: a refusal where one is wanted, else what its call gives
+-- the answer to a call is the wanted one: a refusal if one is wanted, and otherwise the result of
+-- the call
 abbrev pub is_wanted : Call → Data → Data → Bool
 is_wanted call given want =
     if is_some (get (codes "refused") want) then is_refusal given want else is_answer_of call given want

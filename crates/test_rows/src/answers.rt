@@ -1,10 +1,12 @@
-//! What the four calls answer of one instance, and whether they agree.
+//! The answers of the four calls for one instance, and whether they agree.
 
 use schema_reports::location::OutOfMemory;
 use serde_json::{Value, json};
 use std::alloc::Global;
 
-/// What the four calls answer of one instance, each a value: what the call gives, or its refusal.
+/// The answers of the four calls for one instance.
+///
+/// Each is a value: the result of the call, or its refusal.
 #[derive(Drop)]
 pub struct Answers {
     /// The verdict.
@@ -17,7 +19,7 @@ pub struct Answers {
     pub evaluated: Value,
 }
 
-// Whether an answer is the first of these errors, or `null` where there is none.
+// Returns whether an answer is the first of these errors, or `null` if there are none.
 fn is_first(first: &Value, errors: &[Value]) -> bool {
     match errors.first() {
         Some(error) => first == error,
@@ -26,7 +28,8 @@ fn is_first(first: &Value, errors: &[Value]) -> bool {
 }
 
 impl Answers {
-    // Whether the calls agree: yes exactly where there is no error, and the first error is the first of all.
+    // Returns whether the calls agree: they accept exactly if there is no error, and the first
+    // error is the first of the list.
     fn is_agreed(&self) -> bool {
         let (Some(valid), Some(errors)) = (self.valid.as_bool(), self.errors.as_array()) else {
             return false;
@@ -36,7 +39,7 @@ impl Answers {
             && is_first(&self.first, errors.as_slice())
     }
 
-    // Whether each call is refused, and for the same reason.
+    // Returns whether each call is refused, and for the same reason.
     fn is_refused(&self) -> bool {
         self.valid.get("refused").is_some()
             && self.first == self.valid
@@ -45,7 +48,9 @@ impl Answers {
     }
 }
 
-/// The errors, if the calls agree, or the refusal, if all have the same. Else what each answers.
+/// Returns the errors if the calls agree, or the refusal if it is the same.
+///
+/// Otherwise returns the answer of each.
 pub fn agreed(alloc: Global, answers: Answers) -> Result<Value, OutOfMemory> {
     let agreed = answers.is_agreed() || answers.is_refused();
     let Answers {
@@ -61,7 +66,9 @@ pub fn agreed(alloc: Global, answers: Answers) -> Result<Value, OutOfMemory> {
     disagreement(alloc, "is_valid, validate, iter_errors, evaluate", answers)
 }
 
-/// What calls answer that are to agree, and do not, after their names.
+/// Returns the answers of calls that should agree but do not.
+///
+/// They come after the names of the calls.
 pub fn disagreement(alloc: Global, calls: &str, answers: Vec<Value>) -> Result<Value, OutOfMemory> {
     json!(in alloc; {"disagree": calls, "answers": answers})
 }

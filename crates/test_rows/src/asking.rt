@@ -1,4 +1,4 @@
-//! Lines that are read as rows, and what is answered of them.
+//! Lines that are read as rows, and the answers to them.
 ghost use Rattle.std.specs.Prelude.{◌≡◌, IfOk, None, false};
 ghost use Rattle.serde_json.specs.Read.{read as read_text};
 ghost use Rattle.test_rows.specs.Rows.{is_right_answer};
@@ -9,31 +9,35 @@ use serde_json::Value;
 use std::alloc::{AllocError, Global};
 use std::collections::BTreeSet;
 
-/// Who answers cases.
+/// Answers cases.
 pub trait Answering {
-    /// Returns what is answered of a case, as JSON; `{"fault": text}` of what is none.
+    /// Returns the answer to a case, as JSON.
+    ///
+    /// If the value is no case, the answer is `{"fault": text}`.
     ///
     /// # Errors
     ///
-    /// Fails only out of memory.
+    /// Out of memory.
     fn answer(&self, alloc: Global, case: &Value) -> Result<Value, AllocError>;
 }
 
-/// What came of a row: what is wrong with the row itself, or the row, written out, and what is answered of it.
+/// The result of a row.
+///
+/// It is the fault of the row itself, or the row, written out, with the answer to it.
 #[derive(Drop)]
 pub enum RowAnswer {
     Fault(String),
     Given(Value, Value),
 }
 
-/// What came of a line, and the row's name, where one could be read.
+/// The result of a line, and the name of its row if one could be read.
 #[derive(Drop)]
 pub struct Line {
     pub name: Option<String>,
     pub answer: RowAnswer,
 }
 
-// What is wrong with a row by its shape or its name, which is put among `names`, where it may not be yet.
+// Returns the fault of a row's shape or name. The name is added to `names`, where it must be new.
 fn fault_of(
     alloc: Global,
     names: &mut BTreeSet<String>,
@@ -50,13 +54,12 @@ fn fault_of(
     }
 }
 
-// A row with what is answered of it.
+// Returns a row with the answer to it.
 fn answered<A: Answering>(alloc: Global, cases: &A, row: Value) -> Result<RowAnswer, AllocError> {
     let given = cases.answer(alloc, &row)?;
     Ok(RowAnswer::Given(row, given))
 }
 
-// What comes of a row.
 fn answer_of<A: Answering>(
     alloc: Global,
     cases: &A,
@@ -69,7 +72,7 @@ fn answer_of<A: Answering>(
     }
 }
 
-// The name of a row, where it has one.
+// Returns the name of a row, if it has one.
 fn name_of(alloc: Global, row: &Value) -> Result<Option<String>, AllocError> {
     match row.get("name").and_then(Value::as_str) {
         Some(name) => Ok(Some(String::from_str(alloc, name)?)),
@@ -77,7 +80,7 @@ fn name_of(alloc: Global, row: &Value) -> Result<Option<String>, AllocError> {
     }
 }
 
-// What comes of a row, and its name.
+// Returns the result of a row, and its name.
 fn asked<A: Answering>(
     alloc: Global,
     cases: &A,
@@ -89,11 +92,13 @@ fn asked<A: Answering>(
     Ok(Line { name, answer })
 }
 
-/// Returns what comes of a line. The row's name is put among `names`, where it may not be yet.
+/// Returns the result of a line, and adds the row's name to `names`.
+///
+/// The name must be new.
 ///
 /// # Errors
 ///
-/// Fails only out of memory.
+/// Out of memory.
 pub fn line_in<A: Answering>(
     alloc: Global,
     cases: &A,

@@ -1,12 +1,12 @@
-//! What a case asks.
+//! The call that a case names.
 ghost use Rattle.std.specs.Prelude.{◌≡◌};
 ghost use Rattle.test_rows.specs.Calls.{build_question_named, call_named, errors_question_named, evaluation_question_named};
 ghost use Rattle.test_rows.specs.Calls.{map_question_named, other_call_named, question_named};
 
-/// What is asked of a validator.
+/// A question to a validator.
 #[derive(Clone, Copy, PartialEq, Eq)]
 pub enum Question {
-    /// All four calls, which are to agree.
+    /// All four calls, which should agree.
     Errors,
     Valid,
     First,
@@ -15,22 +15,22 @@ pub enum Question {
     Evaluate,
     /// The list of the evaluation.
     List,
-    /// The errors of the evaluation, each its evaluation path and text.
+    /// The errors of the evaluation, each with its evaluation path and text.
     EvaluationErrors,
-    /// How many units the list has, how many of them have errors, and where the last one is.
+    /// The number of units in the list, how many have errors, and the last place.
     ListCount,
-    /// How many errors there are, and the first and the last of them.
+    /// The number of errors, and the first and the last of them.
     ErrorsCount,
     /// Whether the schema builds.
     Build,
     Draft,
-    /// How many entries the root's node has.
+    /// The number of entries of the root's node.
     Entries,
     /// Whether each keyword of each node says that it is monotone.
     Monotone,
 }
 
-/// What is asked of a map of validators.
+/// A question to a map of validators.
 #[derive(Clone, Copy, PartialEq, Eq)]
 pub enum MapQuestion {
     Names,
@@ -40,21 +40,21 @@ pub enum MapQuestion {
     Draft,
 }
 
-/// What a case asks.
+/// The call that a case names.
 #[derive(Clone, Copy, PartialEq, Eq)]
 pub enum Call {
     Validator(Question),
-    /// A question that clones of a validator, and their sources, are to answer alike.
+    /// A question that clones of a validator and their sources should answer alike.
     Clones(Question),
     Map(MapQuestion),
-    /// The four calls that build and ask in one.
+    /// The four calls that build and validate in one.
     Free,
     /// The check of the schema by the meta validators alone.
     Check,
 }
 
 impl Call {
-    /// Returns the call of this name; `None` where there is none. Allocates nothing.
+    /// Returns the call of this name, if there is one. Does not allocate.
     pub fn named(name: &str) -> Option<Call>
         ensures named { result ≡ call_named name.now }
     {
@@ -68,7 +68,7 @@ impl Call {
     }
 }
 
-// The question of this name to a validator.
+// Returns the question of this name to a validator.
 fn question_named(name: &str) -> Option<Question>
     ensures named { result ≡ question_named name.now }
 {
@@ -81,7 +81,7 @@ fn question_named(name: &str) -> Option<Question>
     build_question_named(name)
 }
 
-// The question of this name that asks for errors or a verdict.
+// Returns the question of this name that requests errors or a verdict.
 fn errors_question_named(name: &str) -> Option<Question>
     ensures named { result ≡ errors_question_named name.now }
 {
@@ -95,7 +95,7 @@ fn errors_question_named(name: &str) -> Option<Question>
     }
 }
 
-// The question of this name that asks for an evaluation.
+// Returns the question of this name that requests an evaluation.
 fn evaluation_question_named(name: &str) -> Option<Question>
     ensures named { result ≡ evaluation_question_named name.now }
 {
@@ -108,7 +108,7 @@ fn evaluation_question_named(name: &str) -> Option<Question>
     }
 }
 
-// The question of this name that asks what was built.
+// Returns the question of this name about the result of the build.
 fn build_question_named(name: &str) -> Option<Question>
     ensures named { result ≡ build_question_named name.now }
 {
@@ -121,7 +121,7 @@ fn build_question_named(name: &str) -> Option<Question>
     }
 }
 
-// The question of this name to a map.
+// Returns the question of this name to a map.
 fn map_question_named(name: &str) -> Option<MapQuestion>
     ensures named { result ≡ map_question_named name.now }
 {
@@ -133,7 +133,7 @@ fn map_question_named(name: &str) -> Option<MapQuestion>
     }
 }
 
-// The call of this name that is no question.
+// Returns the call of this name that is no question.
 fn other_call_named(name: &str) -> Option<Call>
     ensures named { result ≡ other_call_named name.now }
 {

@@ -13,20 +13,23 @@ use serde_json::Value;
 /// A keyword table.
 #[derive(Clone, Copy, PartialEq, Eq)]
 pub enum Table {
-    /// That of `bench_parts`.
+    /// The table of `bench_parts`.
     Bench,
-    /// That of `example_fused_keywords`, where `items` absorbs two others.
+    /// The table of `example_fused_keywords`, where `items` absorbs two others.
     Fused,
-    /// That of `x-items` in `test_laws`.
+    /// The table of `x-items` in `test_laws`.
     Items,
-    /// That of `x-suffix`, `x-both` and `x-contains-between` in `example_keywords`, and for all other names the bench's.
+    /// The table of `example_keywords`.
+    ///
+    /// It has `x-suffix`, `x-both` and `x-contains-between`. For all other names it is the table of
+    /// `bench_parts`.
     Strings,
-    /// That of `standard_keywords`, which makes the standard's keywords.
+    /// The table of `standard_keywords`, which makes the standard's keywords.
     Standard,
 }
 
 impl Table {
-    /// Returns the table of this name; `None` where there is none. Allocates nothing.
+    /// Returns the table of this name, if there is one. Does not allocate.
     pub fn named(name: &str) -> Option<Table>
         ensures named { result ≡ table_named name.now }
     {
@@ -47,16 +50,18 @@ pub struct Case<'c> {
     pub call: Call,
     pub table: Table,
     pub schema: &'c Value,
-    /// The schema again, where the case has no instance.
+    /// The schema again, if the case has no instance.
     pub instance: &'c Value,
     /// The object that the case was read from.
     pub members: &'c Value,
 }
 
 impl<'c> Case<'c> {
-    /// Returns the case that this object is: `None` where it has no schema, where there is no call of the name that its member
-    /// `call` has, where its member `table`, if it has one, names no table, and where it asks of clones by another table than the
-    /// bench's. Allocates nothing.
+    /// Returns the case that this object is, or `None` if it is none.
+    ///
+    /// It is none if it has no schema; if its member `call` does not name a call; if its member
+    /// `table`, where there is one, does not name a table; or if it asks of clones by another table
+    /// than that of `bench_parts`. Does not allocate.
     pub fn read(members: &'c Value) -> Option<Case<'c>>
         ensures schema { IfSome result (λ c. get (codes "schema") (view members.now) ≡ Some (view c.schema.now)) }
         ensures instance { IfSome result (λ c. view c.instance.now
@@ -84,21 +89,21 @@ impl<'c> Case<'c> {
         })
     }
 
-    /// Returns the text that the member of this name is.
+    /// Returns the text of the member with this name.
     pub fn text(&self, name: &str) -> Option<&'c str>
         ensures text { option_map (λ t. t.now) result ≡ option_and_then as_str (get name.now (view self.now.members.now)) }
     {
         self.members.get(name).and_then(Value::as_str)
     }
 
-    /// Returns the boolean that the member of this name is.
+    /// Returns the boolean of the member with this name.
     pub fn truth(&self, name: &str) -> Option<bool>
         ensures truth { result ≡ option_and_then as_bool (get name.now (view self.now.members.now)) }
     {
         self.members.get(name).and_then(Value::as_bool)
     }
 
-    /// Returns the number that the member of this name is: a whole number from 0.
+    /// Returns the number of the member with this name: a whole number from 0.
     pub fn count(&self, name: &str) -> Option<usize>
         ensures count { result ≡ count_in (get name.now (view self.now.members.now)) }
     {
@@ -106,7 +111,9 @@ impl<'c> Case<'c> {
         usize::try_from(number).ok()
     }
 
-    /// Returns the number of runs that the member of this name is: a whole number from 1, of at most 32 bits.
+    /// Returns the number of runs of the member with this name.
+    ///
+    /// It is a whole number from 1, of at most 32 bits.
     pub fn runs(&self, name: &str) -> Option<u32>
         ensures runs { result ≡ runs_in (get name.now (view self.now.members.now)) }
         ensures some { IfSome result (λ n. 1 ≤ n) }
@@ -119,14 +126,14 @@ impl<'c> Case<'c> {
         Some(runs)
     }
 
-    /// Returns the draft whose number the member of this name is.
+    /// Returns the draft whose number is the member with this name.
     pub fn draft(&self, name: &str) -> Option<Draft>
         ensures draft { result ≡ draft_in (get name.now (view self.now.members.now)) }
     {
         draft_numbered(self.members.get(name).and_then(Value::as_u64)?)
     }
 
-    /// Returns what is in the list that the member of this name is, or nothing.
+    /// Returns the items of the list of the member with this name, or nothing.
     pub fn list(&self, name: &str) -> &'c [Value]
         ensures list { items_view result.now ≡ list_of (get name.now (view self.now.members.now)) }
     {
@@ -137,7 +144,8 @@ impl<'c> Case<'c> {
     }
 }
 
-// Whether a call can be asked by a table: clones by the bench's alone, all else by each.
+// Returns whether a table supports a call: clones only by that of `bench_parts`, all others by
+// each.
 fn is_asked_by(call: Call, table: Table) -> bool
     ensures asked { result ≡ is_asked_by call table }
 {
@@ -147,7 +155,7 @@ fn is_asked_by(call: Call, table: Table) -> bool
     }
 }
 
-// The table that a member names; the bench's where there is no such member.
+// Returns the table that a member names, or that of `bench_parts` if there is no member.
 fn table_of(name: Option<&Value>) -> Option<Table>
     ensures table { result ≡ table_of (option_map (λ v. view v.now) name.entry) }
 {
@@ -157,7 +165,7 @@ fn table_of(name: Option<&Value>) -> Option<Table>
     }
 }
 
-// The draft of this number.
+// Returns the draft of this number.
 fn draft_numbered(number: u64) -> Option<Draft>
     ensures draft { result ≡ draft_numbered number }
 {
@@ -171,7 +179,7 @@ fn draft_numbered(number: u64) -> Option<Draft>
     }
 }
 
-/// Returns the number of a draft; 0 for one that is not known.
+/// Returns the number of a draft, or 0 for an unknown one.
 pub fn number_of(draft: Draft) -> u64
     ensures number { result ≡ number_of draft }
 {

@@ -1,4 +1,4 @@
-//! Whether an answer is what a row wants.
+//! Whether an answer is the one that a row wants.
 ghost use Rattle.std.specs.Prelude.{◌≡◌, codes, option_and_then};
 ghost use Rattle.serde_json.specs.Find.{as_str, get};
 ghost use Rattle.serde_json.specs.View.{items_view, view};
@@ -10,7 +10,7 @@ use crate::call::{Call, MapQuestion, Question};
 use crate::equality::is_same;
 use serde_json::Value;
 
-// Whether the columns of an error begin with those that a row names.
+// Returns whether the columns of an error begin with those that a row names.
 fn begins_with(columns: &[Value], names: &[Value]) -> bool
     ensures begins { result ≡ begins_with (items_view columns.now) (items_view names.now) }
 {
@@ -28,7 +28,7 @@ fn begins_with(columns: &[Value], names: &[Value]) -> bool
     true
 }
 
-// The same, where a row names one at least.
+// Like `begins_with`, but the row has to name at least one column.
 #[tactic(auto, using(crate::proofs::Lists::has_columns_where_named))]
 fn has_columns(columns: &[Value], names: &[Value]) -> bool
     ensures columns { result ≡ has_columns (items_view columns.now) (items_view names.now) }
@@ -36,7 +36,7 @@ fn has_columns(columns: &[Value], names: &[Value]) -> bool
     !names.is_empty() && begins_with(columns, names)
 }
 
-// Whether an error has the columns that a row names; a row may leave out the last ones.
+// Returns whether an error has the columns that a row names; a row may leave out the last ones.
 fn is_error(given: &Value, want: &Value) -> bool
     ensures error { result ≡ is_error (view given.now) (view want.now) }
 {
@@ -49,7 +49,7 @@ fn is_error(given: &Value, want: &Value) -> bool
     has_columns(columns.as_slice(), names.as_slice())
 }
 
-// Whether these errors have the columns that a row names, in their order.
+// Returns whether these errors have the columns that a row names, in order.
 fn are_these_errors(errors: &[Value], wanted: &[Value]) -> bool
     ensures errors { result ≡ are_these_errors (items_view errors.now) (items_view wanted.now) }
 {
@@ -67,7 +67,7 @@ fn are_these_errors(errors: &[Value], wanted: &[Value]) -> bool
     others.next().is_none()
 }
 
-// Whether these are the errors that a row names.
+// Returns whether these are the errors that a row names.
 fn are_errors(given: &Value, want: &Value) -> bool
     ensures errors { result ≡ are_errors (view given.now) (view want.now) }
 {
@@ -80,7 +80,7 @@ fn are_errors(given: &Value, want: &Value) -> bool
     are_these_errors(errors.as_slice(), wanted.as_slice())
 }
 
-// Whether a count and two errors are those that a row names.
+// Returns whether a count and two errors are those that a row names.
 fn is_this_count(parts: &[Value], wanted: &[Value]) -> bool
     ensures count { result ≡ is_this_count (items_view parts.now) (items_view wanted.now) }
 {
@@ -93,7 +93,7 @@ fn is_this_count(parts: &[Value], wanted: &[Value]) -> bool
     is_same(count, wanted_count) && is_error(first, wanted_first) && is_error(last, wanted_last)
 }
 
-// Whether these are the count and the two errors that a row names.
+// Returns whether these are the count and the two errors that a row names.
 fn is_count(given: &Value, want: &Value) -> bool
     ensures count { result ≡ is_count (view given.now) (view want.now) }
 {
@@ -106,7 +106,6 @@ fn is_count(given: &Value, want: &Value) -> bool
     is_this_count(parts.as_slice(), wanted.as_slice())
 }
 
-// Whether a value is in a list.
 fn is_in(value: &Value, all: &[Value]) -> bool
     ensures within { result ≡ is_in (view value.now) (items_view all.now) }
 {
@@ -118,7 +117,6 @@ fn is_in(value: &Value, all: &[Value]) -> bool
     false
 }
 
-// Whether each value of a list is in another one.
 fn are_in(values: &[Value], all: &[Value]) -> bool
     ensures within { result ≡ are_in (items_view values.now) (items_view all.now) }
 {
@@ -130,7 +128,8 @@ fn are_in(values: &[Value], all: &[Value]) -> bool
     true
 }
 
-// Whether these are as many names as a row has, each of them is one of these, and each of these is among them.
+// Returns whether these are the names of a row, in any order: as many, each one wanted, and each
+// wanted one present.
 #[tactic(auto, using(crate::proofs::Lists::same_count))]
 fn are_these_names(names: &[Value], wanted: &[Value]) -> bool
     ensures names { result ≡ are_these_names (items_view names.now) (items_view wanted.now) }
@@ -138,7 +137,7 @@ fn are_these_names(names: &[Value], wanted: &[Value]) -> bool
     names.len() == wanted.len() && are_in(wanted, names) && are_in(names, wanted)
 }
 
-// Whether these are the names that a row has, in any order.
+// Returns whether these are the names of a row, in any order.
 fn are_names(given: &Value, want: &Value) -> bool
     ensures names { result ≡ are_names (view given.now) (view want.now) }
 {
@@ -151,7 +150,7 @@ fn are_names(given: &Value, want: &Value) -> bool
     are_these_names(names.as_slice(), wanted.as_slice())
 }
 
-// Whether a member is as a row wants it, where the row has it.
+// Returns whether a member is as the row wants it, if the row has it.
 fn is_as_wanted(given: &Value, want: &Value, name: &str) -> bool
     ensures member { result ≡ is_as_wanted name.now (view given.now) (view want.now) }
 {
@@ -164,7 +163,7 @@ fn is_as_wanted(given: &Value, want: &Value, name: &str) -> bool
     }
 }
 
-// Whether the text of a refusal ends as a row wants it, where the row says so.
+// Returns whether the text of a refusal ends as the row wants it, if the row says so.
 fn ends_as_wanted(given: &Value, want: &Value) -> bool
     ensures ends { result ≡ ends_as (option_and_then as_str (get (codes "text") (view given.now))) (get (codes "ends") (view want.now)) }
 {
@@ -180,7 +179,7 @@ fn ends_as_wanted(given: &Value, want: &Value) -> bool
     }
 }
 
-// Whether a refusal is the one that a row wants.
+// Returns whether a refusal is the one that a row wants.
 fn is_refusal(given: &Value, want: &Value) -> bool
     ensures refusal { result ≡ is_refusal (view given.now) (view want.now) }
 {
@@ -191,7 +190,7 @@ fn is_refusal(given: &Value, want: &Value) -> bool
         && ends_as_wanted(given, want)
 }
 
-// Whether what a validator answers is what a row wants.
+// Returns whether a validator's answer is the one that a row wants.
 fn is_answer(question: Question, given: &Value, want: &Value) -> bool
     ensures answer { result ≡ is_answer question (view given.now) (view want.now) }
 {
@@ -203,7 +202,7 @@ fn is_answer(question: Question, given: &Value, want: &Value) -> bool
     }
 }
 
-// Whether what a map answers is what a row wants.
+// Returns whether a map's answer is the one that a row wants.
 fn is_map_answer(question: MapQuestion, given: &Value, want: &Value) -> bool
     ensures answer { result ≡ is_map_answer question (view given.now) (view want.now) }
 {
@@ -214,7 +213,7 @@ fn is_map_answer(question: MapQuestion, given: &Value, want: &Value) -> bool
     }
 }
 
-// Whether what a call answers is what a row wants, where it wants no refusal.
+// Returns whether the answer to a call is the one that a row wants, if it wants no refusal.
 fn is_answer_of(call: Call, given: &Value, want: &Value) -> bool
     ensures answer { result ≡ is_answer_of call (view given.now) (view want.now) }
 {
@@ -227,8 +226,10 @@ fn is_answer_of(call: Call, given: &Value, want: &Value) -> bool
     }
 }
 
-/// Returns `true` if an answer to a call is the wanted one. A wanted error may leave out its last columns, a wanted refusal all
-/// but its number, and the wanted names of a map stand in any order. Allocates nothing.
+/// Returns whether the answer to a call is the wanted one.
+///
+/// A wanted error may leave out its last columns, and a wanted refusal everything but its number;
+/// the wanted names of a map may come in any order. Does not allocate.
 pub fn is_wanted(call: Call, given: &Value, want: &Value) -> bool
     ensures wanted { result ≡ is_wanted call (view given.now) (view want.now) }
 {

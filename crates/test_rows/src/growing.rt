@@ -1,26 +1,28 @@
 //! Values that are written shorter than they are.
 //!
-//! In a list, an object whose member `@times` is `[count, value]` stands for so many copies of the value. In an object, a member
-//! `@members` that is `[count, name, value]` stands for so many members. Their texts and names have the number of the copy, from 0,
-//! in place of `{}`, and the next one in place of `{+}`. An object whose member `@within` is `[count, name, value]` is the value inside
-//! so many objects, each with this one member. One whose member `@text` is `[count, text, last]` is so many times the text, then the last
-//! one. What is repeated is grown first, so a number belongs to the innermost one around it.
+//! In a list, an object whose member `@times` is `[count, value]` stands for this many copies of
+//! the value. In an object, a member `@members` that is `[count, name, value]` stands for this many
+//! members. In their texts and names, `{}` is replaced by the number of the copy, from 0, and `{+}`
+//! by the next number. An object whose member `@within` is `[count, name, value]` is the value
+//! inside this many objects, each with this one member. An object whose member `@text` is `[count,
+//! text, last]` is the text this many times, and then the last text. The repeated part is grown
+//! first, so a number belongs to the innermost repetition around it.
 
 use serde_json::{Map, Value};
 use std::alloc::{AllocError, Global};
 
-/// How a value is written shorter: how often, and what.
+/// A repetition: the count, and the repeated parts.
 #[derive(Clone, Copy)]
 struct Repetition<'v> {
     count: u64,
     first: &'v Value,
-    /// The first again, where there is no second.
+    /// The first again, if there is no second.
     second: &'v Value,
     /// The whole list, whose first item is the count.
     list: &'v [Value],
 }
 
-// What the value of this member repeats.
+// Returns the repetition that the value of a member describes.
 fn repetition_in<'v>(value: &'v Value) -> Option<Repetition<'v>> {
     let count = value.get(0).and_then(Value::as_u64)?;
     let first = value.get(1)?;
@@ -34,7 +36,7 @@ fn repetition_in<'v>(value: &'v Value) -> Option<Repetition<'v>> {
     })
 }
 
-// The text with a number in place of `{}`, and the next one in place of `{+}`.
+// Returns the text with a number for `{}`, and the next number for `{+}`.
 fn numbered_text(alloc: Global, text: &str, number: u64) -> Result<String, AllocError> {
     if !text.contains("{") {
         return String::from_str(alloc, text);
@@ -45,7 +47,7 @@ fn numbered_text(alloc: Global, text: &str, number: u64) -> Result<String, Alloc
     text.as_str().replace(alloc, "{+}", next.as_str())
 }
 
-// A copy of a value whose texts and names of members are numbered.
+// Returns a copy of a value with the texts and the names of members numbered.
 #[cycle(numbering)]
 fn numbered(alloc: Global, value: &Value, number: u64) -> Result<Value, AllocError> {
     match value {
@@ -56,7 +58,7 @@ fn numbered(alloc: Global, value: &Value, number: u64) -> Result<Value, AllocErr
     }
 }
 
-// The same of items.
+// Like `numbered`, for items.
 #[cycle(numbering)]
 fn numbered_items(
     alloc: Global,
@@ -70,7 +72,7 @@ fn numbered_items(
     Ok(copies)
 }
 
-// The same of members.
+// Like `numbered`, for members.
 #[cycle(numbering)]
 fn numbered_members(
     alloc: Global,
@@ -86,7 +88,7 @@ fn numbered_members(
     Ok(copies)
 }
 
-// Adds the numbered copies of a group of values, which come after the first of the list.
+// Adds the numbered copies of a group of values: the items of the list after the first one.
 fn push_group(
     alloc: Global,
     items: &mut Vec<Value>,
@@ -99,7 +101,7 @@ fn push_group(
     Ok(())
 }
 
-// Adds a group of values so many times.
+// Adds a group of values this many times.
 fn push_times(
     alloc: Global,
     items: &mut Vec<Value>,
@@ -112,7 +114,7 @@ fn push_times(
     Ok(())
 }
 
-// Adds so many numbered members.
+// Adds this many numbered members.
 fn insert_times(
     alloc: Global,
     members: &mut Map<String, Value>,
@@ -128,7 +130,7 @@ fn insert_times(
     Ok(())
 }
 
-// A value inside so many objects, each with one member.
+// Returns a value inside this many objects, each with one member.
 fn within(alloc: Global, count: u64, name: &str, value: Value) -> Result<Value, AllocError> {
     let mut outer = value;
     for _ in 0..count {
@@ -139,7 +141,7 @@ fn within(alloc: Global, count: u64, name: &str, value: Value) -> Result<Value, 
     Ok(outer)
 }
 
-// So many times a text, then another one.
+// Returns a text this many times, and then another one.
 fn repeated_text(alloc: Global, count: u64, text: &str, last: &str) -> Result<String, AllocError> {
     let mut whole = String::new(alloc);
     for _ in 0..count {
@@ -149,11 +151,11 @@ fn repeated_text(alloc: Global, count: u64, text: &str, last: &str) -> Result<St
     Ok(whole)
 }
 
-/// Returns the value that is written so. Where nothing is written shorter, it is a copy.
+/// Returns the value that is written so; a copy if nothing is repeated.
 ///
 /// # Errors
 ///
-/// Fails only out of memory.
+/// Out of memory.
 #[cycle(grow)]
 pub fn grown(alloc: Global, value: &Value) -> Result<Value, AllocError> {
     match value {
@@ -163,7 +165,7 @@ pub fn grown(alloc: Global, value: &Value) -> Result<Value, AllocError> {
     }
 }
 
-// The same of items.
+// Like `grown`, for items.
 #[cycle(grow)]
 fn grown_items(alloc: Global, items: &Vec<Value>) -> Result<Vec<Value>, AllocError> {
     let mut copies = Vec::new(alloc);
@@ -174,7 +176,7 @@ fn grown_items(alloc: Global, items: &Vec<Value>) -> Result<Vec<Value>, AllocErr
     Ok(copies)
 }
 
-// The same of members.
+// Like `grown`, for members.
 #[cycle(grow)]
 fn grown_members(
     alloc: Global,
@@ -213,7 +215,7 @@ fn insert_whole(
     Ok(())
 }
 
-// What an object stands for whose members are grown.
+// Returns the value of an object whose members are grown.
 fn whole(alloc: Global, members: Map<String, Value>) -> Result<Value, AllocError> {
     if let Some(within_of) = members.get("@within").and_then(repetition_in) {
         let name = within_of.first.as_str().unwrap_or("");

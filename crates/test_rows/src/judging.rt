@@ -1,4 +1,4 @@
-//! Whether a row is answered as the row says.
+//! Whether the answer to a row is the one that the row wants.
 ghost use Rattle.std.specs.Prelude.{◌≡◌, ◌++◌, ◌∷◌, [], IfOk, None, codes, count_by, decimal, false, is_none, length, not, string_bytes};
 ghost use Rattle.serde_json.specs.Read.{read as read_text};
 ghost use Rattle.serde_json.specs.View.{view};
@@ -11,24 +11,25 @@ use serde_json::Value;
 use std::alloc::{AllocError, Global};
 use std::collections::BTreeSet;
 
-/// A row that is wrong: its name, where one could be read, and what was given in place of what the row wants, as JSON, or what is
-/// wrong with the row itself.
+/// A wrong row: its name, if one could be read, and what came of it.
+///
+/// That is the answer in place of the wanted one, as JSON, or the fault of the row itself.
 #[derive(Drop)]
 pub struct Wrong {
     pub name: Option<String>,
     pub given: String,
 }
 
-/// What was found of the rows so far.
+/// The result of the rows so far.
 #[derive(Drop)]
 pub struct Tally {
-    /// Of each row whether it is right.
+    /// For each row, whether it is right.
     pub verdicts: Vec<bool>,
     /// The names of rows.
     pub names: BTreeSet<String>,
 }
 
-// Whether this answer is the one that a row wants.
+// Returns whether this answer is the one that a row wants.
 fn is_right(row: &Value, given: &Value) -> bool
     ensures right { result ≡ is_right (view row.now) (view given.now) }
 {
@@ -41,7 +42,7 @@ fn is_right(row: &Value, given: &Value) -> bool
     }
 }
 
-// Whether what came of a row is right.
+// Returns whether the result of a row is right.
 fn is_right_answer(answer: &RowAnswer) -> bool
     ensures right { result ≡ is_right_answer answer.now }
 {
@@ -51,7 +52,7 @@ fn is_right_answer(answer: &RowAnswer) -> bool
     }
 }
 
-// What is wrong with a row itself, or what is answered of it, as JSON.
+// Returns the fault of a row itself, or the answer to it, as JSON.
 fn given_in(alloc: Global, answer: &RowAnswer) -> Result<String, AllocError> {
     match answer {
         RowAnswer::Fault(fault) => fault.clone(),
@@ -59,7 +60,7 @@ fn given_in(alloc: Global, answer: &RowAnswer) -> Result<String, AllocError> {
     }
 }
 
-// The name of a line's row, and what was given.
+// Returns the name of a line's row, and what came of it.
 fn wrong_in(alloc: Global, line: &Line) -> Result<Wrong, AllocError> {
     let name = line.name.clone()?;
     let given = given_in(alloc, &line.answer)?;
@@ -67,7 +68,7 @@ fn wrong_in(alloc: Global, line: &Line) -> Result<Wrong, AllocError> {
 }
 
 impl Tally {
-    // Counts what came of a line. Returns what is wrong with it, if anything is.
+    // Counts the result of a line. Returns the fault, if there is one.
     fn count(&mut self, alloc: Global, line: &Line) -> Result<Option<Wrong>, AllocError>
         ensures counted { IfOk result (λ wrong.
             self.new.verdicts.items ≡ self.old.verdicts.items ++ (is_right_answer line.now.answer ∷ [])) }
@@ -81,11 +82,13 @@ impl Tally {
         Ok(Some(wrong_in(alloc, line)?))
     }
 
-    /// Judges and counts the row on a line: returns what is wrong with it, and `None` where it is answered as it says.
+    /// Judges and counts the row on a line.
+    ///
+    /// Returns what is wrong with it, or `None` if its answer is the wanted one.
     ///
     /// # Errors
     ///
-    /// Fails only out of memory.
+    /// Out of memory.
     pub fn judge<A: Answering>(
         &mut self,
         alloc: Global,
@@ -107,11 +110,11 @@ pub fn count_wrong(verdicts: &[bool]) -> usize
     verdicts.iter().filter(|right| !**right).count()
 }
 
-/// Returns the last line: how many rows there were, and how many of them were wrong.
+/// Returns the last line: the number of rows, and how many of them are wrong.
 ///
 /// # Errors
 ///
-/// Fails only out of memory.
+/// Out of memory.
 pub fn summary(alloc: Global, verdicts: &[bool]) -> Result<String, AllocError>
     ensures text { IfOk result (λ text. string_bytes text
         ≡ decimal (length verdicts.now) ++ (codes " rows, " ++ (decimal (count_by not verdicts.now) ++ codes " wrong"))) }

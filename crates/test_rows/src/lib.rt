@@ -1,5 +1,7 @@
-//! Rows of cases of the engine, apart from the engine: what a case is, how a row is read and grown, what is given as a value, and whether
-//! an answer is the one that a row wants, whoever answers; and the tables of rows that tests read.
+//! Rows of cases of the engine, without the engine.
+//!
+//! The crate defines cases, reads and grows rows, writes results as values, and compares answers
+//! with the ones that rows want, whatever answers. It also has the tables of rows that tests read.
 #![tactic(auto)]
 
 pub mod answers;

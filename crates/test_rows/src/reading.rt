@@ -8,11 +8,11 @@ use crate::case::Table;
 use serde_json::{Category, Value};
 use std::alloc::{AllocError, Global};
 
-/// Returns the value on a line; `None` where it is no JSON.
+/// Returns the value on a line, or `None` if it is not JSON.
 ///
 /// # Errors
 ///
-/// Fails only out of memory.
+/// Out of memory.
 pub fn row_in(alloc: Global, line: &str) -> Result<Option<Value>, AllocError>
     ensures read { IfOk result (λ row. option_map view row ≡ read_text line.now) }
 {
@@ -25,7 +25,7 @@ pub fn row_in(alloc: Global, line: &str) -> Result<Option<Value>, AllocError>
     }
 }
 
-/// What a member of a row is.
+/// The shape of a row's member.
 #[derive(Clone, Copy)]
 enum Shape {
     Any,
@@ -74,7 +74,7 @@ const SHAPES: [(&str, Shape); 21] = [
 /// The members that a row must have.
 const NEEDED: [&str; 4] = ["name", "call", "schema", "want"];
 
-// The shape of the member of this name; none where no row has such a member.
+// Returns the shape of the member with this name, or `None` if no row has such a member.
 fn shape_of(name: &str) -> Option<Shape> {
     if name == "table" {
         return Some(Shape::Table);
@@ -87,7 +87,7 @@ fn shape_of(name: &str) -> Option<Shape> {
     None
 }
 
-// Whether a value is a list of texts.
+// Returns whether a value is a list of texts.
 fn is_texts(value: &Value) -> bool {
     match value.as_array() {
         Some(items) => items.iter().all(|item| item.is_string()),
@@ -95,7 +95,7 @@ fn is_texts(value: &Value) -> bool {
     }
 }
 
-// Whether a value is a pair of a text and another value.
+// Returns whether a value is a pair of a text and another value.
 fn is_pair(value: &Value) -> bool {
     match value.as_array() {
         Some(items) => items.len() == 2 && items.iter().take(1).all(|item| item.is_string()),
@@ -103,7 +103,7 @@ fn is_pair(value: &Value) -> bool {
     }
 }
 
-// Whether a value is a list of such pairs.
+// Returns whether a value is a list of such pairs.
 fn is_pairs(value: &Value) -> bool {
     match value.as_array() {
         Some(items) => items.iter().all(|item| is_pair(item)),
@@ -111,12 +111,12 @@ fn is_pairs(value: &Value) -> bool {
     }
 }
 
-// Whether a value is the number of a draft.
+// Returns whether a value is the number of a draft.
 fn is_draft(value: &Value) -> bool {
     matches!(value.as_u64(), Some(4 | 6 | 7 | 2019 | 2020))
 }
 
-// Whether a value says how many runs a call may make.
+// Returns whether a value is a number of runs that a call may make.
 fn is_run_limit(value: &Value) -> bool {
     match value.as_u64() {
         Some(number) => number >= 1 && u32::try_from(number).is_ok(),
@@ -124,7 +124,7 @@ fn is_run_limit(value: &Value) -> bool {
     }
 }
 
-// Whether a value is the name of a call.
+// Returns whether a value is the name of a call.
 fn is_call(value: &Value) -> bool {
     match value.as_str() {
         Some(name) => Call::named(name).is_some(),
@@ -132,7 +132,7 @@ fn is_call(value: &Value) -> bool {
     }
 }
 
-// Whether a value is the name of a table.
+// Returns whether a value is the name of a table.
 fn is_table(value: &Value) -> bool {
     match value.as_str() {
         Some(name) => Table::named(name).is_some(),
@@ -140,7 +140,6 @@ fn is_table(value: &Value) -> bool {
     }
 }
 
-// Whether a value has a shape.
 fn has_shape(value: &Value, shape: Shape) -> bool {
     match shape {
         Shape::Any => true,
@@ -156,7 +155,7 @@ fn has_shape(value: &Value, shape: Shape) -> bool {
     }
 }
 
-// What is wrong with a member.
+// Returns the fault of a member, if it has one.
 fn fault_of(alloc: Global, name: &str, value: &Value) -> Result<Option<String>, AllocError> {
     match shape_of(name) {
         None => Ok(Some(format!(in alloc; "unknown member {name}")?)),
@@ -169,12 +168,14 @@ fn fault_of(alloc: Global, name: &str, value: &Value) -> Result<Option<String>, 
     }
 }
 
-/// Returns what is wrong with the shape of a row: that it is no object, lacks a member, or has one that no row has or that is not as
-/// it may be. `None` where nothing is.
+/// Returns the fault of a row's shape, or `None` if it has none.
+///
+/// A row has to be an object with the members that each row needs. It may have no member that rows
+/// do not have, and each member has its shape.
 ///
 /// # Errors
 ///
-/// Fails only out of memory.
+/// Out of memory.
 pub fn fault_in(alloc: Global, row: &Value) -> Result<Option<String>, AllocError> {
     let Some(members) = row.as_object() else {
         return Ok(Some(String::from_str(alloc, "the row is no object")?));

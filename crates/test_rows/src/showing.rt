@@ -1,4 +1,4 @@
-//! What the engine gives, as values.
+//! The results of the engine, as values.
 
 use schema_output::evaluation::Evaluation;
 use schema_reports::location::OutOfMemory;
@@ -6,7 +6,7 @@ use schema_reports::reports::{ErrorIterator, ValidationError};
 use serde_json::{Value, json};
 use std::alloc::Global;
 
-/// A text, or `null` where there is none.
+/// Returns a text, or `null` if there is none.
 pub fn text_or_null(alloc: Global, text: Option<&str>) -> Result<Value, OutOfMemory> {
     match text {
         Some(text) => Value::try_from_str(alloc, text),
@@ -14,7 +14,7 @@ pub fn text_or_null(alloc: Global, text: Option<&str>) -> Result<Value, OutOfMem
     }
 }
 
-// These texts, as values.
+// Returns these texts, as values.
 fn texts_of(alloc: Global, texts: &[&str]) -> Result<Vec<Value>, OutOfMemory> {
     let mut values = Vec::new(alloc);
     for text in texts {
@@ -23,7 +23,7 @@ fn texts_of(alloc: Global, texts: &[&str]) -> Result<Vec<Value>, OutOfMemory> {
     Ok(values)
 }
 
-// The instance path, the schema path, the evaluation path and the text of an error.
+// Returns the instance path, the schema path, the evaluation path and the text of an error.
 fn texts_in(alloc: Global, error: &ValidationError<'_>) -> Result<Vec<Value>, OutOfMemory> {
     let place = error.instance_path(alloc)?;
     let texts = texts_of(
@@ -39,7 +39,7 @@ fn texts_in(alloc: Global, error: &ValidationError<'_>) -> Result<Vec<Value>, Ou
     texts
 }
 
-// The absolute location of an error, or `null`.
+// Returns the absolute location of an error, or `null`.
 fn absolute_of(alloc: Global, error: &ValidationError<'_>) -> Result<Value, OutOfMemory> {
     match &error.absolute_keyword_location {
         Some(location) => Value::try_from_str(alloc, location.as_str()),
@@ -47,7 +47,8 @@ fn absolute_of(alloc: Global, error: &ValidationError<'_>) -> Result<Value, OutO
     }
 }
 
-// An error: its instance path, schema path, evaluation path, text, absolute location or `null`, and instance.
+// Returns the columns of an error: its instance path, schema path, evaluation path, text, absolute
+// location or `null`, and instance.
 fn columns_of(alloc: Global, error: &ValidationError<'_>) -> Result<Value, OutOfMemory> {
     let mut columns = texts_in(alloc, error)?;
     columns.push(absolute_of(alloc, error)?)?;
@@ -55,7 +56,7 @@ fn columns_of(alloc: Global, error: &ValidationError<'_>) -> Result<Value, OutOf
     Ok(Value::Array(columns))
 }
 
-/// The error by which an instance is refused, or `null`.
+/// Returns the error that refuses an instance, or `null`.
 pub fn first_in(
     alloc: Global,
     verdict: Result<(), ValidationError<'_>>,
@@ -66,7 +67,7 @@ pub fn first_in(
     }
 }
 
-/// All errors.
+/// Returns all errors.
 pub fn errors_in(alloc: Global, errors: ErrorIterator<'_>) -> Result<Vec<Value>, OutOfMemory> {
     let mut values = Vec::new(alloc);
     for error in errors {
@@ -75,7 +76,7 @@ pub fn errors_in(alloc: Global, errors: ErrorIterator<'_>) -> Result<Vec<Value>,
     Ok(values)
 }
 
-/// The list of an evaluation, if its verdict is this one. Else both.
+/// Returns the list of an evaluation if its verdict is this one; else both.
 pub fn list_in(alloc: Global, evaluation: &Evaluation, valid: bool) -> Result<Value, OutOfMemory> {
     let evaluated = evaluation.is_valid();
     if evaluated == valid {
@@ -84,7 +85,7 @@ pub fn list_in(alloc: Global, evaluation: &Evaluation, valid: bool) -> Result<Va
     json!(in alloc; {"disagree": {"is_valid": valid, "evaluate": evaluated}})
 }
 
-/// The errors that an evaluation shows one by one, each its unit's evaluation path and its text.
+/// Returns the errors of an evaluation, each with its evaluation path and text.
 pub fn shown_in(alloc: Global, evaluation: &Evaluation) -> Result<Value, OutOfMemory> {
     let mut errors = Vec::new(alloc);
     for entry in evaluation.iter_errors(alloc)? {
@@ -95,7 +96,7 @@ pub fn shown_in(alloc: Global, evaluation: &Evaluation) -> Result<Value, OutOfMe
     Ok(Value::Array(errors))
 }
 
-// A copy of a value, or `null` where there is none.
+// Returns a copy of a value, or `null` if there is none.
 fn copy_of(value: Option<&Value>) -> Result<Value, OutOfMemory> {
     match value {
         Some(value) => value.clone(),
@@ -103,7 +104,7 @@ fn copy_of(value: Option<&Value>) -> Result<Value, OutOfMemory> {
     }
 }
 
-/// How many errors there are, and the first and the last of them, or `null`.
+/// Returns the number of errors, and the first and the last of them, or `null`.
 pub fn counted(alloc: Global, errors: &[Value]) -> Result<Value, OutOfMemory> {
     let mut parts = Vec::new(alloc);
     parts.push(Value::from(errors.len()))?;
@@ -112,7 +113,7 @@ pub fn counted(alloc: Global, errors: &[Value]) -> Result<Value, OutOfMemory> {
     Ok(Value::Array(parts))
 }
 
-// The units of a list.
+// Returns the units of a list.
 fn units_of(list: &Value) -> &[Value] {
     match list.get("details").and_then(Value::as_array) {
         Some(units) => units.as_slice(),
@@ -120,7 +121,9 @@ fn units_of(list: &Value) -> &[Value] {
     }
 }
 
-/// How many units a list has, how many of them have errors, and the evaluation path of the last one, or `null`.
+/// Returns how many units a list has, how many have errors, and the last one.
+///
+/// The last one is shown by its evaluation path, or `null`.
 pub fn units_counted(alloc: Global, list: &Value) -> Result<Value, OutOfMemory> {
     let units = units_of(list);
     let refused = units

@@ -1,4 +1,6 @@
-//! Tables of rows, which tests read: JSON texts that are arrays, a row an array of columns.
+//! Tables of rows, which tests read.
+//!
+//! A table is a JSON text: an array of rows, each an array of columns.
 
 ghost use Rattle.std.specs.Prelude.{◌≡◌, All, List, None, Ok, Some, codes, true, unwrap_or};
 ghost use Rattle.std.specs.Fn.{FnReturnsAt};
@@ -11,21 +13,21 @@ ghost use Rattle.test_rows.specs.Tables.{list_in};
 use serde_json::Value;
 use std::alloc::{AllocError, Global};
 
-/// The column of this number in a row; the row itself where it has none.
+/// Returns the column of this number in a row, or the row if it has none.
 pub fn column(row: &Value, number: usize) -> &Value
     ensures column { view result.now ≡ unwrap_or (at number (view row.now)) (view row.now) }
 {
     row.get(number).unwrap_or(row)
 }
 
-/// The text that a column is, or an empty one.
+/// Returns the text of a column, or an empty one.
 pub fn text_at(row: &Value, number: usize) -> &str
     ensures text { result.now ≡ unwrap_or (as_str (unwrap_or (at number (view row.now)) (view row.now))) (codes "") }
 {
     column(row, number).as_str().unwrap_or("")
 }
 
-/// What is in the list that a column is, or nothing.
+/// Returns the items of the list in a column, or nothing.
 pub fn list_at(row: &Value, number: usize) -> &[Value]
     ensures list { items_view result.now ≡ list_in (unwrap_or (at number (view row.now)) (view row.now)) }
 {
@@ -35,7 +37,7 @@ pub fn list_at(row: &Value, number: usize) -> &[Value]
     }
 }
 
-/// The number in a column, if there is one.
+/// Returns the number in a column, if there is one.
 pub fn number_at(row: &Value, number: usize) -> Option<usize> {
     match column(row, number).as_u64() {
         Some(number) => usize::try_from(number).ok(),
@@ -43,7 +45,7 @@ pub fn number_at(row: &Value, number: usize) -> Option<usize> {
     }
 }
 
-/// Adds words, with nothing between.
+/// Adds words, with nothing between them.
 pub fn push_all(log: &mut String, words: &[&str]) -> Result<(), AllocError> {
     for word in words {
         log.push_str(word)?;
@@ -51,7 +53,7 @@ pub fn push_all(log: &mut String, words: &[&str]) -> Result<(), AllocError> {
     Ok(())
 }
 
-/// The texts in a list; an empty one for what is none.
+/// Returns the texts in a list. An item that is not a text becomes empty.
 pub fn texts_of(alloc: Global, list: &[Value]) -> Result<Vec<String>, AllocError> {
     let mut texts = Vec::new(alloc);
     for text in list {
@@ -60,7 +62,7 @@ pub fn texts_of(alloc: Global, list: &[Value]) -> Result<Vec<String>, AllocError
     Ok(texts)
 }
 
-/// What is to be told of a row.
+/// Returns the text that a row wants.
 pub fn wanted_of(alloc: Global, row: &Value) -> Result<String, AllocError> {
     let mut wanted = String::from_str(alloc, text_at(row, 0))?;
     for part in list_at(row, 0) {
@@ -69,11 +71,13 @@ pub fn wanted_of(alloc: Global, row: &Value) -> Result<String, AllocError> {
     Ok(wanted)
 }
 
-/// The number of the first row of a table that does not hold, counted from 0; 0 where there is no row.
+/// Returns the number of the first row of a table that does not hold.
+///
+/// Rows are counted from 0. Returns 0 if there are no rows.
 ///
 /// # Errors
 ///
-/// If the text is no JSON, or memory cannot be allocated.
+/// The text is not JSON, or out of memory.
 pub fn wrong_row<F: Fn(&Value) -> Result<bool, AllocError>>(
     alloc: Global,
     table: &str,
