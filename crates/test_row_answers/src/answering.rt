@@ -1,4 +1,4 @@
-//! From a case to its answer.
+//! The way from a case to its answer.
 ghost use Rattle.std.specs.Prelude.{◌≡◌, IfOk};
 ghost use Rattle.serde_json.specs.View.{view};
 ghost use Rattle.test_rows.specs.Calls.{no_case};
@@ -23,7 +23,7 @@ use test_laws::items_table::ItemsTable;
 use test_rows::call::Call;
 use test_rows::case::{Case, Table};
 
-// What the engine answers of a case by a table.
+// Returns the engine's answer to a case by a table.
 fn answer_by<K: Validate, T: KeywordTable<K>>(
     alloc: Global,
     case: &Case<'_>,
@@ -38,7 +38,8 @@ fn answer_by<K: Validate, T: KeywordTable<K>>(
     }
 }
 
-// The table of `x-suffix`, `x-both` and `x-contains-between`, and for all other names the bench's.
+// Returns the table of `x-suffix`, `x-both` and `x-contains-between`; all other names are those of
+// `bench_parts`.
 fn strings_table() -> BothTable<TableByValue<StringTable>, BasicTable> {
     BothTable {
         first: TableByValue {
@@ -49,14 +50,17 @@ fn strings_table() -> BothTable<TableByValue<StringTable>, BasicTable> {
     }
 }
 
-/// Returns what the engine answers of a case: as its call says, or `{"refused": number, "at": place, "text": text}` where the schema
-/// is refused, its place `null` for refusals that have none, or `{"disagree": ..}` where calls that are to agree do not. A value
-/// that is no case is answered `{"fault": text}`. The table of the standard's keywords stands in a crate above, and is handed in: a
-/// case whose table is `standard` is answered by it.
+/// Returns the engine's answer to a case.
+///
+/// The answer is what the case's call requests. If the schema is refused, it is `{"refused":
+/// number, "at": place, "text": text}`, with `null` as the place of refusals that have none. If
+/// calls that should agree do not, it is `{"disagree": ..}`. For a value that is no case it is
+/// `{"fault": text}`. The table of the standard's keywords belongs to a crate above this one, and
+/// is passed in: it answers a case whose table is `standard`.
 ///
 /// # Errors
 ///
-/// Fails only out of memory.
+/// Out of memory.
 pub fn answer<K: Validate, T: KeywordTable<K>>(
     alloc: Global,
     case: &Value,

@@ -1,4 +1,4 @@
-//! What a validator answers of an instance.
+//! The answers of a validator for an instance.
 
 use bench_parts::matcher::BenchMatcher;
 use schema_engine::context::keyword::Validate;
@@ -11,7 +11,7 @@ use test_rows::call::Question;
 use test_rows::case::number_of;
 use test_rows::showing::{counted, errors_in, first_in, list_in, shown_in, units_counted};
 
-// The first error, or `null`.
+// Returns the first error, or `null`.
 fn first_error<K: Validate>(
     alloc: Global,
     validator: &Validator<K, BenchMatcher>,
@@ -20,7 +20,7 @@ fn first_error<K: Validate>(
     first_in(alloc, validator.validate(alloc, instance)?)
 }
 
-// All errors.
+// Returns all errors.
 pub(crate) fn all_errors<K: Validate>(
     alloc: Global,
     validator: &Validator<K, BenchMatcher>,
@@ -29,7 +29,7 @@ pub(crate) fn all_errors<K: Validate>(
     errors_in(alloc, validator.iter_errors(alloc, instance)?)
 }
 
-// The verdict of the evaluation.
+// Returns the verdict of the evaluation.
 fn evaluated<K: Validate>(
     alloc: Global,
     validator: &Validator<K, BenchMatcher>,
@@ -41,7 +41,7 @@ fn evaluated<K: Validate>(
     Ok(valid)
 }
 
-// The list of the evaluation, if its verdict is the validator's. Else both.
+// Returns the list of the evaluation if its verdict is the validator's, and otherwise both.
 fn listed<K: Validate>(
     alloc: Global,
     validator: &Validator<K, BenchMatcher>,
@@ -54,7 +54,7 @@ fn listed<K: Validate>(
     list
 }
 
-// The errors of the evaluation, each its unit's evaluation path and its text.
+// Returns the errors of the evaluation, each with its unit's evaluation path and its text.
 fn evaluation_errors<K: Validate>(
     alloc: Global,
     validator: &Validator<K, BenchMatcher>,
@@ -66,7 +66,7 @@ fn evaluation_errors<K: Validate>(
     errors
 }
 
-// What the four calls answer.
+// Returns the answers of the four calls.
 fn four_answers<K: Validate>(
     alloc: Global,
     validator: &Validator<K, BenchMatcher>,
@@ -84,7 +84,7 @@ fn four_answers<K: Validate>(
     })
 }
 
-// How many entries the root's node has.
+// Returns the number of entries of the root's node.
 fn entries<K: Validate>(validator: &Validator<K, BenchMatcher>) -> usize {
     let root = validator.root();
     if root.0 >= validator.nodes().len() {
@@ -93,7 +93,7 @@ fn entries<K: Validate>(validator: &Validator<K, BenchMatcher>) -> usize {
     validator.nodes().validators(root).count()
 }
 
-// How many errors there are, and the first and the last of them.
+// Returns the number of errors, and the first and the last of them.
 fn errors_count<K: Validate>(
     alloc: Global,
     validator: &Validator<K, BenchMatcher>,
@@ -105,7 +105,7 @@ fn errors_count<K: Validate>(
     count
 }
 
-// How many units the list has, how many of them have errors, and where the last one is.
+// Returns the number of units in the list, how many have errors, and the place of the last one.
 fn list_count<K: Validate>(
     alloc: Global,
     validator: &Validator<K, BenchMatcher>,
@@ -117,7 +117,7 @@ fn list_count<K: Validate>(
     count
 }
 
-// What a validator answers.
+// Returns the answer of a validator.
 pub(crate) fn asked<K: Validate>(
     alloc: Global,
     validator: &Validator<K, BenchMatcher>,

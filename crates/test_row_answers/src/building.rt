@@ -1,4 +1,4 @@
-//! Builds of validators.
+//! Building validators.
 
 use crate::asking::asked;
 use crate::refusals::refusal;
@@ -15,7 +15,7 @@ use std::alloc::Global;
 use test_rows::call::Question;
 use test_rows::case::Case;
 
-// The validator of a schema by a setting and a table.
+// Builds the validator of a schema with a setting and a table.
 fn built_by<K: Validate, T: KeywordTable<K>>(
     alloc: Global,
     schema: &Value,
@@ -35,7 +35,7 @@ fn built_by<K: Validate, T: KeywordTable<K>>(
     }
 }
 
-// The validator of a case's schema.
+// Builds the validator of a case's schema.
 pub(crate) fn built<K: Validate, T: KeywordTable<K>>(
     alloc: Global,
     case: &Case<'_>,
@@ -47,7 +47,7 @@ pub(crate) fn built<K: Validate, T: KeywordTable<K>>(
     built
 }
 
-// What the validator of a case's schema answers, or why there is none.
+// Returns the answer of the validator of a case's schema, or the reason why there is none.
 pub(crate) fn answered<K: Validate, T: KeywordTable<K>>(
     alloc: Global,
     case: &Case<'_>,

@@ -12,14 +12,15 @@ use std::alloc::Global;
 use test_rows::case::Case;
 use test_rows::showing::text_or_null;
 
-// What the meta validators say of a case's schema, as one of its default draft.
+// Checks a case's schema, as one of its default draft, by the meta validators.
 fn check_of(alloc: Global, case: &Case<'_>) -> Result<(), BuildError> {
     let resolver = resolver_of(alloc, case)?;
     let draft = default_draft(case);
     validate_schema(alloc, &resolver, &BenchMeta {}, draft, &root_place(alloc))
 }
 
-// The instance path of the error by which the meta validators refuse a case's schema; `null` where they accept it.
+// Returns the instance path of the error by which the meta validators refuse a case's schema, or
+// `null` if they accept it.
 pub(crate) fn checked(alloc: Global, case: &Case<'_>) -> Result<Value, OutOfMemory> {
     match check_of(alloc, case) {
         Ok(()) => Ok(Value::Null),

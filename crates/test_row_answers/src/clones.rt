@@ -1,4 +1,6 @@
-//! Clones of validators, which answer as their sources do, and each of which still answers where the other is dropped.
+//! Clones of validators.
+//!
+//! They answer as their sources do, and each of both still answers after the other is dropped.
 
 use crate::asking::asked;
 use crate::building::built;
@@ -14,7 +16,7 @@ use test_rows::answers::disagreement;
 use test_rows::call::Question;
 use test_rows::case::Case;
 
-// What a clone answers; `null` where its root or its draft is not its source's.
+// Returns the answer of a clone, or `null` if its root or its draft is not its source's.
 fn asked_of_clone(
     alloc: Global,
     source: &Validator<BasicKeyword, BenchMatcher>,
@@ -28,7 +30,7 @@ fn asked_of_clone(
     asked(alloc, copy, question, instance)
 }
 
-// What a clone answers while its source lives.
+// Returns the answer of a clone while its source lives.
 fn beside_source(
     alloc: Global,
     source: &Validator<BasicKeyword, BenchMatcher>,
@@ -41,7 +43,7 @@ fn beside_source(
     answer
 }
 
-// What a clone answers after its source is dropped.
+// Returns the answer of a clone after its source is dropped.
 fn after_source(
     alloc: Global,
     source: Validator<BasicKeyword, BenchMatcher>,
@@ -56,7 +58,7 @@ fn after_source(
     answer
 }
 
-// What a clone of a clone answers after both of its sources are dropped.
+// Returns the answer of a clone of a clone after both of its sources are dropped.
 fn after_sources(
     alloc: Global,
     source: Validator<BasicKeyword, BenchMatcher>,
@@ -68,7 +70,8 @@ fn after_sources(
     after_source(alloc, copy?, question, instance)
 }
 
-// What a validator and its clones answer: a clone beside it, itself after this clone, and a clone of a clone.
+// Returns the answers of a validator and its clones: a clone beside it, itself after this clone,
+// and a clone of a clone.
 fn answers_of(
     alloc: Global,
     source: Validator<BasicKeyword, BenchMatcher>,
@@ -81,7 +84,7 @@ fn answers_of(
     [of_clone, of_source, after]
 }
 
-// What three answers are, if they are the same. Else each of them.
+// Returns the answer if all three are the same, and otherwise each of them.
 fn alike(
     alloc: Global,
     of_clone: Value,
@@ -95,7 +98,7 @@ fn alike(
     disagreement(alloc, "clone, source, clone of a clone", answers)
 }
 
-// What a validator and its clones answer, if this is the same. Else what each answers.
+// Returns the answer of a validator and its clones if it is the same, and otherwise each of them.
 fn answered_by_each(
     alloc: Global,
     source: Validator<BasicKeyword, BenchMatcher>,
@@ -106,7 +109,8 @@ fn answered_by_each(
     alike(alloc, of_clone?, of_source?, after?)
 }
 
-// What clones of a case's validator answer, by the bench's table, or why there is no validator.
+// Returns the answer of clones of a case's validator, by the table of `bench_parts`, or the reason
+// why there is no validator.
 pub(crate) fn answered_alike(
     alloc: Global,
     case: &Case<'_>,

@@ -1,4 +1,4 @@
-//! The four calls that build by the default options and ask in one.
+//! The four calls that build with the default options and validate in one.
 
 use crate::refusals::refusal;
 use crate::setting::Setting;
@@ -16,7 +16,7 @@ use test_rows::answers::{Answers, agreed};
 use test_rows::case::Case;
 use test_rows::showing::{errors_in, first_in};
 
-// Whether the schema accepts the instance.
+// Returns whether the schema accepts the instance.
 fn accepts<K: Validate, T: KeywordTable<K>>(
     alloc: Global,
     case: &Case<'_>,
@@ -34,7 +34,7 @@ fn accepts<K: Validate, T: KeywordTable<K>>(
     )
 }
 
-// The error by which the schema refuses the instance.
+// Returns the error by which the schema refuses the instance.
 fn refuses<'c, K: Validate, T: KeywordTable<K>>(
     alloc: Global,
     case: &Case<'c>,
@@ -52,7 +52,7 @@ fn refuses<'c, K: Validate, T: KeywordTable<K>>(
     )
 }
 
-// All errors.
+// Returns all errors.
 fn all_errors<'c, K: Validate, T: KeywordTable<K>>(
     alloc: Global,
     case: &Case<'c>,
@@ -70,7 +70,7 @@ fn all_errors<'c, K: Validate, T: KeywordTable<K>>(
     )
 }
 
-// The evaluation.
+// Returns the evaluation.
 fn evaluation<K: Validate, T: KeywordTable<K>>(
     alloc: Global,
     case: &Case<'_>,
@@ -88,7 +88,7 @@ fn evaluation<K: Validate, T: KeywordTable<K>>(
     )
 }
 
-// A verdict, or why the schema is refused.
+// Returns a verdict, or the reason why the schema is refused.
 fn verdict(alloc: Global, valid: Result<bool, BuildError>) -> Result<Value, OutOfMemory> {
     match valid {
         Ok(valid) => Ok(Value::Bool(valid)),
@@ -96,7 +96,7 @@ fn verdict(alloc: Global, valid: Result<bool, BuildError>) -> Result<Value, OutO
     }
 }
 
-// The first error, or `null`, or why the schema is refused.
+// Returns the first error, or `null`, or the reason why the schema is refused.
 fn first(
     alloc: Global,
     verdict: Result<Result<(), ValidationError<'_>>, BuildError>,
@@ -107,7 +107,7 @@ fn first(
     }
 }
 
-// All errors, or why the schema is refused.
+// Returns all errors, or the reason why the schema is refused.
 fn list(
     alloc: Global,
     errors: Result<ErrorIterator<'_>, BuildError>,
@@ -118,7 +118,7 @@ fn list(
     }
 }
 
-// The verdict of the evaluation, or why the schema is refused.
+// Returns the verdict of the evaluation, or the reason why the schema is refused.
 fn evaluated(
     alloc: Global,
     evaluation: Result<Evaluation, BuildError>,
@@ -133,7 +133,7 @@ fn evaluated(
     }
 }
 
-// What the four calls answer.
+// Returns the answers of the four calls.
 fn four_answers<K: Validate, T: KeywordTable<K>>(
     alloc: Global,
     case: &Case<'_>,
@@ -148,7 +148,7 @@ fn four_answers<K: Validate, T: KeywordTable<K>>(
     })
 }
 
-// What the four calls answer, if they agree, or why they refuse.
+// Returns the answer of the four calls if they agree, or the reason why they refuse.
 pub(crate) fn answered_free<K: Validate, T: KeywordTable<K>>(
     alloc: Global,
     case: &Case<'_>,

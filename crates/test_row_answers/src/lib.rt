@@ -1,8 +1,8 @@
-//! Cases of the engine as plain data: each is a `Value`, and what the engine answers of it is a `Value` too.
+//! Cases of the engine as plain data: both a case and its answer are a `Value`.
 //!
-//! A case is an object. Its member `call` names what is asked, `schema` and `instance` are what it is asked of, and the other
-//! members, which may be absent, say how the schema is built. Only the modules `asking`, `building`, `checking`, `clones`,
-//! `free_calls` and `maps` call the engine.
+//! A case is an object. Its member `call` names the call, `schema` and `instance` are its
+//! arguments, and the other members, which are optional, say how the schema is built. Only the
+//! modules `asking`, `building`, `checking`, `clones`, `free_calls` and `maps` call the engine.
 #![tactic(auto)]
 
 pub mod answering;

@@ -16,7 +16,7 @@ use std::alloc::Global;
 use test_rows::call::MapQuestion;
 use test_rows::case::{Case, number_of};
 
-// The map of a schema by a setting and a table.
+// Builds the map of a schema with a setting and a table.
 fn map_by<K: Validate, T: KeywordTable<K>>(
     alloc: Global,
     schema: &Value,
@@ -31,7 +31,7 @@ fn map_by<K: Validate, T: KeywordTable<K>>(
         .build_map(alloc, schema, table, resolver, matcher, metas)
 }
 
-// The map of a case's schema.
+// Builds the map of a case's schema.
 fn mapped<K: Validate, T: KeywordTable<K>>(
     alloc: Global,
     case: &Case<'_>,
@@ -55,7 +55,7 @@ fn push_names<K: Validate>(
     Ok(())
 }
 
-// Whether a map says of each of its names that it is in it.
+// Returns whether a map says of each of its names that it contains it.
 fn contains_each<K: Validate>(map: &ValidatorMap<K, BenchMatcher>) -> bool {
     for name in map.keys() {
         if !map.contains_key(name.as_str()) {
@@ -65,7 +65,7 @@ fn contains_each<K: Validate>(map: &ValidatorMap<K, BenchMatcher>) -> bool {
     true
 }
 
-// The names of a map, if it says that it has each, and so many.
+// Returns the names of a map, if it says that it contains each, and this many.
 fn names_beside(
     alloc: Global,
     names: Vec<Value>,
@@ -79,7 +79,8 @@ fn names_beside(
     json!(in alloc; {"disagree": {"keys": names, "contains_key": contained, "len": length, "is_empty": empty}})
 }
 
-// The names of a map, if the map agrees that there are so many, and that it has each. Else what it says.
+// Returns the names of a map if it agrees on their number and contains each; otherwise what it
+// says.
 fn names<K: Validate>(
     alloc: Global,
     map: &ValidatorMap<K, BenchMatcher>,
@@ -89,7 +90,7 @@ fn names<K: Validate>(
     names_beside(alloc, names, contains_each(map), map.len(), map.is_empty())
 }
 
-// What the validator under a name answers.
+// Returns the answer of the validator under a name.
 fn asked_of_entry<K: Validate>(
     alloc: Global,
     validator: &Validator<K, BenchMatcher>,
@@ -102,7 +103,7 @@ fn asked_of_entry<K: Validate>(
     }
 }
 
-// What a map answers; `null` where it has no validator under the case's name.
+// Returns the answer of a map, or `null` if it has no validator under the case's name.
 fn asked_of_map<K: Validate>(
     alloc: Global,
     map: &ValidatorMap<K, BenchMatcher>,
@@ -118,7 +119,7 @@ fn asked_of_map<K: Validate>(
     }
 }
 
-// What the map of a case's schema answers, or why there is none.
+// Returns the answer of the map of a case's schema, or the reason why there is none.
 pub(crate) fn answered_by_map<K: Validate, T: KeywordTable<K>>(
     alloc: Global,
     case: &Case<'_>,

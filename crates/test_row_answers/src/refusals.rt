@@ -1,4 +1,4 @@
-//! Why there is no validator.
+//! The reasons why there is no validator.
 
 use schema_engine::location::OutOfMemory;
 use schema_keys::error::BuildError;
@@ -6,8 +6,8 @@ use serde_json::{Value, json};
 use std::alloc::{AllocError, Global};
 use test_rows::showing::text_or_null;
 
-// Where what was refused stands, for a refusal that says so: a location in the schema, the schema path that a table's error has, or, by
-// the meta validators, an instance path.
+// Returns the place of a refusal that has one: a location in the schema, the schema path of a
+// table's error, or an instance path of the meta validators.
 fn place_of(error: &BuildError) -> Option<&str> {
     match error {
         BuildError::NotASchema(location) => Some(location.as_str()),
@@ -18,7 +18,7 @@ fn place_of(error: &BuildError) -> Option<&str> {
     }
 }
 
-// The number, the place and the text of a refusal.
+// Returns the number, the place and the text of a refusal.
 fn parts_of(alloc: Global, error: &BuildError) -> Result<Value, OutOfMemory> {
     if matches!(error, BuildError::OutOfMemory) {
         return Err(AllocError);
@@ -29,7 +29,7 @@ fn parts_of(alloc: Global, error: &BuildError) -> Result<Value, OutOfMemory> {
     json!(in alloc; {"refused": number, "at": place, "text": text})
 }
 
-// A refusal as a value.
+// Returns a refusal as a value.
 pub(crate) fn refusal(alloc: Global, error: BuildError) -> Result<Value, OutOfMemory> {
     let parts = parts_of(alloc, &error);
     drop(error);

@@ -1,4 +1,4 @@
-//! What the schema of a case is built with.
+//! The parts that the schema of a case is built with.
 
 use bench_parts::matcher::BenchMatcher;
 use schema_engine::keywords::{Draft, Vocabulary, VocabularySet};
@@ -11,8 +11,10 @@ use std::alloc::Global;
 use test_rows::case::Case;
 use test_rows::tables::texts_of;
 
-/// The options, the resolver and the matcher, and how many targets of references `build_nested` is to compile one inside another,
-/// where the case says so.
+/// The options, the resolver, the matcher, and the limit of `build_nested`.
+///
+/// The limit is how many targets of references are compiled one inside another; it is set if the
+/// case has one.
 #[derive(Drop)]
 pub(crate) struct Setting<'c> {
     pub options: ValidationOptions,
@@ -22,7 +24,7 @@ pub(crate) struct Setting<'c> {
 }
 
 impl<'c> Setting<'c> {
-    // The setting of a case.
+    // Returns the setting of a case.
     pub(crate) fn of(alloc: Global, case: &Case<'c>) -> Result<Setting<'c>, OutOfMemory> {
         Ok(Setting {
             options: options_of(alloc, case)?,
@@ -33,7 +35,7 @@ impl<'c> Setting<'c> {
     }
 }
 
-// The options of a case.
+// Returns the options of a case.
 fn options_of(alloc: Global, case: &Case<'_>) -> Result<ValidationOptions, OutOfMemory> {
     let mut options = plain_options_of(alloc, case);
     if let Some(base) = case.text("base") {
@@ -45,7 +47,7 @@ fn options_of(alloc: Global, case: &Case<'_>) -> Result<ValidationOptions, OutOf
     Ok(options)
 }
 
-// The options of a case that hold no text.
+// Returns the options of a case that contain no text.
 fn plain_options_of(alloc: Global, case: &Case<'_>) -> ValidationOptions {
     let mut options = limits_of(alloc, case);
     if let Some(draft) = case.draft("draft") {
@@ -60,7 +62,7 @@ fn plain_options_of(alloc: Global, case: &Case<'_>) -> ValidationOptions {
     options
 }
 
-// The options with a limit of nodes, where the case has one.
+// Sets the limit of nodes, if the case has one.
 fn with_nodes(options: ValidationOptions, limit: Option<usize>) -> ValidationOptions {
     match limit {
         Some(limit) => options.with_node_limit(limit),
@@ -68,7 +70,7 @@ fn with_nodes(options: ValidationOptions, limit: Option<usize>) -> ValidationOpt
     }
 }
 
-// The same of targets that are open.
+// Sets the limit of open targets, if the case has one.
 fn with_nested(options: ValidationOptions, limit: Option<usize>) -> ValidationOptions {
     match limit {
         Some(limit) => options.with_nested_limit(limit),
@@ -76,7 +78,7 @@ fn with_nested(options: ValidationOptions, limit: Option<usize>) -> ValidationOp
     }
 }
 
-// The same of steps.
+// Sets the limit of steps, if the case has one.
 fn with_work(options: ValidationOptions, limit: Option<usize>) -> ValidationOptions {
     match limit {
         Some(limit) => options.with_work_limit(limit as u64),
@@ -84,7 +86,7 @@ fn with_work(options: ValidationOptions, limit: Option<usize>) -> ValidationOpti
     }
 }
 
-// The options of a case that are limits.
+// Returns the options of a case with its limits.
 fn limits_of(alloc: Global, case: &Case<'_>) -> ValidationOptions {
     let options = with_nodes(ValidationOptions::new(alloc), case.count("limit"));
     let options = with_nested(options, case.count("nested_limit"));
@@ -95,7 +97,7 @@ fn limits_of(alloc: Global, case: &Case<'_>) -> ValidationOptions {
     }
 }
 
-// The vocabularies that the resolver requires, each a custom one.
+// Returns the vocabularies that the resolver requires, each a custom one.
 fn required_by(alloc: Global, case: &Case<'_>) -> Result<VocabularySet, OutOfMemory> {
     let mut required = VocabularySet::new(alloc);
     for uri in case.list("requires") {
@@ -105,13 +107,13 @@ fn required_by(alloc: Global, case: &Case<'_>) -> Result<VocabularySet, OutOfMem
     Ok(required)
 }
 
-// A document that is found under this URI.
+// Returns a document with this URI.
 fn document<'c>(alloc: Global, uri: &str, value: &'c Value) -> Result<Document<'c>, OutOfMemory> {
     let uri = String::from_str(alloc, uri)?;
     Ok(Document { uri, value })
 }
 
-// The further documents: of each pair a URI and a value.
+// Returns the further documents, from pairs of a URI and a value.
 fn further_documents<'c>(
     alloc: Global,
     pairs: &'c [Value],
@@ -125,12 +127,13 @@ fn further_documents<'c>(
     Ok(documents)
 }
 
-// The draft of a case's schemas that name none.
+// Returns the draft of a case's schemas that name none.
 pub(crate) fn default_draft(case: &Case<'_>) -> Draft {
     case.draft("default").unwrap_or(Draft::Draft202012)
 }
 
-// The resolver of a case's documents. Where the case has a URI for its schema, the schema is found under it.
+// Returns the resolver of a case's documents. If the case has a URI for its schema, the schema is
+// found under it.
 pub(crate) fn resolver_of<'c>(
     alloc: Global,
     case: &Case<'c>,
@@ -145,7 +148,7 @@ pub(crate) fn resolver_of<'c>(
     DocumentResolver::with_documents(alloc, draft, root, others, required)
 }
 
-// The matcher that leaves a case's patterns unfinished.
+// Returns the matcher that leaves a case's patterns unfinished.
 fn matcher_of(alloc: Global, case: &Case<'_>) -> Result<BenchMatcher, OutOfMemory> {
     Ok(BenchMatcher::new(texts_of(alloc, case.list("unfinished"))?))
 }
