@@ -1,5 +1,8 @@
-//! `test_check_rows FILE ..`: reads rows of the engine's cases, one on a line, as JSON, and prints which are answered otherwise than they
-//! say, and how many there are. It ends with 0 where none is, else with 1.
+//! Judges rows of the engine's cases.
+//!
+//! `test_check_rows FILE ..` reads rows as JSON, one on a line. It prints the rows whose answer is
+//! not the one that they want, and the number of rows. The exit status is 0 if all rows are right,
+//! and 1 otherwise.
 #![tactic(auto)]
 
 use anyhow::Context;
@@ -24,7 +27,7 @@ impl Answering for Engine {
     }
 }
 
-/// Judges the rows of a file, and prints a line for each that is wrong.
+/// Judges the rows of a file, and prints a line for each wrong one.
 fn check_file<R: Files + Print + AllocGlobal>(
     rt: &R,
     tally: &mut Tally,
@@ -42,7 +45,7 @@ fn check_file<R: Files + Print + AllocGlobal>(
     Ok(())
 }
 
-/// Prints the line of a wrong row, which is named by its name, or else by its place.
+/// Prints the line of a wrong row, with its name, or else its place.
 fn tell(rt: &impl Print, wrong: Wrong, number: usize, file: &str) -> io::Result<()> {
     let Wrong { name, given } = wrong;
     match name {
@@ -51,7 +54,9 @@ fn tell(rt: &impl Print, wrong: Wrong, number: usize, file: &str) -> io::Result<
     }
 }
 
-/// Judges the rows of all files that the process is given, prints how many there were, and returns how many of them are wrong.
+/// Judges the rows of all files that the process is given.
+///
+/// Prints how many there were, and returns how many of them are wrong.
 fn check_files<R: Files + Env + Print + AllocGlobal>(rt: &R) -> anyhow::Result<usize> {
     let mut tally = Tally {
         verdicts: Vec::new(rt.alloc()),
