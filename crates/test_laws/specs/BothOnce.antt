@@ -1,5 +1,5 @@
--- A keyword with two children that holds where both accept. Its run marks each, and does not ask the second where that is
--- marked already: then it is the first one again, and answers alike.
+-- A keyword with two children that holds if both accept. Its run marks each child, and skips the
+-- second if that is marked already: then it is the first one again, with the same answer.
 use Rattle.std.proofs.Common.{◌≡◌, ◌∙◌, ℕ, zero, suc, ◌<◌, ◌&&◌, ◌||◌, ◌⊎◌, ◌∷◌, [], List, Bool, true, false, refl, sym, ap, ap₂, arith, inl, inr}
 use Rattle.std.specs.List.{list_any}
 use Rattle.std.specs.Prelude.{All, if◌then◌else◌, ⊤}
@@ -20,7 +20,7 @@ use Rattle.test_laws.specs.Refusals.{agree, and_true, refusals, refusals_pass, r
 use Rattle.test_laws.specs.declared.both_once.Stage.{Stage}
 use Rattle.test_laws.specs.declared.both_once.Stage.TheVariants as stage
 
--- what it does next, and whether what it asked so far was accepted
+-- the next stage of the run, and whether the answers so far accepted
 abbrev pub Once : Type 0
 Once = Stage × Bool
 
@@ -30,7 +30,7 @@ child_at n = record { child = n; below = here }
 abbrev pub both : List Question
 both = child_at 0 ∷ child_at 1 ∷ []
 
--- a reply that says yes
+-- a reply that accepts
 abbrev pub says_yes : Reply → Bool
 says_yes (truth b) = b
 says_yes no_reply = false
@@ -45,7 +45,7 @@ turn_once texts stage.MarksSecond accepted said a = ((stage.AsksSecond, accepted
 turn_once texts stage.AsksSecond accepted said a = ((stage.Ends, accepted), if said then told texts accepted a else a)
 turn_once texts stage.Ends accepted said a = ((stage.Ends, accepted && said), told texts (accepted && said) a)
 
--- the second is not asked where it is marked already
+-- the second child is skipped if it is marked already
 abbrev pub step_once : Stage → Bool → Turn
 step_once stage.MarksFirst said = mark (a_child 0)
 step_once stage.AsksFirst said = ask (child_at 0) for_verdict
@@ -83,7 +83,7 @@ once_left m s r = left_at r.0.0
 abbrev pub once_can_be : Bool → ⊤ → Subject → Once × Answer → Type 0
 once_can_be texts m s r = Unit {0}
 
--- what the run still has to find out, by what it does next
+-- the verdict that is left to find out at each stage
 abbrev pub accepted_at : Stage → Bool → Bool → Bool → Bool → Bool
 accepted_at stage.MarksFirst accepted said first second = accepted && (first && second)
 accepted_at stage.AsksFirst accepted said first second = accepted && (first && second)
@@ -94,7 +94,7 @@ accepted_at stage.Ends accepted said first second = accepted && said
 abbrev pub once_ends : Bool → ⊤ → Standing (Once × Answer) → Answer
 once_ends texts m x = told texts (accepted_at x.state.0.0 x.state.0.1 (says_yes x.reply) (x.answers (child_at 0)).verdict (x.answers (child_at 1)).verdict) x.state.1
 
--- the marks of a run, and what they say of the second child
+-- the marks of a run, and what they imply about the second child
 abbrev pub fits_at : Stage → Standing (Once × Answer) → Type 0
 fits_at stage.MarksFirst x = x.marks ≡ []
 fits_at stage.AsksFirst x = x.marks ≡ a_child 0 ∷ []
@@ -136,7 +136,7 @@ is_right texts m s matches a u same for_units valid = (
   told_valid texts _,
 )
 
--- a verdict that is the same as another adds nothing to it
+-- a verdict that equals another adds nothing to it
 no_more : (b x y : Bool) → x ≡ y → ((b && y) && x) ≡ (b && y)
 no_more b x true e = ap (λ z. (b && true) && z) e ∙ and_true (b && true)
 no_more true x false e = refl
@@ -150,7 +150,7 @@ and_assoc : (b x y : Bool) → ((b && x) && y) ≡ (b && (x && y))
 and_assoc true x y = refl
 and_assoc false x y = refl
 
--- the run, where this comes next
+-- the run at this stage
 abbrev at_stage : Stage → Standing (Once × Answer) → Standing (Once × Answer)
 at_stage t x = record x { state = ((t, x.state.0.1), x.state.1) }
 
@@ -259,7 +259,7 @@ always_verdicts texts m s (suc n) r reply = (step_for_verdict r.0.0 (says_yes re
 pub once_verdicts : (texts : Bool) → EachAsksVerdicts (once_words texts)
 once_verdicts texts m s = always_verdicts texts m s 5 ((stage.MarksFirst, true), fresh for_verdict) no_reply
 
--- ---- it is monotone, since both have to accept, and hands no units on
+-- ---- it is monotone, since both children have to accept, and passes no units on
 
 both_stay : (x y v w : Bool) → (x ≡ true → v ≡ true) → (y ≡ true → w ≡ true) → (x && y) ≡ true → (v && w) ≡ true
 both_stay true y v w first second h = ap₂ (λ p q. p && q) (first refl) (second h)

@@ -1,5 +1,6 @@
--- A keyword that asks its only child of each item, the last one first. Its run holds how many items are left, which it stores
--- as it begins; so it asks rightly, and ends in so many turns, only where no more are left than there are.
+-- A keyword that validates each item against its only child, the last item first. Its run holds the
+-- number of items that are left, which it stores at the beginning. So its questions are right, and
+-- it ends within this many turns, only if no more items are left than there are.
 use Rattle.std.proofs.Common.{◌≡◌, ◌∙◌, ℕ, zero, suc, ◌+◌, ◌<◌, ◌≤◌, ◌&&◌, ◌⊎◌, ◌∷◌, [], List, Bool, true, false, not, refl, sym, ap, ap₂, arith, inl, inr}
 use Rattle.std.specs.Prelude.{All, Contains, ⊤}
 use Rattle.std.specs.List.{list_all}
@@ -21,11 +22,11 @@ use Rattle.keyword_authoring.specs.WayGrows.{way_grows}
 use Rattle.keyword_authoring.specs.Ways.{passes_on}
 use Rattle.test_laws.specs.Refusals.{agree, and_true, refusals, refusals_pass, refusals_stand, told, told_all, told_first, told_gives, told_valid, told_verdict, unit_of}
 
--- how many items are left, and whether those before were accepted
+-- the number of items that are left, and whether those before were accepted
 abbrev pub Left : Type 0
 Left = ℕ × Bool
 
--- the questions at so many items, the last one first
+-- the questions at this many items, the last one first
 abbrev pub down_from : ℕ → List Question
 down_from zero = []
 down_from (suc n) = first_at_item n ∷ down_from n
@@ -107,7 +108,7 @@ stays : (texts : Bool) (n k : ℕ) (b : Bool) (a : Answer) → n ≤ k → (turn
 stays texts zero k b a h = h
 stays texts (suc n) k b a h = less n k h
 
--- an item that is left is asked of by the keyword
+-- the keyword asks about each item that is left
 asked : (n k : ℕ) → suc n ≤ k → Contains (down_from k) (first_at_item n)
 asked n zero h = absurd (omega (arith, h))
 asked n (suc k) h = go (asked n k) (at_most n k h)
@@ -141,7 +142,7 @@ is_right texts m s matches a u same for_units valid = (
   told_valid texts (holds_by s (λ q. (a q).verdict)),
 )
 
--- a true reply refuses where the answer is no
+-- a true reply refuses if the verdict is no
 pub one_more : (accepted verdict rest : Bool) → ((accepted && not (not verdict)) && rest) ≡ (accepted && (verdict && rest))
 one_more true true rest = refl
 one_more true false rest = refl
@@ -152,7 +153,7 @@ ends_same : (texts : Bool) (n : ℕ) (accepted : Bool) (answers : Answers) (a : 
     ≡ told texts (accepted && list_all (λ q. (answers q).verdict) (down_from (suc n))) a
 ends_same texts n accepted answers a = ap (λ b. told texts b a) (one_more accepted (answers (first_at_item n)).verdict (list_all (λ q. (answers q).verdict) (down_from n)))
 
--- the run, where so many items are left
+-- the run with this many items left
 abbrev with_left : ℕ → Standing (Left × Answer) → Standing (Left × Answer)
 with_left n x = record x { state = ((n, x.state.0.1), x.state.1) }
 
@@ -222,7 +223,7 @@ always_verdicts texts m s (suc n) r reply = (step_for_verdict r.0.0, λ next. al
 pub each_verdicts : (texts : Bool) → EachAsksVerdicts (each_words texts)
 each_verdicts texts m s = always_verdicts texts m s (item_count s + 1) ((item_count s, true), fresh for_verdict) no_reply
 
--- ---- it is monotone, since all items have to accept, and hands no units on
+-- ---- it is monotone, since all items have to accept, and passes no units on
 
 pub each_grows : (texts : Bool) (m : ⊤) → true ≡ true → IsMonotone (each_words texts) m
 each_grows texts m h s matches a b where_yes holds = way_grows (passes_on (all_items s)) refl matches a b where_yes holds

@@ -1,5 +1,6 @@
--- A keyword that asks whether its pattern matches the name of each member of an object, at that name's place, and refuses where one
--- is not matched. Its run holds the place of the next name. What is known of the keyword is its pattern.
+-- A keyword that matches its pattern against the name of each member of an object, at the name's
+-- place, and refuses if a name does not match. Its run holds the place of the next name. The
+-- abstract value of the keyword is its pattern.
 use Rattle.std.proofs.Common.{◌≡◌, ◌∙◌, ℕ, zero, suc, ◌+◌, ◌<◌, ◌&&◌, ◌⊎◌, ◌∷◌, [], List, Bool, None, Option, Some, true, refl, sym, ap, add-one, arith, drop, inl, inr, length}
 use Rattle.std.specs.List.{list_all}
 use Rattle.std.specs.Prelude.{All, map}
@@ -21,7 +22,7 @@ use Rattle.test_laws.specs.EachItem.{one_more, so_far}
 use Rattle.test_laws.specs.OwnSpot.{name_point}
 use Rattle.test_laws.specs.Refusals.{agree, and_true, refusals, refusals_pass, refusals_stand, told, told_all, told_first, told_gives, told_valid, told_verdict, unit_of}
 
--- the place of the next name, and whether those before were matched
+-- the place of the next name, and whether those before matched
 abbrev pub Next : Type 0
 Next = ℕ × Bool
 
@@ -98,7 +99,7 @@ falls : (texts : Bool) (m : Text) (s : Subject) (k : ℕ) (b : Bool) (a : Answer
 falls texts m s k b a [] e = inl refl
 falls texts m s k b a (n ∷ ns) e = inr (less _ _ ns (ap length (after_next k (subject_names s) n ns e)) (ap length e))
 
--- each name is at a place that is there
+-- each name is at a place that exists
 abbrev NameThere : Subject → Text → Type 0
 NameThere s n = IsPresent s (to_name n ∷ [])
 
@@ -121,7 +122,7 @@ is_right texts m s matches a u same for_first = told_first texts (holds_by m s m
 is_right texts m s matches a u same for_all = told_all texts (holds_by m s matches)
 is_right texts m s matches a u same for_units = (told_gives texts (holds_by m s matches), told_valid texts (holds_by m s matches))
 
--- the run after a turn, where these names are left
+-- the run after a turn, with these names left
 abbrev after : Bool → Text → Standing (Next × Answer) → List Text → Standing (Next × Answer)
 after texts m x names = record x {
   marks = marks_after (name_words texts) m x.subject x.matches x.answers x.unit_at x.same x.marks (step_name m (first_name names));
@@ -197,7 +198,7 @@ always_verdicts texts m s (suc n) r reply = (step_for_verdict m (first_name (nam
 pub name_verdicts : (texts : Bool) → EachAsksVerdicts (name_words texts)
 name_verdicts texts m s = always_verdicts texts m s (length (subject_names s) + 1) ((0, true), fresh for_verdict) no_reply
 
--- ---- what it says does not hang on an answer, and it hands no units on
+-- ---- its verdict does not depend on an answer, and it passes no units on
 
 pub name_grows : (texts : Bool) (m : Text) → true ≡ true → IsMonotone (name_words texts) m
 name_grows texts m h s matches a b where_yes holds = holds

@@ -1,5 +1,5 @@
--- A keyword that accepts every instance, and asks its only child in vain: it drops what is replied. So whatever it asks for, it
--- keeps each law but those on what is asked for.
+-- A keyword that accepts every instance, and asks its only child in vain: it drops the reply. So,
+-- whatever it requests, it keeps each law but those about requests.
 use Rattle.std.proofs.Common.{◌≡◌, ℕ, zero, suc, ◌<◌, ◌⊎◌, ◌∷◌, [], List, Bool, true, false, refl, arith, inl, inr}
 use Rattle.std.specs.Prelude.{if◌then◌else◌, ⊤}
 use Rattle.std.proofs.lemmas.List.Elements.{All-nil, All-cons}
@@ -18,7 +18,7 @@ use Rattle.schema_traits.specs.UnitQuestions.{AlwaysAsksForLess, AsksForLess, As
 abbrev pub only_child : Question
 only_child = record { child = 0; below = here }
 
--- a turn asks, where none before did
+-- a turn asks if none before did
 abbrev pub step_vain : Mode → Bool → Turn
 step_vain asked has_asked = if has_asked then done else ask only_child asked
 
@@ -54,7 +54,7 @@ vain_ends texts m x = x.state.1
 abbrev pub vain_fits : Bool → ⊤ → Standing (Bool × Answer) → Type 0
 vain_fits texts m x = Unit {0}
 
--- ---- the laws, whatever is asked for
+-- ---- the laws, whatever it requests
 
 one_left : 1 < 2
 one_left = omega arith
@@ -98,7 +98,7 @@ vain_functions asked texts m = record {
   passes = λ s matches a. All-nil _;
 }
 
--- ---- it asks for no units, where that is not what it asks for
+-- ---- it requests no units, unless its request is for units
 
 abbrev pub IsLess : Mode → Type 0
 IsLess for_units = ⊥
@@ -121,7 +121,7 @@ always_for_less asked texts m s (suc n) r reply h = (step_for_less asked r.0 h, 
 pub vain_units : (asked : Mode) → IsLess asked → (texts : Bool) → AsksNoUnits (vain_words asked texts)
 vain_units asked h texts m s mode none = always_for_less asked texts m s 2 (false, fresh mode) no_reply h
 
--- ---- it asks for verdicts alone, where that is what it asks for
+-- ---- it requests verdicts alone, if its request is for verdicts
 
 step_for_verdict : (has_asked : Bool) → AsksVerdict (step_vain for_verdict has_asked)
 step_for_verdict true = tt
@@ -134,7 +134,7 @@ always_verdicts texts m s (suc n) r reply = (step_for_verdict r.0, λ next. alwa
 pub vain_verdicts : (texts : Bool) → EachAsksVerdicts (vain_words for_verdict texts)
 vain_verdicts texts m s = always_verdicts texts m s 2 (false, fresh for_verdict) no_reply
 
--- ---- what it says does not hang on an answer, and it hands no units on
+-- ---- its verdict does not depend on an answer, and it passes no units on
 
 pub vain_grows : (asked : Mode) (texts : Bool) (m : ⊤) → true ≡ true → IsMonotone (vain_words asked texts) m
 vain_grows asked texts m h s matches a b where_yes holds = holds

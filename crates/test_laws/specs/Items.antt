@@ -1,4 +1,5 @@
--- `x-items` and `type` with the value "array": each item accepts, by the run's mode; and an instance is an array.
+-- `x-items`: each item accepts, by the run's mode; and `type` with the value "array": the instance
+-- is an array.
 use Rattle.std.proofs.Common.{ℕ, ◌+◌, zero, suc, Bool, true, false, [], None, Option, Some, refl}
 use Rattle.std.specs.Prelude.{codes, ◌++◌}
 use Rattle.theory_definitions.specs.Instance.{Subject, Text}
@@ -31,17 +32,17 @@ abbrev pub told : ItemsPlan → Subject → ℕ → Text
 told ArrayType s accepted = subject_text s ++ codes " is not of type \"array\""
 told EachItem s accepted = []
 
--- neither plan has a most
+-- neither plan has a maximum
 pub items_plans_grow : PlansGrow planned (λ k. true)
 items_plans_grow ArrayType s h = refl
 items_plans_grow EachItem s h = refl
 
--- `x-items` alone marks
+-- only `x-items` marks
 abbrev pub marks : ItemsPlan → Bool
 marks ArrayType = false
 marks EachItem = true
 
--- ---- no keyword that goes one of the ways marks
+-- ---- no keyword of these kinds marks
 
 asked_marks : (mode : Mode) (o : Option Question) → MarksNothing (asked mode o)
 asked_marks mode None = tt

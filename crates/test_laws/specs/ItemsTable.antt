@@ -1,4 +1,5 @@
--- The table of `x-items`, a keyword of its own, and `type`, which is made as if its value were "array": what their makers ask for in turn, and what they make.
+-- The table of `x-items`, a custom keyword, and of `type`, which is made as if its value were
+-- "array": the requests that their makers make in turn, and the keywords that they make.
 use Rattle.std.proofs.Common.{refl}
 use Rattle.std.specs.Prelude.{Bool, None, Option, Some, [], bytes_eq, codes, false, true, ◌≡◌, ◌∷◌}
 use Rattle.serde_json.specs.Data.{Members}
@@ -19,7 +20,7 @@ use Rattle.test_laws.specs.declared.items_table.ItemsMaker.TheVariants as maker
 abbrev pub own_name : Text
 own_name = codes "x-items"
 
--- the end, and the value before it
+-- the end, with the keyword's value before it
 abbrev pub makes_items : Script ItemsPlan
 makes_items = then_end (a_keyword EachItem [])
 
@@ -29,11 +30,11 @@ asks_value = then_compile (to_member own_name ∷ []) makes_items
 abbrev pub reserves : Script ItemsPlan
 reserves = then_reserve for_items asks_value
 
--- where a number is pending, none is reserved
+-- if a number is pending, none is reserved
 abbrev pub own_script : Script ItemsPlan
 own_script = then_pending for_items reserves asks_value
 
--- `type` is made, as if its value were "array"; of other names nothing is
+-- `type` is made as if its value were "array"; other names make nothing
 abbrev pub builtin_script : Bool → Script ItemsPlan
 builtin_script true = then_end (a_keyword ArrayType [])
 builtin_script false = then_end nothing
@@ -51,7 +52,7 @@ waiting maker.ArrayType = begun (builtin_script true)
 waiting maker.Nothing = begun (builtin_script false)
 waiting maker.Over = ended
 
--- a step that asks for the keyword's value, and what is waited for then
+-- a step that requests the keyword's value, and what the maker waits for then
 abbrev pub AsksValue : MakerStep ItemsKeyword → ItemsMaker → Type 0
 AsksValue (step.Compile path) made = (path ≡ to_member own_name ∷ []) × (waiting made ≡ waits 0 makes_items makes_items)
 AsksValue (step.Refer text) made = ⊥

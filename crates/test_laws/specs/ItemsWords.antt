@@ -1,4 +1,4 @@
--- What the laws name of `x-items` and `type`, and that they keep them.
+-- The records that the laws name for `x-items` and `type`, and the proof that both keep the laws.
 use Rattle.std.proofs.Common.{◌≡◌, ◌∙◌, ℕ, Bool, List, refl, sym, true}
 use Rattle.theory_definitions.specs.Instance.{Subject, Text}
 use Rattle.theory_definitions.specs.Keywords.{Answer, Keywords}
@@ -59,7 +59,7 @@ pub items_verdicts : (texts : Bool) → EachAsksVerdicts (items_words texts)
 items_verdicts = marking.asks_verdicts marks (own_words ways) (λ (r : Progress × Answer). WantsVerdict r.0.mode) (λ texts m s r reply h. h)
     (λ texts m s r reply h. step_for_verdict (spoken_ways ways texts m s) r.0.mode r.0.stage reply h) (λ texts m s. refl)
 
--- each of them passes on or tells, so it is monotone
+-- each of them passes its child's answer on or reports its own, so it is monotone
 pub items_grows : (texts : Bool) (m : ItemsPlan) → true ≡ true → IsMonotone (items_words texts) m
 items_grows texts m h s matches a b where_yes holds = own_grow ways (λ _. true) (plans_grow planned name told (λ _. true) items_plans_grow) texts m h s matches a b where_yes holds
 

@@ -1,6 +1,6 @@
--- A keyword type that marks a number that its maker was given while it works: its run marks it, goes on as a run of another
--- keyword type that marks nothing, whatever the mark's answer was, and takes the mark away at the end. What it means is what
--- the other means.
+-- A keyword type that marks a number that its maker was given while it works. Its run marks the
+-- number, whatever the answer to the mark is, goes on as a run of another keyword type, which marks
+-- nothing, and removes the mark at the end. Its meaning is that of the other type.
 use Rattle.std.proofs.Common.{◌≡◌, ℕ, zero, suc, ◌+◌, ◌<◌, ◌⊎◌, [], List, Bool, true, false, refl, ap, arith, inl, inr}
 use Rattle.std.specs.Prelude.{if◌then◌else◌}
 use Rattle.theory_definitions.specs.Instance.{Subject, Text}
@@ -12,23 +12,23 @@ use Rattle.schema_traits.specs.UnitQuestions.{AlwaysAsksForLess, AsksForLess, As
 use Rattle.test_laws.specs.declared.marking.Stage.{Stage}
 use Rattle.test_laws.specs.declared.marking.Stage.TheVariants as stage
 
--- a turn marks nothing, and takes no mark away
+-- a turn neither marks nor removes a mark
 abbrev pub MarksNothing : Turn → Type 0
 MarksNothing (mark i) = ⊥
 MarksNothing unmark = ⊥
 MarksNothing _ = Unit {0}
 
--- the run begins with the mark, where there is one to make
+-- the run begins with the mark, if there is one to make
 abbrev pub first : Bool → Stage
 first true = stage.Marks
 first false = stage.Works
 
--- what stands after a turn of the other run
+-- the stage after a turn of the other run
 abbrev pub after : Turn → Stage
 after done = stage.Over
 after _ = stage.Works
 
--- where the other run is done, the mark is taken away
+-- if the other run is done, the mark is removed
 abbrev pub shown : Bool → Turn → Turn
 shown marks done = if marks then unmark else done
 shown marks (ask q mode) = ask q mode
@@ -44,11 +44,11 @@ left_at stage.Works n = suc n
 left_at stage.Over n = 0
 
 module _ {M P : Type 0} (marks : M → Bool) (other : Bool → Keywords M (P × Answer)) where
-  -- where the run stands, the other run's state, and the answer
+  -- the stage of the run, the state of the other run, and the answer
   abbrev pub Run : Type 0
   Run = (Stage × P) × Answer
 
-  -- the other run's state, and the answer
+  -- the state of the other run, and the answer
   abbrev pub inside : Run → P × Answer
   inside r = (r.0.1, r.1)
 
@@ -90,7 +90,7 @@ module _ {M P : Type 0} (marks : M → Bool) (other : Bool → Keywords M (P × 
     abbrev pub can_be : Bool → M → Subject → Run → Type 0
     can_be texts m s r = other_can texts m s (inside r)
 
-    -- how the other run stands, which has no marks and was told this
+    -- the state of the other run, which has no marks and was given this reply
     abbrev pub seen : Standing Run → Reply → Standing (P × Answer)
     seen x reply = record { subject = x.subject; matches = x.matches; answers = x.answers; unit_at = x.unit_at; same = x.same; marks = []; state = inside x.state; reply = reply }
 
@@ -112,7 +112,7 @@ module _ {M P : Type 0} (marks : M → Bool) (other : Bool → Keywords M (P × 
     abbrev pub fits : Bool → M → Standing Run → Type 0
     fits texts m x = fits_at texts m x.state.0.0 x
 
-    -- ---- the laws, where the other keyword type keeps them and marks nothing
+    -- ---- the laws, if the other keyword type keeps them and marks nothing
 
     module _ (laws : (texts : Bool) (m : M) → TurnLaws (other texts) m (absorbed m) (left m) (other_can texts m) (other_ends texts m) (other_fits texts m))
         (none : (texts : Bool) (m : M) (s : Subject) (r : P × Answer) (reply : Reply) → MarksNothing ((other texts).step m s r reply)) where
@@ -164,7 +164,7 @@ module _ {M P : Type 0} (marks : M → Bool) (other : Bool → Keywords M (P × 
       asks texts m s stage.Works r reply can = shown_asks texts m s (marks m) _ ((laws texts m).asks s r reply can)
       asks texts m s stage.Over r reply can = tt
 
-      -- the other run after a turn that asked for this, and this run
+      -- the other run, after a turn that asked this, and this run
       abbrev their_next : Bool → M → Standing (P × Answer) → Turn → Standing (P × Answer)
       their_next texts m y t = record y {
         marks = marks_after (other texts) m y.subject y.matches y.answers y.unit_at y.same y.marks t;
@@ -179,7 +179,7 @@ module _ {M P : Type 0} (marks : M → Bool) (other : Bool → Keywords M (P × 
         reply = reply_to (words texts) m x.subject x.matches x.answers x.unit_at x.same x.marks (shown (marks m) t);
       }
 
-      -- a turn of the other run keeps what the run ends in
+      -- a turn of the other run keeps the end of the run
       abbrev Kept : Bool → M → Standing Run → Answer → Type 0
       Kept texts m x end = fits texts m x × (ends texts m x ≡ end)
 
@@ -199,7 +199,7 @@ module _ {M P : Type 0} (marks : M → Bool) (other : Bool → Keywords M (P × 
       worked_on texts m x reply h = works_on texts m x reply (step_at (other texts) m (seen x reply)) (none texts m x.subject (inside x.state) reply)
           (λ e. (laws texts m).stands (seen x reply) h e) (λ e. (laws texts m).keeps (seen x reply) h e)
 
-      -- the run, where it stands so
+      -- the run at this stage
       abbrev at_stage : Stage → Standing Run → Standing Run
       at_stage t x = record x { state = ((t, x.state.0.1), x.state.1) }
 
@@ -225,7 +225,7 @@ module _ {M P : Type 0} (marks : M → Bool) (other : Bool → Keywords M (P × 
       stands texts m stage.Works x h e = (laws texts m).stands (seen x x.reply) h (shown_done (marks m) _ e)
       stands texts m stage.Over x h e = refl
 
-      -- as the run begins
+      -- the run at its beginning
       begun : (texts : Bool) (m : M) (b : Bool) (x : Standing Run) → x.reply ≡ no_reply → other_fits texts m (seen x no_reply)
           → fits texts m (at_stage (first b) x) × (ends texts m (at_stage (first b) x) ≡ other_ends texts m (seen x no_reply))
       begun texts m true x e h = (h, refl)
@@ -265,7 +265,7 @@ module _ {M P : Type 0} (marks : M → Bool) (other : Bool → Keywords M (P × 
           passes = l.passes;
         }
 
-  -- ---- units are asked for where the other asks for them
+  -- ---- units are requested where the other type requests them
 
   module _ (Less : P × Answer → Type 0) (less_turn : (texts : Bool) (m : M) (s : Subject) (r : P × Answer) (reply : Reply) → Less r → Less ((other texts).turn m s r reply))
       (less_step : (texts : Bool) (m : M) (s : Subject) (r : P × Answer) (reply : Reply) → Less r → AsksForLess ((other texts).step m s r reply)) where
@@ -300,7 +300,7 @@ module _ {M P : Type 0} (marks : M → Bool) (other : Bool → Keywords M (P × 
     pub asks_no_units : ((texts : Bool) (m : M) (s : Subject) (mode : Mode) → ¬ (mode ≡ for_units) → Less ((other texts).begin m s mode)) → (texts : Bool) → AsksNoUnits (words texts)
     asks_no_units starts texts = λ m s mode none. always_less texts m s ((words texts).most_turns m s) ((words texts).begin m s mode) no_reply (starts texts m s mode none)
 
-  -- ---- a run for the verdict asks for verdicts, where the other's does
+  -- ---- a run for the verdict requests verdicts, if the other type's does
 
   module _ (Verdict : P × Answer → Type 0) (verdict_turn : (texts : Bool) (m : M) (s : Subject) (r : P × Answer) (reply : Reply) → Verdict r → Verdict ((other texts).turn m s r reply))
       (verdict_step : (texts : Bool) (m : M) (s : Subject) (r : P × Answer) (reply : Reply) → Verdict r → AsksVerdict ((other texts).step m s r reply)) where

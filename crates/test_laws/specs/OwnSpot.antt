@@ -1,4 +1,4 @@
--- A match at the keyword itself, and where it is asked for one step below, at the name of a member.
+-- A match at the keyword itself, and its point one step below, at the name of a member.
 use Rattle.std.proofs.Common.{◌≡◌, ◌&&◌, ◌++◌, ◌∷◌, [], Bool, List, None, Option, Some, is_some, map, false, not, option_map, refl, string_bytes, true}
 use Rattle.theory_definitions.specs.Instance.{Text, to_name}
 use Rattle.theory_definitions.specs.Keywords as spec
@@ -7,7 +7,8 @@ use Rattle.schema_reports.specs.declared.instance.InstanceStep.{InstanceStep}
 use Rattle.schema_traits.specs.KeywordViews.{is_nil}
 use Rattle.schema_traits.specs.declared.keyword.SpotMatch.{SpotMatch}
 
--- it is shown with evaluation path and place; its spot has no path, no step, none that is absorbed, and no pattern
+-- a match shown with evaluation path and place; its spot has no path, no step, no absorbed keyword,
+-- and no pattern
 abbrev pub is_plain : SpotMatch → Bool
 is_plain m = m.located
     && (not (is_some m.spot.absorbed) && (is_nil (string_bytes m.spot.path) && (is_nil m.spot.below.items && not (is_some m.spot.pattern))))

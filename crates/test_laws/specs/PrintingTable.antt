@@ -1,4 +1,5 @@
--- A table that refuses the value of each member, with the value's text; of a value that holds a fraction the text is not told.
+-- A table that refuses the value of each member, with the value's text; the text is not covered if
+-- the value contains a fraction.
 use Rattle.std.proofs.Common.{refl, ap, sym, ◌∙◌}
 use Rattle.std.specs.Prelude.{Bool, List, None, Option, Some, [], false, not, string_bytes, true, ◌≡◌, ◌||◌}
 use Rattle.std.specs.Ordering.{match_ordering, nat_cmp}
@@ -21,7 +22,7 @@ use Rattle.test_laws.specs.declared.printing_table.PrintingMaker.TheVariants as 
 abbrev pub printed_error : Text → Data → OwnedError
 printed_error name d = record { instance = d; instance_path = []; schema_path = []; evaluation_path = []; absolute = None; name = name; text = compact_text d }
 
--- what is refused: a name and its value, where there is one
+-- the member that is refused: a name and its value, if there is one
 pub record Member : Type 0 where
   pub name : Text
   pub value : Data
@@ -41,12 +42,12 @@ abbrev pub ending_of : PrintingMaker → Option Member
 ending_of (maker.Refuses name value) = Some (record { name = string_bytes name; value = view value })
 ending_of maker.Nothing = None
 
--- errors that differ in no more than a text that is not told
+-- errors that differ at most in a text that is not covered
 pub told_alike : (fraction : Bool) (a b : OwnedError) → told_error false a ≡ told_error false b → (fraction ≡ false → a.text ≡ b.text) → told_error (not fraction) a ≡ told_error (not fraction) b
 told_alike true a b h same = h
 told_alike false a b h same = ap (λ (e : OwnedError). record e { text = a.text }) h ∙ ap (λ (t : Text). record b { text = t }) (same refl)
 
--- a value of an object without fractions has none
+-- a value of an object without fractions contains none
 or_left : (a b : Bool) → (a || b) ≡ false → a ≡ false
 or_left true b h = cc
 or_left false b h = refl

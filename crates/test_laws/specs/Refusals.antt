@@ -24,18 +24,18 @@ refused_in texts for_first = with_errors for_first (refusal texts ∷ [])
 refused_in texts for_all = with_errors for_all (refusal texts ∷ [])
 refused_in texts for_units = record { mode = for_units; verdict = false; errors = []; gives = record no_gives { valid = false; errors = described texts ∷ [] } }
 
--- the error and the unit where the keyword holds or not
+-- the errors, and the unit, depending on whether the keyword holds
 abbrev pub refusals : Bool → Bool → List Fault
 refusals texts holds = if holds then [] else refusal texts ∷ []
 
 abbrev pub unit_of : Bool → Bool → Gives
 unit_of texts holds = record no_gives { valid = holds; errors = if holds then [] else described texts ∷ [] }
 
--- what stands in the answer at the end: as it is where the keyword holds, else one that refuses
+-- the answer at the end: unchanged if the keyword holds, and otherwise one that refuses
 abbrev pub told : Bool → Bool → Answer → Answer
 told texts holds a = if holds then a else refused_in texts a.mode
 
--- ---- what is told is right, in each mode
+-- ---- this answer is right in each mode
 
 pub told_verdict : (texts b : Bool) → (told texts b (fresh for_verdict)).verdict ≡ b
 told_verdict texts true = refl

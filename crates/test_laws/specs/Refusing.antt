@@ -1,4 +1,5 @@
--- A keyword that refuses every instance. Its run has no state at all: a turn reads the mode off the answer.
+-- A keyword that refuses every instance. Its run has no state at all: a turn takes the mode from
+-- the answer.
 use Rattle.std.proofs.Common.{◌≡◌, ℕ, suc, zero, ◌<◌, [], List, Bool, false, true, refl, arith, inl}
 use Rattle.std.specs.Prelude.{⊤}
 use Rattle.std.proofs.lemmas.List.Elements.{All-nil, All-cons}
@@ -78,7 +79,7 @@ refusing_functions texts m = record {
   passes = λ s matches a. All-cons (PassesUnchanged a []) (refusal texts) [] tt (All-nil _);
 }
 
--- ---- it asks nothing, so no units, and no more than verdicts
+-- ---- it asks nothing, so it requests no units, and nothing beyond verdicts
 
 asks_nothing : (texts : Bool) (m : ⊤) (s : Subject) (n : ℕ) (r : ⊤ × Answer) (reply : Reply) → AlwaysAsksForLess (refusing_words texts) m s n r reply
 asks_nothing texts m s zero r reply = tt
@@ -94,7 +95,7 @@ always_verdicts texts m s (suc n) r reply = (tt, λ next. always_verdicts texts 
 pub refusing_verdicts : (texts : Bool) → EachAsksVerdicts (refusing_words texts)
 refusing_verdicts texts m s = always_verdicts texts m s 1 (tt, fresh for_verdict) no_reply
 
--- ---- it does not say that it is monotone, and hands no units on
+-- ---- it does not say that it is monotone, and passes no units on
 
 pub refusing_grows : (texts : Bool) (m : ⊤) → false ≡ true → IsMonotone (refusing_words texts) m
 refusing_grows texts m h = absurd (let f : ⊥ = cc in f)

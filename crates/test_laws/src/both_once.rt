@@ -1,5 +1,7 @@
-//! A keyword with two children that holds where both accept. Its run marks each, and does not ask the second where that is
-//! marked already: then it is the first one again.
+//! A keyword with two children that holds if both accept.
+//!
+//! Its run marks each child. It skips the second if that is marked already, since it then is the
+//! first one again.
 ghost use Rattle.std.specs.Prelude.{◌≡◌, Bool};
 ghost use Rattle.schema_traits.specs.KeywordViews.{reply_of};
 ghost use Rattle.test_laws.specs.BothOnce.{says_yes};
@@ -24,7 +26,7 @@ pub enum Stage {
     Ends,
 }
 
-/// Whether a reply is a truth value that says yes.
+/// Returns whether a reply is the truth value `true`.
 fn says_yes(reply: Reply<'_>) -> bool
     ensures yes { (texts : Bool) → result ≡ says_yes (reply_of texts reply.entry) }
 {

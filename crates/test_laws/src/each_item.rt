@@ -1,5 +1,7 @@
-//! A keyword that asks its only child of each item, the last one first, and refuses where one is refused. Its run counts the items
-//! that are left; their number is stored as it begins.
+//! A keyword that validates each item against its only child.
+//!
+//! It begins with the last item, and refuses if an item is refused. Its run counts the items that
+//! are left, and stores their number at the beginning.
 ghost use Rattle.std.specs.Prelude.{◌≡◌, Bool};
 ghost use Rattle.schema_traits.specs.KeywordViews.{reply_of};
 ghost use Rattle.test_laws.specs.EachItem.{says_no};
@@ -15,7 +17,7 @@ use std::alloc::Global;
 #[derive(Drop)]
 pub struct EachItem {}
 
-/// Whether a reply is a verdict that says no.
+/// Returns whether a reply is a verdict that refuses.
 pub(crate) fn says_no(reply: Reply<'_>) -> bool
     ensures no { (texts : Bool) → result ≡ says_no (reply_of texts reply.entry) }
 {

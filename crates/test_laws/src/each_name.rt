@@ -1,5 +1,7 @@
-//! A keyword that asks whether its pattern matches the name of each member of an object, at that name's place, and refuses where one
-//! is not matched. Its run holds the place of the next name, which is borrowed from the instance.
+//! A keyword that matches its pattern against the names of an object's members.
+//!
+//! Each match is at the place of the name. The keyword refuses if a name does not match. Its run
+//! holds the place of the next name, which is borrowed from the instance.
 ghost use Rattle.std.specs.Prelude.{◌≡◌, ◌<◌, IfSome, drop};
 ghost use Rattle.schema_reports.specs.InstanceViews.{subject_of};
 ghost use Rattle.keyword_authoring.specs.Members.{names_in};
@@ -22,7 +24,7 @@ pub struct EachName {
     pub names: OwnSpot,
 }
 
-/// What is known of a keyword apart from its representation, which is its pattern; it holds no value.
+/// The abstract value of a keyword, which is its pattern; it holds no value.
 #[derive(Drop)]
 pub struct EachNameShape {}
 
@@ -35,7 +37,9 @@ impl Model for EachNameShape {
     ghost view = { λ _. [] };
 }
 
-/// The name that comes after so many others among those of an object's members, as the object holds it.
+/// Returns the name after this many others among an object's members.
+///
+/// The object holds the name.
 #[tactic(auto, using(crate::proofs::NamesPast::none_left))]
 fn name_after<'i>(members: &'i Map<String, Value>, others: usize) -> Option<&'i str>
     ensures name { text_read result ≡ first_name (drop others (names_in (fields members.now))) }
@@ -50,7 +54,9 @@ fn name_after<'i>(members: &'i Map<String, Value>, others: usize) -> Option<&'i 
     None
 }
 
-/// The name of this place among those of an object's members, as the object holds it.
+/// Returns the name at this place among an object's members.
+///
+/// The object holds the name.
 #[tactic(auto, using(crate::proofs::NamesPast::names_past))]
 fn name_of<'i>(members: &'i Map<String, Value>, place: usize) -> Option<&'i str>
     ensures name { text_read result ≡ first_name (drop place (names_in (fields members.now))) }
@@ -62,7 +68,9 @@ fn name_of<'i>(members: &'i Map<String, Value>, place: usize) -> Option<&'i str>
     name_after(members, place)
 }
 
-/// The name of this place among those of the members of the instance, as the instance holds it.
+/// Returns the name at this place among the instance's members.
+///
+/// The instance holds the name.
 fn name_in<'i>(instance: Instance<'i>, place: usize) -> Option<&'i str>
     ensures name { text_read result ≡ first_name (names_from place (subject_of instance.entry)) }
     ensures below { IfSome result (λ _. place < usize.MAX) }

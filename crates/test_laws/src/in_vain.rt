@@ -1,5 +1,7 @@
-//! A keyword that accepts every instance, and first asks its only child in vain: it drops what is replied. So its verdicts, errors
-//! and units are right whatever it asks for, and what it may ask for is left to the laws on that.
+//! A keyword that accepts every instance after a question asked in vain.
+//!
+//! It first asks its only child, and drops the reply. So its verdicts, errors and units are right
+//! whatever it requests, and only the laws about requests restrict what it may request.
 use schema_reports::instance::Instance;
 use schema_reports::location::OutOfMemory;
 use schema_traits::keyword::{Answer, Below, Mode, Reply, Step, Validate};

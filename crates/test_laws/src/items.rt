@@ -1,5 +1,7 @@
-//! `x-items`, whose value is a schema that each item of an array is asked by, and `type` with the value "array". A run of `x-items`
-//! marks the number that its maker was given while it asks.
+//! The keywords `x-items`, and `type` with the value "array".
+//!
+//! The value of `x-items` is a schema that each item of an array is validated against. A run of
+//! `x-items` marks the number that its maker was given while it asks.
 ghost use Rattle.std.specs.Prelude.{◌≡◌, Bool, IfOk, true};
 ghost use Rattle.schema_reports.specs.InstanceViews.{subject_of};
 ghost use Rattle.schema_traits.specs.KeywordViews.{Tells, answer_of, reply_of, turn_of};
@@ -19,7 +21,7 @@ use schema_traits::keyword::{Answer, Marked, Mode, Reply, Step, Validate};
 use schema_traits::numbers::PendingSchemaNode;
 use std::alloc::Global;
 
-/// How a keyword goes about an instance.
+/// The way a keyword handles an instance.
 #[derive(Clone, Copy)]
 pub enum ItemsPlan {
     /// `type` with the value "array".
@@ -91,7 +93,7 @@ pub struct ItemsKeyword {
 }
 
 impl ItemsKeyword {
-    // Whether its runs mark.
+    // Returns whether the keyword's runs mark.
     fn marks(&self) -> bool
         ensures marks { result ≡ marks self.now.planned.keyword }
     {
@@ -101,7 +103,7 @@ impl ItemsKeyword {
         }
     }
 
-    // A turn while it works.
+    // Takes a turn of the run that works.
     fn work<'s, 'i: 's>(
         &'s self,
         alloc: Global,

@@ -1,5 +1,7 @@
-//! The table of `x-items`, and of `type`, which is made as if its value were "array". The maker of `x-items` asks for the number
-//! that is pending for items of its object, reserves one where there is none, and asks for its value.
+//! The table of `x-items` and `type`.
+//!
+//! `type` is made as if its value were "array". The maker of `x-items` requests the number that is
+//! pending for items of its object, reserves one if there is none, and requests its value.
 ghost use Rattle.std.specs.Prelude.{◌≡◌, ◌∷◌, [], IfOk};
 ghost use Rattle.theory_definitions.specs.Instance.{to_member};
 ghost use Rattle.schema_traits.specs.MakerViews.{maker_reply_of};
@@ -21,7 +23,7 @@ use std::rc::RcStr;
 #[derive(Drop)]
 pub struct ItemsTable {}
 
-/// How far a maker has come.
+/// The progress of a maker.
 #[derive(Drop)]
 pub enum ItemsMaker {
     Begins,
@@ -33,7 +35,6 @@ pub enum ItemsMaker {
     Over,
 }
 
-// The path of the keyword's value.
 fn value_path(alloc: Global) -> Result<SchemaPath, OutOfMemory>
     ensures path { Yields result (to_member own_name ∷ []) }
 {
@@ -42,7 +43,7 @@ fn value_path(alloc: Global) -> Result<SchemaPath, OutOfMemory>
     Ok(path)
 }
 
-// The number that a reply gives, if it gives one.
+// Returns the number in a reply, if it has one.
 fn given(reply: MakerReply) -> Option<PendingSchemaNode>
     ensures given { Given result (maker_reply_of reply) }
 {
@@ -55,7 +56,6 @@ fn given(reply: MakerReply) -> Option<PendingSchemaNode>
     }
 }
 
-// A keyword.
 fn keyword(plan: ItemsPlan, number: Option<PendingSchemaNode>) -> ItemsKeyword
     ensures plan { result.planned.keyword ≡ plan }
 {
@@ -66,7 +66,7 @@ fn keyword(plan: ItemsPlan, number: Option<PendingSchemaNode>) -> ItemsKeyword
 }
 
 impl ItemsMaker {
-    // Asks for the keyword's value, with the number that was given.
+    // Requests the keyword's value, with the number that was given.
     fn ask_value(
         &mut self,
         alloc: Global,

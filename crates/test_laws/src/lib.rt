@@ -1,7 +1,12 @@
-//! Keyword types that keep the laws, as a test of the laws: one whose run has no state at all, one whose run counts what is left of
-//! a length that it stores as it begins, one that marks its children and skips one that is marked already, one that asks its child
-//! and drops what is replied, and one that asks for matches at the names of an object's members; and a table that refuses with the
-//! text of a value that may hold a fraction.
+//! Keyword types that keep the laws, as a test of the laws.
+//!
+//! - The run of one has no state at all.
+//! - The run of one counts what is left of a length that it stores at the beginning.
+//! - One marks its children and skips one that is marked already.
+//! - One asks its child and drops the reply.
+//! - One requests matches at the names of an object's members.
+//!
+//! The crate also has a table that refuses with the text of a value that may contain a fraction.
 #![tactic(auto)]
 
 pub mod both_once;

@@ -1,11 +1,13 @@
-//! How the run of a keyword stands that marks a number while another run works.
+//! The state of a keyword's run that marks a number while another run works.
 ghost use Rattle.std.specs.Prelude.{◌≡◌};
 ghost use Rattle.schema_traits.specs.KeywordViews.{turn_of};
 ghost use Rattle.test_laws.specs.Marking.{after, first, shown};
 
 use schema_traits::keyword::Step;
 
-/// What a run does in its next turn: it marks the number; it begins to work, as its mark was answered; it works; or it is over.
+/// What a run does in its next turn.
+///
+/// It marks the number; it begins to work, since its mark was answered; it works; or it is over.
 #[derive(Clone, Copy)]
 pub enum Stage {
     Marks,
@@ -14,14 +16,16 @@ pub enum Stage {
     Over,
 }
 
-/// How a run begins: with the mark, where there is one to make.
+/// Returns the first stage of a run: the mark, if there is one to make.
 pub fn first_stage(marks: bool) -> Stage
     ensures first { result ≡ first marks }
 {
     if marks { Stage::Marks } else { Stage::Works }
 }
 
-/// What stands after a step of the run that works, and the step that is taken: where that run is done, the mark is taken away.
+/// Returns the stage and the step after a step of the run that works.
+///
+/// If that run is done, the step removes the mark.
 pub fn after_step<'s>(step: Step<'s>, marks: bool) -> (Stage, Step<'s>)
     ensures stage { result.0 ≡ after (turn_of step.entry) }
     ensures step { turn_of result.1 ≡ shown marks (turn_of step.entry) }

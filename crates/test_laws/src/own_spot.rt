@@ -1,4 +1,4 @@
-//! Matches that are asked for at the keyword itself, one step below it.
+//! Matches that are requested at the keyword itself, one step below it.
 ghost use Rattle.std.specs.Prelude.{◌≡◌, string_bytes, true};
 ghost use Rattle.theory_definitions.specs.Keywords.{match_text};
 ghost use Rattle.schema_traits.specs.KeywordViews.{turn_of};
@@ -7,7 +7,9 @@ ghost use Rattle.test_laws.specs.OwnSpot.{is_plain, name_point};
 use schema_traits::keyword::{Below, Spot, SpotMatch, Step};
 use std::alloc::Global;
 
-/// A match at the keyword itself, shown with evaluation path and place. Its spot owns all that it holds.
+/// A match at the keyword itself, shown with evaluation path and place.
+///
+/// Its spot owns everything that it holds.
 #[derive(Drop)]
 pub struct OwnSpot {
     asked: SpotMatch<'static>,
@@ -15,7 +17,7 @@ pub struct OwnSpot {
 }
 
 impl OwnSpot {
-    /// The match of this pattern.
+    /// Creates the match of this pattern.
     pub fn new(alloc: Global, pattern: String) -> OwnSpot
         ensures held { string_bytes result.asked.pattern ≡ string_bytes pattern }
     {
@@ -34,7 +36,9 @@ impl OwnSpot {
         }
     }
 
-    /// Asks whether the pattern matches the name of a member, which is the instance's own, at that name's place.
+    /// Asks whether the pattern matches the name of a member, at the name's place.
+    ///
+    /// The name is the instance's own.
     #[tactic(auto, using(crate::specs::OwnSpot::below_plain))]
     pub fn at_name<'s>(&'s self, name: &'s str) -> Step<'s>
         ensures step { turn_of result

@@ -1,5 +1,7 @@
-//! A table that refuses the value of each member, with the value's own text, which has digits of fractions. It makes no keyword, so
-//! it is a table for every keyword type.
+//! A table that refuses the value of each member, with the value's own text.
+//!
+//! That text has the digits of fractions. The table makes no keyword, so it is a table for every
+//! keyword type.
 ghost use Rattle.std.specs.Prelude.{◌≡◌, IfOk, false, not, string_bytes};
 ghost use Rattle.serde_json.specs.Find.{get_member};
 ghost use Rattle.serde_json.specs.View.{view};
@@ -22,14 +24,14 @@ use std::alloc::Global;
 #[derive(Drop)]
 pub struct PrintingTable {}
 
-/// A maker holds the value that it is to refuse.
+/// A maker, which holds the value that it refuses.
 #[derive(Drop)]
 pub enum PrintingMaker {
     Refuses(String, Value),
     Nothing,
 }
 
-// The error, but for its text.
+// Returns the error without its text.
 fn located(
     alloc: Global,
     name: &String,
@@ -51,7 +53,7 @@ fn located(
     })
 }
 
-// The error with the value's text.
+// Returns the error with the value's text.
 fn printed(alloc: Global, name: &String, value: &Value) -> Result<OwnedError, OutOfMemory>
     ensures error { IfOk result (λ e. told_error false (owned_error_of e)
         ≡ told_error false (printed_error (string_bytes name.now) (view value.now))) }
@@ -61,7 +63,7 @@ fn printed(alloc: Global, name: &String, value: &Value) -> Result<OwnedError, Ou
     located(alloc, name, value, text)
 }
 
-// The refusal of a value: its text is told where the value holds no fraction.
+// Returns the refusal of a value. Its text is covered if the value contains no fraction.
 #[tactic(auto, using(crate::specs::PrintingTable::told_alike))]
 fn refusal(alloc: Global, name: &String, value: &Value) -> Result<OwnedError, OutOfMemory>
     ensures refusal { IfOk result (λ e. told_error (not (has_float (view value.now))) (owned_error_of e)
@@ -70,14 +72,13 @@ fn refusal(alloc: Global, name: &String, value: &Value) -> Result<OwnedError, Ou
     printed(alloc, name, value)
 }
 
-// The value of this name in an object.
+// Returns the value of this name in an object.
 fn value_in<'o>(object: &'o Map<String, Value>, name: &str) -> Option<&'o Value>
     ensures value { value_read result ≡ get_member name.now (fields object.now) }
 {
     object.get(name)
 }
 
-// The maker of a member with this value, if it has one.
 fn maker_with(
     alloc: Global,
     name: &str,
@@ -94,7 +95,6 @@ fn maker_with(
     }
 }
 
-// The maker of a member.
 fn maker_of(
     alloc: Global,
     name: &str,

@@ -14,7 +14,7 @@ use schema_traits::keyword::{Answer, Fault, Found, OwnError};
 use std::alloc::Global;
 use std::mem;
 
-/// The error, at the keyword itself.
+/// Returns the error, at the keyword itself.
 fn refusal<'i>(alloc: Global) -> Result<Fault<'i>, OutOfMemory>
     ensures refusal { IfOk result (λ fault. (texts : Bool) → fault_of texts fault ≡ refusal texts) }
     ensures borrows { IfOk result (λ fault. (root : Data) → PassesBorrowed root fault) }
@@ -30,7 +30,7 @@ fn refusal<'i>(alloc: Global) -> Result<Fault<'i>, OutOfMemory>
     }))
 }
 
-/// The answer of the same mode that refuses with the error.
+/// Returns the answer of the same mode that refuses with the error.
 fn refused<'i>(alloc: Global, before: Answer<'i>) -> Result<Answer<'i>, OutOfMemory>
     ensures refused { IfOk result (λ after. (texts : Bool) → answer_of texts after ≡ refused_in texts (answer_of texts before.entry).mode) }
     ensures borrows { IfOk result (λ after. (root : Data) → All (PassesBorrowed root) (faults_in after)) }
@@ -63,7 +63,7 @@ fn refused<'i>(alloc: Global, before: Answer<'i>) -> Result<Answer<'i>, OutOfMem
     }
 }
 
-/// Leaves the answer as it is where the keyword holds, and else makes it one that refuses.
+/// Keeps the answer if the keyword holds, and otherwise makes it refuse.
 pub fn tell<'i>(alloc: Global, holds: bool, answer: &mut Answer<'i>) -> Result<(), OutOfMemory>
     ensures told { IfOk result (λ _. Becomes answer.old (λ texts a. told texts holds a) answer.new) }
     ensures borrows { Retains answer.old answer.new result }

@@ -1,4 +1,6 @@
-//! A keyword that refuses every instance. Its run has no state at all: a turn reads the mode off the answer.
+//! A keyword that refuses every instance.
+//!
+//! Its run has no state at all: a turn takes the mode from the answer.
 use crate::refusals::tell;
 use schema_reports::instance::Instance;
 use schema_reports::location::OutOfMemory;
