@@ -1,7 +1,8 @@
-//! What no clause says and a check computes: how large the values are that a run moves, and the two marks of keywords that accept `null`.
+//! Facts that no clause states and that a check computes.
 //!
-//! An evaluation, an error and a unit alone stand in a box, so that an answer, a reply and what a keyword asks for are a few words
-//! long in every mode.
+//! They are the sizes of the values that a run moves, and the two marks of keywords that accept
+//! `null`. An evaluation, an error and a unit are each in a box alone, so that an answer, a reply
+//! and a keyword's request are a few words long in every mode.
 
 use schema_drafts::keywords::{NotNullable, Nullability, Nullable};
 use schema_reports::location::OutOfMemory;
@@ -12,14 +13,15 @@ const _: () = prove!(size_of::<Answer<'static>>() <= 32);
 
 const _: () = prove!(size_of::<Reply<'static>>() <= 32);
 
-// (an enum has a tag of its own, so the result of a reply is a word longer)
+// (an enum has a tag of its own, so the result of a reply is one word longer)
 const _: () = prove!(size_of::<Result<Reply<'static>, OutOfMemory>>() <= 40);
 
-// (a match at a spot is the largest that a step asks for: what the keyword owns of it, the subject, and a step below the spot by
-// the instance's own name, which is three words of the seven; so no turn allocates a place to ask at)
+// (a match at a spot is the largest request of a step: the part that the keyword owns, the subject,
+// and a step below the spot by the instance's own name, which takes three of the seven words; so no
+// turn allocates a place to ask at)
 const _: () = prove!(size_of::<Step<'static>>() <= 56);
 
-// (the result of a turn is a word longer, too)
+// (the result of a turn is one word longer, too)
 const _: () = prove!(size_of::<Result<Step<'static>, OutOfMemory>>() <= 64);
 
 const _: () = prove!(Nullable::ACCEPTS_NULL);

@@ -1,5 +1,8 @@
-//! What a `Context` answers that no call of the engine asks: a table's makers may, so no row of `test_check_rows` says it. Whether formats
-//! are checked: by the option, or else by the vocabularies, or in the drafts before 2019-09.
+//! The answers of a `Context` that no call of the engine requests.
+//!
+//! A table's makers may request them, so no row of `test_check_rows` covers them. They include
+//! whether formats are checked: by the option, or else by the vocabularies, or in the drafts before
+//! 2019-09.
 use schema_drafts::keywords::{Draft, Vocabulary, VocabularySet};
 use schema_keys::context::Context;
 use schema_keys::key::SchemaKey;
@@ -11,7 +14,7 @@ use standard_resolver::resolver::DocumentResolver;
 use std::alloc::Global;
 use test_rows::tables::{column, number_at, push_all, text_at};
 
-/// The draft of this number.
+/// Returns the draft of this number.
 fn draft_of(number: Option<usize>) -> Draft {
     match number {
         Some(4) => Draft::Draft4,
@@ -23,7 +26,7 @@ fn draft_of(number: Option<usize>) -> Draft {
     }
 }
 
-/// The vocabulary of this name.
+/// Returns the vocabulary of this name.
 fn vocabulary_of(name: &str) -> Vocabulary {
     match name {
         "format-annotation" => Vocabulary::FormatAnnotation,
@@ -33,7 +36,7 @@ fn vocabulary_of(name: &str) -> Vocabulary {
     }
 }
 
-/// The key of a row, if the resolver has a document under its URI.
+/// Returns the key of a row, if the resolver has a document under its URI.
 fn key_of<R: Resolver>(
     alloc: Global,
     resolver: &R,
@@ -68,7 +71,7 @@ fn push_located<R: Resolver>(context: &Context<R>, log: &mut String) -> Result<(
     }
 }
 
-/// The same by what was kept for it.
+/// Adds the absolute location by the value that was kept for it.
 fn push_located_later<R: Resolver>(
     context: &Context<R>,
     log: &mut String,
@@ -84,13 +87,16 @@ fn push_located_later<R: Resolver>(
     }
 }
 
-/// A word, where this holds.
+/// Returns a word if this holds, and otherwise an empty text.
 fn where_true(holds: bool, word: &str) -> &str {
     if holds { word } else { "" }
 }
 
-/// Adds what follows on what the last reference gave, whether numbers with an integer's value are integers, which of three
-/// vocabularies are in force, and whether formats are checked.
+/// Adds the end of the location, and what the context knows.
+///
+/// The end follows the part that the last reference gave. The context knows whether numbers with an
+/// integer's value are integers, which of three vocabularies are in force, and whether formats are
+/// checked.
 fn push_known<R: Resolver>(context: &Context<R>, log: &mut String) -> Result<(), OutOfMemory> {
     let words = [
         " ",
@@ -110,14 +116,14 @@ fn push_known<R: Resolver>(context: &Context<R>, log: &mut String) -> Result<(),
     push_all(log, &words)
 }
 
-/// Adds what a context answers.
+/// Adds the answers of a context.
 fn push_told<R: Resolver>(context: &Context<R>, log: &mut String) -> Result<(), OutOfMemory> {
     push_located(context, log)?;
     push_located_later(context, log)?;
     push_known(context, log)
 }
 
-/// Adds what the context of a key answers, under this option for formats.
+/// Adds the answers of the context of a key, with this option for formats.
 fn push_context<R: Resolver>(
     alloc: Global,
     resolver: &R,
@@ -141,7 +147,7 @@ fn push_context<R: Resolver>(
     told
 }
 
-/// Adds what the context of a row's key answers.
+/// Adds the answers of the context of a row's key.
 fn tell_of<R: Resolver>(
     alloc: Global,
     resolver: &R,
@@ -158,7 +164,7 @@ fn tell_of<R: Resolver>(
     }
 }
 
-/// The same with the resolver of the row's schema.
+/// Adds the answers of the context of a row, with the resolver of its schema.
 pub(crate) fn tell_context(
     alloc: Global,
     row: &Value,
@@ -170,13 +176,15 @@ pub(crate) fn tell_context(
     told
 }
 
-// The absolute location twice, what follows, and what is known; then schema, URI of a document, draft (0 for one that is not known),
-// vocabulary that is in force, whether formats are to be checked, location, what the last reference gave of it, how many bytes of it
-// lie outside the resource.
+// The absolute location twice, the end of the location after the part that the last reference gave,
+// and what is known; then schema, URI of a document, draft (0 for an unknown one), vocabulary in
+// force, whether formats are to be checked, location, the part of it that the last reference gave,
+// and the number of its bytes outside the resource.
 //
-// The first two are in a resource inside another. In the drafts before 2019-09 each vocabulary is in force, and formats are checked;
-// in draft 4 the number 1.0 is no integer. The others are at a root whose URI is not shown. The option not to check formats holds in
-// every draft, whatever vocabulary is in force.
+// The first two rows are in a resource inside another. In the drafts before 2019-09 each vocabulary
+// is in force, and formats are checked; in draft 4 the number 1.0 is no integer. The other rows are
+// at a root whose URI is not shown. The option not to check formats holds in every draft, whatever
+// vocabulary is in force.
 pub(crate) const CONTEXTS: &str = r##"[
 ["http://x/e#/$defs/t http://x/e#/$defs/t /$defs/t integers core validation",
  {"$defs":{"e":{"$id":"http://x/e","$defs":{"t":{"type":"string"}}}}},

@@ -10,12 +10,12 @@ use std::alloc::Global;
 use std::cmp::Ordering;
 use test_rows::tables::{column, list_at, text_at};
 
-/// The word for an answer.
+/// Returns the word for an answer.
 fn yes_or_no(answer: bool) -> &'static str {
     if answer { "yes" } else { "no" }
 }
 
-/// The word for an order.
+/// Returns the word for an order.
 fn order_word(order: Ordering) -> &'static str {
     match order {
         Ordering::Less => "less",
@@ -24,7 +24,7 @@ fn order_word(order: Ordering) -> &'static str {
     }
 }
 
-/// What is told of two numbers by the question of a row.
+/// Returns the answer to the question of a row about two numbers.
 fn of_numbers(question: &str, left: &Number, right: &Number) -> &'static str {
     match question {
         "order" => order_word(compare(left, right)),
@@ -33,7 +33,7 @@ fn of_numbers(question: &str, left: &Number, right: &Number) -> &'static str {
     }
 }
 
-/// What both ways tell of whether all items are distinct.
+/// Returns the answer of both methods to whether all items are distinct.
 fn of_items(alloc: Global, items: &[Value]) -> Result<&'static str, OutOfMemory> {
     let distinct = are_all_distinct(alloc, items)?;
     if distinct != are_all_distinct_by_pairs(items) {
@@ -42,7 +42,9 @@ fn of_items(alloc: Global, items: &[Value]) -> Result<&'static str, OutOfMemory>
     Ok(yes_or_no(distinct))
 }
 
-/// Adds the text of a held value, whether its copy equals a value, and whether it is the text that a value is not.
+/// Adds the text of a held value, and two comparisons.
+///
+/// They are whether its copy equals a value, and whether it is the text that a value is not.
 fn push_held(
     alloc: Global,
     value: &Value,
@@ -57,7 +59,9 @@ fn push_held(
     write!(log, "{text} {equal} {is_x}")
 }
 
-/// Adds what is told of a row: column 1 is the question, and columns 2 and 3 what it is asked of.
+/// Adds the answer for a row.
+///
+/// Column 1 is the question, and columns 2 and 3 are its arguments.
 pub(crate) fn tell_values(alloc: Global, row: &Value, log: &mut String) -> Result<(), OutOfMemory> {
     let (left, right) = (column(row, 2), column(row, 3));
     match text_at(row, 1) {
@@ -72,8 +76,9 @@ pub(crate) fn tell_values(alloc: Global, row: &Value, log: &mut String) -> Resul
     }
 }
 
-// What is told, the question, and one value or two. `multiple` is exact, and so is none for decimals whose nearest floats are no multiples;
-// `rounded` has the rows of the official test suite's `multipleOf.json` and `float-overflow.json`.
+// The answer, the question, and one value or two. `multiple` is exact, so decimals whose nearest
+// floats are no multiples are none; `rounded` has the rows of the official test suite's
+// `multipleOf.json` and `float-overflow.json`.
 pub(crate) const VALUES: &str = r##"[
 ["greater", "order", 9007199254740993, 9007199254740992.0],
 ["less", "order", 9007199254740991, 9007199254740992.0],

@@ -1,5 +1,7 @@
-//! How many evaluation paths are kept: none of the first 4,095 under a reference, and from then on each that is asked for, once. Which
-//! path a call gives is in clauses, and how many are kept is not.
+//! How many evaluation paths are kept.
+//!
+//! None of the first 4,095 paths under a reference is kept; from then on each path that is
+//! requested is kept once. Clauses state which path a call returns, but not how many are kept.
 use schema_reports::location::{Location, OutOfMemory};
 use schema_run_context::evaluation_path::EvaluationPath;
 use schema_run_context::kept_paths::KeptPaths;
@@ -7,7 +9,9 @@ use serde_json::Value;
 use std::alloc::Global;
 use test_rows::tables::{column, list_at, text_at};
 
-/// Asks so many times for the path of a turn's keyword after this one, and adds how many paths are then kept.
+/// Requests the path of a turn's keyword after this one so many times.
+///
+/// Adds how many paths are then kept.
 fn push_kept(
     alloc: Global,
     kept: &mut KeptPaths,
@@ -22,7 +26,7 @@ fn push_kept(
     write!(log, "{count};")
 }
 
-/// The same of the path that a turn names, which goes on from this one.
+/// Like `push_kept`, for the path that a turn names, which continues this one.
 fn push_turn(
     alloc: Global,
     kept: &mut KeptPaths,
@@ -52,8 +56,9 @@ pub(crate) fn tell_kept(alloc: Global, row: &Value, log: &mut String) -> Result<
     Ok(())
 }
 
-// How many are kept after each turn, and the turns: which path, the keyword, and how many calls. Paths under no reference are not
-// counted, and past the threshold not kept. Past it each other path and each other keyword is one more, and the same are none.
+// The number of kept paths after each turn, and the turns: which path, the keyword, and how many
+// calls. Paths under no reference are not counted, and not kept past the threshold. Past it, each
+// further path and each further keyword adds one, and repeated ones add none.
 pub(crate) const KEPT: &str = r##"[
 ["0;0;1;1;",
  [["target", "x~y", 1], ["target", "x~y", 4094], ["target", "x~y", 1], ["target", "x~y", 904]]],

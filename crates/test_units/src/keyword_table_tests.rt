@@ -1,5 +1,6 @@
-//! The table of the standard's keywords, cell by cell, as it is published: the definition, which the clauses cite, is another copy of
-//! it.
+//! The table of the standard's keywords, cell by cell, as it is published.
+//!
+//! The definition that the clauses cite is another copy of it.
 use schema_drafts::keywords::{
     BuiltinKeyword, Draft, Keyword, KeywordForm, Vocabulary, VocabularySet, builtin_row,
     keyword_is_leaf, keyword_priority,
@@ -9,7 +10,7 @@ use serde_json::Value;
 use std::alloc::Global;
 use test_rows::tables::{column, text_at};
 
-/// The form that a cell says, if the keyword is there.
+/// Returns the form that a cell names, if the keyword exists.
 fn form_in(cell: &str) -> Option<KeywordForm> {
     match cell {
         "-" => None,
@@ -19,7 +20,7 @@ fn form_in(cell: &str) -> Option<KeywordForm> {
     }
 }
 
-/// The vocabulary of a cell's letter.
+/// Returns the vocabulary of a cell's letter.
 fn vocabulary_of(letter: &str) -> Vocabulary {
     match letter {
         "V" => Vocabulary::Validation,
@@ -29,7 +30,7 @@ fn vocabulary_of(letter: &str) -> Vocabulary {
     }
 }
 
-/// The four vocabularies that keywords need, without the one that this cell says.
+/// Returns the four vocabularies that keywords need, except that of the cell.
 fn needed_but(alloc: Global, left_out: &str) -> Result<VocabularySet, OutOfMemory> {
     let mut set = VocabularySet::new(alloc);
     for letter in ["V", "A", "U", "C"] {
@@ -40,7 +41,9 @@ fn needed_but(alloc: Global, left_out: &str) -> Result<VocabularySet, OutOfMemor
     Ok(set)
 }
 
-/// Whether a draft with these vocabularies has the keyword of a row in this form, with the row's priority and leaf.
+/// Returns whether a draft has a row's keyword in this form.
+///
+/// The draft has these vocabularies, and the keyword has the row's priority and leaf.
 fn has(draft: Draft, set: &VocabularySet, row: &Value, form: Option<KeywordForm>) -> bool {
     match builtin_row(draft, set, text_at(row, 0)) {
         None => form.is_none(),
@@ -52,8 +55,10 @@ fn has(draft: Draft, set: &VocabularySet, row: &Value, form: Option<KeywordForm>
     }
 }
 
-/// Whether a draft has the keyword of a row in its cell's form with every vocabulary, and without the one that the cell needs
-/// where it needs none: the drafts before 2019-09, whose cells come before the sixth column, have no vocabularies.
+/// Returns whether a draft has the keyword of a row in its cell's form.
+///
+/// The draft has it with every vocabulary, and also without the one of the cell if the cell needs
+/// none. The drafts before 2019-09, whose cells come before the sixth column, have no vocabularies.
 fn is_in_draft(
     alloc: Global,
     draft: Draft,
@@ -72,7 +77,7 @@ fn is_in_draft(
     Ok(has(draft, &all, row, form) && has(draft, &others, row, without))
 }
 
-/// Whether each draft has the keyword of a row as the row says.
+/// Returns whether each draft has the keyword of a row as the row says.
 fn is_in_drafts(alloc: Global, row: &Value) -> Result<bool, OutOfMemory> {
     for (draft, number) in [
         (Draft::Draft4, 3),
@@ -89,7 +94,7 @@ fn is_in_drafts(alloc: Global, row: &Value) -> Result<bool, OutOfMemory> {
     Ok(true)
 }
 
-/// The keyword of this name.
+/// Returns the keyword of this name.
 fn keyword_named(alloc: Global, name: &str) -> Result<Keyword, OutOfMemory> {
     Ok(match BuiltinKeyword::named(name) {
         Some(builtin) => Keyword::from(builtin),
@@ -97,7 +102,9 @@ fn keyword_named(alloc: Global, name: &str) -> Result<Keyword, OutOfMemory> {
     })
 }
 
-/// Adds this keyword of a row's name, with a word before it where it is not as the row says.
+/// Adds this keyword of a row's name.
+///
+/// If it is not as the row says, a word comes before it.
 fn push_keyword(
     alloc: Global,
     keyword: &Keyword,
@@ -112,7 +119,7 @@ fn push_keyword(
     log.push_str(keyword.as_str())
 }
 
-/// The same by the row alone.
+/// Adds the keyword of a row, by the row alone.
 pub(crate) fn tell_keyword(
     alloc: Global,
     row: &Value,
@@ -131,9 +138,10 @@ fn drafts_rise(rt: HostRuntime) {
     assert!(rt; Draft::Draft201909 < Draft::Draft202012 && Draft::Draft202012 < Draft::Unknown);
 }
 
-// Name, priority, leaf, and a cell for each of the drafts 4, 6, 7, 2019-09 and 2020-12: `-` where it is not there, `F` with no need,
-// `D` with no need in draft 4's form, or by the vocabulary `V` (validation), `A` (applicator), `U` (unevaluated), or `C` (content, as
-// an annotation). Those of priority 80 are custom ones.
+// Name, priority, leaf, and a cell for each of the drafts 4, 6, 7, 2019-09 and 2020-12: `-` if the
+// keyword is absent, `F` if it has no need, `D` if it has no need and draft 4's form, or the
+// vocabulary that it needs: `V` (validation), `A` (applicator), `U` (unevaluated), or `C` (content,
+// as an annotation). Keywords of priority 80 are custom ones.
 pub(crate) const KEYWORDS: &str = r##"[
 ["type", 1, true, "D", "V", "V", "V", "V"],
 ["const", 5, true, "-", "V", "V", "V", "V"],

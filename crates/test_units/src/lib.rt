@@ -1,6 +1,9 @@
-//! Tests that need no engine, of what no clause says: what a `Context` tells a table's makers, how many evaluation paths are kept, the
-//! standard's keywords as they are published, numbers and equality of values, sizes in bytes, and public calls that nothing else makes.
-//! A row begins with the text that is to be told of it.
+//! Tests without the engine, of facts that no clause states.
+//!
+//! They test the answers of a `Context` to a table's makers, the number of evaluation paths that
+//! are kept, the standard's keywords as they are published, numbers and equality of values, sizes
+//! in bytes, and public calls that nothing else makes. A row begins with the text that is wanted of
+//! it.
 #![tactic(auto)]
 
 #[cfg(test)]

@@ -1,5 +1,7 @@
-//! Tables of rows, and the walk over them: a row is right where what is told of it is the text in its first column, or the texts there,
-//! one after the other.
+//! Tables of rows, and the test of each row.
+//!
+//! A row is right if its result is the text in its first column, or the texts there, one after the
+//! other.
 use crate::context_tests::{CONTEXTS, tell_context};
 use crate::json_value_tests::{VALUES, tell_values};
 use crate::kept_path_tests::{KEPT, tell_kept};
@@ -9,7 +11,7 @@ use serde_json::Value;
 use std::alloc::Global;
 use test_rows::tables::{wanted_of, wrong_row};
 
-/// What the rows of a table are about.
+/// The subject of a table's rows.
 #[derive(Clone, Copy)]
 enum Rows {
     Contexts,
@@ -18,7 +20,7 @@ enum Rows {
     Values,
 }
 
-/// Adds what is told of a row.
+/// Adds the result of a row.
 fn tell(alloc: Global, rows: Rows, row: &Value, log: &mut String) -> Result<(), OutOfMemory> {
     match rows {
         Rows::Contexts => tell_context(alloc, row, log),
@@ -28,7 +30,7 @@ fn tell(alloc: Global, rows: Rows, row: &Value, log: &mut String) -> Result<(), 
     }
 }
 
-/// Whether a row is right.
+/// Returns whether a row is right.
 fn is_right(alloc: Global, rows: Rows, row: &Value) -> Result<bool, OutOfMemory> {
     let mut log = String::new(alloc);
     let told = tell(alloc, rows, row, &mut log);
@@ -37,7 +39,7 @@ fn is_right(alloc: Global, rows: Rows, row: &Value) -> Result<bool, OutOfMemory>
     Ok(log == wanted?)
 }
 
-/// The tables, each with what its rows are about, and with its name.
+/// The tables, each with the subject of its rows and its name.
 const TABLES: [(Rows, &str, &str); 4] = [
     (Rows::Contexts, "contexts", CONTEXTS),
     (Rows::Kept, "kept paths", KEPT),
@@ -45,7 +47,7 @@ const TABLES: [(Rows, &str, &str); 4] = [
     (Rows::Values, "values", VALUES),
 ];
 
-/// The name of the first table in which a row is wrong, and the number of the row.
+/// Returns the name of the first table with a wrong row, and the row's number.
 fn first_wrong(alloc: Global) -> Result<Option<(&'static str, usize)>, serde_json::Error> {
     for (rows, name, table) in &TABLES {
         if let Some(number) = wrong_row(alloc, table, |row| is_right(alloc, *rows, row))? {

@@ -1,4 +1,6 @@
-//! Public calls that no other crate makes, each once: a clause says what a call gives where it succeeds, and not that it does.
+//! Public calls that no other crate makes, each once.
+//!
+//! A clause states the result of a call that succeeds, but not that it succeeds.
 use schema_node_table::node::Nodes;
 use schema_reports::evaluation::{EvaluationNode, UnitReport};
 use schema_reports::evaluation_result::EvaluationResult;
@@ -17,7 +19,7 @@ fn add_two(alloc: Global, nodes: &mut Nodes<usize>) -> Result<(), OutOfMemory> {
     Ok(())
 }
 
-/// How many nodes there are then.
+/// Returns how many nodes there are then.
 fn count_nodes(alloc: Global) -> Result<usize, OutOfMemory> {
     let mut nodes: Nodes<usize> = Nodes::new(alloc);
     let added = add_two(alloc, &mut nodes);
@@ -27,7 +29,7 @@ fn count_nodes(alloc: Global) -> Result<usize, OutOfMemory> {
     Ok(count)
 }
 
-/// Whether the result of one valid unit is valid.
+/// Returns whether the result of one valid unit is valid.
 fn is_valid_of_one(alloc: Global) -> Result<bool, OutOfMemory> {
     let root = SharedLocation::root(alloc)?;
     let unit = EvaluationNode {
@@ -47,7 +49,7 @@ fn is_valid_of_one(alloc: Global) -> Result<bool, OutOfMemory> {
     Ok(result.is_valid())
 }
 
-/// Whether a match that was met is known, and comes out as no where it is met again.
+/// Returns whether a match that was met is known, and is no if it is met again.
 fn comes_out_again(alloc: Global, met: &mut MatchAssumptions<'_>) -> Result<bool, OutOfMemory> {
     if !met.is_unfinished("p", "s") {
         return Ok(false);
@@ -56,7 +58,7 @@ fn comes_out_again(alloc: Global, met: &mut MatchAssumptions<'_>) -> Result<bool
     Ok(!met.resolve_unfinished("p", "s", again)?)
 }
 
-/// The same, once it has been met.
+/// Returns whether a match is known after it has been met.
 fn is_known_then(alloc: Global) -> Result<bool, OutOfMemory> {
     let mut met = MatchAssumptions::new(alloc);
     let site = MatchSite::schema(Location::new(alloc));
