@@ -1,4 +1,6 @@
-//! Builds of validators, and what these answer: the only functions here that build by `Validator::new` or by options, and ask.
+//! Builds validators and requests their answers.
+//!
+//! Only the functions here build by `Validator::new` or by options, and call the validators.
 use bench_parts::matcher::BenchMatcher;
 use bench_parts::meta::BenchMeta;
 use schema_drafts::keywords::VocabularySet;
@@ -18,14 +20,18 @@ use standard_resolver::resolver::DocumentResolver;
 use std::alloc::{AllocError, Global};
 use test_rows::tables::{column, list_at, number_at, push_all, texts_of};
 
-/// The resolver of a row's schema, and the matcher that leaves the row's patterns unfinished.
+/// The resolver of a row's schema, and the matcher for the row's patterns.
+///
+/// The matcher leaves the patterns unfinished.
 #[derive(Drop)]
 pub(crate) struct Parts<'r> {
     pub resolver: DocumentResolver<'r>,
     pub matcher: BenchMatcher,
 }
 
-/// The parts of a row, of which column 1 is the schema, and column 4 the list of the patterns.
+/// Returns the parts of a row.
+///
+/// Column 1 is the schema, and column 4 the list of the patterns.
 pub(crate) fn parts_of(alloc: Global, row: &Value) -> Result<Parts<'_>, OutOfMemory> {
     let matcher = BenchMatcher::new(texts_of(alloc, list_at(row, 4))?);
     match DocumentResolver::new(alloc, column(row, 1), VocabularySet::new(alloc)) {
@@ -37,7 +43,9 @@ pub(crate) fn parts_of(alloc: Global, row: &Value) -> Result<Parts<'_>, OutOfMem
     }
 }
 
-/// The validator of a row's schema: by the default options, or else under the limit of keys in column 3.
+/// Builds the validator of a row's schema.
+///
+/// It has the default options, or the limit of keys in column 3.
 pub(crate) fn built<K: Validate, T: KeywordTable<K>, R: Resolver, M: Matcher>(
     alloc: Global,
     table: &T,
@@ -54,7 +62,7 @@ pub(crate) fn built<K: Validate, T: KeywordTable<K>, R: Resolver, M: Matcher>(
     }
 }
 
-/// The validator of a row's schema by its own parts.
+/// Builds the validator of a row's schema with the row's own parts.
 pub(crate) fn built_by<K: Validate, T: KeywordTable<K>>(
     alloc: Global,
     table: &T,
@@ -72,7 +80,7 @@ pub(crate) fn built_by<K: Validate, T: KeywordTable<K>>(
     built
 }
 
-/// Adds that the schema was refused, and that it was by the limit.
+/// Adds that the schema was refused, or that it was refused by the limit.
 pub(crate) fn push_refusal(error: BuildError, log: &mut String) -> Result<(), OutOfMemory> {
     let number = error.number();
     drop(error);
@@ -122,7 +130,7 @@ fn push_texts(errors: ErrorIterator<'_>, log: &mut String) -> Result<(), OutOfMe
     Ok(())
 }
 
-/// The same of all errors of an instance.
+/// Adds the text of each error of an instance after a semicolon.
 fn push_errors<K: Validate, M: Matcher>(
     alloc: Global,
     validator: &Validator<K, M>,
@@ -144,7 +152,9 @@ pub(crate) fn push_answers<K: Validate, M: Matcher>(
     push_errors(alloc, validator, instance, log)
 }
 
-/// The same to an empty log; the validator is asked once more where memory was refused.
+/// Adds the answers to an empty log.
+///
+/// If memory runs out, the answers are requested once more.
 pub(crate) fn push_answers_again<K: Validate, M: Matcher>(
     alloc: Global,
     validator: &Validator<K, M>,
@@ -158,7 +168,7 @@ pub(crate) fn push_answers_again<K: Validate, M: Matcher>(
     push_answers(alloc, validator, instance, log)
 }
 
-/// Adds what the validator of a row's schema answers of the instance in column 2, or why there is none.
+/// Adds the answers for the instance in column 2, or why there is no validator.
 pub(crate) fn tell_with<K: Validate, T: KeywordTable<K>, R: Resolver, M: Matcher>(
     alloc: Global,
     table: &T,
@@ -177,7 +187,7 @@ pub(crate) fn tell_with<K: Validate, T: KeywordTable<K>, R: Resolver, M: Matcher
     }
 }
 
-/// The same, by a table, with the row's parts.
+/// Adds the answers of a row, by a table and the row's parts.
 pub(crate) fn tell_by<K: Validate, T: KeywordTable<K>>(
     alloc: Global,
     table: &T,
@@ -197,7 +207,7 @@ pub(crate) fn tell_by<K: Validate, T: KeywordTable<K>>(
     told
 }
 
-/// The list of an evaluation.
+/// Returns the list of an evaluation.
 fn list_of<K: Validate, M: Matcher>(
     alloc: Global,
     validator: &Validator<K, M>,
@@ -209,7 +219,10 @@ fn list_of<K: Validate, M: Matcher>(
     list
 }
 
-/// The list of the instance in column 2, by the bench's table and a row's schema and parts, or null where the schema is refused.
+/// Returns the list for the instance in column 2.
+///
+/// The validator has the table of `bench_parts`, and the row's schema and parts. Returns null if
+/// the schema is refused.
 pub(crate) fn listed(alloc: Global, row: &Value) -> Result<Value, OutOfMemory> {
     match built_by::<BasicKeyword, BasicTable>(alloc, &BasicTable {}, row) {
         Ok(validator) => {

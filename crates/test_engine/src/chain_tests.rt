@@ -1,5 +1,7 @@
-//! A thousand references one inside the other. The rows have two hundred: Rattle's own compiler, which builds the program that reads
-//! them too, has no room for more on a usual stack.
+//! A thousand references, one inside the other.
+//!
+//! The rows have two hundred: Rattle's own compiler also builds the program that reads them, and on
+//! a usual stack it has no room for more.
 use crate::asking::listed;
 use schema_reports::location::OutOfMemory;
 use serde_json::Value;
@@ -8,7 +10,7 @@ use test_parts::reference_chain::row_of;
 use test_rows::showing::units_counted;
 use test_rows::tables::{number_at, text_at};
 
-/// The list of a chain of so many references.
+/// Returns the list of a chain of this many references.
 fn list_of_chain(alloc: Global, references: u16) -> Result<Value, serde_json::Error> {
     let row = row_of(alloc, references)?;
     let list = listed(alloc, &row);
@@ -16,7 +18,9 @@ fn list_of_chain(alloc: Global, references: u16) -> Result<Value, serde_json::Er
     Ok(list?)
 }
 
-/// Whether what is counted of a list is so many units, one of them with errors, the last of them below a thousand references.
+/// Returns whether the counts of a list are those of a chain.
+///
+/// They are so many units, one of them with errors, and the last one below a thousand references.
 fn tells_chain(alloc: Global, counted: &Value) -> Result<bool, OutOfMemory> {
     let mut path = "/$ref".repeat(alloc, 1000)?;
     path.push_str("/type")?;

@@ -1,5 +1,7 @@
-//! A matcher whose engine fails, and which once wants memory, at a question of its own choice. The matcher of the rows of `test_check_rows`
-//! does neither.
+//! A matcher whose engine fails, and which once runs out of memory.
+//!
+//! It does so at a question of its own choice. The matcher of the rows of `test_check_rows` does
+//! neither.
 use crate::asking::{built, push_answers, push_refusal};
 use bench_parts::meta::BenchMeta;
 use schema_drafts::keywords::VocabularySet;
@@ -21,7 +23,9 @@ use std::cell::Cell;
 use test_parts::failing_matcher::FailingMatcher;
 use test_rows::tables::{column, number_at};
 
-/// The first error of a row's instance, by the call that builds and asks.
+/// Returns the first error of a row's instance.
+///
+/// The call builds the validator too.
 fn first_of<'r, K: Validate, T: KeywordTable<K>, R: Resolver, M: Matcher>(
     alloc: Global,
     table: &T,
@@ -57,7 +61,7 @@ fn push_told(
     }
 }
 
-/// The same with the matcher that fails.
+/// Adds the first error of a row, with the matcher that fails.
 pub(crate) fn tell_failure(
     alloc: Global,
     row: &Value,
@@ -82,7 +86,7 @@ pub(crate) const FAILURES: &str = r##"[
 ["Regex engine failed to evaluate pattern 'q'", {"pattern":"q"}, "abc"]
 ]"##;
 
-/// Adds what a validator answers, with the evaluation's verdict.
+/// Adds the answers of a validator, with the evaluation's verdict.
 fn push_four<K: Validate, M: Matcher>(
     alloc: Global,
     validator: &Validator<K, M>,
@@ -96,7 +100,9 @@ fn push_four<K: Validate, M: Matcher>(
     log.push_str(if valid { "; valid" } else { "; invalid" })
 }
 
-/// Adds what a validator answers until memory is wanted, and then, after `!`, what it answers when it is asked again.
+/// Adds the answers of a validator until memory runs out.
+///
+/// After `!` come its answers to the same calls once more.
 fn push_again<K: Validate, M: Matcher>(
     alloc: Global,
     validator: &Validator<K, M>,
@@ -110,7 +116,7 @@ fn push_again<K: Validate, M: Matcher>(
     push_four(alloc, validator, instance, log)
 }
 
-/// Adds what the validator of a row's schema answers so of its instance, or why there is none.
+/// Adds these answers for a row's instance, or why there is no validator.
 fn tell_again<K: Validate, T: KeywordTable<K>, R: Resolver, M: Matcher>(
     alloc: Global,
     table: &T,
@@ -129,7 +135,9 @@ fn tell_again<K: Validate, T: KeywordTable<K>, R: Resolver, M: Matcher>(
     }
 }
 
-/// The same with the matcher that wants memory at the question whose number is in column 4.
+/// Adds these answers, with a matcher that runs out of memory.
+///
+/// It does so at the question whose number is in column 4.
 pub(crate) fn tell_wanting(
     alloc: Global,
     row: &Value,
@@ -152,10 +160,11 @@ pub(crate) fn tell_wanting(
     told
 }
 
-// What is answered until memory is wanted, and then when it is asked again; schema, instance, nothing, and the question at which it is
-// wanted. Of the list the verdict takes 8 questions, the first error 21, all errors 23 and the evaluation 21; of the first text each call
-// takes 5. Of the second each run asks for all six matches, which come out in more ways than a call looks at: so each call takes 384
-// questions exactly if it makes 64 runs.
+// The answers until memory runs out, and then those to the same calls once more; schema, instance,
+// nothing, and the question at which memory runs out. For the list, the verdict takes 8 questions,
+// the first error 21, all errors 23 and the evaluation 21; for the first text each call takes 5.
+// For the second text each run requests all six matches, which have more outcomes than a call looks
+// at: so each call takes exactly 384 questions if it makes 64 runs.
 pub(crate) const WANTING: &str = r##"[
 ["!no: Regex engine failed to evaluate pattern 'q'; Regex engine failed to evaluate pattern 'q'; invalid",
  {"items":{"pattern":"q"}}, ["a", "b"], null, 1],

@@ -1,5 +1,7 @@
-//! A resolver of its own, whose state grows by one with each lookup: a schema that refers to itself never comes back to a key. The
-//! rows of `test_check_rows` have no such resolver.
+//! A custom resolver, whose state grows by one with each lookup.
+//!
+//! A schema that refers to itself never comes back to a key. The rows of `test_check_rows` have no
+//! such resolver.
 use crate::asking::{Parts, parts_of, tell_with};
 use bench_parts::matcher::BenchMatcher;
 use schema_reports::location::OutOfMemory;
@@ -9,7 +11,7 @@ use standard_basics::table::BasicTable;
 use std::alloc::Global;
 use test_parts::growing_resolver::GrowingResolver;
 
-/// Adds what is answered with a resolver whose states grow.
+/// Adds the answers with a resolver whose states grow.
 pub(crate) fn tell_growing(
     alloc: Global,
     row: &Value,
@@ -30,8 +32,8 @@ pub(crate) fn tell_growing(
     told
 }
 
-// What is answered, schema, instance, limit of keys, no patterns. Each lookup reaches a new key, so no limit is enough. With no
-// reference there are two keys.
+// The answers, schema, instance, limit of keys, no patterns. Each lookup reaches a new key, so no
+// limit is enough. Without a reference there are two keys.
 pub(crate) const GROWING: &str = r##"[
 ["refused by the limit", {"properties":{"n":{"$ref":"#"}}}, null, 1, []],
 ["refused by the limit", {"properties":{"n":{"$ref":"#"}}}, null, 7, []],

@@ -1,5 +1,7 @@
-//! A leaf is asked for its verdict before it is asked for errors: by a keyword type of its own, which asks for more matches when
-//! it is asked for errors. The rows of `test_check_rows` have no such keyword.
+//! A leaf computes its verdict before its errors.
+//!
+//! The test has a keyword type of its own, which requests more matches for errors than for the
+//! verdict. The rows of `test_check_rows` have no such keyword.
 use crate::asking::push_answers_again;
 use bench_parts::matcher::BenchMatcher;
 use schema_drafts::keywords::Draft;
@@ -13,7 +15,9 @@ use std::alloc::Global;
 use test_parts::detour_keyword::{DetourKeyword, nodes_of};
 use test_rows::tables::{column, list_at, text_at, texts_of};
 
-/// The keyword `pattern` of a row, whose value is column 1. It goes a detour over the patterns in column 4.
+/// Returns the keyword `pattern` of a row, whose value is column 1.
+///
+/// It takes a detour over the patterns in column 4.
 fn keyword_of(alloc: Global, row: &Value) -> Result<DetourKeyword, OutOfMemory> {
     let patterns = texts_of(alloc, list_at(row, 4))?;
     let own = String::from_str(alloc, text_at(row, 1))?;
@@ -23,7 +27,7 @@ fn keyword_of(alloc: Global, row: &Value) -> Result<DetourKeyword, OutOfMemory> 
     })
 }
 
-/// The validator of a schema that has this keyword alone.
+/// Builds the validator of a schema with this keyword alone.
 fn validator_of(
     alloc: Global,
     keyword: DetourKeyword,
@@ -39,7 +43,7 @@ fn validator_of(
     }
 }
 
-/// Adds what a validator answers of the instance.
+/// Adds the answers of a validator for the instance.
 fn tell_of<K: Validate>(
     alloc: Global,
     validator: Validator<K, BenchMatcher>,
@@ -51,8 +55,10 @@ fn tell_of<K: Validate>(
     told
 }
 
-/// Adds what is answered of the instance in column 2 by the row's keyword, which is a leaf where column 3 is true, where the matcher
-/// leaves each pattern of the detour unfinished.
+/// Adds the answers of the row's keyword for the instance in column 2.
+///
+/// The keyword is a leaf if column 3 is true. The matcher leaves each pattern of the detour
+/// unfinished.
 pub(crate) fn tell_leaf(alloc: Global, row: &Value, log: &mut String) -> Result<(), OutOfMemory> {
     let is_leaf = column(row, 3).as_bool() == Some(true);
     let matcher = BenchMatcher::new(texts_of(alloc, list_at(row, 4))?);
@@ -61,9 +67,10 @@ pub(crate) fn tell_leaf(alloc: Global, row: &Value, log: &mut String) -> Result<
     tell_of(alloc, validator, column(row, 2), log)
 }
 
-// What is answered, the keyword's value, instance, whether it is a leaf, patterns of the detour. In the first the pattern matches,
-// so a leaf is never asked for the six: they would come out in more ways than a call looks at. A keyword that is no leaf is asked
-// for them at once. Where the pattern does not match, a leaf is asked for errors too, and then for the six.
+// The answers, the keyword's value, instance, whether it is a leaf, patterns of the detour. In the
+// first row the pattern matches, so a leaf never requests the six matches, which would have more
+// outcomes than a call looks at. A keyword that is no leaf requests them at once. If the pattern
+// does not match, a leaf computes errors too, and then requests the six.
 pub(crate) const LEAVES: &str = r##"[
 ["yes", "b", "abc", true, ["d","e","f","g","h","i"]],
 ["yes: Error executing regex: Max limit for backtracking count exceeded; Error executing regex: Max limit for backtracking count exceeded",

@@ -1,9 +1,13 @@
-//! Tests of the engine, of what no clause says and no row of `test_check_rows` can. They are of the engine with a keyword type, a table, a
-//! resolver or a matcher of one's own (`test_parts`), of calls that are made once more where memory was refused or that count what they
-//! ask, of a reference chain that needs more stack than every compiler leaves, and of what the program `engine_bench` writes.
+//! Tests of the engine, of facts that no clause states and no row can test.
 //!
-//! Their cases are rows of tables, which one walk reads, in `rows`. A row begins with the text that is to be told of it. Few functions
-//! call the engine, in `asking` mostly, so that there is little to prove. A proved function is not tested for what its clauses say.
+//! The rows are those of `test_check_rows`. These tests have a keyword type, a table, a resolver or
+//! a matcher of their own (`test_parts`); calls that are made once more after lack of memory, or
+//! that count their questions; a reference chain that needs more stack than every compiler leaves;
+//! and the output of the program `engine_bench`.
+//!
+//! Their cases are rows of tables, which `rows` tests one by one. A row begins with the text that
+//! is wanted of it. Few functions call the engine, mostly in `asking`, so that there is little to
+//! prove. A proved function is not tested for what its clauses state.
 #![tactic(auto)]
 
 #[cfg(test)]

@@ -1,5 +1,7 @@
-//! What the program `engine_bench` writes and how it ends, through `run`: printed texts to the letter, statuses, faults in the words,
-//! words that are not UTF-8, and writers that refuse; and the words of a process.
+//! The output of the program `engine_bench` and its status, through `run`.
+//!
+//! The tests compare printed texts to the letter, statuses, faults in the words, words that are not
+//! UTF-8, writers that refuse, and the words of a process.
 use bench_program::program::arguments::given_words;
 use bench_program::program::faults::Fault;
 use bench_program::program::{refuse, run};
@@ -11,7 +13,9 @@ use test_parts::narrow_writer::{NarrowWriter, push_written};
 use test_parts::words::{TwoWords, are_two_words, with_words};
 use test_rows::tables::{column, list_at, number_at};
 
-/// The writer of a row: column 3 is how many bytes it takes, if they are not all, and column 4 whether its flush refuses.
+/// Returns the writer of a row.
+///
+/// Column 3 is how many bytes it takes, if not all, and column 4 whether its flush refuses.
 fn writer_of(alloc: Global, row: &Value) -> NarrowWriter {
     NarrowWriter {
         taken: Vec::new(alloc),
@@ -20,7 +24,7 @@ fn writer_of(alloc: Global, row: &Value) -> NarrowWriter {
     }
 }
 
-/// Adds what the program writes for its words.
+/// Adds the output of the program for its words.
 fn push_run(
     alloc: Global,
     row: &Value,
@@ -36,7 +40,9 @@ fn push_run(
     pushed
 }
 
-/// Adds what the program writes for a row's words: by each mode in column 1, or where there is none by the words alone.
+/// Adds the output of the program for a row's words.
+///
+/// The program is run in each mode of column 1, or with the words alone if there is none.
 pub(crate) fn tell_program(
     alloc: Global,
     row: &Value,
@@ -55,7 +61,7 @@ pub(crate) fn tell_program(
     Ok(())
 }
 
-/// Whether want of memory is told by its line and its status.
+/// Returns whether lack of memory is reported by its line and its status.
 fn tells_want_of_memory(alloc: Global) -> bool {
     let mut err = writer_of(alloc, &Value::Null);
     let code = refuse(&mut err, Fault::OutOfMemory).code();
@@ -72,8 +78,8 @@ fn words_of_the_process_and_want_of_memory(rt: HostRuntime) -> Result<(), OutOfM
     Ok(())
 }
 
-// What is written, each mode (or none), and words: each form of an answer, to the letter: none, one and several lines, a failure, a
-// name's place, and a list.
+// The output, each mode (or none), and words. The rows have each form of an answer, to the letter:
+// none, one and several lines, a failure, the place of a name, and a list.
 pub(crate) const ANSWERS: &str = r##"[
 ["true\n0;ok\n0;0;", ["valid","first","errors"], [{"type":"string"},"\"AB\"",[]]],
 [["false\n1;","\t/type\t/type\t1 is not of type \"string\"\n1;","\t/type\t/type\t1 is not of type \"string\"\n1;"],
@@ -109,7 +115,7 @@ pub(crate) const ANSWERS: &str = r##"[
  [], ["list",false,1]]
 ]"##;
 
-// The same of faults in the words. A word that is `null` is not UTF-8.
+// The output for faults in the words. A word that is `null` is not UTF-8.
 pub(crate) const FAULTS: &str = r##"[
 ["!build refused: 1\n2;", [], ["valid",{"properties":{"a":3}},1]],
 ["!build refused: 2\n2;", [], ["first",{"$ref":5},1]],
@@ -139,7 +145,7 @@ pub(crate) const FAULTS: &str = r##"[
 ["!not JSON: UNFINISHED\n3;", [], ["valid","true","\"a\"",null]]
 ]"##;
 
-// The same with how many bytes are taken, and whether they are flushed.
+// The output, with how many bytes are taken, and whether they are flushed.
 pub(crate) const WRITES: &str = r##"[
 ["ok\n0;", [], ["first","true","1"], 3, true],
 ["ok\n5;", [], ["first","true","1"], 3, false],

@@ -1,6 +1,8 @@
-//! `x-items`, whose runs mark the number that its maker was given: a maker of the same object, reached in another resource while
-//! the first has not ended, is told the number that the first one reserved. The numbers stand in keywords of a type of its own, so
-//! the rows of `test_check_rows` do not see them.
+//! `x-items`, whose runs mark the number that its maker was given.
+//!
+//! A maker of the same object, reached in another resource before the first one has ended, is given
+//! the number that the first one reserved. The numbers are in keywords of a custom type, so the
+//! rows of `test_check_rows` do not see them.
 use crate::asking::{built_by, push_refusal};
 use schema_reports::location::OutOfMemory;
 use schema_traits::table::KeywordTable;
@@ -8,7 +10,7 @@ use serde_json::Value;
 use std::alloc::Global;
 use test_parts::given_numbers::{Numbered, push_nodes};
 
-/// Adds what the nodes of a row's schema hold, or why there are none.
+/// Adds the nodes of a row's schema, or why there are none.
 pub(crate) fn tell_numbers<K: Numbered, T: KeywordTable<K>>(
     alloc: Global,
     table: &T,
@@ -25,8 +27,8 @@ pub(crate) fn tell_numbers<K: Numbered, T: KeywordTable<K>>(
     }
 }
 
-// A stroke for each of the nodes, and the number that each of the keywords that mark was given; schema, nothing, nothing, no
-// patterns. (What it answers is in rows.)
+// A stroke for each node, and the number that each keyword that marks was given; schema, nothing,
+// nothing, no patterns. (Its answers are in rows.)
 pub(crate) const RESERVATIONS: &str = r##"[
 ["||||| first first",
  {"$ref":"#/$defs/e/$defs/t","$defs":{"e":{"$id":"http://x/e","$defs":{"t":{"type":"array","x-items":{"$ref":"#/$defs/t"}}}}}},

@@ -1,5 +1,7 @@
-//! Tables of rows, and the walk over them: a row is right where what is told of it is the text in its first column, or the texts there,
-//! one after the other.
+//! Tables of rows, and the test of each row.
+//!
+//! A row is right if its result is the text in its first column, or the texts there, one after the
+//! other.
 use crate::asking::tell_by;
 use crate::failing_matcher_tests::{FAILURES, WANTING, tell_failure, tell_wanting};
 use crate::growing_tests::{GROWING, tell_growing};
@@ -20,7 +22,7 @@ use test_laws::items_table::ItemsTable;
 use test_parts::marking_table::MarkingTable;
 use test_rows::tables::{wanted_of, wrong_row};
 
-/// What the rows of a table are about.
+/// The subject of a table's rows.
 #[derive(Clone, Copy)]
 pub(crate) enum Rows {
     Failures,
@@ -34,7 +36,7 @@ pub(crate) enum Rows {
     Wanting,
 }
 
-/// Adds what is told of a row.
+/// Adds the result of a row.
 fn tell(alloc: Global, rows: Rows, row: &Value, log: &mut String) -> Result<(), OutOfMemory> {
     match rows {
         Rows::Failures => tell_failure(alloc, row, log),
@@ -58,7 +60,7 @@ fn tell(alloc: Global, rows: Rows, row: &Value, log: &mut String) -> Result<(), 
     }
 }
 
-/// Whether a row is right.
+/// Returns whether a row is right.
 fn is_right(alloc: Global, rows: Rows, row: &Value) -> Result<bool, OutOfMemory> {
     let mut log = String::new(alloc);
     let told = tell(alloc, rows, row, &mut log);
@@ -67,7 +69,7 @@ fn is_right(alloc: Global, rows: Rows, row: &Value) -> Result<bool, OutOfMemory>
     Ok(log == wanted?)
 }
 
-/// The number of the first row of a table that is wrong.
+/// Returns the number of the first wrong row of a table.
 pub(crate) fn wrong(
     alloc: Global,
     rows: Rows,
@@ -76,7 +78,9 @@ pub(crate) fn wrong(
     wrong_row(alloc, table, |row| is_right(alloc, rows, row))
 }
 
-/// The tables, each with what its rows are about, and with its name. Each says why its rows are none of `test_check_rows`.
+/// The tables, each with the subject of its rows and its name.
+///
+/// Each table says why its rows are not in `test_check_rows`.
 const TABLES: [(Rows, &str, &str); 10] = [
     (Rows::Failures, "failures", FAILURES),
     (Rows::Growing, "growing", GROWING),
@@ -90,7 +94,7 @@ const TABLES: [(Rows, &str, &str); 10] = [
     (Rows::Wanting, "wanting", WANTING),
 ];
 
-/// The name of the first table in which a row is wrong, and the number of the row.
+/// Returns the name of the first table with a wrong row, and the row's number.
 fn first_wrong(alloc: Global) -> Result<Option<(&'static str, usize)>, serde_json::Error> {
     for (rows, name, table) in &TABLES {
         if let Some(number) = wrong(alloc, *rows, table)? {

@@ -1,4 +1,6 @@
-//! A vocabulary that one draft alone requires, which no option of a row says: a map asks for it at the root, and not for its entries.
+//! A vocabulary that one draft alone requires, which no option of a row sets.
+//!
+//! A map checks for it at the root, and not for its entries.
 use crate::asking::push_refusal;
 use bench_parts::matcher::BenchMatcher;
 use bench_parts::meta::BenchMeta;
@@ -19,7 +21,7 @@ use std::alloc::Global;
 use test_parts::draft_vocabularies::requiring_in_2019_09;
 use test_rows::tables::{column, text_at};
 
-/// The map of a row's schema.
+/// Builds the map of a row's schema.
 fn map_of<K: Validate, T: KeywordTable<K>, R: Resolver, M: Matcher>(
     alloc: Global,
     table: &T,
@@ -40,7 +42,7 @@ fn map_of<K: Validate, T: KeywordTable<K>, R: Resolver, M: Matcher>(
     map
 }
 
-/// Adds whether the map of a row's schema has the name in column 2, or why there is no map.
+/// Adds whether the map has the name in column 2, or why there is no map.
 fn tell_name<K: Validate, T: KeywordTable<K>, R: Resolver, M: Matcher>(
     alloc: Global,
     table: &T,
@@ -59,7 +61,7 @@ fn tell_name<K: Validate, T: KeywordTable<K>, R: Resolver, M: Matcher>(
     }
 }
 
-/// The same where 2019-09 alone requires the custom vocabulary.
+/// Like `tell_name`, if 2019-09 alone requires the custom vocabulary.
 pub(crate) fn tell_names(alloc: Global, row: &Value, log: &mut String) -> Result<(), OutOfMemory> {
     let by_draft = requiring_in_2019_09(alloc)?;
     match DocumentResolver::new(alloc, column(row, 1), VocabularySet::new(alloc)) {
@@ -85,8 +87,8 @@ pub(crate) fn tell_names(alloc: Global, row: &Value, log: &mut String) -> Result
     }
 }
 
-// Whether the map has the name, schema, name. What requires the vocabulary is a subschema; where no reference leads there it is in the
-// map, and what refers to it is not.
+// Whether the map has the name, schema, name. A subschema requires the vocabulary. If no reference
+// leads to it, it is in the map; a schema that refers to it is not.
 pub(crate) const VOCABULARIES: &str = r##"[
 ["yes", {"$defs":{"a":{"$schema":"https://json-schema.org/draft/2019-09/schema"}}}, "#/$defs/a"],
 ["yes", {"$defs":{"a":{"$schema":"https://json-schema.org/draft/2019-09/schema"},"b":{"$ref":"#/$defs/a"}}}, "#/$defs/a"],
