@@ -1,4 +1,4 @@
-//! Cases of the formats of `text_formats`.
+//! Tests of the formats of `text_formats`.
 #![tactic(auto)]
 
 #[cfg(test)]

@@ -1,11 +1,14 @@
-//! The cases of the official suite's optional groups on formats, of drafts 4, 6 and 7 (JSON-Schema-Test-Suite, `optional/format`), that are
-//! texts of a format that is checked by its grammar; and examples of the standards that have the grammars.
+//! Cases of the official test suite, and examples of the standards.
+//!
+//! The cases are those of the suite's optional groups on formats, in drafts 4, 6 and 7
+//! (JSON-Schema-Test-Suite, `optional/format`), whose instance is a text and whose format is
+//! checked by its grammar. The examples are from the standards that define the grammars.
 use text_formats::formats::Format;
 
-/// A format's name, a text, and whether it is of the format.
+/// A format's name, a text, and whether the text has the format.
 type Case = (&'static str, &'static str, bool);
 
-/// The suite's.
+/// Cases of the suite.
 const OF_THE_SUITE: [Case; 117] = [
     ("date", "1963-06-19", true),
     ("date", "06/19/1963", false),
@@ -158,8 +161,10 @@ const OF_THE_SUITE: [Case; 117] = [
     ("uri-template", "dictionary/{term:1}/{term}", true),
 ];
 
-/// Examples of RFC 3339, section 5.8 and appendix A, RFC 4291, section 2.2, RFC 4122, section 3, RFC 3986, section 1.1.2, and RFC 5321,
-/// sections 4.1.2 and 4.1.3.
+/// Examples of RFC 3339, RFC 4291, RFC 4122, RFC 3986 and RFC 5321.
+///
+/// RFC 3339, section 5.8 and appendix A; RFC 4291, section 2.2; RFC 4122, section 3; RFC 3986,
+/// section 1.1.2; RFC 5321, sections 4.1.2 and 4.1.3.
 const OF_STANDARDS: [Case; 19] = [
     ("date-time", "1985-04-12T23:20:50.52Z", true),
     ("date-time", "1996-12-19T16:39:57-08:00", true),
@@ -182,8 +187,10 @@ const OF_STANDARDS: [Case; 19] = [
     ("email", "joe.bloggs@[IPv6:::1]", true),
 ];
 
-/// Examples of RFC 6570, sections 1.1, 1.2 and 3.2, and texts on either side of its grammar in section 2, and of that of RFC 6531,
-/// section 3.3.
+/// Examples of RFC 6570, and texts on either side of two grammars.
+///
+/// The examples are from sections 1.1, 1.2 and 3.2. The grammars are those of RFC 6570, section 2,
+/// and of RFC 6531, section 3.3.
 const OF_TEMPLATES_AND_ADDRESSES: [Case; 55] = [
     ("uri-template", "http://example.com/~{username}/", true),
     ("uri-template", "http://example.com/search{?q,lang}", true),
@@ -246,7 +253,7 @@ const OF_TEMPLATES_AND_ADDRESSES: [Case; 55] = [
     ("email", "e@bücher.example", false),
 ];
 
-/// Whether the case's text is told as the case wants.
+/// Returns whether the answer for a case's text is the wanted one.
 fn is_told(case: &Case) -> bool {
     match Format::named(case.0) {
         Some(format) => format.accepts(case.1) == case.2,
