@@ -1,4 +1,5 @@
--- A detour is monotone where the keyword is that it stands for, and hands on the units that that one does.
+-- A detour is monotone if the keyword that it wraps is, and it passes on the units that this
+-- keyword passes on.
 use Rattle.std.proofs.Common.{◌≡◌, Bool, true}
 use Rattle.theory_meaning.specs.Greatest.{IsMonotone}
 use Rattle.theory_meaning.specs.UnitsLead.{EachHandsUnitsOn, HandsUnitsOn}

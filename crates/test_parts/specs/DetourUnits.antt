@@ -1,4 +1,4 @@
--- In each mode that wants no units, a detour asks no child for its units.
+-- In each mode without units, a detour requests no units of a child.
 use Rattle.std.proofs.Common.{Bool, suc, sym, zero, ℕ, ◌∙◌}
 use Rattle.theory_definitions.specs.Instance.{Subject}
 use Rattle.theory_definitions.specs.Keywords.{Answer, Reply, no_reply}
@@ -17,7 +17,7 @@ turns_for_less texts m s (suc n) zero r reply none =
     (step_for_less (run_way texts (m.1, r.0.names) s) r.0.progress.mode r.0.progress.stage reply none, λ next. turns_for_less texts m s n 0 ((words texts).turn m.1 s r reply) next none)
 turns_for_less texts m s (suc n) (suc k) r reply none = (tt, λ next. turns_for_less texts m s n k r next none)
 
--- units are asked for by evaluations alone
+-- only evaluations request units
 pub detour_asks_no_units : (texts : Bool) → AsksNoUnits (detour_words texts)
 detour_asks_no_units texts = λ m s mode' none.
     turns_for_less texts m s ((detour_words texts).most_turns m s) (matches_before m.0 mode') (((words texts).begin m.1 s mode').0, fresh mode') no_reply (λ e. none (sym (mode-kept mode') ∙ e))

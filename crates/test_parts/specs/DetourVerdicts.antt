@@ -1,4 +1,4 @@
--- A detour's run for the verdict asks for verdicts.
+-- A detour's run for the verdict requests verdicts.
 use Rattle.std.proofs.Common.{Bool, refl, suc, zero, ℕ}
 use Rattle.theory_definitions.specs.Instance.{Subject}
 use Rattle.theory_definitions.specs.Keywords.{Answer, Reply, for_verdict, no_reply}
@@ -17,7 +17,7 @@ turns_for_verdict texts m s (suc n) zero r reply wants =
     (step_for_verdict (run_way texts (m.1, r.0.names) s) r.0.progress.mode r.0.progress.stage reply wants, λ next. turns_for_verdict texts m s n 0 ((words texts).turn m.1 s r reply) next wants)
 turns_for_verdict texts m s (suc n) (suc k) r reply wants = (tt, λ next. turns_for_verdict texts m s n k r next wants)
 
--- verdicts alone are asked for where a verdict is wanted
+-- if a verdict is wanted, only verdicts are requested
 pub detour_asks_verdicts : (texts : Bool) → EachAsksVerdicts (detour_words texts)
 detour_asks_verdicts texts = λ m s.
     turns_for_verdict texts m s ((detour_words texts).most_turns m s) (matches_before m.0 for_verdict) (((words texts).begin m.1 s for_verdict).0, fresh for_verdict) no_reply refl

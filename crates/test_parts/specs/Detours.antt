@@ -1,5 +1,6 @@
--- A keyword that goes a detour: where errors are wanted, it first asks whether each of some patterns matches the instance,
--- and drops the replies. Then it goes on as the keyword that it stands for. The tests alone make one.
+-- A keyword that takes a detour: if errors are requested, it first asks whether each of some
+-- patterns matches the instance, and drops the replies. Then it goes on as the keyword that it
+-- wraps. Only the tests make one.
 use Rattle.std.proofs.Common.{Bool, List, arith, inl, inr, length, refl, subst, suc, sym, zero, ℕ, [], ◌+◌, ◌<◌, ◌≡◌, ◌≤◌, ◌⊎◌}
 use Rattle.std.specs.Prelude.{slice_get, unwrap_or}
 use Rattle.theory_definitions.specs.Instance.{Subject, Text}
@@ -20,15 +21,15 @@ use Rattle.keyword_authoring.specs.WayRuns.{fits_at, fits_begun, replies_by}
 use Rattle.standard_basics.specs.Words.{ends_in, fits_in, run_way, turns_left, words}
 use Rattle.standard_basics.specs.Laws.{functions_keep, none_absorbed, turns_keep}
 
--- the patterns of the detour, and the keyword that it stands for
+-- the patterns of the detour, and the keyword that it wraps
 abbrev pub Detour : Type 0
 Detour = List Text × BasicShape
 
--- how many matches of the detour are left, and the keyword's own run
+-- the number of matches of the detour that are left, and the keyword's own run
 abbrev pub Detouring : Type 0
 Detouring = ℕ × NamesRun
 
--- how many matches come first
+-- the number of matches that come first
 abbrev pub matches_before : List Text → spec.Mode → ℕ
 matches_before ps for_verdict = 0
 matches_before ps for_first = length ps
@@ -38,11 +39,11 @@ matches_before ps for_units = 0
 abbrev pub pattern_at : List Text → ℕ → Text
 pattern_at ps k = unwrap_or (slice_get ps k) []
 
--- the text that is matched; an empty one where the instance is none
+-- the text that is matched; it is empty if the instance is no text
 abbrev pub text_in : Subject → Text
 text_in s = unwrap_or (subject_string s) []
 
--- the match where so many are left after it
+-- the match after which this many are left
 abbrev pub match_at : List Text → Text → ℕ → Turn
 match_at ps text k = match_text (record { pattern = pattern_at ps k; subject = text }) (match_point mode.First (pattern_at ps k))
 
@@ -71,7 +72,7 @@ detour_words texts = record {
 abbrev pub nothing_absorbed : Detour → List Text
 nothing_absorbed m = []
 
--- the turns that are left at the most
+-- the turns that are left at most
 abbrev pub detour_left : Detour → Subject → Detouring × Answer → ℕ
 detour_left m s r = r.0.0 + turns_left m.1 s (r.0.1, r.1)
 
@@ -92,11 +93,11 @@ own_run x = record {
   reply = x.reply;
 }
 
--- the detour changes nothing of the end
+-- the detour does not change the end
 abbrev pub detour_ends : Bool → Detour → Standing (Detouring × Answer) → Answer
 detour_ends texts m x = ends_in texts m.1 (own_run x)
 
--- on the detour the keyword's own run stands at its beginning
+-- during the detour, the keyword's own run is at its beginning
 abbrev pub fits_left : ℕ → NamesRun → Type 0 → Type 0
 fits_left zero r own = own
 fits_left (suc k) r own = r.progress.stage ≡ Begun
@@ -174,16 +175,16 @@ same_reply texts m s matches a u same marks unmark = refl
 same_reply texts m s matches a u same marks (ecma text) = refl
 same_reply texts m s matches a u same marks done = refl
 
--- the run, where so many matches are left
+-- the run with this many matches left
 abbrev with_left : ℕ → Standing (Detouring × Answer) → Standing (Detouring × Answer)
 with_left left x = record x { state = ((left, x.state.0.1), x.state.1) }
 
--- a reply that comes after the detour fits a run that stands at its beginning
+-- a reply that comes after the detour fits a run at its beginning
 fits_after : (texts : Bool) (m : Detour) (x : Standing (NamesRun × Answer)) → x.state.0.progress.stage ≡ Begun → fits_in texts m.1 x
 fits_after texts m x e = subst (λ stage. fits_at (run_way texts (m.1, x.state.0.names) x.subject) (replies_by x.matches x.answers x.unit_at) x.state.0.progress.mode stage x.reply) (sym e)
     (fits_begun (run_way texts (m.1, x.state.0.names) x.subject) (replies_by x.matches x.answers x.unit_at) x.state.0.progress.mode x.reply)
 
--- a turn keeps what fits, and the end
+-- a turn keeps the fit, and the end
 abbrev Kept : Bool → Detour → Standing (Detouring × Answer) → Type 0
 Kept texts m x = detour_fits texts m (next (detour_words texts) m x) × (detour_ends texts m (next (detour_words texts) m x) ≡ detour_ends texts m x)
 

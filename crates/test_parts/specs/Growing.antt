@@ -1,4 +1,5 @@
--- A resolver that never comes back to a state: each lookup leads to the root, in a state that is one more.
+-- A resolver that never comes back to a state: each lookup leads to the root, in a state greater by
+-- one.
 use Rattle.std.specs.Prelude.{Err, None, Ok, Result, Some, [], codes, if◌then◌else◌, nat_eq, nat_lt, suc, true, ℕ}
 use Rattle.theory_definitions.specs.Instance.{Text}
 use Rattle.theory_definitions.specs.Drafts.{draft_7}
@@ -7,7 +8,7 @@ use Rattle.standard_subschemas.specs.SubschemaRules.{root_place}
 use Rattle.standard_resolver.specs.ResolverDocuments.{HeldDocuments}
 use Rattle.standard_resolver.specs.ResolverAnswers.{document_resolving}
 
--- the state is how many lookups there were, which is refused where it would pass what 64 bits hold
+-- the state is the number of lookups; a lookup is refused if that number would exceed 64 bits
 abbrev pub next : ℕ → Result (Found ℕ) Text
 next n =
     if nat_lt n 18446744073709551615 then

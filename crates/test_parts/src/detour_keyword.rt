@@ -1,4 +1,4 @@
-//! A keyword that asks for more matches when it is asked for errors than when it is asked for the verdict.
+//! A keyword that requests more matches for errors than for the verdict.
 ghost use Rattle.std.specs.Prelude.{◌≡◌, ◌<◌, IfOk, length, map, string_bytes};
 ghost use Rattle.schema_reports.specs.InstanceViews.{subject_of};
 ghost use Rattle.schema_traits.specs.KeywordViews.{mode_of, turn_of};
@@ -16,17 +16,19 @@ use standard_basics::texts::text_of;
 use std::alloc::Global;
 use std::marker::Model;
 
-/// A keyword that goes a detour: where errors are wanted, it first asks whether each of these patterns matches the instance,
-/// and drops the replies. Then it goes on as the keyword that it stands for.
+/// A keyword that takes a detour.
+///
+/// If errors are requested, it first asks whether each of these patterns matches the instance, and
+/// drops the replies. Then it goes on as the keyword that it wraps.
 #[derive(Drop)]
 pub struct DetourKeyword {
-    /// The patterns of the detour; the last is asked first.
+    /// The patterns of the detour; the last one comes first.
     pub patterns: Vec<String>,
-    /// The keyword that it stands for.
+    /// The keyword that it wraps.
     pub keyword: BasicKeyword,
 }
 
-/// What is known of a keyword apart from its representation; it holds no value.
+/// The abstract value of a keyword; it holds no value.
 #[derive(Drop)]
 pub struct DetourShape {}
 
@@ -40,7 +42,7 @@ impl Model for DetourShape {
     ghost view = { λ _. ([], requires []) };
 }
 
-/// How many matches come first.
+/// Returns how many matches come first.
 fn matches_before(patterns: &[String], mode: Mode) -> usize
     ensures before { result ≡ matches_before (map string_bytes patterns.now) (mode_of mode) }
 {
@@ -52,7 +54,7 @@ fn matches_before(patterns: &[String], mode: Mode) -> usize
     }
 }
 
-/// The pattern of this place.
+/// Returns the pattern at this place.
 fn pattern_at(patterns: &[String], index: usize) -> &str
     ensures pattern { result.now ≡ pattern_at (map string_bytes patterns.now) index }
 {
@@ -62,7 +64,7 @@ fn pattern_at(patterns: &[String], index: usize) -> &str
     }
 }
 
-/// The text that an instance is, or else an empty one.
+/// Returns the text of an instance, or an empty text.
 fn text_or_empty<'i>(instance: Instance<'i>) -> &'i str
     ensures text { result.now ≡ text_in (subject_of instance.entry) }
 {
@@ -72,7 +74,7 @@ fn text_or_empty<'i>(instance: Instance<'i>) -> &'i str
     }
 }
 
-/// The match where so many are left after it.
+/// Returns the match after which this many are left.
 fn match_at<'s>(patterns: &'s [String], text: &'s str, left: usize) -> Step<'s>
     ensures asks { turn_of result ≡ match_at (map string_bytes patterns.now) text.now left }
 {
@@ -161,11 +163,11 @@ impl Validate for DetourKeyword {
     ghost asks_verdicts = { detour_asks_verdicts };
 }
 
-/// The nodes of a schema that has this keyword alone.
+/// Returns the nodes of a schema with this keyword alone.
 ///
 /// # Errors
 ///
-/// Fails only if memory cannot be allocated.
+/// Out of memory.
 pub fn nodes_of(
     alloc: Global,
     keyword: DetourKeyword,

@@ -1,20 +1,19 @@
-//! Vocabularies of which one draft alone requires more.
+//! Vocabularies, more of which are required by one draft alone.
 use schema_drafts::keywords::{Vocabulary, VocabularySet};
 use schema_reports::location::OutOfMemory;
 use standard_resolver::resolver::vocabularies::DraftVocabularies;
 use std::alloc::Global;
 
-/// These vocabularies, and a custom one.
 fn with_custom(alloc: Global, usual: VocabularySet) -> Result<VocabularySet, OutOfMemory> {
     let uri = String::from_str(alloc, "http://v/x");
     usual.with(Vocabulary::Custom(uri?))
 }
 
-/// The usual vocabularies, and the custom one beside them in 2019-09 alone.
+/// Returns the usual vocabularies; 2019-09 alone requires a custom one too.
 ///
 /// # Errors
 ///
-/// Fails only if memory cannot be allocated.
+/// Out of memory.
 pub fn requiring_in_2019_09(alloc: Global) -> Result<DraftVocabularies, OutOfMemory> {
     let usual = DraftVocabularies::with_required(VocabularySet::new(alloc))?;
     let DraftVocabularies {

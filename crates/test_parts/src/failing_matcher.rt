@@ -1,20 +1,26 @@
-//! A matcher whose engine fails, and which once wants memory, at a question of its own choice.
+//! A matcher whose engine fails, and which once runs out of memory.
+//!
+//! It does so at a question of its own choice.
 use schema_reports::location::OutOfMemory;
 use schema_traits::matcher::Matcher;
 use std::alloc::{AllocError, Global};
 use std::cell::Cell;
 use unfinished_matches::site::{Match, Reason};
 
-/// A matcher that leaves every match unfinished, since its engine fails. It counts down to the question at which it wants memory, where
-/// that is not 0, and once it has wanted memory it fails as before.
+/// A matcher that leaves every match unfinished, since its engine fails.
+///
+/// It counts down to the question at which it runs out of memory, if that is not 0. After that it
+/// fails as before.
 #[derive(Drop)]
 pub struct FailingMatcher {
-    /// How many questions are left until memory is wanted, the one at which it is wanted counted too; 0 where it is wanted at none.
+    /// The number of questions until memory runs out, including that one.
+    ///
+    /// It is 0 if memory does not run out.
     pub left: Cell<usize>,
 }
 
 impl FailingMatcher {
-    /// Whether memory is wanted at this question.
+    /// Returns whether memory runs out at this question.
     fn wants_memory(&self) -> bool {
         let left = self.left.get();
         self.left.set(left.saturating_sub(1));
@@ -25,7 +31,7 @@ impl FailingMatcher {
 impl Clone for FailingMatcher {
     ghost use Rattle.std.specs.Prelude.{⊤};
 
-    // (how far it has counted down is nothing that contracts see)
+    // (contracts do not see how far it has counted down)
     ghost is_clone = { λ m n. ⊤ };
 
     fn clone(&self) -> Result<FailingMatcher, AllocError> {

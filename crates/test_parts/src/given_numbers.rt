@@ -1,4 +1,4 @@
-//! The numbers that makers were given, as the keywords that they made hold them.
+//! The numbers that makers were given, as their keywords hold them.
 use schema_node_table::node::Nodes;
 use schema_node_table::node::validators::NodeValidator;
 use schema_reports::location::OutOfMemory;
@@ -17,7 +17,7 @@ impl Numbered for ItemsKeyword {
     }
 }
 
-/// A word for what a keyword was given: the first number, another, or none.
+/// Returns a word for a keyword's number: the first number, another, or none.
 fn word_of<K: Numbered>(asked: NodeValidator<'_, K>) -> &'static str {
     let NodeValidator::Keyword(keyword) = asked else {
         return "";
@@ -34,7 +34,7 @@ fn word_of<K: Numbered>(asked: NodeValidator<'_, K>) -> &'static str {
     }
 }
 
-/// Adds a word for each number that the keywords of a node were given, if there is such a node.
+/// Adds a word for each number of a node's keywords, if there is such a node.
 fn push_numbers<K: Numbered>(
     nodes: &Nodes<K>,
     node: usize,

@@ -1,4 +1,6 @@
-//! A resolver whose state grows by one with each lookup: a schema that refers to itself never comes back to a key.
+//! A resolver whose state grows by one with each lookup.
+//!
+//! A schema that refers to itself never comes back to a key.
 ghost use Rattle.std.specs.Prelude.{◌≡◌, MatchResult, Ok};
 ghost use Rattle.schema_traits.specs.ResolverViews.{Refuses, found_of};
 ghost use Rattle.test_parts.specs.Growing.{next};
@@ -12,14 +14,16 @@ use standard_resolver::resolver::DocumentResolver;
 use standard_resolver::resolver::places::root_place;
 use std::alloc::Global;
 
-/// A resolver of one document of draft 7, whose state is how many lookups there were; each leads to the document's root.
+/// A resolver of one document of draft 7, whose state is the number of lookups.
+///
+/// Each lookup leads to the document's root.
 #[derive(Drop)]
 pub struct GrowingResolver<'a> {
     /// The resolver that finds the document's values.
     pub document: DocumentResolver<'a>,
 }
 
-/// The root, with one lookup more.
+/// Returns the root, with one more lookup.
 fn next(alloc: Global, lookups: u64) -> Result<Target<u64>, LookupError>
     ensures next { MatchResult result (λ t. next lookups ≡ Ok (found_of (λ n. n) t)) (Refuses (next lookups)) }
 {

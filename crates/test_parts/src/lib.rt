@@ -1,7 +1,10 @@
-//! Parts that tests are built from, each with one way that no part of the bench has: a resolver whose states never come back, a matcher
-//! that fails and wants memory at a question of its choice, a keyword that asks for more matches when it is asked for errors, a table of
-//! a keyword that marks its children, vocabularies that one draft requires, a chain of references, a writer that refuses, and words that
-//! are no text; and the numbers that makers were given, as a text.
+//! Parts that tests are built from, each with a property of its own.
+//!
+//! They are a resolver whose states never come back, a matcher that fails and once runs out of
+//! memory, a keyword that requests more matches for errors than for the verdict, a table of a
+//! keyword that marks its children, vocabularies that one draft requires, a chain of references, a
+//! writer that refuses, and words that are no text. The crate also writes the numbers that makers
+//! were given as a text.
 #![tactic(auto)]
 
 pub mod detour_keyword;

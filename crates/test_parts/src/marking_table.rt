@@ -5,7 +5,7 @@ use serde_json::Value;
 use std::alloc::Global;
 use test_laws::both_once::BothOnce;
 
-/// `allOf`, of two subschemas, by a keyword that marks both.
+/// Makes `allOf`, with two subschemas, a keyword that marks both.
 #[derive(Drop)]
 pub struct MarkingTable {}
 

@@ -1,14 +1,16 @@
-//! A writer that refuses, and what was written.
+//! A writer that refuses, and the text that it took.
 use schema_reports::location::OutOfMemory;
 use std::io;
 use std::io::{ErrorKind, Write};
 
-/// A writer that takes so many bytes, one at a time, and then refuses; its flush refuses where that is said.
+/// A writer that takes this many bytes, one at a time, and then refuses.
+///
+/// Its flush refuses too, unless `flushes` is set.
 #[derive(Drop)]
 pub struct NarrowWriter {
-    /// The bytes that it has taken.
+    /// The number of bytes that it takes.
     pub taken: Vec<u8>,
-    /// How many it takes.
+    /// The number of bytes that it still takes.
     pub room: usize,
     /// Whether it can be flushed.
     pub flushes: bool,
@@ -34,16 +36,16 @@ impl Write for NarrowWriter {
     }
 }
 
-/// These bytes as a text, if they are one.
+/// Returns these bytes as a text, if they are one.
 fn text_of(bytes: &[u8]) -> &str {
     str::from_utf8(bytes).unwrap_or("no text")
 }
 
-/// Adds standard output, standard error with a mark before it, and the status.
+/// Adds standard output, standard error after a mark, and the status.
 ///
 /// # Errors
 ///
-/// Fails only if memory cannot be allocated.
+/// Out of memory.
 pub fn push_written(log: &mut String, out: &[u8], err: &[u8], code: u8) -> Result<(), OutOfMemory> {
     log.push_str(text_of(out))?;
     if !err.is_empty() {

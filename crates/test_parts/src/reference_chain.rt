@@ -3,7 +3,9 @@ use schema_reports::location::OutOfMemory;
 use serde_json::Value;
 use std::alloc::Global;
 
-/// Adds the definitions of a chain: each refers to the next, and the last is of texts.
+/// Adds the definitions of a chain.
+///
+/// Each refers to the next, and the last accepts texts.
 fn push_chain(count: u16, text: &mut String) -> Result<(), OutOfMemory> {
     for number in 0..count {
         let next = number.saturating_add(1);
@@ -12,18 +14,20 @@ fn push_chain(count: u16, text: &mut String) -> Result<(), OutOfMemory> {
     write!(text, r##""c{count}":{{"type":"string"}}"##)
 }
 
-/// Adds a row that asks a chain of so many references of the number 1.
+/// Adds a row that validates the number 1 against a chain of references.
 fn push_row(references: u16, text: &mut String) -> Result<(), OutOfMemory> {
     text.push_str(r##"["",{"$ref":"#/$defs/c0","$defs":{"##)?;
     push_chain(references, text)?;
     text.push_str("}},1]")
 }
 
-/// A row that asks a chain of so many references of the number 1: each refers to the next, and the last is of texts.
+/// Returns a row that validates the number 1 against a chain of references.
+///
+/// Each definition refers to the next, and the last accepts texts.
 ///
 /// # Errors
 ///
-/// Fails only if memory cannot be allocated.
+/// Out of memory.
 pub fn row_of(alloc: Global, references: u16) -> Result<Value, serde_json::Error> {
     let mut text = String::new(alloc);
     push_row(references, &mut text)?;

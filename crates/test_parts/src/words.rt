@@ -4,7 +4,10 @@ use serde_json::Value;
 use std::alloc::Global;
 use std::env::{Env, FillError};
 
-/// The bytes of a word: a text's own, some that are not UTF-8 of `null`, or else those of its JSON text.
+/// Returns the bytes of a word.
+///
+/// They are those of a text, some that are not UTF-8 for `null`, and otherwise those of the JSON
+/// text.
 fn word_of(alloc: Global, word: &Value) -> Result<Vec<u8>, OutOfMemory> {
     match word {
         Value::Null => Vec::from_slice(alloc, &[34, 255, 34]),
@@ -13,11 +16,11 @@ fn word_of(alloc: Global, word: &Value) -> Result<Vec<u8>, OutOfMemory> {
     }
 }
 
-/// The words in a list, after these.
+/// Returns the words in a list, after these.
 ///
 /// # Errors
 ///
-/// Fails only if memory cannot be allocated.
+/// Out of memory.
 pub fn with_words(
     alloc: Global,
     words: Vec<Vec<u8>>,
@@ -30,7 +33,7 @@ pub fn with_words(
     Ok(words)
 }
 
-/// A process that is given its name and two words, the second long and not UTF-8.
+/// A process with its name and two words, the second long and not UTF-8.
 #[derive(Drop)]
 pub struct TwoWords {}
 
@@ -59,7 +62,7 @@ impl Env for TwoWords {
     }
 }
 
-/// Whether these are the two words of `TwoWords`.
+/// Returns whether these are the two words of `TwoWords`.
 pub fn are_two_words(words: &[Vec<u8>]) -> bool {
     match words {
         [first, second] => {
