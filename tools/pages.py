@@ -1,7 +1,7 @@
 #!/usr/bin/env python3
 """Says whether the documents hold to what they are to be: python3 tools/pages.py
 
-README.md has at most 120 lines, each other document (docs/*.md, crates/*/CALLING.md) at most 250, and no cell of a table more than 160
+README.md has at most 110 lines, each other document (docs/*.md, crates/*/CALLING.md) at most 250, and no cell of a table more than 160
 characters. Each name in backticks that has the form of code is a word of the sources, of the tests' data or of the tools; each file that is
 named is there, and each path that begins with a crate of the repository goes on to a module, a function or a type of it. How many rows and
 edits there are is as it is said. Quoted files are compared by tools/quotes.py, and what is said of clauses by tools/claims.py --check.
@@ -17,7 +17,7 @@ import quotes
 
 ROOT = Path(__file__).resolve().parent.parent
 
-README_LINES, PAGE_LINES, CELL = 120, 250, 160
+README_LINES, PAGE_LINES, CELL = 110, 250, 160
 
 # names that are no words of this repository's files: other programs and their words, the kit's, the standard's and upstream's
 ELSEWHERE = set(
