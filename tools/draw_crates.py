@@ -1,32 +1,42 @@
 #!/usr/bin/env python3
 """Draws the crates as rooms, from bottom to top by what they stand on: python3 tools/draw_crates.py
 
-Reads crates.txt and the first sentence of each crate's root file, and writes docs/crates.svg. Run it at the repository's root, or
-anywhere: it finds the root beside itself.
+Reads crates.txt and the first sentence of each crate's root file, and writes docs/crates.svg. A room has the tint of its group: the heading
+above its line in crates.txt. Run it at the repository's root, or anywhere: it finds the root beside itself.
 """
 
 import html
+import math
 import pathlib
 import re
 
 ROOT = pathlib.Path(__file__).resolve().parent.parent
 
-WIDTH = 1320
 MARGIN = 14
 ROOM_WIDTH = 178
 ROOM_HEIGHT = 86
 LAYER_HEIGHT = 136
-HEAD = 96  # room for the legend
+LEGEND_WIDTH = 1400  # of the tints' names, in a line
+HEAD = 116  # room for the legend
+LONG_NAME = 22  # letters of a name that still fits a room in full size
 LETTERS = 28  # of a purpose, in a line
 LINES = 4  # of a purpose, in a room
 FONT = "DejaVu Sans, Verdana, Arial, sans-serif"
 
-TINTS = {"engine": "#dcebf7", "bench": "#e4f1dc", "tests": "#f6ead4"}
-TINT_NAMES = {
-    "engine": "libraries of the engine",
-    "bench": "libraries of the bench and of the examples",
-    "tests": "tests and programs",
-}
+# a tint for each group, in the order of crates.txt
+TINTS = (
+    "#ece6f7",  # Theory
+    "#e3e8ee",  # Base
+    "#d6e9f8",  # Compile
+    "#cfeeee",  # Run
+    "#d5efdd",  # Solve
+    "#bcd9f2",  # Engine
+    "#fbe3ec",  # Authoring
+    "#e6f2cf",  # Standard
+    "#fff1b8",  # Front
+    "#f6ead4",  # Bench and examples
+    "#f1f1f1",  # Tests
+)
 
 # the ways that a schema and an instance take, each through these rooms; the first step may begin in several
 WAYS = [
@@ -61,6 +71,23 @@ WAYS = [
         ],
     ),
 ]
+
+
+def groups_of_crates():
+    """The group of each crate: the heading above its line in crates.txt."""
+    lines = (ROOT / "crates.txt").read_text().splitlines()
+    groups, heading = {}, None
+    for line in lines:
+        if line.startswith("#"):
+            heading = line.lstrip("# ")
+        elif ":" in line:
+            groups[line.split(":", 1)[0].strip()] = heading
+    headings = list(dict.fromkeys(groups.values()))
+    assert len(headings) <= len(TINTS), "a group of crates.txt has no tint"
+    return groups, headings
+
+
+GROUPS, HEADINGS = groups_of_crates()
 
 
 def needs_of_crates():
@@ -106,16 +133,8 @@ def layers_of(direct):
     return layers
 
 
-def kind_of(name):
-    """Which of the three tints a crate has."""
-    if name.startswith("schema_") or name in ("schema_node_table", "schema_run_steps"):
-        return "engine"
-    if name == "test_laws":  # keyword types that others take
-        return "bench"
-    is_program = (ROOT / "crates" / name / "src" / "main.rt").exists()
-    if is_program or name.endswith(("_tests", "_rows", "_cases")):
-        return "tests"
-    return "bench"
+def tint_of(heading):
+    return TINTS[HEADINGS.index(heading)]
 
 
 def purpose_of(name):
@@ -168,8 +187,7 @@ class Picture:
         self.rows = [[] for _ in range(1 + max(layers.values()))]
         self.widths = {}
         self.links = []  # pairs of neighbours, the lower first
-        order = {"engine": 0, "bench": 1, "tests": 2}
-        for name in sorted(direct, key=lambda n: (order[kind_of(n)], n)):
+        for name in sorted(direct, key=lambda n: (HEADINGS.index(GROUPS[n]), n)):
             self.rows[layers[name]].append(name)
             self.widths[name] = ROOM_WIDTH
         for name in direct:
@@ -185,7 +203,7 @@ class Picture:
         for layer in range(self.layers[low] + 1, self.layers[high]):
             passing = (low, layer)
             if passing not in self.widths:
-                self.widths[passing] = 8
+                self.widths[passing] = 4
                 self.rows[layer].append(passing)
             self.links.append((last, passing))
             last = passing
@@ -248,9 +266,10 @@ class Picture:
     def place(self):
         """The middle of each node: near its neighbours' middle, apart from the nodes beside it."""
         self.x = {}
+        self.width = max(self.needed(row) for row in self.rows)
         for row in self.rows:
             for number, node in enumerate(row):
-                self.x[node] = WIDTH * (number + 0.5) / len(row)
+                self.x[node] = self.width * (number + 0.5) / len(row)
         for turn in range(300):
             for row in self.rows if turn % 2 == 0 else self.rows[::-1]:
                 wanted = []
@@ -259,36 +278,41 @@ class Picture:
                     wanted.append(sum(near) / len(near) if near else self.x[node])
                 self.spread(row, wanted)
 
+    def gap(self, left, right):
+        """How far apart the middles of two nodes of a row are at least."""
+        between = 16 if isinstance(left, str) and isinstance(right, str) else 8
+        return (self.widths[left] + self.widths[right]) / 2 + between
+
+    def needed(self, row):
+        """How wide the picture has to be for a row."""
+        gaps = sum(self.gap(left, right) for left, right in zip(row, row[1:]))
+        return math.ceil(2 * MARGIN + (self.widths[row[0]] + self.widths[row[-1]]) / 2 + gaps)
+
     def spread(self, row, wanted):
         """Puts a row's nodes as near to what they want as their widths and the margins let them."""
-
-        def gap(left, right):
-            between = 16 if isinstance(left, str) and isinstance(right, str) else 10
-            return (self.widths[left] + self.widths[right]) / 2 + between
-
         ahead = []
         for number, node in enumerate(row):
-            least = MARGIN + self.widths[node] / 2 if number == 0 else ahead[-1] + gap(row[number - 1], node)
+            least = MARGIN + self.widths[node] / 2 if number == 0 else ahead[-1] + self.gap(row[number - 1], node)
             ahead.append(max(wanted[number], least))
         back = [0.0] * len(row)
         for number in range(len(row) - 1, -1, -1):
             node = row[number]
             most = (
-                WIDTH - MARGIN - self.widths[node] / 2
+                self.width - MARGIN - self.widths[node] / 2
                 if number == len(row) - 1
-                else back[number + 1] - gap(node, row[number + 1])
+                else back[number + 1] - self.gap(node, row[number + 1])
             )
             back[number] = min(wanted[number], most)
         middle = [(one + other) / 2 for one, other in zip(ahead, back)]
         for number, node in enumerate(row):
-            least = MARGIN + self.widths[node] / 2 if number == 0 else self.x[row[number - 1]] + gap(row[number - 1], node)
+            least = MARGIN + self.widths[node] / 2 if number == 0 else self.x[row[number - 1]] + self.gap(row[number - 1], node)
             self.x[node] = max(middle[number], least)
         for number in range(len(row) - 1, -1, -1):
             node = row[number]
             most = (
-                WIDTH - MARGIN - self.widths[node] / 2
+                self.width - MARGIN - self.widths[node] / 2
                 if number == len(row) - 1
-                else self.x[row[number + 1]] - gap(node, row[number + 1])
+                else self.x[row[number + 1]] - self.gap(node, row[number + 1])
             )
             self.x[node] = min(self.x[node], most)
 
@@ -355,13 +379,17 @@ def ways(picture):
     return lines, stations
 
 
+def name_class(name):
+    return "name" if len(name) <= LONG_NAME else "name long"
+
+
 def room(picture, name):
     """A room: its name and its purpose."""
     x, y = picture.x[name] - ROOM_WIDTH / 2, picture.top(name)
     parts = [
         f'<rect x="{number_text(x)}" y="{number_text(y)}" width="{ROOM_WIDTH}" height="{ROOM_HEIGHT}" rx="4" '
-        f'fill="{TINTS[kind_of(name)]}" stroke="#4b5563" stroke-width="1"/>',
-        f'<text x="{number_text(picture.x[name])}" y="{number_text(y + 21)}" class="name">{html.escape(name)}</text>',
+        f'fill="{tint_of(GROUPS[name])}" stroke="#4b5563" stroke-width="1"/>',
+        f'<text x="{number_text(picture.x[name])}" y="{number_text(y + 21)}" class="{name_class(name)}">{html.escape(name)}</text>',
     ]
     for number, line in enumerate(wrapped(purpose_of(name))):
         parts.append(
@@ -374,18 +402,21 @@ def room(picture, name):
 def legend():
     """What the tints and the coloured lines are."""
     parts = [f'<text x="{MARGIN}" y="26" class="title">The crates, each above those that it stands on</text>']
-    x = MARGIN
-    for kind, tint in TINTS.items():
+    x, y = MARGIN, 42
+    for heading in HEADINGS:
+        step = 60 + 7 * len(heading)
+        if x + step > LEGEND_WIDTH:
+            x, y = MARGIN, y + 22
         parts.append(
-            f'<rect x="{x}" y="42" width="18" height="14" fill="{tint}" stroke="#4b5563" stroke-width="1"/>'
-            f'<text x="{x + 25}" y="54" class="key">{TINT_NAMES[kind]}</text>'
+            f'<rect x="{x}" y="{y}" width="18" height="14" fill="{tint_of(heading)}" stroke="#4b5563" stroke-width="1"/>'
+            f'<text x="{x + 25}" y="{y + 12}" class="key">{html.escape(heading)}</text>'
         )
-        x += 60 + 7 * len(TINT_NAMES[kind])
+        x += step
     x = MARGIN
     for text, colour, _, _ in WAYS:
         parts.append(
-            f'<path d="M{x} 74h30" stroke="{colour}" stroke-width="3.2" stroke-opacity="0.75"/>'
-            f'<text x="{x + 38}" y="78" class="key">{text}, by its numbers</text>'
+            f'<path d="M{x} 94h30" stroke="{colour}" stroke-width="3.2" stroke-opacity="0.75"/>'
+            f'<text x="{x + 38}" y="98" class="key">{text}, by its numbers</text>'
         )
         x += 70 + 7 * len(text + ", by its numbers")
     return "".join(parts)
@@ -398,13 +429,13 @@ def drawn():
     lines, stations = ways(picture)
     style = (
         f"text{{font-family:{FONT};fill:#111827}}.name{{font-size:13px;font-weight:bold;text-anchor:middle}}"
-        ".purpose{font-size:10.5px;text-anchor:middle}.title{font-size:17px;font-weight:bold}.key{font-size:12px}"
+        ".long{font-size:10.5px}.purpose{font-size:10.5px;text-anchor:middle}.title{font-size:17px;font-weight:bold}.key{font-size:12px}"
         ".station{font-size:11px;font-weight:bold;text-anchor:middle;fill:#ffffff}"
     )
     parts = [
-        f'<svg xmlns="http://www.w3.org/2000/svg" width="{WIDTH}" height="{height}" viewBox="0 0 {WIDTH} {height}">',
+        f'<svg xmlns="http://www.w3.org/2000/svg" width="{picture.width}" height="{height}" viewBox="0 0 {picture.width} {height}">',
         f"<style>{style}</style>",
-        f'<rect width="{WIDTH}" height="{height}" fill="#ffffff"/>',
+        f'<rect width="{picture.width}" height="{height}" fill="#ffffff"/>',
         legend(),
         edges(picture),
         *lines,
