@@ -83,7 +83,6 @@ fn built<'p>(
     build(alloc, sources, patterns, metas, options)
 }
 
-/// Answers a case whose patterns are compiled.
 fn answer_by_patterns(
     alloc: Global,
     metas: &StandardMeta<'_>,
@@ -108,7 +107,6 @@ fn answer_by_patterns(
     }
 }
 
-/// Answers a case with these sources.
 fn answer_by_sources(
     alloc: Global,
     metas: &StandardMeta<'_>,

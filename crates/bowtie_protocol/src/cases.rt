@@ -36,7 +36,6 @@ pub trait Engine {
     fn answer(&self, alloc: Global, draft: Draft, case: Case<'_>) -> Result<Value, AllocError>;
 }
 
-/// Returns the answer to a test.
 fn result_of<J: Judge>(alloc: Global, judge: &J, test: &Value) -> Result<Value, AllocError> {
     match test.get("instance") {
         Some(instance) => verdict(alloc, judge.accepts(alloc, instance)?),

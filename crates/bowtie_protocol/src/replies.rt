@@ -21,12 +21,10 @@ fn number_of(seq: Option<&Value>) -> Result<Value, AllocError> {
     }
 }
 
-/// Returns the reply that says whether a command was obeyed.
 pub(crate) fn obeyed(alloc: Global, ok: bool) -> Result<Value, AllocError> {
     json!(in alloc; {"ok": Value::Bool(ok)})
 }
 
-/// Returns a judge's verdict on an instance.
 pub(crate) fn verdict(alloc: Global, valid: bool) -> Result<Value, AllocError> {
     json!(in alloc; {"valid": Value::Bool(valid)})
 }

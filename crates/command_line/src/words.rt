@@ -120,7 +120,6 @@ fn manners<'a>(alloc: Global, command: Command<'a>) -> Result<Command<'a>, OutOf
     command.arg(progress)
 }
 
-/// Adds the limits of the engine.
 fn limits<'a>(alloc: Global, command: Command<'a>) -> Result<Command<'a>, OutOfMemory> {
     let command = command.arg(run_limit_option(alloc))?;
     let command = command.arg(work_limit_option(alloc))?;

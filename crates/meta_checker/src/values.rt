@@ -20,7 +20,6 @@ pub fn has_fraction(value: &Value) -> bool
     }
 }
 
-// Returns whether a number in one of the items is a float.
 #[cycle(walk)]
 fn items_have_fraction(items: &Vec<Value>) -> bool
     ensures fraction { result ≡ items_have_float (items_view items.now.items) }
@@ -33,7 +32,6 @@ fn items_have_fraction(items: &Vec<Value>) -> bool
     false
 }
 
-// Returns whether a number in one of the members is a float.
 #[cycle(walk)]
 fn members_have_fraction(members: &Map<String, Value>) -> bool
     ensures fraction { result ≡ members_have_float (members_view members.now.entries) }

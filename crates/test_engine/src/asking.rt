@@ -91,7 +91,6 @@ pub(crate) fn push_refusal(error: BuildError, log: &mut String) -> Result<(), Ou
     }
 }
 
-/// Adds the verdict.
 fn push_verdict<K: Validate, M: Matcher>(
     alloc: Global,
     validator: &Validator<K, M>,
@@ -207,7 +206,6 @@ pub(crate) fn tell_by<K: Validate, T: KeywordTable<K>>(
     told
 }
 
-/// Returns the list of an evaluation.
 fn list_of<K: Validate, M: Matcher>(
     alloc: Global,
     validator: &Validator<K, M>,

@@ -36,7 +36,6 @@ pub(crate) enum Rows {
     Wanting,
 }
 
-/// Adds the result of a row.
 fn tell(alloc: Global, rows: Rows, row: &Value, log: &mut String) -> Result<(), OutOfMemory> {
     match rows {
         Rows::Failures => tell_failure(alloc, row, log),
@@ -60,7 +59,6 @@ fn tell(alloc: Global, rows: Rows, row: &Value, log: &mut String) -> Result<(), 
     }
 }
 
-/// Returns whether a row is right.
 fn is_right(alloc: Global, rows: Rows, row: &Value) -> Result<bool, OutOfMemory> {
     let mut log = String::new(alloc);
     let told = tell(alloc, rows, row, &mut log);

@@ -93,7 +93,6 @@ pub struct ItemsKeyword {
 }
 
 impl ItemsKeyword {
-    // Returns whether the keyword's runs mark.
     fn marks(&self) -> bool
         ensures marks { result ≡ marks self.now.planned.keyword }
     {

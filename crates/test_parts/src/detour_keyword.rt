@@ -42,7 +42,6 @@ impl Model for DetourShape {
     ghost view = { λ _. ([], requires []) };
 }
 
-/// Returns how many matches come first.
 fn matches_before(patterns: &[String], mode: Mode) -> usize
     ensures before { result ≡ matches_before (map string_bytes patterns.now) (mode_of mode) }
 {
@@ -54,7 +53,6 @@ fn matches_before(patterns: &[String], mode: Mode) -> usize
     }
 }
 
-/// Returns the pattern at this place.
 fn pattern_at(patterns: &[String], index: usize) -> &str
     ensures pattern { result.now ≡ pattern_at (map string_bytes patterns.now) index }
 {

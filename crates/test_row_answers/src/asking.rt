@@ -11,7 +11,6 @@ use test_rows::call::Question;
 use test_rows::case::number_of;
 use test_rows::showing::{counted, errors_in, first_in, list_in, shown_in, units_counted};
 
-// Returns the first error, or `null`.
 fn first_error<K: Validate>(
     alloc: Global,
     validator: &Validator<K, BenchMatcher>,
@@ -20,7 +19,6 @@ fn first_error<K: Validate>(
     first_in(alloc, validator.validate(alloc, instance)?)
 }
 
-// Returns all errors.
 pub(crate) fn all_errors<K: Validate>(
     alloc: Global,
     validator: &Validator<K, BenchMatcher>,
@@ -29,7 +27,6 @@ pub(crate) fn all_errors<K: Validate>(
     errors_in(alloc, validator.iter_errors(alloc, instance)?)
 }
 
-// Returns the verdict of the evaluation.
 fn evaluated<K: Validate>(
     alloc: Global,
     validator: &Validator<K, BenchMatcher>,
@@ -66,7 +63,6 @@ fn evaluation_errors<K: Validate>(
     errors
 }
 
-// Returns the answers of the four calls.
 fn four_answers<K: Validate>(
     alloc: Global,
     validator: &Validator<K, BenchMatcher>,
@@ -84,7 +80,6 @@ fn four_answers<K: Validate>(
     })
 }
 
-// Returns the number of entries of the root's node.
 fn entries<K: Validate>(validator: &Validator<K, BenchMatcher>) -> usize {
     let root = validator.root();
     if root.0 >= validator.nodes().len() {
@@ -117,7 +112,6 @@ fn list_count<K: Validate>(
     count
 }
 
-// Returns the answer of a validator.
 pub(crate) fn asked<K: Validate>(
     alloc: Global,
     validator: &Validator<K, BenchMatcher>,

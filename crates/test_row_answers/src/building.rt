@@ -15,7 +15,6 @@ use std::alloc::Global;
 use test_rows::call::Question;
 use test_rows::case::Case;
 
-// Builds the validator of a schema with a setting and a table.
 fn built_by<K: Validate, T: KeywordTable<K>>(
     alloc: Global,
     schema: &Value,
@@ -35,7 +34,6 @@ fn built_by<K: Validate, T: KeywordTable<K>>(
     }
 }
 
-// Builds the validator of a case's schema.
 pub(crate) fn built<K: Validate, T: KeywordTable<K>>(
     alloc: Global,
     case: &Case<'_>,

@@ -16,7 +16,6 @@ use test_rows::answers::{Answers, agreed};
 use test_rows::case::Case;
 use test_rows::showing::{errors_in, first_in};
 
-// Returns whether the schema accepts the instance.
 fn accepts<K: Validate, T: KeywordTable<K>>(
     alloc: Global,
     case: &Case<'_>,
@@ -34,7 +33,6 @@ fn accepts<K: Validate, T: KeywordTable<K>>(
     )
 }
 
-// Returns the error by which the schema refuses the instance.
 fn refuses<'c, K: Validate, T: KeywordTable<K>>(
     alloc: Global,
     case: &Case<'c>,
@@ -52,7 +50,6 @@ fn refuses<'c, K: Validate, T: KeywordTable<K>>(
     )
 }
 
-// Returns all errors.
 fn all_errors<'c, K: Validate, T: KeywordTable<K>>(
     alloc: Global,
     case: &Case<'c>,
@@ -70,7 +67,6 @@ fn all_errors<'c, K: Validate, T: KeywordTable<K>>(
     )
 }
 
-// Returns the evaluation.
 fn evaluation<K: Validate, T: KeywordTable<K>>(
     alloc: Global,
     case: &Case<'_>,
@@ -133,7 +129,6 @@ fn evaluated(
     }
 }
 
-// Returns the answers of the four calls.
 fn four_answers<K: Validate, T: KeywordTable<K>>(
     alloc: Global,
     case: &Case<'_>,

@@ -16,7 +16,6 @@ use std::alloc::Global;
 use test_rows::call::MapQuestion;
 use test_rows::case::{Case, number_of};
 
-// Builds the map of a schema with a setting and a table.
 fn map_by<K: Validate, T: KeywordTable<K>>(
     alloc: Global,
     schema: &Value,
@@ -31,7 +30,6 @@ fn map_by<K: Validate, T: KeywordTable<K>>(
         .build_map(alloc, schema, table, resolver, matcher, metas)
 }
 
-// Builds the map of a case's schema.
 fn mapped<K: Validate, T: KeywordTable<K>>(
     alloc: Global,
     case: &Case<'_>,
@@ -43,7 +41,6 @@ fn mapped<K: Validate, T: KeywordTable<K>>(
     map
 }
 
-// Adds the names of a map.
 fn push_names<K: Validate>(
     alloc: Global,
     map: &ValidatorMap<K, BenchMatcher>,

@@ -29,7 +29,6 @@ fn parts_of(alloc: Global, error: &BuildError) -> Result<Value, OutOfMemory> {
     json!(in alloc; {"refused": number, "at": place, "text": text})
 }
 
-// Returns a refusal as a value.
 pub(crate) fn refusal(alloc: Global, error: BuildError) -> Result<Value, OutOfMemory> {
     let parts = parts_of(alloc, &error);
     drop(error);

@@ -24,7 +24,6 @@ pub(crate) struct Setting<'c> {
 }
 
 impl<'c> Setting<'c> {
-    // Returns the setting of a case.
     pub(crate) fn of(alloc: Global, case: &Case<'c>) -> Result<Setting<'c>, OutOfMemory> {
         Ok(Setting {
             options: options_of(alloc, case)?,
@@ -35,7 +34,6 @@ impl<'c> Setting<'c> {
     }
 }
 
-// Returns the options of a case.
 fn options_of(alloc: Global, case: &Case<'_>) -> Result<ValidationOptions, OutOfMemory> {
     let mut options = plain_options_of(alloc, case);
     if let Some(base) = case.text("base") {
@@ -107,7 +105,6 @@ fn required_by(alloc: Global, case: &Case<'_>) -> Result<VocabularySet, OutOfMem
     Ok(required)
 }
 
-// Returns a document with this URI.
 fn document<'c>(alloc: Global, uri: &str, value: &'c Value) -> Result<Document<'c>, OutOfMemory> {
     let uri = String::from_str(alloc, uri)?;
     Ok(Document { uri, value })

@@ -72,7 +72,6 @@ fn answer_of<A: Answering>(
     }
 }
 
-// Returns the name of a row, if it has one.
 fn name_of(alloc: Global, row: &Value) -> Result<Option<String>, AllocError> {
     match row.get("name").and_then(Value::as_str) {
         Some(name) => Ok(Some(String::from_str(alloc, name)?)),

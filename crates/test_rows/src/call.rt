@@ -68,7 +68,6 @@ impl Call {
     }
 }
 
-// Returns the question of this name to a validator.
 fn question_named(name: &str) -> Option<Question>
     ensures named { result ≡ question_named name.now }
 {
@@ -121,7 +120,6 @@ fn build_question_named(name: &str) -> Option<Question>
     }
 }
 
-// Returns the question of this name to a map.
 fn map_question_named(name: &str) -> Option<MapQuestion>
     ensures named { result ≡ map_question_named name.now }
 {

@@ -165,7 +165,6 @@ fn table_of(name: Option<&Value>) -> Option<Table>
     }
 }
 
-// Returns the draft of this number.
 fn draft_numbered(number: u64) -> Option<Draft>
     ensures draft { result ≡ draft_numbered number }
 {

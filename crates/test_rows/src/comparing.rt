@@ -67,7 +67,6 @@ fn are_these_errors(errors: &[Value], wanted: &[Value]) -> bool
     others.next().is_none()
 }
 
-// Returns whether these are the errors that a row names.
 fn are_errors(given: &Value, want: &Value) -> bool
     ensures errors { result ≡ are_errors (view given.now) (view want.now) }
 {
@@ -93,7 +92,6 @@ fn is_this_count(parts: &[Value], wanted: &[Value]) -> bool
     is_same(count, wanted_count) && is_error(first, wanted_first) && is_error(last, wanted_last)
 }
 
-// Returns whether these are the count and the two errors that a row names.
 fn is_count(given: &Value, want: &Value) -> bool
     ensures count { result ≡ is_count (view given.now) (view want.now) }
 {
@@ -179,7 +177,6 @@ fn ends_as_wanted(given: &Value, want: &Value) -> bool
     }
 }
 
-// Returns whether a refusal is the one that a row wants.
 fn is_refusal(given: &Value, want: &Value) -> bool
     ensures refusal { result ≡ is_refusal (view given.now) (view want.now) }
 {
@@ -190,7 +187,6 @@ fn is_refusal(given: &Value, want: &Value) -> bool
         && ends_as_wanted(given, want)
 }
 
-// Returns whether a validator's answer is the one that a row wants.
 fn is_answer(question: Question, given: &Value, want: &Value) -> bool
     ensures answer { result ≡ is_answer question (view given.now) (view want.now) }
 {
@@ -202,7 +198,6 @@ fn is_answer(question: Question, given: &Value, want: &Value) -> bool
     }
 }
 
-// Returns whether a map's answer is the one that a row wants.
 fn is_map_answer(question: MapQuestion, given: &Value, want: &Value) -> bool
     ensures answer { result ≡ is_map_answer question (view given.now) (view want.now) }
 {

@@ -29,7 +29,6 @@ pub fn is_same(left: &Value, right: &Value) -> bool
     }
 }
 
-// Returns whether both are the same number.
 fn is_same_number(left: &Number, right: &Number) -> bool
     ensures same { result ≡ is_same_number (number_view left.now) (number_view right.now) }
 {
@@ -39,7 +38,6 @@ fn is_same_number(left: &Number, right: &Number) -> bool
     left.as_u64() == right.as_u64() && left.as_i64() == right.as_i64()
 }
 
-// Returns whether both are the same items in the same order.
 #[cycle(same)]
 fn are_same_items(left: &Vec<Value>, right: &Vec<Value>) -> bool
     ensures same { result ≡ are_same_items (items_view left.now.items) (items_view right.now.items) }
@@ -58,7 +56,6 @@ fn are_same_items(left: &Vec<Value>, right: &Vec<Value>) -> bool
     others.next().is_none()
 }
 
-// Returns whether both are the same members.
 #[cycle(same)]
 fn are_same_members(left: &Map<String, Value>, right: &Map<String, Value>) -> bool
     ensures same { result ≡ are_same_members (members_view left.now.entries) (members_view right.now.entries) }

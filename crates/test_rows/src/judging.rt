@@ -29,7 +29,6 @@ pub struct Tally {
     pub names: BTreeSet<String>,
 }
 
-// Returns whether this answer is the one that a row wants.
 fn is_right(row: &Value, given: &Value) -> bool
     ensures right { result ≡ is_right (view row.now) (view given.now) }
 {
@@ -42,7 +41,6 @@ fn is_right(row: &Value, given: &Value) -> bool
     }
 }
 
-// Returns whether the result of a row is right.
 fn is_right_answer(answer: &RowAnswer) -> bool
     ensures right { result ≡ is_right_answer answer.now }
 {

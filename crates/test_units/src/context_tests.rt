@@ -14,7 +14,6 @@ use standard_resolver::resolver::DocumentResolver;
 use std::alloc::Global;
 use test_rows::tables::{column, number_at, push_all, text_at};
 
-/// Returns the draft of this number.
 fn draft_of(number: Option<usize>) -> Draft {
     match number {
         Some(4) => Draft::Draft4,
@@ -26,7 +25,6 @@ fn draft_of(number: Option<usize>) -> Draft {
     }
 }
 
-/// Returns the vocabulary of this name.
 fn vocabulary_of(name: &str) -> Vocabulary {
     match name {
         "format-annotation" => Vocabulary::FormatAnnotation,
@@ -116,7 +114,6 @@ fn push_known<R: Resolver>(context: &Context<R>, log: &mut String) -> Result<(),
     push_all(log, &words)
 }
 
-/// Adds the answers of a context.
 fn push_told<R: Resolver>(context: &Context<R>, log: &mut String) -> Result<(), OutOfMemory> {
     push_located(context, log)?;
     push_located_later(context, log)?;

@@ -94,7 +94,6 @@ fn is_in_drafts(alloc: Global, row: &Value) -> Result<bool, OutOfMemory> {
     Ok(true)
 }
 
-/// Returns the keyword of this name.
 fn keyword_named(alloc: Global, name: &str) -> Result<Keyword, OutOfMemory> {
     Ok(match BuiltinKeyword::named(name) {
         Some(builtin) => Keyword::from(builtin),

@@ -20,7 +20,6 @@ enum Rows {
     Values,
 }
 
-/// Adds the result of a row.
 fn tell(alloc: Global, rows: Rows, row: &Value, log: &mut String) -> Result<(), OutOfMemory> {
     match rows {
         Rows::Contexts => tell_context(alloc, row, log),
@@ -30,7 +29,6 @@ fn tell(alloc: Global, rows: Rows, row: &Value, log: &mut String) -> Result<(), 
     }
 }
 
-/// Returns whether a row is right.
 fn is_right(alloc: Global, rows: Rows, row: &Value) -> Result<bool, OutOfMemory> {
     let mut log = String::new(alloc);
     let told = tell(alloc, rows, row, &mut log);
