@@ -1,9 +1,9 @@
 //! Tests of the engine, of facts that no clause states and no row can test.
 //!
-//! The rows are those of `test_check_rows`. These tests have a keyword type, a table, a resolver or
-//! a matcher of their own (`test_parts`); calls that are made once more after lack of memory, or
-//! that count their questions; a reference chain that needs more stack than every compiler leaves;
-//! and the output of the program `engine_bench`.
+//! The rows are those of `test_check_rows`. The tests cover the engine with a keyword type, a
+//! table, a resolver or a matcher of their own (`test_parts`); calls that are made once more after
+//! lack of memory, or that count their questions; a reference chain that needs more stack than
+//! every compiler leaves; and the output of the program `engine_bench`.
 //!
 //! Their cases are rows of tables, which `rows` tests one by one. A row begins with the text that
 //! is wanted of it. Few functions call the engine, mostly in `asking`, so that there is little to

@@ -1,6 +1,6 @@
 -- A keyword that validates each item against its only child, the last item first. Its run holds the
 -- number of items that are left, which it stores at the beginning. So its questions are right, and
--- it ends within this many turns, only if no more items are left than there are.
+-- it ends within that many turns, only if no more items are left than there are.
 use Rattle.std.proofs.Common.{◌≡◌, ◌∙◌, ℕ, zero, suc, ◌+◌, ◌<◌, ◌≤◌, ◌&&◌, ◌⊎◌, ◌∷◌, [], List, Bool, true, false, not, refl, sym, ap, ap₂, arith, inl, inr}
 use Rattle.std.specs.Prelude.{All, Contains, ⊤}
 use Rattle.std.specs.List.{list_all}

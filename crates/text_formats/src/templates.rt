@@ -52,7 +52,7 @@ fn is_exploded(text: &[u8]) -> bool
     }
 }
 
-// Returns whether a text is the name of a variable, with the part of its value that is meant.
+// Returns whether a text is the name of a variable, with its modifier if it has one.
 pub(crate) fn is_variable(text: &[u8]) -> bool
     ensures variable { result ≡ spec.is_variable text.now }
 {
