@@ -52,11 +52,15 @@ fn strings_table() -> BothTable<TableByValue<StringTable>, BasicTable> {
 
 /// Returns the engine's answer to a case.
 ///
-/// The answer is what the case's call requests. If the schema is refused, it is `{"refused":
-/// number, "at": place, "text": text}`, with `null` as the place of refusals that have none. If
-/// calls that should agree do not, it is `{"disagree": ..}`. For a value that is no case it is
-/// `{"fault": text}`. The table of the standard's keywords belongs to a crate above this one, and
-/// is passed in: it answers a case whose table is `standard`.
+/// The answer is the one that the case's call requests, or one of these:
+///
+/// - If the schema is refused, it is `{"refused": number, "at": place, "text": text}`. The place is
+///   `null` for refusals that have none.
+/// - If calls that should agree do not, it is `{"disagree": ..}`.
+/// - If the value is no case, it is `{"fault": text}`.
+///
+/// The table of the standard's keywords belongs to a crate above this one, and is passed in: it
+/// answers a case whose table is `standard`.
 ///
 /// # Errors
 ///

@@ -4,9 +4,9 @@
 //! the value. In an object, a member `@members` that is `[count, name, value]` stands for this many
 //! members. In their texts and names, `{}` is replaced by the number of the copy, from 0, and `{+}`
 //! by the next number. An object whose member `@within` is `[count, name, value]` is the value
-//! inside this many objects, each with this one member. An object whose member `@text` is `[count,
-//! text, last]` is the text this many times, and then the last text. The repeated part is grown
-//! first, so a number belongs to the innermost repetition around it.
+//! inside this many objects, each with this one member. An object whose member `@text` is
+//! `[count, text, last]` is the text this many times, and then the last text. The repeated part is
+//! grown first, so a number belongs to the innermost repetition around it.
 
 use serde_json::{Map, Value};
 use std::alloc::{AllocError, Global};
