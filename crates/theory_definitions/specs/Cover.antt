@@ -47,7 +47,7 @@ module _ (v : Sense) where
   branch_at call as' = find (λ m. not (is_some (assumed as' m.pair))) (v.meets call as')
 
   -- The members of a cover that grow from a list of assumptions; those that assume a no come first.
-  -- Each member assumes enough outcomes for a run that meets no other unfinished match.
+  -- The run under a member meets no unfinished match that the member does not assume.
   pub data Cover (call : Call) : Assumptions → List Assumptions → Type 0 where
     whole : {as' : Assumptions} → branch_at call as' ≡ None → Cover call as' (as' ∷ [])
     split : {as' : Assumptions} {no yes : List Assumptions} (m : Met) → branch_at call as' ≡ Some m → Cover call (assuming m false as') no → Cover call (assuming m true as') yes → Cover call as' (no ++ yes)

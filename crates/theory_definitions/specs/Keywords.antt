@@ -69,9 +69,9 @@ abbrev pub Answers : Type 0
 Answers = Question → Outcome
 
 -- A mark that a run sets: on a child, named by the number of its request, or on a node number that
--- was pending or that the maker reserved, named by its position among those that the maker
--- received. If nothing is pending, each of these has a key of its own, so two positions are two
--- marks.
+-- was pending or that the maker reserved, named by its position among the node numbers that the
+-- maker received. If nothing is pending, each of these numbers has a key of its own, so two
+-- positions are two marks.
 pub data Marked : Type 0 where
   a_child : ℕ → Marked
   a_reservation : ℕ → Marked
@@ -91,8 +91,8 @@ pub data Reply : Type 0 where
   all_of_it : List Error → Reply
   unit_of_it : Unit_ → Reply
 
--- A turn of a run: it asks a question, requests a match, sets a mark, removes the latest mark,
--- requests whether a text is an ECMA-262 pattern, or ends the run.
+-- A turn of a run: it asks a question, requests a match, sets a mark, removes the latest mark, asks
+-- whether a text is an ECMA-262 pattern, or ends the run.
 pub data Turn : Type 0 where
   ask : Question → Mode → Turn
   match_text : Pair → MatchPoint → Turn
@@ -111,8 +111,8 @@ pub record Answer : Type 0 where
 -- The functions that define a keyword type. `K` is the type of a keyword, and `R` is the state of a
 -- run, which contains the answer so far.
 pub record Keywords (K R : Type 0) : Type 0 where
-  -- Whether the texts of errors are covered. If fractions occur they are not, and each text counts
-  -- as empty.
+  -- Whether the texts of errors are covered. If fractions occur, they are not covered, and each
+  -- text counts as empty.
   pub texts : Bool
   -- The questions that a keyword may ask of a subject.
   pub may_ask : K → Subject → List Question

@@ -32,7 +32,7 @@ steps_below (down s) = s ∷ []
 abbrev pub IsPresent : Subject → Place → Type 0
 IsPresent s p = is_some (subject_from p s) ≡ true
 
--- A location lies inside the instance, and at the keyword or one that it absorbs, or below.
+-- A location lies inside the instance, and at or below the keyword or one that it absorbs.
 abbrev pub SpotInside : Subject → List Text → Spot → Type 0
 SpotInside s absorbed spot = IsPresent s spot.below × ((path : Place) × (spot.path ≡ pointer_to path)) × (elim spot.absorbed [ None ↦ Unit {0} | Some name ↦ Contains absorbed name ])
 
@@ -42,14 +42,14 @@ module _ {K R : Type 0} (keywords : Keywords K R) (m : K) (s : Subject) where
   EndsWithin zero r reply = ⊥
   EndsWithin (suc n) r reply = (keywords.step m s r reply ≡ done) ⊎ ((next : Reply) → EndsWithin n (keywords.turn m s r reply) next)
 
-  -- A turn asks only questions that the keyword may ask, and requests matches only at the keyword
-  -- and inside the instance.
+  -- A turn asks only questions that the keyword may ask, and requests matches only at locations
+  -- inside the keyword and the instance.
   abbrev pub AsksRightly : List Text → Turn → Type 0
   AsksRightly absorbed (ask q mode) = Contains (keywords.may_ask m s) q
   AsksRightly absorbed (match_text a point) = SpotInside s absorbed point.spot
   AsksRightly absorbed _ = Unit {0}
 
-  -- The next n turns of the run do so, whatever the replies are.
+  -- Each of the next n turns of the run does so, whatever the replies are.
   abbrev pub AlwaysAsksRightly : List Text → ℕ → R → Reply → Type 0
   AlwaysAsksRightly absorbed zero r reply = Unit {0}
   AlwaysAsksRightly absorbed (suc n) r reply = AsksRightly absorbed (keywords.step m s r reply) × ((next : Reply) → AlwaysAsksRightly absorbed n (keywords.turn m s r reply) next)
@@ -127,6 +127,6 @@ pub record KeepsLaws {K R : Type 0} (keywords : Keywords K R) (m : K) (absorbed 
   pub stands : (s : Subject) (matches : Matching) (a : Answers) → All (StandsInside s absorbed) (keywords.faults m s matches a)
   pub passes : (s : Subject) (matches : Matching) (a : Answers) → All (PassesUnchanged a (keywords.may_ask m s)) (keywords.faults m s matches a)
 
--- Every keyword keeps the laws, for the names that it absorbs.
+-- Every keyword keeps the laws with some list of absorbed names.
 abbrev pub EachKeeps : {K R : Type 0} → Keywords K R → Type 0
 EachKeeps {K} keywords = (m : K) → (absorbed : List Text) × KeepsLaws keywords m absorbed

@@ -42,8 +42,8 @@ completed c a = if list_any (same_pair a) c.except then not c.otherwise else c.o
 abbrev pub all_match : Completion
 all_match = record { otherwise = true; except = [] }
 
--- What a keyword may request about texts: whether one matches a pattern, and whether one is a
--- pattern.
+-- What a keyword may ask about texts: whether a text matches a pattern, and whether a text is an
+-- ECMA-262 pattern.
 pub record Matching : Type 0 where
   pub matches : Text → Text → Bool
   pub is_ecma : Text → Bool

@@ -85,8 +85,8 @@ module _ {S K R : Type 0} (w : Parts S K R) (instance : Data) where
   -- place, given the answers of its children
 
   module _ {X : Type 0} (last : X) (node : Key S → Text → Place → (Edge S → Place → X) → X) where
-    -- Follows references by `across`, and subschemas by itself. Subschemas lie strictly inside
-    -- their schema, so they nest at most h deep.
+    -- The answer of a key, in which `across` answers for references, and subschemas are unfolded at
+    -- most h deep. Subschemas lie strictly inside their schema, so a bound on their depth suffices.
     abbrev pub within : (Key S → Text → Place → X) → ℕ → Key S → Text → Place → X
     within across zero k path p = last
     within across (suc h) k path p = node k path p (λ edge q. elim edge.is_reference [ true ↦ across edge.key (path ++ edge.path) q | false ↦ within across h edge.key (path ++ edge.path) q ])

@@ -95,12 +95,12 @@ pub data Plan (K : Type 0) : Type 0 where
   never : Plan K
   these : List (Part K) → Plan K
 
--- The parts sorted by priority. Parts of the same priority stay in order.
+-- The sorted parts with one more at its place, before those of the same priority.
 abbrev pub placed : {K : Type 0} → Part K → List (Part K) → List (Part K)
 placed x [] = x ∷ []
 placed x (y ∷ ys) = if nat_le x.priority y.priority then x ∷ y ∷ ys else y ∷ placed x ys
 
--- All parts, sorted by priority.
+-- The parts sorted by priority. Parts of the same priority stay in order.
 abbrev pub sorted : {K : Type 0} → List (Part K) → List (Part K)
 sorted [] = []
 sorted (x ∷ xs) = placed x (sorted xs)
@@ -123,7 +123,7 @@ pub record Edge (S : Type 0) : Type 0 where
   pub is_reference : Bool
   pub is_recursive : Bool
 
--- The bytes that occur in a URI's fragment as they are; all others are percent-encoded.
+-- The byte occurs in a URI's fragment as it is; any other byte is percent-encoded.
 abbrev pub stands_plainly : ℕ → Bool
 stands_plainly x = (nat_le 65 x && nat_le x 90) || (nat_le 97 x && nat_le x 122) || (nat_le 48 x && nat_le x 57) || list_any (λ y. x == y) (codes "-._~!$&'()*+,;=:@/")
 
@@ -146,8 +146,8 @@ module _ {S K R : Type 0} (w : Parts S K R) where
   abbrev pub schema_of : Key S → Data
   schema_of k = schema_at k.target.place
 
-  -- The URI of the key's resource, with the pointer from `start` on. There is none if the base has
-  -- the scheme `json-schema`.
+  -- The absolute form of a location: the URI of the key's resource, with the rest of the location
+  -- from `start` on as its fragment. There is none if the base has the scheme `json-schema`.
   abbrev pub absolute_of : Key S → Text → Option Text
   absolute_of k location = if starts_with (λ x y. x == y) (w.resolver.base_uri k.target.state) (codes "json-schema:") then None
       else Some (without_fragment (w.resolver.base_uri k.target.state) ++ (35 ∷ encoded (drop k.start location)))
@@ -252,7 +252,7 @@ module _ {S K R : Type 0} (w : Parts S K R) where
       fails (w.resolver.in_subresource k.target.state (w.resolver.detect k.target.draft (schema_at place)) place)
   is_refused k (refer text) = fails (found k to_ref text)
 
-  -- The child that a keyword knows by the number of its request.
+  -- The edge to the child that a keyword names by the number of its request.
   abbrev pub child : Key S → Text → List Request → ℕ → Option (Edge S)
   child k name requests i = option_and_then (requested k name) (slice_get requests i)
 
@@ -281,7 +281,8 @@ module _ {S K R : Type 0} (w : Parts S K R) where
   reference_part k name priority kind (string text) = if is_self k kind text then None else Some (record { name = name; priority = priority; is_leaf = false; form = reference kind text })
   reference_part k name priority kind _ = None
 
-  -- The built-in table decides which names are keywords; the engine itself handles references.
+  -- The part of a plan that a built-in keyword or a reference becomes. The table decides which
+  -- names are keywords; the engine itself handles references.
   abbrev pub builtin_part : Key S → Members → Text → Data → Option (Part K)
   builtin_part k whole name value = elim (w.table.builtin k.target.draft k.target.vocabularies name) [
     | None ↦ None

@@ -1,5 +1,5 @@
--- What two runs for the verdict of one question have in common if they differ in the evaluation
--- path, and when nothing is left to remember of an unfinished match that is met again. (Core
+-- What two runs for the verdict of one question have in common if they differ only in the
+-- evaluation path, and when an unfinished match that is met again adds nothing to remember. (Core
 -- 2020-12, 12.4.2, keyword location)
 use Rattle.std.specs.Prelude.{List, [], is_some, suc, true, zero, ℕ, ◌||◌, ◌∷◌, ◌≡◌}
 use Rattle.theory_definitions.specs.Instance.{Place, Subject, Text}
@@ -9,7 +9,7 @@ use Rattle.theory_definitions.specs.Runs.{Met, Run}
 use Rattle.theory_definitions.specs.Unfinished.{Remembered, site_of}
 use Rattle.theory_definitions.specs.Guarded.{Nodes, guarded_node, guarded_within, node_outcome, yes_outcome, yes_run}
 
--- ---- what two evaluation paths have in common
+-- ---- what two runs have in common
 
 -- The same match, met both times at a site with an instance path, or both times at one without.
 abbrev pub SameMet : Met → Met → Type 0

@@ -6,7 +6,7 @@ use Rattle.serde_json.specs.Data.{Data}
 use Rattle.theory_definitions.specs.Instance.{Place, Text}
 use Rattle.theory_definitions.specs.Pointer.{pointer_to}
 
--- An error; the instance that it concerns is the one at its place.
+-- An error. It concerns the instance at its place.
 pub record Error : Type 0 where
   pub place : Place
   pub schema_path : Text
@@ -42,7 +42,8 @@ pub record Described : Type 0 where
   pub name : Text
   pub text : Text
 
--- What a unit says of itself. The place of the instance is a pointer (RFC 6901).
+-- The content of a unit, apart from the units inside it. The instance location is a pointer (RFC
+-- 6901).
 pub record Report : Type 0 where
   pub valid : Bool
   pub instance_location : Text
@@ -69,6 +70,7 @@ report_of (unit r us) = r
 abbrev pub children_of : Unit_ → Units
 children_of (unit r us) = us
 
+-- The units of a list.
 abbrev pub units_of : List Unit_ → Units
 units_of [] = no_units
 units_of (u ∷ us) = a_unit u (units_of us)

@@ -11,7 +11,7 @@ pub record Found (S : Type 0) : Type 0 where
   pub state : S
   pub draft : Draft
 
--- Where the document with a base URI begins.
+-- The place at which the document with a base URI begins, and the resolver state there.
 pub record Entrance (S : Type 0) : Type 0 where
   pub place : SchemaPlace
   pub state : S

@@ -24,8 +24,8 @@ module _ {K R : Type 0} (keywords : Keywords K R) (m : K) (s : Subject) (matches
   marks_after marks unmark = without_last marks
   marks_after marks _ = marks
 
--- A run in progress: what its turns are answered from, its marks, the keyword's state and the last
--- reply.
+-- A run in progress: the facts from which its turns are answered, its marks, the keyword's state
+-- and the last reply.
 pub record Standing (R : Type 0) : Type 0 where
   pub subject : Subject
   pub matches : Matching

@@ -63,7 +63,7 @@ meet r f = record {
   located = noted r.located f.met;
 }
 
--- The same for a match that is known already; this needs no reason.
+-- What a run remembers after it meets a match that it knows already; this needs no reason.
 abbrev pub meet_known : Remembered → Met → Remembered
 meet_known r m = record r { located = noted r.located m }
 
@@ -74,8 +74,8 @@ abbrev pub or_pattern : Option Text → Option Text → Option Text
 or_pattern (Some p) q = Some p
 or_pattern None q = q
 
--- A site that has an instance path is kept. Otherwise the new site replaces it, and takes its
--- pattern if the new one has none.
+-- A site that has an instance path is kept. Otherwise the new site, if there is one, replaces it,
+-- and takes over its pattern if the new site has none.
 abbrev pub preferred : Option (Text × Place) → Site → Option Site → Site
 preferred (Some l) site other = site
 preferred None site None = site

@@ -14,9 +14,11 @@ pub record Placed : Type 0 where
   pub counts : List Unit_
   pub after : List Unit_
 
+-- No unit is placed yet.
 abbrev pub nothing_placed : Placed
 nothing_placed = record { types = []; before = []; counts = []; after = [] }
 
+-- The list contains a unit.
 abbrev pub is_any : List Unit_ → Bool
 is_any [] = false
 is_any (u ∷ us) = true
@@ -25,22 +27,22 @@ is_any (u ∷ us) = true
 abbrev pub comes_after : Placed → ℕ → Bool
 comes_after u priority = nat_le 22 priority || is_any u.after
 
--- The placed units, and those that an entry absorbs.
+-- The placed units with those that an entry absorbs.
 abbrev pub with_absorbed : Placed → List (Text × Unit_) → Placed
 with_absorbed u absorbed = record u {
   types = u.types ++ map (λ a. a.1) (filter is_type absorbed);
   counts = u.counts ++ map (λ a. a.1) (filter (λ a. not (is_type a)) absorbed);
 }
 
--- The placed units, and the own unit of an entry.
+-- The placed units with the own unit of an entry.
 abbrev pub with_own : Placed → ℕ → Unit_ → Placed
 with_own u priority own = if comes_after u priority then record u { after = u.after ++ own ∷ [] } else record u { before = u.before ++ own ∷ [] }
 
--- The placed units, and all units of an entry.
+-- The placed units with all units of an entry.
 abbrev pub placed : Placed → Entry → Placed
 placed u x = with_own (with_absorbed u x.units.1) x.priority x.units.0
 
--- The placed units, and all units of several entries in order.
+-- The placed units with all units of several entries in order.
 abbrev pub each_placed : Placed → List Entry → Placed
 each_placed u [] = u
 each_placed u (x ∷ xs) = each_placed (placed u x) xs

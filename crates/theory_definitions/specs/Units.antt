@@ -58,7 +58,7 @@ abbrev pub is_type : Text × Unit_ → Bool
 is_type a = bytes_eq a.0 (codes "type")
 
 -- The own units of the entries, with the absorbed counts before the first entry of priority 22 or
--- more.
+-- more. A count is an absorbed unit that is not one of `type`, such as that of `minItems`.
 abbrev pub in_order : List Unit_ → List Entry → List Unit_
 in_order counts [] = counts
 in_order counts (x ∷ xs) = if nat_le 22 x.priority then counts ++ (x.units.0 ∷ map (λ y. y.units.0) xs) else x.units.0 ∷ in_order counts xs
@@ -90,12 +90,12 @@ abbrev pub absorbed_by : {K : Type 0} → Option (Part K) → List Text
 absorbed_by None = []
 absorbed_by (Some p) = elim p.form [ keyword m requests absorbed ↦ absorbed | reference kind text ↦ [] ]
 
--- The members without the one of this name, and without those of these names. A name occurs once in
--- an object.
+-- The members without the one of this name. A name occurs once in an object.
 abbrev pub without_name : Text → Members → Members
 without_name k no_members = no_members
 without_name k (member l d ms) = if bytes_eq k l then ms else member l d (without_name k ms)
 
+-- The members without those of these names.
 abbrev pub without : List Text → Members → Members
 without [] ms = ms
 without (k ∷ ks) ms = without ks (without_name k ms)

@@ -33,8 +33,8 @@ uri_of _ = None
 abbrev pub custom_of : Vocabularies → List Text
 custom_of vs = filter_map uri_of vs
 
--- The texts with one more before the first, unchanged if it equals the first, or with it placed
--- after the first.
+-- The texts with one more, by its order relative to the first: before the first if it is less, left
+-- out if it is equal, and otherwise among the rest, which then is `placed`.
 abbrev pub placed_by : Ordering → Text → Text → List Text → List Text → List Text
 placed_by Less text first rest placed = text ∷ (first ∷ rest)
 placed_by Equal text first rest placed = first ∷ rest

@@ -1,5 +1,5 @@
 -- A call makes its runs one after another: each run that it makes is one of its runs, and if it
--- decides it makes each of them.
+-- decides, it makes each of them.
 use Rattle.std.proofs.Common.{◌≡◌, ◌≤◌, ◌<◌, ◌+◌, ℕ, zero, suc, List, [], ◌∷◌, ◌++◌, ◌⊎◌, inl, inr, length, refl, ◌∙◌, ap, subst, arith, true, false}
 use Rattle.std.specs.Prelude.{All, Contains, None, Option, Some}
 use Rattle.std.proofs.lemmas.List.{length-append}

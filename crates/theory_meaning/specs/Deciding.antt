@@ -1,6 +1,6 @@
--- Laws of deciding: whether a call decides can itself be decided, and depends on its limit, its
--- first run and its cover. To find out, the cover is grown as far as the limit allows; by then it
--- is whole, or it has more to grow.
+-- Laws of deciding: whether a call decides is itself decidable, and depends on its limit, its first
+-- run and its cover. To find out, the cover is grown as far as the limit allows; by then it is
+-- whole, or some of it still has to grow.
 use Rattle.std.proofs.Common.{arith, ap, inl, inr, refl, subst, sym, zero, suc, ℕ, ◌*◌, ◌+◌, ◌<◌, ◌∙◌, ◌⊎◌}
 use Rattle.std.specs.Prelude.{List, None, Option, Some, [], false, length, true, ◌++◌, ◌↔◌, ◌∷◌, ◌≡◌, ◌≤◌}
 use Rattle.std.proofs.lemmas.Bool.{cases_lt}
@@ -72,7 +72,7 @@ half zero = (0, omega arith, omega arith)
 half (suc zero) = (0, omega arith, omega arith)
 half (suc (suc r)) = let (n, no_more, no_less) = half r in (suc n, omega arith, omega arith)
 
--- The cover of a call takes no more runs than the limit, or it takes more.
+-- Whether a call decides within a limit is itself decidable.
 pub decides_or_not : (v : Sense) (limit : ℕ) (call : Call) → Decides v limit call ⊎ ¬ (Decides v limit call)
 decides_or_not v limit call = let (n, at_most, at_least) = half (limit + 1) in go n at_most at_least (grown v call n [])
   where
@@ -84,7 +84,7 @@ decides_or_not v limit call = let (n, at_most, at_least) = half (limit + 1) in g
 pub larger_decides : (v : Sense) (limit larger : ℕ) (call : Call) → limit ≤ larger → Decides v limit call → Decides v larger call
 larger_decides v limit larger call less (ms, cover, few) = (ms, cover, omega arith)
 
--- If the first run branches on no match, that run decides, whatever the limit is.
+-- If the first run branches on no match, that run decides under every limit that allows a run.
 pub finished_decides : (v : Sense) (limit : ℕ) (call : Call) → branch_at v call [] ≡ None → 1 ≤ limit → Decides v limit call
 finished_decides v limit call none some = ([] ∷ [], whole none, omega arith)
 

@@ -11,8 +11,7 @@ use Rattle.theory_definitions.specs.Plan.{Edge, Key, Part, always, child, keywor
 use Rattle.theory_definitions.specs.Meaning.{place_below, subject}
 
 module _ {S K R : Type 0} (w : Parts S K R) (instance : Data) (c : Completion) where
-  -- ---- the largest set of pairs, each of which accepts, given that exactly the pairs of the set
-  -- accept
+  -- ---- sets of pairs
 
   -- A set of pairs of a key and a place.
   abbrev pub Pairs : Type 0
@@ -38,7 +37,7 @@ module _ {S K R : Type 0} (w : Parts S K R) (instance : Data) (c : Completion) w
   abbrev pub IsSolution : Pairs → Type 0
   IsSolution accepts = (k : Key S) (p : Place) → accepts k p ≡ true → accepts_by accepts k p ≡ true
 
-  -- The largest solution contains a pair if some solution contains it.
+  -- The pair is in the largest solution, which means that some solution contains it.
   abbrev pub AcceptsGreatest : Key S → Place → Type 0
   AcceptsGreatest k p = (accepts : Pairs) × IsSolution accepts × (accepts k p ≡ true)
 

@@ -20,15 +20,15 @@ module _ {S K R : Type 0} (w : Parts S K R) where
   entry_key root [] = Some root
   entry_key root (s ∷ p) = option_map (λ edge. record edge.key { location = []; base = []; start = 0 }) (subschema w root (s ∷ p))
 
-  -- A cause holds for a subschema that is compiled by itself. As with any subschema, only
-  -- references lead to targets whose vocabularies are required.
+  -- A cause holds for a subschema that is compiled by itself. As for any subschema, vocabularies
+  -- are required only by the targets of references.
   pub data StandsBelow (entry : Key S) : Cause → Type 0 where
     stands_in : {cause : Cause} (k : Key S) → Reached w entry k → Contains (causes w k) cause → StandsBelow entry cause
     required_in : {cause : Cause} {k : Key S} (edge : Edge S) → Reached w entry k → Contains (asked_edges w k) edge → edge.is_reference ≡ true
         → Contains (flat_map (undeclared w) edge.key.target.vocabularies) cause → StandsBelow entry cause
 
-  -- The entry compiles: no cause holds for it. The root is treated as in the build of a schema, and
-  -- any other place as a subschema.
+  -- The entry compiles: no cause holds for it. For the root, the causes are those of a whole
+  -- schema; for any other place, they are those of a subschema.
   abbrev pub EntryCompiles : Place → Key S → Type 0
   EntryCompiles [] entry = Compiles w entry
   EntryCompiles (s ∷ p) entry = (cause : Cause) → ¬ (StandsBelow entry cause)

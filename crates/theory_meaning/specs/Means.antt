@@ -29,13 +29,13 @@ module _ {K R : Type 0} (keywords : Keywords K R) (matcher : Matcher) (nodes : N
   abbrev pub HaveUnits : (Completion → Unit_) → Type 0
   HaveUnits units = (deep : ℕ) × ((n : ℕ) → deep ≤ n → (c : Completion) → guarded_within (yes_unit nodes) (node_unit keywords matcher nodes (subject_in instance) c) n root [] [] [] ≡ units c)
 
--- If no chain of questions returns, numbers in place of keys mean the plain meaning of the root's
+-- If no chain of questions returns, numbers in place of keys have the plain meaning of the root's
 -- key.
 abbrev pub NumbersMean : {S K R : Type 0} → Parts S K R → Numbers S → Nodes K → Type 0
 NumbersMean {S} w keys nodes = EachKeeps w.keywords → ValuesInside w → MakersAskBelow w.table → ((a b : S) → Decides (w.resolver.same_state a b) (a ≡ b)) → AreNumbered w keys nodes → Ranked nodes (length keys)
     → (instance : Data) (i : ℕ) (root : Key S) → IsNumber keys i root → Plainly w root instance (Means w.keywords w.matcher nodes i instance)
 
--- If no chain of questions returns, they have the units of the plain meaning.
+-- If no chain of questions returns, numbers in place of keys have the units of the plain meaning.
 abbrev pub NumbersHaveUnits : {S K R : Type 0} → Parts S K R → Numbers S → Nodes K → Type 0
 NumbersHaveUnits {S} w keys nodes = EachKeeps w.keywords → ValuesInside w → MakersAskBelow w.table → ((a b : S) → Decides (w.resolver.same_state a b) (a ≡ b)) → AreNumbered w keys nodes → Ranked nodes (length keys)
     → (instance : Data) (i : ℕ) (root : Key S) → IsNumber keys i root → PlainlyWithUnits w root instance (λ v units. HaveUnits w.keywords w.matcher nodes i instance units)

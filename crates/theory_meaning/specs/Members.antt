@@ -60,7 +60,7 @@ module _ (v : Sense) where
   abbrev pub all_accept : List Assumptions → Bool
   all_accept ms = list_all verdict_of ms
 
-  -- The errors of the last member that each other member has.
+  -- The errors of the last member that every other member has too.
   abbrev pub shared_with : List Assumptions → Assumptions → List Error
   shared_with others last = filter (in_each v others) (errors_of v last)
 
@@ -78,7 +78,7 @@ module _ (v : Sense) where
     waits : {as' : Assumptions} → Partly call as' 1
     splits : {as' : Assumptions} {a b : ℕ} (m : Met) → branch_at v call as' ≡ Some m → Partly call (assuming m false as') a → Partly call (assuming m true as') b → Partly call as' (a + b)
 
--- The pairs that the runs of a call branch on are among these.
+-- The runs of a call branch only on these pairs.
 abbrev pub BranchesAmong : Sense → Call → List Pair → Type 0
 BranchesAmong v call pairs = (as' : Assumptions) (m : Met) → IsRun v call as' → branch_at v call as' ≡ Some m → Contains pairs m.pair
 

@@ -67,7 +67,8 @@ module _ {S K R : Type 0} (w : Parts S K R) (keys : Numbers S) (nodes : Nodes K)
   SamePlan k (node_these xs) (these ys) = SameParts k xs ys
   SamePlan k _ _ = ⊥
 
-  -- The entries of a number are the plan of its key's target, with the numbers of keys as children.
+  -- The number stands for the key: its entries are the key's plan, with numbers in place of the
+  -- children's keys, and it has the key's location, absolute locations and annotations.
   pub record StandsFor (i : ℕ) (k : Key S) : Type 0 where
     pub entries : SamePlan k (nodes.entries i) (plan w k)
     pub location : nodes.location i ≡ k.location
@@ -99,7 +100,7 @@ module _ {K : Type 0} (nodes : Nodes K) (count : ℕ) where
   abbrev pub Ranked : Type 0
   Ranked = (i : ℕ) → i < count → (e : NodeEdge) → Contains (node_edges (nodes.entries i)) e → (e.node < count) × (e.guarded ≡ false → nodes.rank e.node < nodes.rank i)
 
-  -- The highest rank of the table.
+  -- The highest rank of the numbers below a bound.
   abbrev pub highest : ℕ → ℕ
   highest zero = 0
   highest (suc n) = max (nodes.rank n) (highest n)
@@ -176,8 +177,8 @@ NumbersSayUnfolding {S} w keys nodes = EachKeeps w.keywords → ValuesInside w �
     → (m n : ℕ) → left nodes (length keys) i (subject w instance p) [] < m → left nodes (length keys) i (subject w instance p) [] ≤ n
     → guarded_says w instance nodes (length keys) c m i path p [] ≡ unfold_ w instance c n k path p
 
--- The sense of a number is then that of its key: the outcome under each completion, and the matches
--- that each call's run meets under given assumptions.
+-- If no question returns, the sense of a number is that of its key: the outcome under each
+-- completion, and the matches that each call's run meets under given assumptions.
 abbrev pub NumbersMeanUnfolding : {S K R : Type 0} → Parts S K R → Numbers S → Nodes K → Type 0
 NumbersMeanUnfolding {S} w keys nodes = EachKeeps w.keywords → ValuesInside w → MakersAskBelow w.table → ((a b : S) → Decides (w.resolver.same_state a b) (a ≡ b)) → AreNumbered w keys nodes → Ranked nodes (length keys)
     → (instance : Data) (i : ℕ) (k : Key S) → IsNumber keys i k → ¬ (Return w instance (record { key = k; path = []; place = [] }))
@@ -193,8 +194,8 @@ NumbersMeanPlain {S} w keys nodes = EachKeeps w.keywords → ValuesInside w → 
     → (m n : ℕ) → left nodes (length keys) i (subject w instance []) [] < m → deep_enough w reached instance ≤ n
     → guarded_sense w.keywords w.matcher nodes (subject w instance) m i ≡ plain w instance n k
 
--- So a call whose answer is right for its nodes, as the headline says it, has the right answer for
--- the plain meaning.
+-- So if the answer of a call is right for its nodes, in the terms of the headline, then it is right
+-- for the plain meaning.
 abbrev pub GuardedIsPlain : {S K R : Type 0} → Parts S K R → Numbers S → Nodes K → Type 0
 GuardedIsPlain {S} w keys nodes = EachKeeps w.keywords → ValuesInside w → MakersAskBelow w.table → ((a b : S) → Decides (w.resolver.same_state a b) (a ≡ b)) → AreNumbered w keys nodes → Ranked nodes (length keys)
     → (instance : Data) (i : ℕ) (root : Key S) → IsNumber keys i root → (limit : ℕ)

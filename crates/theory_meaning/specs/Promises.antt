@@ -48,11 +48,11 @@ FailsWith v most call e = (m : Met) → branch_at v call [] ≡ Some m → IsFai
 abbrev pub AreMembers : Sense → ℕ → Call → List Assumptions → Assumptions → Type 0
 AreMembers v limit call others last = Cover v call [] (others ++ last ∷ []) × (2 * length (others ++ last ∷ []) ≤ limit + 1)
 
--- If every member accepts, and only then, the verdict is yes.
+-- The verdict of a call that decides is yes if and only if every member accepts.
 abbrev pub VerdictOfMembers : Type 0
 VerdictOfMembers = (v : Sense) → Follows v → (limit : ℕ) (call : Call) (ms : List Assumptions) → Cover v call [] ms → 2 * length ms ≤ limit + 1 → VerdictSays v limit call (all_accept v ms)
 
--- The errors of the last member that each other member has are the shared errors.
+-- The shared errors are those errors of the last member that every other member has too.
 abbrev pub SharedOfMembers : Type 0
 SharedOfMembers = (v : Sense) → Follows v → (others : List Assumptions) (last : Assumptions) → Cover v iter_errors [] (others ++ last ∷ []) → Shared v (shared_with v others last)
 
@@ -71,7 +71,7 @@ abbrev pub EvaluationOfMembers : Type 0
 EvaluationOfMembers = (v : Sense) → Follows v → (others : List Assumptions) (last : Assumptions) (failure : Error) (limit : ℕ) → AreMembers v limit evaluate others last → FailsWith v limit evaluate failure
     → VerdictSays v limit evaluate (is_nil (listed v others last failure))
 
--- A call has only one cover, so it does not decide if that takes more runs than the limit.
+-- A call has only one cover, so it does not decide if that cover takes more runs than the limit.
 abbrev pub OneCover : Type 0
 OneCover = (v : Sense) (call : Call) (ms ns : List Assumptions) → Cover v call [] ms → Cover v call [] ns → ms ≡ ns
 
@@ -79,7 +79,7 @@ OneCover = (v : Sense) (call : Call) (ms ns : List Assumptions) → Cover v call
 abbrev pub UndecidedPast : Type 0
 UndecidedPast = (v : Sense) (call : Call) (limit n : ℕ) → Partly v call [] n → limit + 1 < 2 * n → ¬ (Decides v limit call)
 
--- The cover of a call takes no more runs than the limit, or it takes more.
+-- Whether a call decides within a limit is itself decidable.
 abbrev pub DecidesOrNot : Type 0
 DecidesOrNot = (v : Sense) (limit : ℕ) (call : Call) → Decides v limit call ⊎ ¬ (Decides v limit call)
 
@@ -87,8 +87,8 @@ DecidesOrNot = (v : Sense) (limit : ℕ) (call : Call) → Decides v limit call 
 abbrev pub LargerDecides : Type 0
 LargerDecides = (v : Sense) (limit larger : ℕ) (call : Call) → limit ≤ larger → Decides v limit call → Decides v larger call
 
--- If the first run branches on no match, that run decides, whatever the limit is. This is so if the
--- matcher finishes every match that the run meets.
+-- If the first run branches on no match, that run decides under every limit that allows a run. This
+-- is so if the matcher finishes every match that the run meets.
 abbrev pub FinishedDecides : Type 0
 FinishedDecides = (v : Sense) (limit : ℕ) (call : Call) → branch_at v call [] ≡ None → 1 ≤ limit → Decides v limit call
 
@@ -96,7 +96,8 @@ FinishedDecides = (v : Sense) (limit : ℕ) (call : Call) → branch_at v call [
 abbrev pub MeetsUnfinished : Matcher → Sense → Type 0
 MeetsUnfinished matcher v = (call : Call) (as' : Assumptions) → All (IsUnfinished matcher) (v.meets call as')
 
--- No run meets an unfinished match, so the first run of a call decides, whatever the limit is.
+-- No run meets an unfinished match, so the first run of a call decides under every limit that
+-- allows a run.
 pub record DecidesAtOnce (v : Sense) : Type 0 where
   pub meets_none : (call : Call) (as' : Assumptions) → v.meets call as' ≡ []
   pub decides : (limit : ℕ) (call : Call) → 1 ≤ limit → Decides v limit call
@@ -110,7 +111,7 @@ abbrev pub NodesFinishingDecide : {K R : Type 0} → Keywords K R → Type 0
 NodesFinishingDecide {K} keywords = (matcher : Matcher) → Finishes matcher → (nodes : Nodes K) (subject_of : Place → Subject) (n i : ℕ)
     → DecidesAtOnce (guarded_sense keywords matcher nodes subject_of n i)
 
--- Whatever the matcher finishes, the plain runs of a schema meet only what it leaves unfinished.
+-- The plain runs of a schema meet only matches that the matcher leaves unfinished.
 abbrev pub PlainMeetsUnfinished : {S K R : Type 0} → Parts S K R → Type 0
 PlainMeetsUnfinished {S} w = (instance : Data) (n : ℕ) (root : Key S) → MeetsUnfinished w.matcher (plain w instance n root)
 
@@ -119,7 +120,7 @@ abbrev pub NodesMeetUnfinished : {K R : Type 0} → Keywords K R → Type 0
 NodesMeetUnfinished {K} keywords = (matcher : Matcher) (nodes : Nodes K) (subject_of : Place → Subject) (n i : ℕ)
     → MeetsUnfinished matcher (guarded_sense keywords matcher nodes subject_of n i)
 
--- If its runs branch on k pairs, a call decides if its limit is at least 2 ^ (k + 1) - 1.
+-- A call whose runs branch only on k pairs decides if its limit is at least 2 ^ (k + 1) - 1.
 abbrev pub PairsDecide : Type 0
 PairsDecide = (v : Sense) (call : Call) (pairs : List Pair) → BranchesAmong v call pairs → (limit : ℕ) → 2 ^ suc (length pairs) ≤ limit + 1 → Decides v limit call
 

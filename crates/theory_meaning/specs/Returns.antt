@@ -45,7 +45,7 @@ module _ {S K R : Type 0} (w : Parts S K R) (instance : Data) where
     pub same : same_question met again ≡ true
 
   -- Whether a chain of at most n questions comes twice to the same target at the same place; `seen`
-  -- are the questions before it.
+  -- contains the questions before it.
   abbrev pub returns : ℕ → List Asked → Asked → Bool
   returns zero seen a = false
   returns (suc n) seen a = list_any (same_question a) seen || list_any (returns n (a ∷ seen)) (questions a)

@@ -1,4 +1,4 @@
--- Worked rows: what the definitions say of small schemas, by computation. `pattern` is a pattern
+-- Worked rows, by computation: what the definitions say of small schemas. `pattern` is a pattern
 -- whose match with "abc" stays unfinished.
 use Rattle.std.specs.Prelude.{Bool, List, None, Some, [], codes, false, suc, true, zero, ℕ, ◌≡◌, ◌≤◌, ◌∷◌}
 use Rattle.serde_json.specs.Data.{Data, Members, array, item, member, no_items, no_members, number, object, unsigned}
@@ -28,7 +28,7 @@ AlwaysSays unfinished_ones schema instance deep outcome = (n : ℕ) → deep ≤
 abbrev pub refused_by : Error → Outcome
 refused_by e = record { verdict = false; errors = e ∷ [] }
 
--- The key of a schema's root is the one of the definitions.
+-- For each schema, `root_of` is the key of its root according to the definitions.
 abbrev pub RootsAreRoots : Type 0
 RootsAreRoots = (unfinished_ones : List Text) (schema : Data) → IsRoot (worked_parts unfinished_ones schema) schema (root_of unfinished_ones schema)
 

@@ -111,7 +111,7 @@ fused_words = record {
 }
 
 -- ---- the table: `items` beside `minItems` and `"type": "array"` becomes the fused keyword, and
--- those two become none
+-- the other two become no keyword
 
 abbrev pub least_of : Option Data → ℕ
 least_of (Some (number (unsigned n))) = n

@@ -146,7 +146,7 @@ asks_in (is_any_of n) for_units = for_units
 asks_in (is_any_of n) mode = for_verdict
 asks_in _ mode = mode
 
--- A reply ends the questions.
+-- The reply decides, so that no further question is asked.
 abbrev pub is_enough : Word → Mode → Reply → Bool
 is_enough (is_any_of n) for_units reply = false
 is_enough (is_any_of n) mode (truth b) = b
@@ -312,7 +312,8 @@ abbrev pub object_members : Option Data → Members
 object_members (Some (object ms)) = ms
 object_members _ = no_members
 
--- A fragment stands for the base followed by it, and any other text for itself.
+-- The URI that a reference's text stands for: the base if the text is empty, the base followed by
+-- the text if the text is a fragment, and otherwise the text itself.
 abbrev pub uri_meant : Text → Text → Text
 uri_meant base [] = base
 uri_meant base (x ∷ text) = if x == 35 then base ++ x ∷ text else x ∷ text

@@ -1,6 +1,6 @@
 -- The search over unfinished matches makes one run for each list of assumptions that it finds, so
--- its runs grow a tree. The only thing known of a run is how each use of it changes the state that
--- it holds.
+-- its runs form a tree. All that is known of a run is how each use of it changes the state that it
+-- holds.
 use Rattle.std.specs.List.{list_all}
 use Rattle.std.specs.Prelude.{Bool, List, None, Some, [], false, length, suc, true, zero, ℕ, ◌*◌, ◌++◌, ◌+◌, ◌<◌, ◌∷◌, ◌≡◌, ◌≤◌}
 use Rattle.theory_definitions.specs.Matching.{Assumptions, Completion, Extends, assumed}
@@ -125,9 +125,9 @@ all_yes as' = list_all (λ a. a.outcome) as'
 module _ {S T : Type 0} (Step : S → Remembered → Remembered → T → S → Type 0) (first : Remembered) (start : S) (limit : ℕ) where
   -- The runs that the search made in order, including the first one, and the failure: the first
   -- match that the first run met and did not assume, at the first site of that match that has an
-  -- instance path. The uses of these runs, except the first one's, lead to the end state one after
-  -- another, and there are no others. If each use returns the assumptions that it received, the
-  -- search branches only on matches that are not yet assumed.
+  -- instance path. The uses of all these runs but the first lead, one after another, from the start
+  -- state to the end state, and there are no other uses. If each use returns the assumptions that
+  -- it received, the search branches only on matches that are not yet assumed.
   pub record Made (end : S) (tree : Tree T) (failure : Failure) : Type 0 where
     pub unassumed : Failure
     pub is_first : first.unassumed ≡ Some unassumed

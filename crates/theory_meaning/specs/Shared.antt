@@ -14,7 +14,7 @@ module _ (v : Sense) where
   abbrev pub SomeRefuses : Type 0
   SomeRefuses = (c : Completion) × ((v.says c).verdict ≡ false)
 
-  -- Every completion has an error that is the same in all paths and the text.
+  -- Every completion has an error with the same paths and the same text as this one.
   abbrev pub IsShared : Error → Type 0
   IsShared e = (c : Completion) → list_any (same_error e) (v.says c).errors ≡ true
 
@@ -29,8 +29,9 @@ module _ (v : Sense) where
   abbrev pub Shared : List Error → Type 0
   Shared kept = Kept (v.says all_match).errors kept
 
-  -- The same for the members of a cover, the last of which assumes a yes everywhere: the errors of
-  -- a member's completion.
+  -- ---- the same for the members of a cover, the last of which assumes a yes everywhere
+
+  -- The errors of a member's completion.
   abbrev pub errors_of : Assumptions → List Error
   errors_of as' = (v.says (completion_of as')).errors
 

@@ -28,8 +28,8 @@ abbrev pub IsHandedOn : (Question → Unit_) → List Question → Unit_ → Typ
 IsHandedOn answers qs u = (q : Question) × Contains qs q × (u ≡ answers q)
 
 module _ {K R : Type 0} (keywords : Keywords K R) (absorbs : K → List Text) where
-  -- The units inside a keyword's own unit are answers to its questions. So are the units inside the
-  -- units that it absorbs, whose names are among those that it absorbs.
+  -- The units inside a keyword's own unit are answers to its questions. So are the units inside
+  -- each absorbed unit, whose name is one that the keyword absorbs.
   pub record HandsUnitsOn (m : K) (s : Subject) (matches : Matching) (answers : Question → Unit_) : Type 0 where
     pub own : All (IsHandedOn answers (keywords.may_ask m s)) (keywords.units m s matches answers).children
     pub absorbed : All (λ (a : Named). Contains (absorbs m) a.name × All (IsHandedOn answers (keywords.may_ask m s)) a.children) (keywords.units m s matches answers).absorbed
@@ -52,12 +52,13 @@ module _ {S K R : Type 0} (w : Parts S K R) (root : Key S) (instance : Data) whe
     pub instance_location : r.instance_location ≡ pointer_to place
     pub absolute : r.absolute ≡ absolute_of w key r.schema_path
 
-  -- The unit and each unit inside it point so, if they have an error of their own.
+  -- The unit, and each unit inside it, points at a keyword and at a value if it has an error of its
+  -- own.
   abbrev pub UnitsPoint : Unit_ → Type 0
   UnitsPoint u = EachUnit (λ r. ¬ (r.errors ≡ []) → UnitPointsAt r) u
 
--- The units of numbered nodes point so, whether questions return or not, if each keyword passes on
--- the answers to its questions.
+-- The units of numbered nodes that have errors point at a keyword and at a value, whether questions
+-- return or not, if each keyword passes on the answers to its questions.
 abbrev pub NodeUnitsLead : {S K R : Type 0} → Parts S K R → (K → List Text) → Numbers S → Nodes K → Type 0
 NodeUnitsLead {S} w absorbs keys nodes = EachKeepsAbsorbing w.keywords absorbs → MakesAbsorbing absorbs w.table → EachHandsUnitsOn w.keywords absorbs → AreNumbered w keys nodes
     → (instance : Data) (c : Completion) (n i : ℕ) (root : Key S) → IsNumber keys i root

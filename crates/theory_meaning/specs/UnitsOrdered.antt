@@ -24,7 +24,7 @@ absorbed_by xs = flat_map (λ x. x.units.1) xs
 split : (test : Text × Unit_ → Bool) (before : List Unit_) (xs ys : List (Text × Unit_)) → (before ++ picked test xs) ++ picked test ys ≡ before ++ picked test (xs ++ ys)
 split test before xs ys = append_assoc before (picked test xs) (picked test ys) ∙ ap (λ us. before ++ us) (sym (ap (map (λ a. a.1)) (filter-append test xs ys) ∙ map-append (λ a. a.1) (filter test xs) (filter test ys)))
 
--- The units after the types, depending on whether something comes after the counts yet.
+-- The units after the types, depending on whether a unit already comes after the counts.
 abbrev rest : List Unit_ → List Unit_ → List Unit_ → List Entry → List Unit_
 rest before [] counts xs = before ++ in_order counts xs
 rest before (a ∷ more) counts xs = before ++ (counts ++ ((a ∷ more) ++ map (λ x. x.units.0) xs))

@@ -18,7 +18,10 @@ pub fn runs_speak<S, K, R>()
     ensures plain { (w : Parts S K R) → PlainFollows w }
 {}
 
-/// The same of a run over numbered nodes, whether questions return or not.
+/// A run over numbered nodes behaves like a plain run.
+///
+/// It speaks for every completion that extends its assumptions if it meets only matches that are
+/// assumed, whether questions return or not.
 pub fn nodes_speak<K, R>()
     ensures follow { (keywords : Keywords K R) → NodesFollow keywords }
 {}
@@ -32,7 +35,7 @@ pub fn members_speak()
     ensures evaluation { EvaluationOfMembers }
 {}
 
-/// The four calls agree with one another, and each of them decides or does not.
+/// The four calls agree, and whether a call decides is itself decidable.
 pub fn calls_agree()
     ensures one { OneCover }
     ensures undecided { UndecidedPast }
@@ -47,8 +50,8 @@ pub fn calls_agree()
 
 /// A run meets only matches that the matcher leaves unfinished.
 ///
-/// If the matcher finishes every match, no run branches, so the first run of a call decides,
-/// whatever the limit is.
+/// If the matcher finishes every match, no run branches, so the first run of a call decides under
+/// every limit that allows a run.
 pub fn finishing_decides<S, K, R>()
     ensures plain { (w : Parts S K R) → FinishingDecides w }
     ensures nodes { (keywords : Keywords K R) → NodesFinishingDecide keywords }

@@ -64,7 +64,7 @@ pub fn depths_agree<S, K, R>()
 
 ghost use Rattle.theory_meaning.specs.Means.{NumbersMean};
 
-/// Numbers in place of keys mean the plain meaning of the root's key.
+/// If no question returns, numbers have the plain meaning of the root's key.
 pub fn numbers_mean<S, K, R>()
     ensures { (w : Parts S K R) (keys : Numbers S) (nodes : Nodes K) → NumbersMean w keys nodes }
 {}

@@ -1,6 +1,6 @@
 //! Laws of where errors point, for every schema and all parts.
 //!
-//! Each function states one law in its contract, and does nothing when it runs.
+//! Each function states laws in its contract, and does nothing when it runs.
 
 ghost use Rattle.std.specs.Prelude.{List};
 ghost use Rattle.theory_meaning.specs.ErrorsLead.{ErrorsLead, FirstLeads, ListedLead, NodeErrorsLead};
@@ -18,13 +18,17 @@ pub fn errors_lead<S, K, R>()
     ensures lead { (w : Parts S K R) (absorbs : K → List Text) → ErrorsLead w absorbs }
 {}
 
-/// The same of each error of numbered nodes, whether questions return or not.
+/// Each error of numbered nodes points at a keyword and at a value.
+///
+/// This holds whether questions return or not.
 pub fn node_errors_lead<S, K, R>()
     ensures lead { (w : Parts S K R) (absorbs : K → List Text) (keys : Numbers S) (nodes : Nodes K)
         → NodeErrorsLead w absorbs keys nodes }
 {}
 
-/// If they do, so does each error that a call returns, except its failure.
+/// Each error that a call returns points at a keyword and at a value.
+///
+/// This requires that each error of the sense does so, and excludes the failure of the call.
 pub fn given_errors_lead<S, K, R>()
     ensures listed { (w : Parts S K R) (root : Key S) (instance : Data) → ListedLead w root instance }
     ensures first { (w : Parts S K R) (root : Key S) (instance : Data) → FirstLeads w root instance }
