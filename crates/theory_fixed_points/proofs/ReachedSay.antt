@@ -1,4 +1,4 @@
--- What numbers say that stand for the keys which a root reaches.
+-- What numbers say if they stand for the keys that a root reaches.
 use Rattle.std.proofs.Common.{◌≡◌, ℕ, List, length, map, sym, subst}
 use Rattle.std.specs.Prelude.{Some, slice_get}
 use Rattle.std.proofs.lemmas.List.{length-map}

@@ -43,7 +43,7 @@ module _ {K R : Type 0} (w : Solving K R) (f : Found) (p : Place) where
   pub form_reference : (e : NodeEdge) (b l : Bool) → EdgeTells w p f e here b l → FormTells w p f (node_reference e) b l
   form_reference e b l says = says
 
-  -- ---- entries, in their order; after a no no more of them are asked
+  -- ---- entries in order; after a no, no more of them are asked
 
   pub parts_none : (l : Bool) → PartsTell w p f [] true l
   parts_none l answers fits = refl

@@ -57,7 +57,7 @@ module _ {K R : Type 0} (w : Solving K R) (solvable : IsSolvable w) (known : ℕ
   abbrev pub SaysAt : ℕ → Place → ℕ → Bool → Type 0
   SaysAt i p now v = (answers : EdgeAnswers) → FitsStage known stages.stage now v answers → under_by w answers i p ≡ v
 
-  -- So it says under guards, if the measure is less than this.
+  -- If a number says this, it says the same under guards, given a measure below n.
   abbrev Holds : ℕ → Type 0
   Holds n = (i : ℕ) (p : Place) (busy : List ℕ) (now : ℕ) (v : Bool) → i < w.count → SaysAt i p now v → NoneRefused now p busy → need i p busy < n → Verdict i p busy ≡ v
 

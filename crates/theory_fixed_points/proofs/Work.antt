@@ -84,7 +84,8 @@ entered_counts all most f i p begun among unseen idle free counted = omega (arit
         omega (arith, none, more))
 
 module _ {K R : Type 0} (w : Solving K R) (solvable : IsSolvable w) (old f : Found) (i : ℕ) (p : Place) (l : i < w.count) (before : IsStaged w old) (sound : IsStaged w f) (grew : Grows p (entered old i p) f) (all : Pairs) (most begun : ℕ) where
-  -- A pair that counts as yes, was not assumed since and is not this pair counted as yes before.
+  -- A pair that counts as yes, that was not assumed since, and that is not this pair, counted as
+  -- yes before.
   was_so : (j : ℕ) (q : Place) → is_this i p j q ≡ false → (f.assumed j q && not (old.assumed j q)) ≡ false → (f.busy j q || f.assumed j q) ≡ true → (old.busy j q || old.assumed j q) ≡ true
   was_so j q other earlier = in_either (f.busy j q) (f.assumed j q)
       (λ now. with_cases old.busy i p j q (λ this. absurd (true≢false (sym this ∙ other))) (λ was. or_left (old.busy j q) _ was) (sym (grew.busy j q) ∙ now))

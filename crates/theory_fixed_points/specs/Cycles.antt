@@ -1,5 +1,5 @@
--- Worked rows: what the greatest solutions of small schemas accept if chains of references return,
--- by computation.
+-- Worked rows, by computation: what the greatest solutions of small schemas accept if chains of
+-- references return.
 use Rattle.std.specs.Prelude.{List, [], codes, ◌∷◌}
 use Rattle.serde_json.specs.Data.{Data, array, item, no_items, number, unsigned}
 use Rattle.theory_definitions.specs.Instance.{Text}
@@ -7,8 +7,8 @@ use Rattle.theory_meaning.specs.Rows.{pattern, pattern_schema}
 use Rattle.theory_meaning.specs.RowsWorked.{worked_parts, one_member, ref_to, root_of, text, two_members}
 use Rattle.theory_fixed_points.specs.Solutions.{AcceptsEach}
 
--- The greatest solution of every completion accepts the instance, while matches of these patterns
--- stay unfinished.
+-- The greatest solution of every completion accepts the instance, if matches of these patterns stay
+-- unfinished.
 abbrev pub IsAccepted : List Text → Data → Data → Type 0
 IsAccepted unfinished_ones schema instance = AcceptsEach (worked_parts unfinished_ones schema) (root_of unfinished_ones schema) instance
 
@@ -47,6 +47,7 @@ root_and_match name = one_member name (array (item (ref_to (codes "#")) (item pa
 abbrev pub AnyOrMatchAccepts : Type 0
 AnyOrMatchAccepts = IsAccepted (pattern ∷ []) (root_and_match (codes "anyOf")) (text (codes "abc"))
 
--- The largest set of a completion that says no to the match does not contain the root.
+-- Not every completion accepts: if a completion says no to the match, its largest set does not
+-- contain the root.
 abbrev pub AllAndMatchRefuses : Type 0
 AllAndMatchRefuses = ¬ (IsAccepted (pattern ∷ []) (root_and_match (codes "allOf")) (text (codes "abc")))

@@ -1,5 +1,5 @@
--- The greatest solution over numbered nodes; and that this is what nodes say under guards, if every
--- keyword is monotone.
+-- The greatest solution over numbered nodes. If every keyword is monotone, it is what nodes say
+-- under guards.
 use Rattle.std.specs.List.{list_all}
 use Rattle.std.specs.Prelude.{All, Bool, [], false, true, ℕ, ◌<◌, ◌↔◌, ◌≡◌}
 use Rattle.serde_json.specs.Data.{Data}
@@ -40,7 +40,7 @@ module _ {K R : Type 0} (keywords : Keywords K R) (matcher : Matcher) (nodes : N
   abbrev pub IsNodeSolution : ℕ → NodePairs → Type 0
   IsNodeSolution count accepts = (i : ℕ) (p : Place) → i < count → accepts i p ≡ true → node_holds i p (λ e b. accepts e.node (place_below p b)) ≡ true
 
-  -- The largest solution contains a pair if some solution contains it.
+  -- The pair is in the largest solution, which means that some solution contains it.
   abbrev pub NodeAcceptsGreatest : ℕ → ℕ → Place → Type 0
   NodeAcceptsGreatest count i p = (accepts : NodePairs) × IsNodeSolution count accepts × (accepts i p ≡ true)
 

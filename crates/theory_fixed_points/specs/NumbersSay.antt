@@ -34,7 +34,8 @@ module _ {S K R : Type 0} (w : Parts S K R) (nodes : Nodes K) (instance : Data) 
       × ((first : Option Error) → FromSomeDepth (λ v. FirstSays v limit first) → FromSomeDepth (λ v. SaysGreatest w root instance v limit validate (first ≡ None)))
       × ((errors : List Error) → FromSomeDepth (λ v. ErrorsSay v limit errors) → FromSomeDepth (λ v. SaysGreatest w root instance v limit iter_errors (errors ≡ [])))
 
-  -- The same if all calls decide.
+  -- If the calls answer as the headline says, each of them answers yes if and only if the greatest
+  -- solutions accept.
   abbrev pub CallsFinish : Type 0
   CallsFinish = ((call : Call) (valid : Bool) → FromSomeDepth (λ v. VerdictSays v limit call valid) → (valid ≡ true) ↔ AcceptsEach w root instance)
       × ((first : Option Error) → FromSomeDepth (λ v. FirstSays v limit first) → (first ≡ None) ↔ AcceptsEach w root instance)
@@ -54,7 +55,7 @@ module _ {S K R : Type 0} (w : Parts S K R) (keys : Numbers S) (nodes : Nodes K)
       → ((guarded_says w instance nodes (length keys) c n i path p []).verdict ≡ true) ↔ AcceptsGreatest w root instance c k p)
 
   -- If every key that the root reaches has a number, one of the sets that stand by themselves
-  -- contains all that any of them contains.
+  -- contains every pair that any of them contains.
   abbrev pub LargestStands : Type 0
   LargestStands = WhereMonotone ((root : Key S) → ((k : Key S) → Reached w root k → (i : ℕ) × IsNumber keys i k) → (instance : Data) (c : Completion)
       → (accepts : Pairs w root instance c) × IsLargest w root instance c accepts)
@@ -75,7 +76,7 @@ module _ {S K R : Type 0} (w : Parts S K R) (keys : Numbers S) (nodes : Nodes K)
   abbrev pub GreatestAnswers : Type 0
   GreatestAnswers = WhereMonotone ((instance : Data) (i : ℕ) (root : Key S) → IsNumber keys i root → (limit : ℕ) → CallsSayGreatest w nodes instance i root limit)
 
-  -- If the matcher finishes every match, this holds of every call that makes a run.
+  -- If the matcher finishes every match, every call that makes a run answers so.
   abbrev pub FinishingAnswers : Type 0
   FinishingAnswers = WhereMonotone (Finishes w.matcher → (instance : Data) (i : ℕ) (root : Key S) → IsNumber keys i root → (limit : ℕ) → 1 ≤ limit → CallsFinish w nodes instance i root limit)
 
@@ -104,7 +105,7 @@ module _ {S K R : Type 0} (w : Parts S K R) (keys : List (Key S)) (nodes : Nodes
   abbrev pub ReachedAnswer : Type 0
   ReachedAnswer = WhereEachIsMonotone (λ root. (instance : Data) (i : ℕ) → slice_get keys i ≡ Some root → (limit : ℕ) → CallsSayGreatest w nodes instance i root limit)
 
-  -- If the matcher finishes every match, every call that makes a run does so.
+  -- If the matcher finishes every match, every call that makes a run answers so.
   abbrev pub ReachedFinish : Type 0
   ReachedFinish = WhereEachIsMonotone (λ root. Finishes w.matcher → (instance : Data) (i : ℕ) → slice_get keys i ≡ Some root → (limit : ℕ) → 1 ≤ limit → CallsFinish w nodes instance i root limit)
 

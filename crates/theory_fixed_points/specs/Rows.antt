@@ -1,5 +1,5 @@
--- Worked rows: what the greatest solutions of small schemas accept if a chain of questions returns,
--- so that the plain meaning says nothing; by computation.
+-- Worked rows, by computation: what the greatest solutions of small schemas accept if a chain of
+-- questions returns, so that the plain meaning says nothing.
 use Rattle.std.specs.Prelude.{[], codes, true, ◌≡◌}
 use Rattle.serde_json.specs.Data.{Data, array, item, no_items, number, unsigned}
 use Rattle.theory_definitions.specs.Matching.{Completion}
@@ -32,7 +32,8 @@ any_schema = one_member (codes "anyOf") (array (item (ref_to (codes "#")) (item 
 abbrev pub AnyComesBack : Type 0
 AnyComesBack = ComesBack any_schema one
 
--- 1 is accepted: the set that only says that the root accepts it stands by itself.
+-- 1 is accepted: the set of the root and its first subschema, both at the root place, stands by
+-- itself.
 abbrev pub AnyAcceptsNumber : Type 0
 AnyAcceptsNumber = IsAccepted any_schema one
 

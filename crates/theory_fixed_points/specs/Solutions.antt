@@ -41,7 +41,8 @@ module _ {S K R : Type 0} (w : Parts S K R) (root : Key S) where
       abbrev pub StandsByItself : Pairs → Type 0
       StandsByItself accepts = (k : Key S) → Reached w root k → (p : Place) → accepts k.target p ≡ true → accepts_by w instance c (λ l q. accepts l.target q) k p ≡ true
 
-      -- The largest set contains a pair if some set that stands by itself contains it.
+      -- The pair is in the largest set, which means that some set that stands by itself contains
+      -- it.
       abbrev pub AcceptsGreatest : Key S → Place → Type 0
       AcceptsGreatest k p = (accepts : Pairs) × StandsByItself accepts × (accepts k.target p ≡ true)
 
@@ -57,7 +58,6 @@ module _ {S K R : Type 0} (w : Parts S K R) (root : Key S) where
     abbrev pub AcceptsEach : Type 0
     AcceptsEach = (c : Completion) → AcceptsGreatest c root []
 
-    -- If the call decides within its limit, its answer is a yes if and only if all these sets
-    -- accept.
+    -- If the call decides within its limit, its answer is yes if and only if all these sets accept.
     abbrev pub SaysGreatest : Sense → ℕ → Call → Type 0 → Type 0
     SaysGreatest v limit call is_yes = Decides v limit call → is_yes ↔ AcceptsEach

@@ -1,5 +1,5 @@
--- What a solver says at the end, with no pair in progress: it is what numbered nodes say under
--- guards, and, if keywords are monotone, the greatest solution.
+-- What a solver says at the end, with no pair in progress: the same as numbered nodes under guards,
+-- and, if keywords are monotone, the greatest solution.
 use Rattle.std.specs.Prelude.{Bool, None, [], false, true, ℕ, ◌<◌, ◌↔◌, ◌≡◌}
 use Rattle.theory_definitions.specs.Instance.{Place, Text}
 use Rattle.theory_definitions.specs.Guarded.{guarded_within, node_outcome, yes_outcome}
@@ -22,14 +22,14 @@ module _ {K R : Type 0} (w : Solving K R) where
   abbrev pub SolverSays : ℕ → Place → Bool → Type 0
   SolverSays i p b = (f : Found) × IsStaged w f × IsIdle f × Tells w f i p b true
 
-  -- It is what the nodes say under guards, at every sufficient depth and with any path.
+  -- The solver says what the nodes say under guards, at every sufficient depth and with any path.
   abbrev pub SolverSaysGuarded : Type 0
   SolverSaysGuarded = IsSolvable w → (i : ℕ) (p : Place) (b : Bool) → i < w.count → SolverSays i p b
       → (path : Text) (n : ℕ) → left w.nodes w.count i (subject_in w.instance p) [] < n
       → (guarded_within yes_outcome (node_outcome w.keywords w.matcher w.nodes (subject_in w.instance) w.completion) n i path p []).verdict ≡ b
 
-  -- If each keyword is monotone, it is a yes if and only if the greatest solution contains the
-  -- pair.
+  -- If each keyword is monotone, the solver says yes if and only if the greatest solution contains
+  -- the pair.
   abbrev pub SolverSaysGreatest : Type 0
   SolverSaysGreatest = IsSolvable w → EachMonotone w → (i : ℕ) (p : Place) (b : Bool) → i < w.count → SolverSays i p b
       → (b ≡ true) ↔ NodeAcceptsGreatest w.keywords w.matcher w.nodes (subject_in w.instance) w.completion w.count i p
@@ -38,7 +38,7 @@ module _ {K R : Type 0} (w : Solving K R) where
   abbrev pub StagedIsSound : Type 0
   StagedIsSound = IsSolvable w → EachMonotone w → (f : Found) → IsStaged w f → IsSound w f
 
-  -- What a number says, it says under each set that contains all pairs that count as yes, and none
-  -- that was refused.
+  -- A number says the same under each set that contains all pairs that count as yes, and none that
+  -- was refused.
   abbrev pub TellsUnderSets : Type 0
   TellsUnderSets = (f : Found) (i : ℕ) (p : Place) (b : Bool) → Tells w f i p b true → SaysUnder w f i p b

@@ -1,5 +1,5 @@
--- What is found by stages, each of which rests on those before it, whether keywords are monotone or
--- not; and what follows from what is found so far.
+-- What is found by stages, each of which rests on those before it, and what follows from it.
+-- Keywords need not be monotone.
 use Rattle.std.specs.List.{list_all}
 use Rattle.std.specs.Prelude.{Bool, List, None, Option, Some, false, true, ℕ, ◌&&◌, ◌<◌, ◌||◌, ◌≡◌}
 use Rattle.theory_definitions.specs.Instance.{Place}
@@ -37,9 +37,10 @@ pub record Stages {K R : Type 0} (w : Solving K R) (known : ℕ → Place → Op
   pub inside : (i : ℕ) (p : Place) (v : Bool) → known i p ≡ Some v → i < w.count
   pub rests : (i : ℕ) (p : Place) (v : Bool) → known i p ≡ Some v → (answers : EdgeAnswers) → FitsStage known stage (stage i p) v answers → under_by w answers i p ≡ v
 
--- The invariant of a solver. No pair is two of in progress, assumed and known. Some pair is in
--- progress at the place of each assumed pair; that pair has a number of the table, and says yes
--- with all answers that are yes for the provisional pairs. What is known was found by stages.
+-- The invariant of a solver. No pair has two of the states in progress, assumed and known. At the
+-- place of each assumed pair some pair is in progress. Each assumed pair has a number of the table,
+-- and says yes with all answers that are yes for the provisional pairs. What is known was found by
+-- stages.
 pub record IsStaged {K R : Type 0} (w : Solving K R) (f : Found) : Type 0 where
   pub apart : (i : ℕ) (p : Place) → for_now f i p ≡ true → f.known i p ≡ None
   pub once : (i : ℕ) (p : Place) → f.busy i p ≡ true → f.assumed i p ≡ false

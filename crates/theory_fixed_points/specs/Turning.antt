@@ -65,7 +65,7 @@ module _ {K R : Type 0} (w : Solving K R) (p : Place) where
     pub fits : Fits (stands_by given es marks r reply)
     pub right : IsRight w.keywords m subject_here matches_here (answers_by given es) (units_by given es) (same_edge es) for_verdict (end_of (stands_by given es marks r reply))
 
-  -- It does so with all answers that agree with the replies so far; no yes among these is
-  -- provisional unless `leans` is set.
+  -- The run fits, and ends in the right answer, with all answers that agree with the replies so
+  -- far; a yes among these may be provisional only if `leans` is set.
   abbrev pub TurnsBy : Found → Bool → (m : K) (end_of : Standing R → Answer) (Fits : Standing R → Type 0) → Children → List Marked → R → Reply → Type 0
   TurnsBy f leans m end_of Fits es marks r reply = (given : Given) → Consistent w p f leans given → EndsBy m end_of Fits es marks r reply given

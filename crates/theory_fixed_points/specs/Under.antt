@@ -1,5 +1,5 @@
--- What a number says at a place if a set of pairs answers some of the edges, and the nodes that
--- they lead to answer the others.
+-- What a number says at a place if a set of pairs answers for some of the edges, and each other
+-- edge has the answer of its node.
 use Rattle.std.specs.Prelude.{Bool, [], false, suc, true, zero, ℕ, ◌<◌, ◌≡◌}
 use Rattle.serde_json.specs.Data.{Data}
 use Rattle.theory_definitions.specs.Instance.{Place}
@@ -51,7 +51,7 @@ abbrev pub by_set : PairSet → EdgeAnswers
 by_set inside e p = inside e.node p
 
 module _ {K R : Type 0} (w : Solving K R) where
-  -- The answer of an edge: one of these if the edge is cut, and otherwise what its number says.
+  -- The answer of an edge: the given one if the edge is cut, and otherwise what its number says.
   abbrev pub across_by : EdgeAnswers → PairSet → Place → NodeEdge → Below → Bool
   across_by answers go p e b = elim (w.cut e) [ true ↦ answers e (place_below p b) | false ↦ go e.node (place_below p b) ]
 

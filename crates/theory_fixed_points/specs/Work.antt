@@ -1,5 +1,4 @@
--- A bound on the work of a solver: how many pairs it begins, compared with the number of pairs that
--- there are.
+-- A bound on the work of a solver: how many pairs it begins, relative to the number of all pairs.
 use Rattle.std.specs.List.{list_any}
 use Rattle.std.specs.Prelude.{Bool, List, None, Option, Some, [], false, if◌then◌else◌, length, map, true, ℕ, ◌*◌, ◌++◌, ◌+◌, ◌||◌, ◌∷◌, ◌≡◌, ◌≤◌}
 use Rattle.theory_definitions.specs.Instance.{Place, same_place}
@@ -14,7 +13,7 @@ abbrev pub sum_over : (ℕ → Place → ℕ) → Pairs → ℕ
 sum_over a [] = 0
 sum_over a (e ∷ es) = a e.0 e.1 + sum_over a es
 
--- One for a yes, and none for a no.
+-- 1 for a yes, and 0 for a no.
 abbrev pub one_if : Bool → ℕ
 one_if b = if b then 1 else 0
 
@@ -37,7 +36,7 @@ weight_of most (Some false) accepts = most
 abbrev pub weight : ℕ → Found → ℕ → Place → ℕ
 weight most f i p = weight_of most (f.known i p) (f.busy i p || f.assumed i p)
 
--- The number of pairs begun is at most the cost of all pairs.
+-- The number of pairs begun is at most the sum of the greatest costs of all pairs.
 abbrev pub IsCounted : Pairs → ℕ → Found → ℕ → Type 0
 IsCounted all most f begun = begun ≤ sum_over (weight most f) all
 

@@ -1,7 +1,7 @@
 //! Worked rows: greatest solutions of small schemas whose references return.
 ghost use Rattle.theory_fixed_points.specs.Cycles.{AllAndMatchRefuses, AnyOrMatchAccepts, TwoAcceptText, TwoRefuseNumber};
 
-/// The worked rows: each clause states what a greatest solution accepts.
+/// The worked rows: each clause states what a solution accepts or refuses.
 ///
 /// The rows are computed from the definitions alone, over a tiny resolver, table, matcher and
 /// keyword type. The function does nothing when it runs.

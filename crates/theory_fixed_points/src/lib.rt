@@ -1,9 +1,10 @@
 //! Laws of greatest solutions and of solvers.
 //!
 //! If every keyword is monotone, what numbered nodes say under guards is the greatest solution: the
-//! largest set of pairs of a target and a place that stands by itself. What a solver finds by
-//! stages is what the nodes say, whether keywords are monotone or not. Each function states laws in
-//! its contract, and does nothing when it runs.
+//! largest set of pairs of a target and a place that stands by itself, which means that each pair
+//! of the set accepts, given that exactly the pairs of the set accept. A solver that works by
+//! stages finds what the nodes say, whether keywords are monotone or not. Each function states laws
+//! in its contract, and does nothing when it runs.
 #![tactic(auto)]
 
 pub mod cycle_rows;

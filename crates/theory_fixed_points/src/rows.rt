@@ -1,10 +1,11 @@
-//! Worked rows: what the greatest solutions of small schemas accept.
+//! Worked rows: what greatest solutions accept if chains of questions return.
 ghost use Rattle.theory_fixed_points.specs.Rows.{AllAcceptsText, AllComesBack, AllRefusesNumber, AnyAcceptsNumber, AnyComesBack};
 
-/// The worked rows: each clause states what a greatest solution accepts.
+/// The worked rows: each clause states one fact about a small schema.
 ///
-/// The rows are computed from the definitions alone, over a tiny resolver, table, matcher and
-/// keyword type. The function does nothing when it runs.
+/// Either a chain of questions returns, or a greatest solution accepts or refuses an instance. The
+/// rows are computed from the definitions alone, over a tiny resolver, table, matcher and keyword
+/// type. The function does nothing when it runs.
 pub fn worked_rows()
     ensures any_comes_back { AnyComesBack }
     ensures any_accepts_number { AnyAcceptsNumber }

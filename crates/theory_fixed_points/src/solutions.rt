@@ -24,9 +24,10 @@ pub fn nodes_say_greatest<K, R>()
 
 /// A number says the greatest solution of its key.
 ///
-/// That is, it says yes if and only if the largest set of pairs of a reached target and a place
-/// that stands by itself contains the pair. There is such a set, and it makes no difference whether
-/// its pairs are formed with keys or with targets.
+/// That is, if every keyword is monotone, it says yes at a place if and only if the greatest
+/// solution contains the pair of its key's target and the place. The greatest solution is the
+/// largest set of such pairs that stands by itself. It exists if every reached key has a number,
+/// and it makes no difference whether its pairs are formed with keys or with targets.
 pub fn numbers_say_greatest<S, K, R>()
     ensures says { (w : Parts S K R) (keys : Numbers S) (nodes : Nodes K) → NumbersSayGreatest w keys nodes }
     ensures stands { (w : Parts S K R) (keys : Numbers S) (nodes : Nodes K) → LargestStands w keys nodes }
@@ -37,27 +38,29 @@ pub fn numbers_say_greatest<S, K, R>()
 
 /// A call that decides says what the greatest solutions say.
 ///
-/// It answers yes if and only if they accept the root at the root place.
+/// If every keyword is monotone, it answers yes if and only if they accept the root at the root
+/// place. If the matcher finishes every match, each call that makes a run decides.
 pub fn calls_say_greatest<S, K, R>()
     ensures answers { (w : Parts S K R) (keys : Numbers S) (nodes : Nodes K) → GreatestAnswers w keys nodes }
     ensures finishing { (w : Parts S K R) (keys : Numbers S) (nodes : Nodes K) → FinishingAnswers w keys nodes }
 {}
 
-/// Numbers have monotone keywords if the keys that the root reaches have.
+/// Numbers have monotone keywords if all keys that the root reaches do.
 pub fn numbers_are_monotone<S, K, R>()
     ensures monotone { (w : Parts S K R) (keys : List (Key S)) (nodes : Nodes K) → NumbersAreMonotone w keys nodes }
 {}
 
-/// The same laws for numbers of the keys that a root reaches.
+/// Calls on the numbers of reached keys say what the greatest solutions say.
 ///
-/// They hold if every keyword of a reached key is monotone.
+/// This holds if every keyword of a reached key is monotone. If every reached key has a number,
+/// there is a largest set that stands by itself.
 pub fn reached_say_greatest<S, K, R>()
     ensures answer { (w : Parts S K R) (keys : List (Key S)) (nodes : Nodes K) → ReachedAnswer w keys nodes }
     ensures finish { (w : Parts S K R) (keys : List (Key S)) (nodes : Nodes K) → ReachedFinish w keys nodes }
     ensures stand { (w : Parts S K R) (keys : List (Key S)) (nodes : Nodes K) → ReachedStand w keys nodes }
 {}
 
-/// What a solver finds by stages is what the nodes say under guards.
+/// A solver that works by stages finds what the nodes say under guards.
 ///
 /// Each stage rests on those before it. This holds whether keywords are monotone or not; if each
 /// keyword is monotone, the solver finds the greatest solution.

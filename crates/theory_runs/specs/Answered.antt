@@ -30,13 +30,13 @@ use Rattle.theory_runs.specs.RunStates.{ChildSays, EdgeRemembers, EdgeSays, Form
 use Rattle.theory_runs.specs.UnitStates.{ChildGives, EdgeGives, FindsRightly, FormGives, NodeGives, PartsGive}
 use Rattle.theory_runs.specs.Visits.{EdgeCounts, FormCounts, LeadsNowhere, NodeCounts, PartsCount}
 
--- What a run is made with, according to the declarations of a keyword type and a matcher.
+-- The setting of a run, from the declarations of a keyword type and a matcher.
 abbrev pub setting_by : {C R K M : Type 0} → keyword.Ghosts C R K → matcher.Ghosts M → Engine C M → Setting K (R × Answer)
 setting_by k m e = setting k.words k.is_whole k.shape m.matching e
 
--- What is asked: a number, which may have to reach no guarded edge; its plan, after the number is
--- counted; some of its entries; the keyword or reference of an entry; a child of a keyword; or the
--- target of an edge, which may have to be guarded.
+-- What is asked: a number (`a_shared` if it reaches no guarded edge); the plan of a number that is
+-- already counted; some of its entries; the keyword or reference of an entry, or the whole entry; a
+-- child of a keyword; or the target of an edge (`a_guarded` if the edge is guarded).
 pub data Wanted (K : Type 0) : Type 0 where
   a_node a_plan a_shared : ℕ → Wanted K
   some_parts : ℕ → List (NodePart K) → Wanted K
@@ -58,8 +58,8 @@ number_in (an_edge e) = e.node
 number_in (a_guarded e) = e.node
 
 module _ {K R : Type 0} (g : Setting K R) (q : Asking) where
-  -- The number, entry or child belongs to the table, and the place of a child exists in the
-  -- subject.
+  -- The entry or child belongs to the table, the place of a child exists in the subject, and the
+  -- conditions on guarded edges hold.
   abbrev pub StandsIn : Wanted K → Type 0
   StandsIn (a_node i) = Unit {0}
   StandsIn (a_plan i) = Unit {0}
@@ -72,7 +72,7 @@ module _ {K R : Type 0} (g : Setting K R) (q : Asking) where
   StandsIn (a_guarded e) = e.guarded ≡ true
 
   module _ (c c' : Context) where
-    -- The visits are counted.
+    -- The visits that the run makes are counted.
     abbrev pub counts_of : Wanted K → Type 0
     counts_of (a_node i) = NodeCounts g.nodes q c c' i
     counts_of (a_plan i) = NodeCounts g.nodes q c c' i
@@ -84,7 +84,7 @@ module _ {K R : Type 0} (g : Setting K R) (q : Asking) where
     counts_of (an_edge e) = EdgeCounts g.nodes q c c' e
     counts_of (a_guarded e) = EdgeCounts g.nodes q c c' e
 
-    -- The verdict is what is said of the thing that is asked.
+    -- The verdict is the right one for what is asked.
     abbrev pub says_of : Wanted K → Bool → Type 0
     says_of (a_node i) b = NodeSays g q c i (told.Truth b)
     says_of (a_plan i) b = NodeSays g q c i (told.Truth b)
@@ -96,7 +96,7 @@ module _ {K R : Type 0} (g : Setting K R) (q : Asking) where
     says_of (an_edge e) b = EdgeSays g q c e (told.Truth b)
     says_of (a_guarded e) b = EdgeSays g q c e (told.Truth b)
 
-    -- The matches that it meets are remembered.
+    -- The matches that the run meets are remembered.
     abbrev pub meets_of : Wanted K → Type 0
     meets_of (a_node i) = MeetsNode g q c c' i
     meets_of (a_plan i) = MeetsNode g q c c' i
@@ -108,7 +108,7 @@ module _ {K R : Type 0} (g : Setting K R) (q : Asking) where
     meets_of (an_edge e) = MeetsEdge g q c c' e
     meets_of (a_guarded e) = MeetsEdge g q c c' e
 
-    -- The verdicts that it computes are remembered.
+    -- The verdicts that the run computes are remembered.
     abbrev pub remembers_of : Wanted K → Bool → Type 0
     remembers_of (a_node i) b = NodeRemembers q c c' g.nodes i (told.Truth b)
     remembers_of (a_plan i) b = NodeRemembers q c c' g.nodes i (told.Truth b)
@@ -120,12 +120,13 @@ module _ {K R : Type 0} (g : Setting K R) (q : Asking) where
     remembers_of (an_edge e) b = EdgeRemembers q c c' e (told.Truth b)
     remembers_of (a_guarded e) b = EdgeRemembers q c c' e (told.Truth b)
 
-    -- A number is counted, and after anything else no more nodes may be asked than before.
+    -- After a number is asked, fewer nodes may still be asked if their count is limited. After
+    -- anything else, no more may be asked than before.
     abbrev pub works_of : Wanted K → Type 0
     works_of (a_node i) = Asks c.work c'.work
     works_of _ = Spends c.work c'.work
 
--- The condition for asking something for its verdict.
+-- The condition under which something may be asked for its verdict.
 pub record IsAsked {K R : Type 0} (g : Setting K R) (q : Question) (a : Wanted K) (c : Context) : Type 0 where
   pub may : MayRun g (asking q) c (number_in a)
   pub carries : CarriesItsNumber (places_in c) q.place.now

@@ -19,7 +19,7 @@ entry_met for_verdict x = x.met for_verdict
 entry_met for_first x = elim x.is_leaf [ true ↦ x.met for_verdict ++ elim x.holds [ true ↦ [] | false ↦ x.met for_first ] | false ↦ x.met for_first ]
 entry_met for_all x = elim x.is_leaf [ true ↦ x.met for_verdict ++ elim x.holds [ true ↦ [] | false ↦ x.met for_all ] | false ↦ x.met for_all ]
 
--- The reading of a run, in which every match has the outcome that the run gives it.
+-- The reading of a run, in which every match has the outcome that the run assigns to it.
 abbrev pub reading : Settling → Bool → Data → ℕ → Reading
 reading w texts root depth = record { texts = texts; root = root; matcher = w.matcher; completion = completion_of w.assumptions; depth = depth }
 

@@ -27,7 +27,7 @@ pub record LaysOut (layout : Layout) (p : Place) (s : Subject) : Type 0 where
   pub below : (q : Place) (step : Step) (t : Subject) → after_step step (layout q) ≡ Some t → layout (q ++ step ∷ []) ≡ t
 
 module _ {K R : Type 0} (words : Bool → Keywords K R) (is_whole : K → Bool) (nodes : Nodes K) (count : ℕ) (matcher : Matcher) (as' : Assumptions) (r : Remembered) where
-  -- How unfinished matches come out under these assumptions.
+  -- The outcomes of unfinished matches under these assumptions.
   abbrev with_assumed : Settling
   with_assumed = settling matcher as'
 

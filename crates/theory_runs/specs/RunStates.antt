@@ -1,5 +1,5 @@
--- What a run is made with and does not change, and what each of its functions returns, depending on
--- this and on the question.
+-- The setting of a run, which the run does not change, and what each function of a run returns,
+-- depending on the setting and the question.
 use Rattle.std.specs.List.{list_any}
 use Rattle.std.specs.Prelude.{◌≡◌, ◌<◌, ◌≤◌, ◌==◌, ◌∷◌, [], ℕ, Bool, All, List, None, Some, false, length, true}
 use Rattle.serde_json.specs.Data.{Data}
@@ -27,8 +27,8 @@ use Rattle.schema_traits.specs.declared.keyword.Answer as code_answer
 use Rattle.schema_traits.specs.declared.keyword.Reply as code
 use Rattle.schema_run_steps.specs.declared.question.Engine.{Engine}
 
--- What a run is made with: the keywords as they are read, the numbered nodes and their count, and
--- the matcher.
+-- The setting of a run: the keywords with their texts covered or not, whether a keyword is whole,
+-- the numbered nodes and their count, and the matcher.
 pub record Setting (K R : Type 0) : Type 0 where
   pub words : Bool → Keywords K R
   pub is_whole : K → Bool
@@ -77,12 +77,12 @@ pub record MayRun {K R : Type 0} (g : Setting K R) (q : Asking) (c : Context) (i
   pub stands : IsAskedOf (view c.root) q
   pub goes_on : (layout : Layout) × IsLaidOut layout q × RemembersRightly g layout c
 
--- The remembered verdicts stay right, however many are added.
+-- If the verdicts remembered before the run are right, so are those remembered after it.
 abbrev pub StaysRight : {K R : Type 0} → Setting K R → Asking → Context → Context → Type 0
 StaysRight g q c c' = (layout : Layout) → IsLaidOut layout q → RemembersRightly g layout c → RemembersRightly g layout c'
 
 module _ {K R : Type 0} (g : Setting K R) (q : Asking) (c : Context) where
-  -- How unfinished matches come out in this run.
+  -- The outcomes of unfinished matches in this run.
   abbrev pub settled_by : Settling
   settled_by = settling g.matcher c.remembered.assumptions
 
@@ -159,8 +159,8 @@ module _ {K R : Type 0} (g : Setting K R) (q : Asking) (c : Context) where
     abbrev pub RunMeets : ℕ → Type 0
     RunMeets i = OfWholeRun i (λ texts run. MeetsEach g.matcher c.remembered (run.met q.mode) c'.remembered)
 
--- After a run the remembered verdicts are right for the values of each root value in which the
--- question's subject is at its place.
+-- In each root value that has the question's subject at its place, the verdicts that are remembered
+-- after a run are right.
 abbrev pub RunRemembers : {K R : Type 0} → Setting K R → Asking → Context → Type 0
 RunRemembers g q c' = (root : Data) → IsAskedOf root q → RemembersRightly g (subject_in root) c'
 
@@ -175,10 +175,10 @@ forgotten c = record c { verdicts = []; visits = 0; kept = []; words = guard_wor
 
 -- ---- verdicts that are read, and verdicts that are kept
 
--- What happens if a guarded edge is asked for the verdict while its pair is not in progress. The
--- reply is a verdict. If a remembered verdict can be read, the reply is that one, and only the
--- number of nodes that may still be asked changes. Otherwise the visit is counted, and the verdict
--- is kept if it may be.
+-- The effect of asking a guarded edge for the verdict while its pair is not in progress. The reply
+-- is a verdict. If a remembered verdict can be read, the reply is that verdict, and only the number
+-- of nodes that may still be asked changes. Otherwise the visit is counted, and the verdict is kept
+-- if it may be.
 pub record ReadsOrKeeps (q : Asking) (c c' : Context) (i : ℕ) (r : code.Reply) : Type 0 where
   pub verdict : Bool
   pub told : (texts : Bool) → reply_of texts r ≡ truth verdict
@@ -211,11 +211,11 @@ HasBegun g q m run a = (texts : Bool) → (g.words texts).begin m q.subject q.mo
 -- ---- errors borrow the values at their places, in every root value in which the subject is at its
 -- place
 
--- The errors that a keyword passes on borrow their values from this root value.
+-- The errors that a keyword passes on borrow their values from the root value.
 abbrev pub PassesItsOwn : Asking → code_answer.Answer → Type 0
 PassesItsOwn q a = (root : Data) → IsAskedOf root q → All (PassesBorrowed root) (faults_in a)
 
--- The errors of a reply borrow the values at their places from this root value.
+-- The errors of a reply borrow the values at their places from the root value.
 abbrev pub RunBorrows : Asking → code.Reply → Type 0
 RunBorrows q r = (root : Data) → IsAskedOf root q → All (BorrowsItsPlace root) (errors_in r)
 

@@ -67,7 +67,7 @@ pub record MayEvaluate {K R : Type 0} (g : Setting K R) (q : Asking) (c : Contex
   pub stands : IsAskedOf (view c.root) q
   pub goes_on : GoesOn g q c
 
--- The condition for running the keyword of a number, whatever it asks.
+-- The condition for running the keyword of a number in any mode.
 pub record MayAsk {K R : Type 0} (g : Setting K R) (q : Asking) (c : Context) (i : ℕ) : Type 0 where
   pub known : i < g.count
   pub ranked : Ranked g.nodes g.count
