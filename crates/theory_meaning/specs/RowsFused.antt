@@ -22,6 +22,7 @@ use Rattle.theory_meaning.specs.Rows.{refused_by, string_schema}
 -- ---- the keyword type: `type` for texts, and one keyword for `type` of arrays, `minItems` and
 -- `items`
 
+-- The keywords of the row; a number is the least number of items.
 pub data Fused : Type 0 where
   a_text : Fused
   a_list : ℕ → Fused
@@ -43,6 +44,7 @@ abbrev pub fused_questions : Fused → Subject → List Question
 fused_questions a_text x = []
 fused_questions (a_list n) x = items_from 0 (items_of x)
 
+-- If the subject is an array, it has at least n items.
 abbrev pub has_least : ℕ → Subject → Bool
 has_least n (a_value (array ds)) = nat_le n (item_count ds)
 has_least n _ = true
@@ -53,6 +55,7 @@ fused_holds (a_list n) x m v = is_list x && (has_least n x && list_all v (fused_
 
 -- ---- its errors: those of `type`, `minItems` and `items`, in this order
 
+-- An error with this name and text, unless the keyword holds.
 abbrev pub described : Bool → Text → Text → List Described
 described holds name words = if holds then [] else record { name = name; text = words } ∷ []
 

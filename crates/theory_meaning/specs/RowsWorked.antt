@@ -31,6 +31,7 @@ pub data Word : Type 0 where
   is_any_of : ℕ → Word
   is_not : Data → Word
 
+-- The text of a subject, if it is a text.
 abbrev pub text_of : Subject → Option Text
 text_of (a_name t) = Some t
 text_of (a_value (string t)) = Some t
@@ -44,6 +45,7 @@ abbrev pub is_object : Subject → Bool
 is_object (a_value (object ms)) = true
 is_object _ = false
 
+-- The text by which a message shows a subject.
 abbrev pub shown : Subject → Text
 shown (a_value d) = compact_text d
 shown (a_name t) = quoted t
@@ -58,6 +60,7 @@ abbrev pub children_at : ℕ → List Text → Members → List Question
 children_at i [] ms = []
 children_at i (k ∷ ks) ms = (if is_some (member_of k ms) then record { child = i; below = down (to_member k) } ∷ [] else []) ++ children_at (i + 1) ks ms
 
+-- The questions that a keyword may ask.
 abbrev pub questions_of : Word → Subject → List Question
 questions_of (has_properties ks) x = children_at 0 ks (members_of x)
 questions_of (is_all_of n) x = children_from n 0
@@ -65,6 +68,7 @@ questions_of (is_any_of n) x = children_from n 0
 questions_of (is_not schema) x = children_from 1 0
 questions_of _ x = []
 
+-- The names that are not among the members.
 abbrev pub missing : List Text → Members → List Text
 missing ks ms = filter (λ k. is_none (member_of k ms)) ks
 
@@ -83,6 +87,7 @@ word_holds (is_all_of n) x m v = list_all v (children_from n 0)
 word_holds (is_any_of n) x m v = list_any v (children_from n 0)
 word_holds (is_not schema) x m v = not (list_all v (children_from 1 0))
 
+-- An error at the keyword itself.
 abbrev pub own_fault : Text → Text → Fault
 own_fault name text = own (record { spot = record { absorbed = None; path = []; below = [] }; name = name; text = text })
 
@@ -103,6 +108,7 @@ own_faults (is_not schema) x b = unless b (own_fault (codes "not") (compact_text
 own_faults (has_properties ks) x b = []
 own_faults (is_all_of n) x b = []
 
+-- The keyword passes on the errors of its children, and has none of its own.
 abbrev pub passes_on : Word → Bool
 passes_on (has_properties ks) = true
 passes_on (is_all_of n) = true
@@ -115,6 +121,7 @@ word_faults k x m a = elim (passes_on k) [
   | false ↦ own_faults k x (word_holds k x m (λ q. (a q).verdict))
 ]
 
+-- The questions whose units are inside the keyword's own unit.
 abbrev pub kept_units : Word → Subject → List Question
 kept_units (is_not schema) x = []
 kept_units k x = questions_of k x
@@ -131,9 +138,11 @@ word_units k x m u = record {
 
 -- ---- runs by turns: the first turn asks the first child, and each further turn asks the next
 
+-- The phase of a run: before its first turn, or after it.
 pub data Phase : Type 0 where
   starting asking : Phase
 
+-- The state of a run: its mode, its phase, and the questions that are left after the first turn.
 pub record Running : Type 0 where
   pub mode : Mode
   pub phase : Phase
@@ -154,21 +163,26 @@ is_enough k for_verdict (truth b) = not b
 is_enough k for_first (first_of_it o) = is_some o
 is_enough _ _ _ = false
 
+-- The evaluation path and the place of a match are reported, except in a run for the verdict.
 abbrev pub is_located : Mode → Bool
 is_located for_verdict = false
 is_located _ = true
 
+-- The questions after the first one.
 abbrev pub after_first : List Question → List Question
 after_first [] = []
 after_first (q ∷ qs) = qs
 
+-- The next state of a run.
 abbrev pub next_of : Word → Subject → Running → Reply → Running
 next_of k x r reply = elim r.phase [ starting ↦ record r { phase = asking; left = after_first (questions_of k x) } | asking ↦ record r { left = after_first r.left } ]
 
+-- The turn that asks the first of these questions, or ends the run if there is none.
 abbrev pub ask_first : Word → Mode → List Question → Turn
 ask_first k mode [] = done
 ask_first k mode (q ∷ qs) = ask q (asks_in k mode)
 
+-- The next turn of a run.
 abbrev pub step_of : Word → Subject → Running → Reply → Turn
 step_of (has_pattern p) x r reply = elim r.phase [
   | starting ↦ elim (text_of x) [
@@ -211,6 +225,7 @@ abbrev pub texts_of : Items → List Text
 texts_of no_items = []
 texts_of (item d ds) = elim d [ string t ↦ t ∷ texts_of ds | _ ↦ texts_of ds ]
 
+-- The paths of the items of a member, the first of which has index i.
 abbrev pub item_paths : Text → ℕ → Items → List Place
 item_paths name i no_items = []
 item_paths name i (item d ds) = (to_member name ∷ to_item i ∷ []) ∷ item_paths name (i + 1) ds
@@ -224,6 +239,7 @@ gives_word k (path ∷ paths) = then_compile path (gives_word k paths)
 abbrev pub no_word : Script Word
 no_word = then_end (refused true (record { instance = null; instance_path = []; schema_path = []; evaluation_path = []; absolute = None; name = []; text = codes "shape" }))
 
+-- The script of the maker of a member, by the member's name and value.
 abbrev pub word_made : Text → Data → Script Word
 word_made name (array ds) = if bytes_eq name (codes "allOf") then gives_word (is_all_of (item_count ds)) (item_paths name 0 ds)
     else (if bytes_eq name (codes "anyOf") then gives_word (is_any_of (item_count ds)) (item_paths name 0 ds)
@@ -249,6 +265,7 @@ word_table = record { owns = λ name. false; builtin = λ draft vocabularies nam
 
 -- ---- the resolver, over one document; its state is the URI of the resource
 
+-- The steps to the segments of a pointer; `now` is the start of the first segment.
 abbrev pub segments : Text → Text → Place
 segments now [] = to_member now ∷ []
 segments now (x ∷ xs) = if x == 47 then to_member now ∷ segments [] xs else segments (now ++ x ∷ []) xs
@@ -283,6 +300,7 @@ resource_on base _ p = base
 abbrev pub root_base : Text
 root_base = codes "json-schema:///"
 
+-- The target at a place of the schema, if there is a value.
 abbrev pub found_at : Data → Place → Result (Found Text) Text
 found_at schema p = elim (value_at schema p) [
   | None ↦ Err (codes "nothing there")

@@ -6,7 +6,7 @@ ghost use Rattle.theory_meaning.specs.Rows.{ChainIsRefused, EmbeddedCountsFromIt
 ghost use Rattle.theory_meaning.specs.RowsFused.{FusedHasUnits, FusedHasOneError, FusedKeepsUnits};
 ghost use Rattle.theory_meaning.specs.Rows.{TurningReturns, TurningIsNumbered, TurningIsAccepted};
 
-/// The worked rows: each clause states the meaning of a small schema.
+/// The worked rows: each clause states one fact about a small schema.
 ///
 /// The rows are computed from the definitions alone, over a tiny resolver, table, matcher and
 /// keyword type. The function does nothing when it runs.
