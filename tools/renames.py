@@ -1,12 +1,13 @@
 #!/usr/bin/env python3
-"""The names that crates and types had before the house was put in order, turned into those that they have now.
+"""Turns the names that crates and types had before the house was put in order into those of today.
 
-renames.py FILE..   turns the names in these files, a patch that was written over the old names among them
-renames.py --house  turned the repository itself, once
+renames.py FILE..   turns the names in these files, such as a patch over the old names
+
+It knows the crates that were merged and the modules that moved. It does not know that the root of a
+library lists what it offers: a line `use schema_reports::location::Location;` of an old patch becomes
+`use schema_reports::Location;` by hand.
 """
-import os
 import re
-import subprocess
 import sys
 
 CRATES = {
@@ -91,6 +92,21 @@ TYPES = {
 }
 
 
+# Crates that were merged into another, and the module that took what their root held.
+MERGED = {
+    "asked_questions": ("schema_traits", "asked"),
+    "schema_verdicts": ("schema_solver", ""),
+    "schema_calls": ("schema_compiled", ""),
+    "first_errors": ("meta_checker", ""),
+    "shown_fractions": ("meta_checker", ""),
+    "dates_and_addresses": ("text_formats", ""),
+}
+# What moved from the bench to the basic keywords.
+MOVED = [
+    (r"\bbench_parts(::|/src/)table\b", r"standard_basics\1table"),
+    (r"\bbench_parts([./])(specs|proofs)([./])(Makers|MakerLaws|MemberNames|table)\b", r"standard_basics\1\2\3\4"),
+    (r"\bBenchTable\b", "BasicTable"),
+]
 # Modules that would have the name of a crate that their crate uses.
 MODULES = [
     (r"\bschema_search::unfinished_matches::", "unfinished_search::"),
@@ -104,51 +120,22 @@ def turned(text):
     for old, new in PROGRAM:
         text = re.sub(old, new, text, flags=re.M)
     text = re.sub(r"\bstandard_validator\b", "jsonschema", text)
-    for old, new in MODULES:
+    for old, new in MODULES + MOVED:
         text = re.sub(old, new, text, flags=re.M)
+    for old, (new, module) in MERGED.items():
+        text = re.sub(r"\b%s::" % old, new + "::" + module + "::" * bool(module), text)
+        inside = module + "." if module else ""
+        text = re.sub(r"\b%s\.(specs\.declared\.|proofs\.(?=[a-z]))" % old, r"%s.\1%s" % (new, inside), text)
+        text = re.sub(r"\b%s\.(?=specs|proofs)" % old, new + ".", text)
+        folder = module + "/" if module else ""
+        text = re.sub(r"\bcrates/%s/(src/|proofs/(?=[a-z]))(?!lib\.rt)" % old, r"crates/%s/\1%s" % (new, folder), text)
+        text = re.sub(r"\bcrates/%s/" % old, "crates/%s/" % new, text)
     table = {**CRATES, **TYPES}
     return re.sub(r"\b(%s)\b" % "|".join(sorted(table, key=len, reverse=True)), lambda m: table[m[1]], text)
 
 
-def moved(path):
-    parts = path.split("/")
-    if parts[0] == "crates" and len(parts) > 1:
-        crate = parts[1]
-        parts[1] = {"jsonschema": "jsonschema_cli", "standard_validator": "jsonschema"}.get(crate, CRATES.get(crate, crate))
-    parts = [turned(part) if part.startswith(("Bench", "RowsBench")) else part for part in parts]
-    path = "/".join(parts)
-    path = re.sub(r"^crates/unfinished_search/(src|proofs)/unfinished_matches/", r"crates/unfinished_search/\1/", path)
-    return path.replace("crates/schema_engine/src/unfinished_matches.rt", "crates/schema_engine/src/unfinished.rt")
-
-
-def house():
-    files = subprocess.run(["git", "ls-files"], capture_output=True, text=True, check=True).stdout.split("\n")[:-1]
-    new = {}
-    for path in files:
-        with open(path, "rb") as it:
-            data = it.read()
-        if path != "tools/renames.py" and not path.endswith((".json", ".jsonl")):
-            text = turned(data.decode("utf-8", "surrogateescape"))
-            if re.match(r"crates/schema_(meaning|greatest|compiler)/.*antt$", path):
-                text = re.sub(r"^(?! *--)(.*)$", lambda m: re.sub(r"\bbench\b", "worked_parts", m[0]), text, flags=re.M)
-            data = text.encode("utf-8", "surrogateescape")
-        new[moved(path)] = (data, os.stat(path).st_mode)
-        os.remove(path)
-    for path, (data, mode) in new.items():
-        os.makedirs(os.path.dirname(path) or ".", exist_ok=True)
-        with open(path, "wb") as it:
-            it.write(data)
-        os.chmod(path, mode & 0o777)
-    for top, folders, names in os.walk("crates", topdown=False):
-        if not os.listdir(top):
-            os.rmdir(top)
-
-
-if sys.argv[1:] == ["--house"]:
-    house()
-else:
-    for path in sys.argv[1:]:
-        with open(path) as it:
-            text = it.read()
-        with open(path, "w") as it:
-            it.write(turned(text))
+for path in sys.argv[1:]:
+    with open(path) as it:
+        text = it.read()
+    with open(path, "w") as it:
+        it.write(turned(text))
