@@ -25,7 +25,7 @@ both_false : (a b : Bool) → (a || b) ≡ false → (a ≡ false) × (b ≡ fal
 both_false true b h = absurd (let f : ⊥ = cc in f)
 both_false false b h = (refl, h)
 
--- where none of the keywords has the name, no row of the same names has it
+-- if none of the keywords has the name, then no row of the same names has it
 none_found : (name : Text) (ks : List BuiltinKeyword) (rows : List Row) → map builtin_text ks ≡ map (λ r. r.name) rows → is_among name ks ≡ false → find (λ r. bytes_eq r.name name) rows ≡ None
 unfolding is_among
 none_found name [] [] e h = refl
@@ -38,7 +38,7 @@ none_found name (k ∷ ks) (r ∷ rows) e h =
     let differs : bytes_eq r.name name ≡ false = subst (λ (t : Text). bytes_eq t name ≡ false) first each.0 in
     rw differs (none_found name ks rows others each.1)
 
--- one keyword less, where it has another name
+-- dropping a keyword that has another name changes nothing
 pub is_among-drop : (name : Text) (ks : List BuiltinKeyword) (i : ℕ) (d : BuiltinKeyword) → i < length ks → bytes_eq (builtin_text (get_or ks i d)) name ≡ false → is_among name (drop i ks) ≡ is_among name (drop (i + 1) ks)
 is_among-drop name ks i d h differs = rw (drop-cons ks i d h, add-one) (is_among-cons name (get_or ks i d) (drop (suc i) ks) differs)
 

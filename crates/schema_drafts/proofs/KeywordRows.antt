@@ -1,4 +1,5 @@
--- What the table gives a member is the name of the member, with the priority and the leaf of the keyword of that name.
+-- The row found for a name has that name, with the priority and the leaf of the keyword of that
+-- name.
 use Rattle.std.proofs.Common.{ap, cond, subst, sym, ◌∙◌}
 use Rattle.std.proofs.lemmas.Slice.Eq.{bytes_eq-Decides}
 use Rattle.std.specs.Prelude.{Bool, List, None, Option, Some, [], bytes_eq, false, find, if◌then◌else◌, option_and_then, option_map, refl, true, ℕ, ◌∷◌, ◌≡◌}
@@ -7,7 +8,7 @@ use Rattle.theory_definitions.specs.Drafts.{Draft, Vocabularies}
 use Rattle.theory_definitions.specs.Making.{Builtin}
 use Rattle.schema_drafts.specs.KeywordTable.{Entry, Form, Row, Support, builtin_by, builtin_in, builtin_name, builtin_of, entry_by, entry_of, is_met, keyword_table, leaf_of, priority_of, row_named, support_of}
 
--- what a search finds has passed its test
+-- the result of a search passes its test
 passed : {X : Type 0} (test : X → Bool) (xs : List X) (x : X) → find test xs ≡ Some x → test x ≡ true
 passed test [] x e = absurd (let f : ⊥ = cc in f)
 passed {X} test (y ∷ xs) x e = go (test y) refl e (passed test xs x)
@@ -16,7 +17,7 @@ passed {X} test (y ∷ xs) x e = go (test y) refl e (passed test xs x)
     go true same e' later = let first : y ≡ x = cc in subst (λ (z : X). test z ≡ true) first same
     go false same e' later = later e'
 
--- the entry has the name that was asked for
+-- the entry has the name that was looked up
 name_of_entry : (draft : Draft) (vocabularies : Vocabularies) (name : Text) (e : Entry) → entry_of draft vocabularies name ≡ Some e → name ≡ e.name
 name_of_entry draft vocabularies name e h = go (support_of draft name) h
   where

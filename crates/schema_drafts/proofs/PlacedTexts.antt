@@ -1,4 +1,4 @@
--- A text is placed among those that are left of a list, at an index.
+-- A text is inserted into the rest of a list, from an index on.
 use Rattle.std.proofs.Common.{◌≡◌, ◌∙◌, ◌+◌, ◌<◌, ◌≤◌, ◌++◌, ℕ, suc, List, [], ◌∷◌, refl, ap, ap₂, sym, subst, add-one, append_assoc, drop, get_or, length, map, take}
 use Rattle.std.proofs.Math.Seq.{drop-cons, drop-length, take-length}
 use Rattle.std.proofs.lemmas.List.{drop_all, map-append, take-append-drop, take_all, take_more}
@@ -10,7 +10,7 @@ use Rattle.theory_definitions.specs.Instance.{Text}
 use Rattle.theory_definitions.specs.VocabularySets.{placed_by, placed_text}
 
 module _ {X : Type 0} (f : X → Text) (text : Text) (xs : List X) where
-  -- placed among those from the index on, it is placed among all
+  -- if it is inserted among those from the index on, it is inserted among all
   pub record PlacedFrom (i : ℕ) : Type 0 where
     pub is : placed_text text (map f xs) ≡ map f (take i xs) ++ placed_text text (map f (drop i xs))
 

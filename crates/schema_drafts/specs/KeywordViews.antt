@@ -1,4 +1,4 @@
--- What contracts see of the code's drafts, vocabularies and keywords.
+-- How contracts see drafts, vocabularies and keywords.
 use Rattle.std.specs.Prelude.{codes, option_map, string_bytes}
 use Rattle.schema_drafts.specs.declared.keywords.drafts.Draft.{Draft as DraftOfCode}
 use Rattle.schema_drafts.specs.declared.keywords.drafts.Draft.TheVariants.{Draft4, Draft6, Draft7, Draft201909, Draft202012, Unknown}
@@ -41,7 +41,7 @@ form_of form.Plain = plain_form
 form_of form.Draft4 = draft_4_form
 form_of form.Annotating = annotating_form
 
--- the name of each keyword, as schemas have it
+-- the name of each keyword, as written in schemas
 abbrev pub builtin_text : BuiltinKeyword → Text
 builtin_text builtin.TypeKeyword = codes "type"
 builtin_text builtin.Const = codes "const"

@@ -2,7 +2,7 @@ ghost use Rattle.std.specs.Prelude.{◌≡◌, IfSome, IfNone};
 ghost use Rattle.schema_drafts.specs.KeywordTable.{row_named};
 ghost use Rattle.schema_drafts.specs.KeywordViews.{builtin_text};
 
-/// The keywords of the standard, in the order of their priorities.
+/// A keyword of the standard. The variants are in order of priority.
 #[derive(Clone, Copy, Debug, PartialEq, Eq, Hash)]
 pub enum BuiltinKeyword {
     TypeKeyword,
@@ -49,7 +49,7 @@ pub enum BuiltinKeyword {
     DynamicRef,
 }
 
-/// Every keyword of the standard, in the order of their priorities.
+/// Every keyword of the standard, in order of priority.
 pub const BUILTIN_KEYWORDS: [BuiltinKeyword; 42] = [
     BuiltinKeyword::TypeKeyword,
     BuiltinKeyword::Const,
@@ -96,7 +96,7 @@ pub const BUILTIN_KEYWORDS: [BuiltinKeyword; 42] = [
 ];
 
 impl BuiltinKeyword {
-    /// Returns the keyword's name, as it is written in schemas.
+    /// Returns the keyword's name, as written in schemas.
     pub fn as_str(self) -> &'static str
         ensures name { result.now ≡ builtin_text self }
     {
@@ -146,7 +146,7 @@ impl BuiltinKeyword {
         }
     }
 
-    /// Returns the keyword with this name, or `None` if no draft of the standard has one.
+    /// Returns the keyword with this name, or `None` if no draft defines one.
     pub fn named(name: &str) -> Option<BuiltinKeyword>
         ensures found { IfSome result (λ keyword. builtin_text keyword ≡ name.now) }
         ensures absent { IfNone result (row_named name.now ≡ None) }

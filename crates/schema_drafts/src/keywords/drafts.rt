@@ -3,8 +3,10 @@ ghost use Rattle.theory_definitions.specs.Drafts.{ref_stands_alone};
 ghost use Rattle.schema_drafts.specs.KeywordTable.{is_before_2019_09};
 ghost use Rattle.schema_drafts.specs.KeywordViews.{draft_of};
 
-/// A draft of the standard. Drafts are ordered by age, the oldest first. `Unknown` is a draft that the standard does not name;
-/// it is treated as 2020-12, and is the last in the order.
+/// A draft of the standard.
+///
+/// Drafts are ordered by age, the oldest first. `Unknown` is a draft that the standard does not
+/// name. It is treated as 2020-12 and comes last in the order.
 #[derive(Clone, Copy, Debug, PartialEq, Eq, PartialOrd, Ord, Hash)]
 pub enum Draft {
     Draft4,
@@ -16,7 +18,9 @@ pub enum Draft {
 }
 
 impl Draft {
-    /// Returns `true` for drafts 4, 6 and 7. They have no vocabularies, and in them `$ref` stands alone in its object.
+    /// Returns `true` for drafts 4, 6 and 7.
+    ///
+    /// They have no vocabularies, and in them a `$ref` overrides all its siblings.
     pub fn is_before_2019_09(self) -> bool
         ensures before { result ≡ is_before_2019_09 (draft_of self) }
         ensures alone { result ≡ ref_stands_alone (draft_of self) }

@@ -1,8 +1,10 @@
 use crate::keywords::builtin::BuiltinKeyword;
 use crate::keywords::vocabularies::Vocabulary;
 
-/// How a keyword is taken: as it is, with the meaning that draft 4 gives it, or as an annotation, which asserts
-/// nothing.
+/// How a draft interprets a keyword.
+///
+/// `Plain` is the usual meaning, `Draft4` the one that draft 4 defines. `Annotating` makes the
+/// keyword an annotation, which asserts nothing.
 #[derive(Clone, Copy, Debug, PartialEq, Eq, Hash)]
 pub enum KeywordForm {
     Plain,
@@ -10,15 +12,17 @@ pub enum KeywordForm {
     Annotating,
 }
 
-/// A keyword of the standard, in the form in which a draft has it.
+/// A keyword of the standard, in the form that a draft defines.
 #[derive(Clone, Copy, Debug, PartialEq, Eq, Hash)]
 pub struct BuiltinEntry {
     pub keyword: BuiltinKeyword,
     pub form: KeywordForm,
 }
 
-/// What the table says of a keyword of the standard that a draft has: its entry, how late it is asked, and whether it
-/// speaks of the instance itself and applies no subschema.
+/// A row of the keyword table, for a draft that has the keyword.
+///
+/// It holds the keyword's entry, its priority, and whether it is a leaf: a keyword that looks at
+/// the instance itself and applies no subschema.
 #[derive(Clone, Copy, Debug, PartialEq, Eq, Hash)]
 pub struct BuiltinRow {
     pub entry: BuiltinEntry,
@@ -26,7 +30,9 @@ pub struct BuiltinRow {
     pub is_leaf: bool,
 }
 
-/// How a draft has a keyword: by which vocabulary, if by any, and in which form.
+/// How a draft supports a keyword.
+///
+/// It names the vocabulary that the keyword needs, if any, and the keyword's form.
 #[derive(Debug, Drop)]
 pub struct Support {
     pub need: Option<Vocabulary>,

@@ -5,7 +5,7 @@ ghost use Rattle.schema_drafts.specs.KeywordViews.{keyword_seen};
 use crate::keywords::builtin::BuiltinKeyword;
 use std::fmt;
 
-/// A keyword of the standard, or one of the user's by its name.
+/// A keyword of the standard, or a custom keyword by name.
 #[derive(Clone, Debug, PartialEq, Eq, Hash, Drop)]
 pub enum Keyword {
     Builtin(BuiltinKeyword),
@@ -13,14 +13,14 @@ pub enum Keyword {
 }
 
 impl Keyword {
-    /// Returns the user's keyword with this name.
+    /// Returns the custom keyword with this name.
     pub fn custom(name: String) -> Keyword
         ensures custom { keyword_seen result ≡ custom_name (string_bytes name) }
     {
         Keyword::Custom(name)
     }
 
-    /// Returns the keyword's name, as it is written in schemas.
+    /// Returns the keyword's name, as written in schemas.
     pub fn as_str(&self) -> &str
         ensures name { result.now ≡ name_text (keyword_seen self.now) }
     {

@@ -9,8 +9,10 @@ use crate::keywords::keyword::Keyword;
 use crate::keywords::priorities::{keyword_is_leaf, keyword_priority};
 use crate::keywords::vocabularies::{Vocabulary, VocabularySet};
 
-/// Returns the standard's keyword with this name, and its form. Returns `None` if the draft does not have the keyword, or if
-/// the vocabulary that the keyword needs is not in force.
+/// Returns the standard's keyword with this name, and its form.
+///
+/// Returns `None` if the draft does not have the keyword, or if the vocabulary that the keyword
+/// needs is not in force.
 pub fn get_for_draft(draft: Draft, vocabularies: &VocabularySet, name: &str) -> Option<BuiltinEntry>
     ensures entry { option_map entry_seen result ≡ entry_of (draft_of draft) vocabularies.now name.now }
 {
@@ -30,8 +32,10 @@ pub fn get_for_draft(draft: Draft, vocabularies: &VocabularySet, name: &str) -> 
     }
 }
 
-/// Returns the entry that [`get_for_draft`] returns, with the keyword's priority and whether it is a leaf. Returns `None` if
-/// there is no entry. It allocates nothing.
+/// Returns the row of the keyword with this name.
+///
+/// Its entry is the one that [`get_for_draft`] returns; the result is `None` if there is none. Does
+/// not allocate.
 pub fn builtin_row(draft: Draft, vocabularies: &VocabularySet, name: &str) -> Option<BuiltinRow>
     ensures row { option_map (λ r. record { name = name.now; priority = r.priority; is_leaf = r.is_leaf }) result
         ≡ builtin_in (draft_of draft) vocabularies.now name.now }
@@ -46,8 +50,10 @@ pub fn builtin_row(draft: Draft, vocabularies: &VocabularySet, name: &str) -> Op
     })
 }
 
-/// Returns `true` if the vocabulary is in force: always before draft 2019-09, always if it is the core vocabulary, and
-/// otherwise if it is in the set.
+/// Returns `true` if the vocabulary is in force.
+///
+/// Before draft 2019-09 every vocabulary is. From then on the core vocabulary always is, and any
+/// other if it is in the set.
 pub fn has_vocabulary(draft: Draft, vocabularies: &VocabularySet, vocabulary: &Vocabulary) -> bool
     ensures in_force { result ≡ is_in_force (draft_of draft) vocabularies.now (vocabulary_of vocabulary.now) }
 {
@@ -56,7 +62,7 @@ pub fn has_vocabulary(draft: Draft, vocabularies: &VocabularySet, vocabulary: &V
         || vocabularies.contains(vocabulary)
 }
 
-// What a keyword needs that no draft before 2019-09 has.
+// The support of a keyword that no draft before 2019-09 has.
 fn since_2019_09(draft: Draft, support: Option<Support>) -> Option<Support>
     ensures since { option_map support_seen result
         ≡ (if is_before_2019_09 (draft_of draft) then None else option_map support_seen support) }

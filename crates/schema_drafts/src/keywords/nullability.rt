@@ -1,15 +1,15 @@
 use std::fmt::Debug;
 
-/// Whether a keyword that is made for one type also accepts `null`.
+/// Whether a keyword for one type also accepts `null`.
 pub trait Nullability: Debug {
     const ACCEPTS_NULL: bool;
 }
 
-/// `null` is accepted too.
+/// Accepts `null` too.
 #[derive(Clone, Copy, Debug, PartialEq, Eq)]
 pub struct Nullable;
 
-/// `null` is refused, unless it is of the type.
+/// Accepts `null` only if it is of the keyword's type.
 #[derive(Clone, Copy, Debug, PartialEq, Eq)]
 pub struct NotNullable;
 

@@ -9,11 +9,13 @@ use crate::keywords::keyword::Keyword;
 /// The priority of `$ref`, the first of the references.
 pub const REF_PRIORITY: u8 = 70;
 
-/// The priority of a keyword that is not the standard's: after each built-in one.
+/// The priority of a custom keyword: after every keyword of the standard.
 pub const CUSTOM_PRIORITY: u8 = 80;
 
-/// Returns the keyword's priority; a smaller one is evaluated earlier. Cheap assertions come first, then keywords that apply
-/// subschemas, then references, and the user's keywords last.
+/// Returns the keyword's priority; a smaller one is evaluated earlier.
+///
+/// Cheap assertions come first, then keywords that apply subschemas, then references, and custom
+/// keywords last.
 pub fn keyword_priority(keyword: &Keyword) -> u8
     ensures priority { priority_of (keyword_seen keyword.now) ≡ Some result }
 {
@@ -23,7 +25,9 @@ pub fn keyword_priority(keyword: &Keyword) -> u8
     }
 }
 
-/// Returns `true` if the keyword looks at the instance itself and applies no subschema.
+/// Returns `true` if the keyword is a leaf.
+///
+/// A leaf looks at the instance itself and applies no subschema.
 pub fn keyword_is_leaf(keyword: &Keyword) -> bool
     ensures leaf { leaf_of (keyword_seen keyword.now) ≡ Some result }
 {
@@ -34,7 +38,7 @@ pub fn keyword_is_leaf(keyword: &Keyword) -> bool
 }
 
 impl BuiltinKeyword {
-    /// Returns the standard's keyword of this priority, or `None` if no keyword of the standard has it.
+    /// Returns the standard's keyword with this priority, if there is one.
     pub fn with_priority(priority: u8) -> Option<BuiltinKeyword>
         ensures priority { IfSome result (λ keyword. priority_of (builtin_name (builtin_text keyword)) ≡ Some priority) }
     {
@@ -135,9 +139,11 @@ fn builtin_priority(keyword: BuiltinKeyword) -> u8
     }
 }
 
-/// What holds of the table: it has 42 rows of names and priorities of their own, in the order of the priorities, as
-/// `BUILTIN_KEYWORDS` lists them, and its leaves are the keywords of priority below 40 other than `contentSchema`. The
-/// function does nothing when it runs.
+/// States the laws of the keyword table. Does nothing when it runs.
+///
+/// The table has 42 rows with distinct names and priorities, in order of priority, as
+/// `BUILTIN_KEYWORDS` lists them. Its leaves are the keywords with a priority below 40 other than
+/// `contentSchema`.
 pub fn keyword_table_facts()
     ensures rows { HasFortyTwoRows }
     ensures order { RowsAreInOrder }

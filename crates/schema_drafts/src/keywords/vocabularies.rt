@@ -6,7 +6,9 @@ use std::alloc::{AllocError, Global};
 use std::cmp::Ordering;
 use std::marker::Model;
 
-/// A vocabulary, which a meta-schema asks for: one of the standard's, or another one by its URI.
+/// A vocabulary that a meta-schema requires.
+///
+/// It is one of the standard's, or a custom one by its URI.
 #[derive(Clone, Debug, PartialEq, Eq, PartialOrd, Ord, Hash, Drop)]
 pub enum Vocabulary {
     Core,
@@ -21,10 +23,13 @@ pub enum Vocabulary {
     Custom(String),
 }
 
-/// A set of vocabularies: which of the standard's are in it, and the others by their URIs, each once, in the order of their
-/// bytes, whatever the order in which they came. So two sets that hold the same vocabularies are one and the same.
+/// A set of vocabularies.
 ///
-/// Contracts see it as the list of them, the standard's first.
+/// It records which of the standard's vocabularies it holds. The custom ones are kept by their
+/// URIs, each once, sorted by their bytes, whatever the order in which they were added. So two sets
+/// that hold the same vocabularies are equal.
+///
+/// Contracts see the set as a list, with the standard's vocabularies first.
 #[derive(Debug, Drop)]
 pub struct VocabularySet {
     core: bool,
@@ -60,7 +65,7 @@ impl VocabularySet {
     ghost use Rattle.schema_drafts.specs.KeywordViews.{vocabulary_of};
     ghost use Rattle.theory_definitions.specs.VocabularySets.{AddsOnly, HoldSame, custom_of, is_rising, with_uri};
 
-    /// Returns the empty set. It allocates nothing.
+    /// Returns the empty set. Does not allocate.
     pub fn new(alloc: Global) -> VocabularySet
         ensures empty { result ≡ [] }
     {
@@ -78,7 +83,7 @@ impl VocabularySet {
         }
     }
 
-    /// Returns `true` if the vocabulary is in the set. It allocates nothing.
+    /// Returns `true` if the vocabulary is in the set. Does not allocate.
     pub fn contains(&self, vocabulary: &Vocabulary) -> bool
         ensures member { result ≡ has_vocabulary self.now (vocabulary_of vocabulary.now) }
     {
@@ -96,11 +101,11 @@ impl VocabularySet {
         }
     }
 
-    /// Adds a vocabulary to the set; nothing changes if it is there already.
+    /// Adds a vocabulary to the set, if it is not there already.
     ///
     /// # Errors
     ///
-    /// If memory cannot be allocated. The set is then as it was.
+    /// Out of memory. The set is then unchanged.
     pub fn add(&mut self, vocabulary: Vocabulary) -> Result<(), AllocError>
         ensures member { OnOk result (AddsOnly self.old self.new (vocabulary_of vocabulary)) }
         ensures custom { OnOk result (custom_of self.new ≡ with_uri (vocabulary_of vocabulary) (custom_of self.old)) }
@@ -125,7 +130,7 @@ impl VocabularySet {
     ///
     /// # Errors
     ///
-    /// If memory cannot be allocated.
+    /// Out of memory.
     pub fn with(self, vocabulary: Vocabulary) -> Result<VocabularySet, AllocError>
         ensures member { IfOk result (λ set. AddsOnly self set (vocabulary_of vocabulary)) }
         ensures custom { IfOk result (λ set. custom_of set ≡ with_uri (vocabulary_of vocabulary) (custom_of self)) }
@@ -135,7 +140,7 @@ impl VocabularySet {
         Ok(set)
     }
 
-    /// Returns `true` if both sets hold the same vocabularies. It allocates nothing.
+    /// Returns `true` if both sets hold the same vocabularies. Does not allocate.
     pub fn same(&self, other: &VocabularySet) -> bool
         ensures same { result ≡ same_vocabularies self.now other.now }
         ensures members { (result ≡ true) ↔ HoldSame self.now other.now }
@@ -165,7 +170,7 @@ impl VocabularySet {
         own == others && self.custom == other.custom
     }
 
-    /// Returns the URIs of the vocabularies that are not the standard's, each once, in the order of their bytes.
+    /// Returns the URIs of the custom vocabularies, each once, sorted by their bytes.
     pub fn custom(&self) -> &[String]
         ensures custom { map string_bytes result.now ≡ custom_of self.now }
         ensures rising { is_rising (custom_of self.now) ≡ true }
@@ -177,7 +182,6 @@ impl VocabularySet {
 impl Clone for VocabularySet {
     ghost is_clone = { λ set copy. copy ≡ set };
 
-    /// Returns a clone of the set. Fails only if memory cannot be allocated.
     fn clone(&self) -> Result<VocabularySet, AllocError> {
         Ok(VocabularySet {
             custom: self.custom.clone()?,
@@ -197,7 +201,8 @@ fn contains_text(texts: &[String], text: &String) -> bool
     false
 }
 
-// The position at which the text stands among these, if it comes after those before it; none if it is one of them.
+// The position where the text has to be inserted to keep the texts sorted; `None` if it is there
+// already.
 fn place_among(texts: &[String], text: &str) -> Option<usize>
     ensures place { MatchOption result
         (placed_text text.now (map string_bytes texts.now) ≡ map string_bytes texts.now)
@@ -214,7 +219,7 @@ fn place_among(texts: &[String], text: &str) -> Option<usize>
     Some(texts.len())
 }
 
-// Puts the text at its place among texts that rise; they stay as they are where it is one of them, and on `Err`.
+// Inserts the text into sorted texts, if it is not there already. They are unchanged on `Err`.
 fn place_text(texts: &mut Vec<String>, text: String) -> Result<(), AllocError>
     ensures placed { OnOk result
         (map string_bytes texts.new.items ≡ placed_text (string_bytes text) (map string_bytes texts.old.items)) }
