@@ -1,4 +1,4 @@
--- Keys that are found by a hash: a number is added, and a key is looked for from number to number.
+-- Keys are found by a hash: a number is added, and a key is searched from number to number.
 use Rattle.std.proofs.Common.{◌≡◌, ◌≢◌, ℕ, suc, ◌<◌, ◌≤◌, Bool, true, false, cond, inl, inr, List, [], ◌∷◌, ◌++◌, length, map, nat_eq, refl, ap, sym, ◌∙◌, subst, arith, true≢false}
 use Rattle.std.specs.Prelude.{Option, Some, None, option_map, slice_get}
 use Rattle.std.proofs.lemmas.Bool.{eqb-true, eq-eqb}
@@ -13,7 +13,7 @@ use Rattle.schema_keys.proofs.Lists.{below_or, equal_or, get-append, get-end, ge
 
 -- ---- a number is added
 
--- numbers at the end change nothing below
+-- a number appended at the end changes nothing below
 still_last : (hashes : List ℕ) (x h n : ℕ) (o : Option ℕ) → n ≤ length hashes → IsLastBelow hashes h n o → IsLastBelow (hashes ++ x ∷ []) h n o
 still_last hashes x h n None within l = λ j below at. elim (get-pushed hashes x j h at) [ inl old ↦ l j below old | inr new ↦ absurd (let e = new.0 in omega arith) ]
 still_last hashes x h n (Some m) within l = (
@@ -22,7 +22,7 @@ still_last hashes x h n (Some m) within l = (
   λ j above below at. elim (get-pushed hashes x j h at) [ inl old ↦ l.2 j above below old | inr new ↦ absurd (let e = new.0 in omega arith) ],
 )
 
--- nor does a number of another hash at the end
+-- nor does one with another hash at the end
 passed_over : (hashes : List ℕ) (x h : ℕ) (o : Option ℕ) → x ≢ h → IsLastBelow hashes h (length hashes) o → IsLastBelow (hashes ++ x ∷ []) h (suc (length hashes)) o
 passed_over hashes x h None other l = λ j below at. elim (get-pushed hashes x j h at) [ inl old ↦ l j (slice_get_within hashes j h old) old | inr new ↦ other new.1 ]
 passed_over hashes x h (Some m) other l = (
@@ -56,10 +56,10 @@ module _ (hashes : List ℕ) (earlier : List (Option ℕ)) (last last' : ℕ →
     ];
   }
 
--- ---- a key is looked for
+-- ---- a key is searched
 
 module _ {S P : Type 0} (point : S → P) (input : S → List Text) (alike : (s t : S) → point s ≡ point t → input s ≡ input t) (ks : List (SchemaKey S)) (k : SchemaKey S) where
-  -- one key has one hash
+  -- equal keys have equal hashes
   same_hash : (a : SchemaKey S) → key_of point a ≡ key_of point k → hash_of input a ≡ hash_of input k
   same_hash a e =
       let parts : hash_of input a ≡ hash_of_parts k.place.document k.location k.resource_base (input a.state) = ap (λ (q : Key P). hash_of_parts q.target.place.document q.location q.base (input a.state)) e in
@@ -72,7 +72,7 @@ module _ {S P : Type 0} (point : S → P) (input : S → List Text) (alike : (s 
       = elim [ None ↦ λ h. absurd (let g : ⊥ = cc in g) | Some a ↦ λ h. ap Some (same_hash a (some_is (key_of point a) (key_of point k) h)) ] in
       slice_get-map (hash_of input) ks j ∙ go (slice_get ks j) (sym (slice_get-map (key_of point) ks j) ∙ e)
 
-  -- the key stands nowhere above the number that comes next
+  -- the key is at no number above the next one
   pub record Seeks (next : Option ℕ) : Type 0 where
     pub bound : ℕ
     pub last : IsLastBelow (map (hash_of input) ks) (hash_of input k) bound next
@@ -95,7 +95,7 @@ module _ {S P : Type 0} (point : S → P) (input : S → List Text) (alike : (s 
   pub seeks_none : Seeks None → (j : ℕ) → slice_get (map (key_of point) ks) j ≡ Some (key_of point k) → ⊥
   seeks_none s j e = s.last j (s.below j e) (hash_at j e)
 
--- how many numbers are still before the one that comes next
+-- how many numbers are left before the next one
 abbrev pub steps_left : Option ℕ → ℕ
 steps_left None = 0
 steps_left (Some m) = suc m

@@ -51,7 +51,7 @@ abbrev pub lies_at : PlacedSchema → spec.SchemaPlace
 lies_at x = place_of x.place
 
 module _ {S : Type 0} (r : Resolver S) where
-  -- what stands at its place was read there
+  -- the value at its place was read
   abbrev pub IsRead : Placed → Type 0
   IsRead p = p.value ≡ r.value p.place
 
@@ -70,7 +70,7 @@ module _ {S : Type 0} (r : Resolver S) where
   places_read [] = refl
   places_read (x ∷ items) = ap (λ (ps : List spec.SchemaPlace). lies_at x ∷ ps) (places_read items)
 
-  -- they lie where the resolver says
+  -- they lie where the resolver reports them
   pub lie_at : (items : List PlacedSchema) (qs : List spec.SchemaPlace) → map placed_of items ≡ map (placed_in r) qs → map lies_at items ≡ qs
   lie_at items qs e = places_read items ∙ ap (map (λ (p : Placed). p.place)) e ∙ places_again qs
 
@@ -83,7 +83,7 @@ next_one {A} v f items k x l at = ap (λ (xs : List A). flat_map f (map v xs)) (
 pub no_more : {A B C : Type 0} (v : A → B) (f : B → List C) (items : List A) (k : ℕ) → length items ≤ k → flat_map f (map v (drop k items)) ≡ []
 no_more {A} v f items k l = ap (λ (xs : List A). flat_map f (map v xs)) (drop_all k items l)
 
--- ---- the way inwards
+-- ---- going inwards
 
 module _ {S : Type 0} (r : Resolver S) where
   abbrev pub height : spec.SchemaPlace → ℕ
@@ -96,7 +96,7 @@ module _ {S : Type 0} (r : Resolver S) where
   abbrev pub own_of : Draft → spec.SchemaPlace → Draft
   own_of draft q = r.detect draft (schema_at (resolving_parts r) q)
 
-  -- whether what is inside a schema of this draft, of that draft of its own, is embedded in a document
+  -- whether a schema of the second draft, inside a schema of the first, is embedded in a document
   abbrev pub is_embedded : Draft → Draft → Draft → spec.SchemaPlace → Bool
   is_embedded document draft own q = embedded (resolving_parts r) document draft own (schema_at (resolving_parts r) q)
 
@@ -118,7 +118,7 @@ module _ {S : Type 0} (r : Resolver S) where
   pub cut_below : (n : ℕ) (document draft own : Draft) (q : spec.SchemaPlace) → own ≡ own_of draft q → is_embedded document draft own q ≡ false → cut_at n document draft q ≡ cuts (resolving_parts r) n document own q
   cut_below n document draft own q is e = ap (λ (d : Draft). cut_with n document draft d q) (sym is) ∙ ap (cut_if n document own q) e
 
-  -- where no subschema changes the draft, nothing is cut out
+  -- if no subschema changes the draft, nothing is cut out
   pub none_cut : (n : ℕ) (draft : Draft) (p : spec.SchemaPlace) → KeepsDraft r n draft p → cuts (resolving_parts r) n draft draft p ≡ []
   none_cut zero draft p keeps = refl
   none_cut (suc n) draft p keeps = go (λ q kept. none_cut n draft q kept) (r.subresources_of draft p) keeps
@@ -130,7 +130,7 @@ module _ {S : Type 0} (r : Resolver S) where
       go none [] keeps = refl
       go none (q ∷ qs) keeps = ap (λ (cs : List Cut). cs ++ flat_map (cut_at n draft draft) qs) (cut_below n draft draft draft q (sym keeps.0.0) (not_itself q) ∙ none q keeps.0.1) ∙ go none qs keeps.1
 
-  -- all places were gone through
+  -- all places have been visited
   pub finished : (document draft : Draft) (p : spec.SchemaPlace) (items : List PlacedSchema) (k : ℕ) (old new : List Cut) → map lies_at items ≡ r.subresources_of draft p → length items ≤ k
       → ((n : ℕ) → height p ≤ n → new ++ flat_map (cut_at n document draft) (map lies_at (drop k items)) ≡ old ++ flat_map (cut_at n document draft) (map lies_at items))
       → (n : ℕ) → height p < n → new ≡ old ++ cuts (resolving_parts r) n document draft p
@@ -197,9 +197,9 @@ module _ {S : Type 0} (r : Resolver S) (refuses : MetaChecks) where
   follows_right [] es d a f = f
   follows_right (x ∷ ds) es d a f = inr (a.0, follows_right ds es d a.1 f)
 
--- ---- what a check says
+-- ---- the result of a check
 
--- an error of a meta validator, as it is kept
+-- an error of a meta validator, as it is stored
 pub error_kept : (refuses : MetaChecks) (draft : Draft) (value : Data) (o : Option ValidationError) (error : ValidationError) (e : OwnedError) → o ≡ Some error
     → ((texts : Bool) → (texts ≡ true → has_float value ≡ false) → option_map (error_of texts) o ≡ refuses texts draft value) → IfSome o (BorrowsItsPlace value)
     → owned_error_of e ≡ owned (subject_of error.instance) (error_of true error) → IsErrorBelow refuses [] draft value e
@@ -232,7 +232,7 @@ module _ {S : Type 0} (r : Resolver S) (refuses : MetaChecks) where
   refuses_more root ds es among (MissingRoot uri) h = absurd h
   refuses_more root ds es among (NodeLimit limit) h = absurd h
 
-  -- an error in the document itself, as it is seen from the root
+  -- an error in the document itself, relative to the root
   pub error_located : (root p : spec.SchemaPlace) (draft : Draft) (qs : List Cut) (schema : Data) (o : Option OwnedError) (error e : OwnedError)
       → schema ≡ schema_at (resolving_parts r) p → passes_unseen (resolving_parts r) schema ≡ false → o ≡ Some error
       → MatchOption o (refuses false draft (masked (resolving_parts r) qs p schema) ≡ None) (IsErrorBelow refuses [] draft (masked (resolving_parts r) qs p schema))
@@ -255,7 +255,8 @@ module _ {S : Type 0} (r : Resolver S) (refuses : MetaChecks) where
   refused_itself root p draft qs e are h (suc n) l = refuses_more root (own_document (resolving_parts r) (cuts_of r draft p) draft p) _ (λ d i. follows_left r refuses _ _ d i) e
       (subst (λ (ps : List Cut). RefusesOne (resolving_parts r) refuses root (own_document (resolving_parts r) ps draft p) e) are h)
 
-  -- so far each document is accepted, so one after accepted ones among those that are left is so among all
+  -- so far each document is accepted, so one that follows accepted ones among the rest does so
+  -- among all
   abbrev pub FollowsFrom : spec.SchemaPlace → List code.Cut → ℕ → Type 0
   FollowsFrom p items k = (n : ℕ) → height r p ≤ n → (d : Document (resolving_parts r)) → Follows r refuses (flat_map (inner_documents n) (map cut_of (drop k items))) d
       → Follows r refuses (flat_map (inner_documents n) (map cut_of items)) d
@@ -267,7 +268,7 @@ module _ {S : Type 0} (r : Resolver S) (refuses : MetaChecks) where
       so_far n less d (subst (λ (ds : List (Document (resolving_parts r))). Follows r refuses ds d) (sym (next_one cut_of (inner_documents n) items k x l at))
       (follows_right r refuses (inner_documents n (cut_of x)) (flat_map (inner_documents n) (map cut_of (drop (k + 1) items))) d (inner n (omega arith)) rest))
 
-  -- a refusal inside one of the embedded resources, those before it being accepted
+  -- a refusal inside one of the embedded resources, when those before it are accepted
   pub refused_inside : (root p : spec.SchemaPlace) (draft : Draft) (items : List code.Cut) (k : ℕ) (x : code.Cut) (e : BuildError)
       → map cut_of items ≡ cuts_of r draft p → k < length items → x ≡ get_or items k x → IsLowerCut r p (cut_of x)
       → EachAccepted (resolving_parts r) refuses (own_document (resolving_parts r) (map cut_of items) draft p) → FollowsFrom p items k

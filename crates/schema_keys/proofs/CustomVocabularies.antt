@@ -1,4 +1,4 @@
--- Only a vocabulary that is not the standard's has to be declared.
+-- Only a custom vocabulary has to be declared.
 use Rattle.std.proofs.Common.{◌≡◌, Bool, List, [], ◌∷◌, ◌++◌, ◌||◌, map, refl, ap}
 use Rattle.std.specs.List.{list_any}
 use Rattle.std.specs.Prelude.{flat_map}

@@ -1,4 +1,5 @@
--- An object or a boolean that stands at a path of a document is among the document's schemas; and the numbers of a path's items.
+-- An object or a boolean at a path of a document is among the document's schemas; and the indices
+-- in paths.
 use Rattle.std.proofs.Common.{◌≡◌, ◌∙◌, ◌+◌, ◌++◌, ◌∷◌, [], ℕ, zero, suc, Bool, true, false, cond, List, inl, inr, ap, append-nil, append_assoc, arith, refl, subst, sym}
 use Rattle.std.specs.Prelude.{None, Option, Some, bytes_eq, option_and_then}
 use Rattle.std.proofs.lemmas.Slice.Eq.{bytes_eq-Decides}

@@ -1,4 +1,4 @@
--- What stands before the first `#` of a text, and after it.
+-- The text before the first `#`, and after it.
 use Rattle.std.proofs.Common.{◌≡◌, ℕ, suc, ◌+◌, ◌==◌, Bool, true, false, cond, not, List, [], ◌∷◌, length, take, drop, refl, ◌∙◌, ap, arith}
 use Rattle.std.specs.List.{before_first, after_first, position_or_len}
 use Rattle.theory_definitions.specs.Plan.{fragment, without_fragment}
@@ -26,7 +26,7 @@ after_drop (x ∷ xs) =
 pub after_mark : (xs : List ℕ) → after_first (λ b. b == 35) xs ≡ fragment xs
 after_mark xs = ap (λ n. drop n xs) (let e : before xs + 1 ≡ suc (before xs) = omega arith in e) ∙ after_drop xs
 
--- without a mark
+-- a text without `#`
 pub before_none : (xs : List ℕ) → before xs ≡ length xs → xs ≡ without_fragment xs
 before_none [] h = refl
 before_none (x ∷ xs) h =

@@ -113,6 +113,6 @@ equal_or i n = elim (dec_lt i n) [ yes h ↦ inr (λ e. omega arith) | no h ↦ 
 pub some_is : {A : Type 0} (x y : A) → Some x ≡ Some y → x ≡ y
 some_is x y e = cc
 
--- what was gathered with the next ones, and those that are left after them, are the whole
+-- what was gathered with the next ones, and what is left after them, are the whole
 pub turned : {A : Type 0} (old new x rest next whole : List A) → old ++ rest ≡ whole → rest ≡ x ++ next → new ≡ old ++ x → new ++ next ≡ whole
 turned old new x rest next whole so_far one_more added = ap (λ ys. ys ++ next) added ∙ append_assoc old x next ∙ ap (λ ys. old ++ ys) (sym one_more) ∙ so_far

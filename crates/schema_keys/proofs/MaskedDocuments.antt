@@ -1,4 +1,4 @@
--- The copy of a document without its embedded resources, by the code's lists of items and of members.
+-- The copy of a document without its embedded resources, by the code's lists of items and members.
 use Rattle.std.proofs.Common.{◌≡◌, ◌∙◌, ◌<◌, ◌+◌, ◌++◌, ◌∷◌, [], ℕ, suc, Bool, true, false, Greater, Less, List, ap, arith, drop, get_or, length, map, nat_cmp, refl, string_bytes, string_cmp, sym}
 use Rattle.std.specs.Prelude.{if◌then◌else◌}
 use Rattle.std.specs.List.{AllByRecursion}
@@ -68,7 +68,7 @@ module _ {S K R : Type 0} (w : Parts S K R) where
         nat_list_cmp_total.antisymm (string_bytes e.0) (string_bytes first.0) ∙ ap ordering_reverse (above_all first done e more h.0) in
         rw above (ap (member (string_bytes first.0) (child (to_member (string_bytes first.0)) (view first.1))) (put_child done e more h.1))
 
-  -- ---- where nothing is cut out
+  -- ---- if nothing is cut out
 
   mutual
     pub blanked_nowhere : (p : SchemaPlace) (d : Data) → masked w [] p d ≡ d

@@ -1,4 +1,4 @@
--- The member of a name, by the lookups of `serde_json`, and values that are no object.
+-- The member with a name, by the lookups of `serde_json`, and values that are no object.
 use Rattle.std.proofs.Common.{◌≡◌, ◌∙◌, cond, Option, Some, ap, sym, refl, Ordering, Less, Equal, Greater}
 use Rattle.std.specs.Ordering.{nat_cmp, is_eq, match_ordering}
 use Rattle.std.specs.Cmp.Lexicographic.{slice_cmp}
@@ -12,7 +12,7 @@ by_order Less d a b e = e
 by_order Equal d a b e = refl
 by_order Greater d a b e = e
 
--- the first of the name is the one that is found
+-- the first member with the name is found
 pub member_of-get_member : (k : Text) (ms : Members) → member_of k ms ≡ get_member k ms
 member_of-get_member k no_members = refl
 member_of-get_member k (member l d ms) =

@@ -1,4 +1,4 @@
--- Two places of one document at which values stand are one place where they have one pointer.
+-- Two places of one document that both have values are the same if their pointers are.
 use Rattle.std.proofs.Common.{◌≡◌, ◌≢◌, ◌∙◌, ◌<◌, ◌^◌, ◌++◌, ◌∷◌, [], ℕ, Bool, true, false, cond, eqb, ap, arith, refl, subst, sym}
 use Rattle.std.specs.Fmt.{decimal}
 use Rattle.std.specs.Prelude.{None, Option, Some, option_and_then}
@@ -96,7 +96,7 @@ segments_apart (a ∷ as') (b ∷ bs) x y h k f g e =
 
 -- ---- places
 
--- what a first step leads to, where a value stands at the end
+-- the value after the first step, if there is a value at the end
 data FirstStep (d : Data) (s : Step) (p : Place) (v : Data) : Type 0 where
   into_object : (k : Text) (ms : Members) (inner : Data) → s ≡ to_member k → d ≡ object ms → member_of k ms ≡ Some inner → subject_at inner p ≡ Some (a_value v) → FirstStep d s p v
   into_array : (n : ℕ) (ds : Items) (inner : Data) → s ≡ to_item n → d ≡ array ds → item_of n ds ≡ Some inner → subject_at inner p ≡ Some (a_value v) → FirstStep d s p v
@@ -133,12 +133,12 @@ first_step (string x) (to_member k) p v e = absurd (let no : ⊥ = cc in no)
 first_step (string x) (to_item n) p v e = absurd (let no : ⊥ = cc in no)
 first_step (string x) (to_name k) p v e = absurd (let no : ⊥ = cc in no)
 
--- a first step is shown by the pointer
+-- a first step shows in the pointer
 step_shown : (d : Data) (s : Step) (p : Place) (v : Data) → FirstStep d s p v → pointer_to (s ∷ p) ≡ [] → ⊥
 step_shown d s p v (into_object k ms inner is at found rest) e = let shown : pointer_to (to_member k ∷ p) ≡ [] = subst (λ (t : Step). pointer_to (t ∷ p) ≡ []) is e in let no : ⊥ = cc in no
 step_shown d s p v (into_array n ds inner is at found rest) e = let shown : pointer_to (to_item n ∷ p) ≡ [] = subst (λ (t : Step). pointer_to (t ∷ p) ≡ []) is e in let no : ⊥ = cc in no
 
--- the first steps are one, and what they lead to is one
+-- the first steps agree, and so do the values after them
 steps_agree : (d v u : Data) (s t : Step) (p q : Place) → FirstStep d s p v → FirstStep d t q u → IndicesFit (s ∷ p) → IndicesFit (t ∷ q) → pointer_to (s ∷ p) ≡ pointer_to (t ∷ q)
     → ((inner : Data) → IndicesFit p → IndicesFit q → subject_at inner p ≡ Some (a_value v) → subject_at inner q ≡ Some (a_value u) → pointer_to p ≡ pointer_to q → p ≡ q)
     → s ∷ p ≡ t ∷ q

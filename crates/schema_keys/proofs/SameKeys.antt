@@ -124,23 +124,23 @@ one_key a b p s d v l e n = λ j. record {
   start = n j;
 }
 
--- two keys whose places, or vocabularies, differ are two
+-- keys with different places or vocabularies differ
 pub places_differ : {S : Type 0} (a b : Key S) → spec.same_schema_place a.target.place b.target.place ≡ false → a ≡ b → ⊥
 places_differ {S} a b h e = true≢false (sym (schema_place_itself a.target.place) ∙ ap (λ (q : Key S). spec.same_schema_place a.target.place q.target.place) e ∙ h)
 
 pub vocabularies_differ : {S : Type 0} (a b : Key S) → spec.same_vocabularies a.target.vocabularies b.target.vocabularies ≡ false → a ≡ b → ⊥
 vocabularies_differ {S} a b h e = true≢false (sym (vocabularies_itself a.target.vocabularies) ∙ ap (λ (q : Key S). spec.same_vocabularies a.target.vocabularies q.target.vocabularies) e ∙ h)
 
--- ---- looking for one in a list
+-- ---- searching a list
 
--- what is shared at a number, as far as it is seen
+-- the shared element at a number, as contracts see it
 pub shared_at : {A B : Type 0} (u : B → A) (rs : List B) (xs : List A) (n : ℕ) (r : B) → map u rs ≡ xs → n < length xs → r ≡ get_or rs n r → slice_get xs n ≡ Some (u r)
 shared_at {A} u rs xs n r is h at =
     let longs : length (map u rs) ≡ length xs = ap (λ (ys : List A). length ys) is in
     let within : n < length rs = omega (arith, longs, length-map rs u) in
     ap (λ (ys : List A). slice_get ys n) (sym is) ∙ slice_get-map u rs n ∙ ap (option_map u) (slice_get_read rs (length rs) n r refl within at)
 
--- an element that is not the one looked for
+-- an element that is not the one searched for
 pub not_at : {A B : Type 0} (v : A → B) (xs : List A) (n : ℕ) (x : A) (b : B) → slice_get xs n ≡ Some x → (v x ≡ b → ⊥) → slice_get (map v xs) n ≡ Some b → ⊥
 not_at v xs n x b at differs e =
     let same : Some (v x) ≡ Some b = rw (slice_get-map v xs n, at) at e in

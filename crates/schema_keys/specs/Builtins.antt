@@ -1,4 +1,4 @@
--- The table of the standard's keywords, as the compiler asks it.
+-- The table of the standard's keywords, as the compiler reads it.
 use Rattle.std.specs.Prelude.{Option}
 use Rattle.theory_definitions.specs.Instance.{Text}
 use Rattle.theory_definitions.specs.Drafts.{Draft, Vocabularies}

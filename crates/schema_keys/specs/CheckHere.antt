@@ -1,4 +1,4 @@
--- What a check says of the documents that it looks at.
+-- What a check reports about its documents.
 use Rattle.std.specs.Prelude.{Bool, List, String, map, ℕ, ◌<◌}
 use Rattle.std.specs.declared.alloc.Global.{Global}
 use Rattle.serde_json.specs.Data.{Data, Items, Members, depth}
@@ -22,7 +22,7 @@ use Rattle.schema_keys.specs.declared.check.embedded.Cut.{Cut}
 use Rattle.schema_keys.specs.declared.error.BuildError.{BuildError}
 
 module _ {A P S V : Type 0} (r : ResolverMembers A P S) (c : SchemaCheck A V) where
-  -- what its resolver answers, as parts
+  -- the results of its resolver, as parts
   abbrev pub parts_asked : Parts S (Unit {0}) (Unit {0})
   parts_asked = resolving_parts (r.resolving c.resolver.now)
 
@@ -38,14 +38,14 @@ module _ {A P S V : Type 0} (r : ResolverMembers A P S) (c : SchemaCheck A V) wh
   abbrev pub masked_at : List Cut → SchemaPlace → Value → Data
   masked_at cuts place value = masked parts_asked (map cut_of cuts) (place_of place) (view value)
 
-  -- the same of the items of an array there, and of the members of an object
+  -- the same for the items of an array there, and for the members of an object
   abbrev pub masked_items_at : List Cut → SchemaPlace → List Value → Items
   masked_items_at cuts place items = masked_items parts_asked (map cut_of cuts) (place_of place) 0 (items_view items)
 
   abbrev pub masked_members_at : List Cut → SchemaPlace → List (String Global × Value) → Members
   masked_members_at cuts place members = masked_members parts_asked (map cut_of cuts) (place_of place) (members_view members)
 
-  -- the outermost cuts of a document, so many levels below a schema of this draft at a place
+  -- the outermost cuts of a document, this many levels below a schema of this draft at a place
   abbrev pub cuts_at : ℕ → Draft → Draft → SchemaPlace → List documents.Cut
   cuts_at n document draft place = documents.cuts parts_asked n (draft_of document) (draft_of draft) (place_of place)
 
@@ -54,7 +54,7 @@ module _ {A P S V : Type 0} (r : ResolverMembers A P S) (c : SchemaCheck A V) wh
     abbrev pub AcceptsOwn : List Cut → Type 0
     AcceptsOwn cuts = EachAccepted parts_asked (m.checked c.metas.now) (own_document parts_asked (map cut_of cuts) (draft_of draft) (place_of place))
 
-    -- or it is refused by this error
+    -- the document at a place, without its cuts, is refused with this error
     abbrev pub RefusesOwn : List Cut → BuildError → Type 0
     RefusesOwn cuts = RefusesOne parts_asked (m.checked c.metas.now) (place_of c.root.now) (own_document parts_asked (map cut_of cuts) (draft_of draft) (place_of place))
 
@@ -62,6 +62,6 @@ module _ {A P S V : Type 0} (r : ResolverMembers A P S) (c : SchemaCheck A V) wh
     abbrev pub AcceptsAll : Type 0
     AcceptsAll = (n : ℕ) → depth_at place < n → EachAccepted parts_asked (m.checked c.metas.now) (documents.documents parts_asked n (draft_of draft) (place_of place))
 
-    -- the first of them that is not accepted is refused by this error
+    -- the first document that is not accepted is refused with this error
     abbrev pub RefusesFirst : BuildError → Type 0
     RefusesFirst e = (n : ℕ) → depth_at place < n → RefusesOne parts_asked (m.checked c.metas.now) (place_of c.root.now) (documents.documents parts_asked n (draft_of draft) (place_of place)) e

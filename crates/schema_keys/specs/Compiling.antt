@@ -1,4 +1,5 @@
--- What a compilation asks, step by step: the keys that a step reaches, and the causes that stand for what it asks.
+-- The steps of a compilation: the keys that a step reaches, and the causes for which what it
+-- requests is refused.
 use Rattle.std.specs.Prelude.{Bool, List, None, Option, Some, [], codes, false, flat_map, if◌then◌else◌, slice_get, true, ℕ, ◌≡◌, ◌⊎◌, ◌∷◌}
 use Rattle.serde_json.specs.Data.{Data, Members}
 use Rattle.theory_definitions.specs.Instance.{Text}
@@ -14,17 +15,17 @@ use Rattle.theory_definitions.specs.Drafts.{SchemaPlace, same_schema_place}
 use Rattle.theory_meaning.specs.Reach.{Reached, asked_edges, builtin_edges, lone_ref, maker_edges, members_edges, reference_edges}
 use Rattle.theory_meaning.specs.Refusals.{Cause, builtin_causes, causes, maker_causes, undeclared}
 
--- P of each element
+-- P holds of each element
 abbrev pub Each : {A : Type 0} → (A → Type 0) → List A → Type 0
 Each P [] = Unit {0}
 Each P (x ∷ xs) = P x × Each P xs
 
--- an element of a list
+-- a value is an element of a list
 abbrev pub In : {A : Type 0} → List A → A → Type 0
 In [] x = ⊥
 In (y ∷ ys) x = (y ≡ x) ⊎ In ys x
 
--- ---- what the compiler reads of the parts: no matcher, and of the keywords only how they are made
+-- ---- the parts that the compiler reads: no matcher, and of the keywords only how they are made
 
 abbrev pub no_matcher : Matcher
 no_matcher = record { is_match = λ pattern text. finished true; is_ecma = λ text. true }
@@ -55,7 +56,7 @@ parts_of resolver table formats declared = record {
   declared = declared;
 }
 
--- what depends on the resolver alone
+-- for definitions that depend on the resolver alone: an empty table, and the parts with it
 abbrev pub no_table : Table (Unit {0})
 no_table = record { owns = λ name. false; builtin = λ draft vocabularies name. None; script = λ own name object draft vocabularies formats. then_end nothing }
 
@@ -63,11 +64,12 @@ abbrev pub resolving_parts : {S : Type 0} → Resolver S → Parts S (Unit {0}) 
 resolving_parts resolver = parts_of resolver no_table None []
 
 module _ {S K R : Type 0} (w : Parts S K R) where
-  -- a reference leads to what requires no vocabulary that is not declared
+  -- a reference leads to a key that requires no undeclared vocabulary
   abbrev pub IsDeclared : Edge S → Type 0
   IsDeclared e = e.is_reference ≡ true → flat_map (undeclared w) e.key.target.vocabularies ≡ []
 
-  -- what is asked for has a number
+  -- the key of a requested edge has a number, and requires no undeclared vocabulary if a reference
+  -- leads to it
   pub record Settled (keys : List (Key S)) (e : Edge S) : Type 0 where
     pub numbered : (i : ℕ) × (slice_get keys i ≡ Some e.key)
     pub declared : IsDeclared e
@@ -76,41 +78,42 @@ module _ {S K R : Type 0} (w : Parts S K R) where
   abbrev pub ReachedFrom : List (Edge S) → Key S → Type 0
   ReachedFrom es q = (e : Edge S) × In es e × Reached w e.key q
 
-  -- a cause among these, or a vocabulary that a reference among these edges leads to
+  -- one of these causes, or an undeclared vocabulary that the target of a reference among these
+  -- edges requires
   abbrev pub Direct : List (Edge S) → List Cause → Cause → Type 0
   Direct es cs c = In cs c ⊎ ((e : Edge S) × In es e × (e.is_reference ≡ true) × In (flat_map (undeclared w) e.key.target.vocabularies) c)
 
-  -- a cause that stands for a key that this key reaches
+  -- a cause at a key that this key reaches
   abbrev pub StandsBelow : Key S → Cause → Type 0
   StandsBelow k c = (q : Key S) × Reached w k q × Direct (asked_edges w q) (causes w q) c
 
-  -- a cause that stands here, or for what these edges reach
+  -- a cause here, or at a key that these edges reach
   abbrev pub Blames : List (Edge S) → List Cause → Cause → Type 0
   Blames es cs c = Direct es cs c ⊎ ((e : Edge S) × In es e × StandsBelow e.key c)
 
--- a reference other than `$recursiveRef` is skipped where it leads to the place that holds it
+-- a reference is skipped if it leads to the place that holds it; `$recursiveRef` never is
 abbrev pub skips : Reference → SchemaPlace → SchemaPlace → Bool
 skips to_recursive target here = false
 skips to_ref target here = same_schema_place target here
 skips to_dynamic target here = same_schema_place target here
 
 module _ {S K R : Type 0} (w : Parts S K R) where
-  -- what a reference asks for: nothing where it is skipped
+  -- the edge that a reference requests; none if it is skipped
   abbrev pub reference_asked : Key S → Text → Reference → Text → Option (Edge S)
   reference_asked k name kind text = if is_self w k kind text then None else reference_edge w k name kind text
 
-  -- what one member asks for, and the causes to be looked at
+  -- the edges that one member requests, and its causes
   abbrev pub member_edges : Key S → Members → Text → Data → List (Edge S)
   member_edges k whole name value = elim (w.table.owns name) [ true ↦ maker_edges w k name (making w k whole true name) | false ↦ builtin_edges w k whole name value ]
 
   abbrev pub member_causes : Key S → Members → Text → Data → List Cause
   member_causes k whole name value = elim (w.table.owns name) [ true ↦ maker_causes w k (making w k whole true name) | false ↦ builtin_causes w k whole name value ]
 
-  -- what an object asks for
+  -- the edges that an object requests
   abbrev pub object_edges : Key S → Members → List (Edge S)
   object_edges k ms = elim (lone_ref w k ms) [ Some value ↦ reference_edges w k (codes "$ref") to_ref value | None ↦ members_edges w k ms ms ]
 
--- what a maker is told of its request: the number, or that it was skipped
+-- the reply to a maker's request: the number, or that it was skipped
 abbrev pub answers : Option NodeEdge → ℕ → Told
 answers None n = a_skip
 answers (Some e) n = the_number n

@@ -1,4 +1,5 @@
--- What stands where a context is: its schema's key, and what the definitions find from there by what its resolver answers.
+-- The schema at a context: its key, and what the definitions say of it, given the resolver's
+-- results.
 use Rattle.std.specs.Prelude.{Bool, List, Option, Result, Some, String, [], false, if◌then◌else◌, is_some, string_bytes, ℕ, ◌∷◌, ◌≡◌}
 use Rattle.std.specs.declared.alloc.Global.{Global}
 use Rattle.serde_json.specs.Data.{object}
@@ -28,69 +29,70 @@ use Rattle.schema_keys.specs.declared.error.BuildError.{BuildError}
 use Rattle.schema_keys.specs.declared.key.SchemaKey.{SchemaKey}
 
 module _ {A P S : Type 0} (c : Context A P S) where
-  -- the draft of its schema
+  -- the draft of the context's schema
   abbrev pub draft_here : Draft
   draft_here = draft_of c.key.now.draft
 
-  -- the place of its schema
+  -- the place of the context's schema
   abbrev pub place_here : SchemaPlace
   place_here = place_of c.key.now.place
 
-  -- the place lies at this path below its schema
+  -- the place lies at this path below the context's schema
   abbrev pub LiesBelow : Place → code.SchemaPlace → Type 0
   LiesBelow path place = place_of place ≡ at_path place_here path
 
-  -- a refusal says that the schema's reference of this name is no text; want of memory says nothing
+  -- a refusal says that the schema's reference with this name is no string; `OutOfMemory` claims
+  -- nothing
   abbrev pub RefusesText : String Global → BuildError → Type 0
   RefusesText name = Names (reference_not_text (joined c.key.now.location (string_bytes name)) ∷ [])
 
 module _ {A P S : Type 0} (r : ResolverMembers A P S) (c : Context A P S) where
-  -- what its resolver answers, and the same as parts
+  -- the results of the context's resolver, and the same as parts
   abbrev pub resolver_here : Resolver S
   resolver_here = r.resolving c.resolver.now
 
   abbrev pub parts_here : Parts S (Unit {0}) (Unit {0})
   parts_here = resolving_parts resolver_here
 
-  -- its schema's key
+  -- the key of the context's schema
   abbrev pub key_here : Key S
   key_here = key_of r.point c.key.now
 
-  -- its schema is an object with these members
+  -- the context's schema is an object with these members
   abbrev pub HasMembers : List (String Global × Value) → Type 0
   HasMembers members = resolver_here.value (place_here c) ≡ Some (object (members_view members))
 
-  -- the URI that absolute locations in its resource begin with
+  -- the URI of absolute locations in the schema's resource
   abbrev pub base_here : Option Text
   base_here = shown_base parts_here key_here
 
-  -- the absolute location of a location in its resource
+  -- the absolute form of a location in the schema's resource
   abbrev pub absolute_here : Text → Option Text
   absolute_here location = absolute_of parts_here key_here location
 
   -- ---- references
 
-  -- the URI that a reference's text stands for
+  -- the URI that a reference's text resolves to
   abbrev pub resolves : Text → Result Text Text
   resolves text = resolved parts_here key_here text
 
-  -- what a reference's text leads to
+  -- the target of a reference's text
   abbrev pub finds : Reference → Text → Result (Found S) Text
   finds kind text = found parts_here key_here kind text
 
-  -- what the resolver has for a text
+  -- the resolver's result for a text
   abbrev pub looks_up : Bool → Text → Result (Found S) Text
   looks_up dynamic text = looked_up parts_here key_here dynamic text
 
-  -- a reference's targets are reached by this URI
+  -- the targets of a reference are reached by this URI
   abbrev pub RefersBy : Reference → Text → String Global → Type 0
   RefersBy kind text uri = IsReferredBy parts_here key_here kind text (string_bytes uri)
 
-  -- a refusal names why a reference leads to nothing
+  -- a refusal names why a reference has no target
   abbrev pub RefusesReference : Reference → Text → BuildError → Type 0
   RefusesReference kind text = Names (lookup_causes parts_here (finds kind text))
 
-  -- a reference leads to this key; to none where it is skipped
+  -- a reference leads to this key; to none if it is skipped
   abbrev pub LeadsTo : Reference → Text → Option (SchemaKey P) → Type 0
   LeadsTo kind text o = LeadsBy parts_here r.point key_here kind text o
 
@@ -98,11 +100,11 @@ module _ {A P S : Type 0} (r : ResolverMembers A P S) (c : Context A P S) where
   abbrev pub path_in_resource : Target P → Place
   path_in_resource target = without_prefix target.place.path (resolver_here.resource_root (r.point target.state)).path
 
-  -- where a target stands that a fragment leads to
+  -- the location of a target that a fragment leads to
   abbrev pub target_location : Target P → Text → Text
   target_location target fragment = location_by parts_here (found_of r.point target) fragment
 
-  -- how much of its location lies outside its resource
+  -- how much of that location lies outside the target's resource
   abbrev pub target_start : Target P → Text → ℕ
   target_start target fragment = start_by parts_here (found_of r.point target) fragment
 
@@ -110,7 +112,7 @@ module _ {A P S : Type 0} (r : ResolverMembers A P S) (c : Context A P S) where
   abbrev pub target_key : Target P → Text → Key S
   target_key target uri = referred_by parts_here (found_of r.point target) uri
 
-  -- the key of a target that stands at a location, so much of which lies outside its resource
+  -- the key of a target at a location, with this much of it outside its resource
   abbrev pub target_key_at : Target P → Text → ℕ → Key S
   target_key_at target location start = referred_at parts_here (found_of r.point target) location start
 
@@ -125,11 +127,11 @@ module _ {A P S : Type 0} (r : ResolverMembers A P S) (c : Context A P S) where
   vocabularies_at t = if same_draft (draft_of t.draft) (draft_here c) then c.key.now.vocabularies
       else resolver_here.find_vocabularies (r.point t.state) (draft_of t.draft) (place_of t.place)
 
-  -- what stands at a target has an identifier
+  -- the schema at a target has an identifier
   abbrev pub is_identified_at : Target P → Bool
   is_identified_at t = is_some (resolver_here.id (draft_of t.draft) (schema_at parts_here (place_of t.place)))
 
-  -- the key of the subschema at a path, in the state and the draft of a target
+  -- the key of the subschema at a path, with the state and the draft of a target
   abbrev pub key_inside : Place → Target P → Key S
   key_inside path t = inside parts_here key_here path (r.point t.state) (draft_of t.draft)
 
@@ -137,7 +139,7 @@ module _ {A P S : Type 0} (r : ResolverMembers A P S) (c : Context A P S) where
   abbrev pub IsSubschemaKey : Place → SchemaKey P → Type 0
   IsSubschemaKey path key = subschema parts_here key_here path ≡ Some (record { key = key_of r.point key; path = pointer_to path; is_reference = false; is_recursive = false })
 
-  -- the key of the subschema at a path, by itself
+  -- the key of the subschema at a path, when it is compiled by itself
   abbrev pub key_by_itself : Place → Option (Key S)
   key_by_itself path = key_alone parts_here key_here path
 

@@ -20,6 +20,6 @@ kind_of kind.Ref = plan.to_ref
 kind_of kind.Dynamic = plan.to_dynamic
 kind_of kind.Recursive = plan.to_recursive
 
--- the number of a key among these; none where it has none
+-- the number of a key among these; `None` if it has none
 abbrev pub IsNumberOf : {S : Type 0} → List (plan.Key S) → plan.Key S → Option ℕ → Type 0
 IsNumberOf keys k o = MatchOption o ((i : ℕ) → slice_get keys i ≢ Some k) (λ n. slice_get keys n ≡ Some k)

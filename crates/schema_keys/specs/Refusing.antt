@@ -1,4 +1,4 @@
--- What a refusal of the compiler says: a cause that stands, or more keys than the limit.
+-- What a refusal of the compiler claims: a real cause, or more keys than the limit.
 use Rattle.std.specs.Prelude.{Bool, List, Some, codes, decimal, length, slice_get, string_bytes, ℕ, ◌++◌, ◌<◌, ◌≡◌}
 use Rattle.theory_definitions.specs.Parts.{Parts}
 use Rattle.theory_definitions.specs.Reports.{told_error}
@@ -27,9 +27,10 @@ number_of (MissingRoot uri) = 7
 number_of (NodeLimit limit) = 8
 number_of OutOfMemory = 9
 
--- what is printed of a refusal: its number, the place where it has one, and the reason, with the texts that it holds as they are. A
--- keyword's place is the schema path of the table's error. A meta-schema's refusal says where in the schema, and by which keyword of the
--- meta-schema. That of a vocabulary has the text of the crate that is ported, and no number.
+-- the printed text of a refusal: its number, its place if it has one, and the reason, with the
+-- texts that it holds unchanged. A keyword's place is the schema path of the table's error. A
+-- meta-schema's refusal shows the place in the schema and the meta-schema's keyword. That of a
+-- vocabulary has the text of the crate that is ported, and no number.
 abbrev pub refusal_text : BuildError → List ℕ
 refusal_text (NotASchema location) = codes "refusal 1 at '" ++ (location ++ codes "': the value is neither an object nor a boolean")
 refusal_text (ReferenceNotText location) = codes "refusal 2 at '" ++ (location ++ codes "': the reference is not a text")
@@ -41,15 +42,16 @@ refusal_text (MissingRoot uri) = codes "refusal 7: there is no document under '"
 refusal_text (NodeLimit limit) = codes "refusal 8: more than " ++ (decimal limit ++ codes " keys are reached")
 refusal_text OutOfMemory = codes "refusal 9: memory could not be had"
 
--- each key once
+-- each key occurs once
 abbrev pub AreDistinct : {S : Type 0} → List (Key S) → Type 0
 AreDistinct {S} keys = (i j : ℕ) (k : Key S) → slice_get keys i ≡ Some k → slice_get keys j ≡ Some k → i ≡ j
 
--- with these keys and others for which P holds there are more than the limit
+-- these keys and others for which P holds are more than the limit
 abbrev pub OverLimit : {S : Type 0} → ℕ → List (Key S) → (Key S → Type 0) → Type 0
 OverLimit {S} limit keys P = (ks : List (Key S)) × Each P ks × AreDistinct (keys ++ ks) × (limit < length (keys ++ ks))
 
--- a refusal shows a cause for which C holds, a table's its text where it is told; want of memory says nothing
+-- a refusal shows a cause for which C holds; a table's error has its text if that is reported;
+-- `OutOfMemory` claims nothing
 abbrev pub IsRefusal : {S : Type 0} → ℕ → List (Key S) → (Key S → Type 0) → (Cause → Type 0) → BuildError → Type 0
 IsRefusal limit keys P C (NotASchema location) = C (not_a_schema location)
 IsRefusal limit keys P C (ReferenceNotText location) = C (reference_not_text location)
@@ -61,11 +63,11 @@ IsRefusal limit keys P C (MissingRoot uri) = ⊥
 IsRefusal limit keys P C (NodeLimit n) = (n ≡ limit) × OverLimit limit keys P
 IsRefusal limit keys P C OutOfMemory = Unit {0}
 
--- a refusal of a step that asks for these edges, and for which these causes are to be looked at
+-- a refusal of a step that requests these edges and has these causes
 abbrev pub Refused : {S K R : Type 0} → Parts S K R → ℕ → List (Edge S) → List Cause → List (Key S) → BuildError → Type 0
 Refused w limit es cs keys = IsRefusal limit keys (ReachedFrom w es) (Blames w es cs)
 
--- a refusal of one of these causes, with no key asked for
+-- a refusal with one of these causes, when no key is requested
 abbrev pub Names : List Cause → BuildError → Type 0
 Names cs (NotASchema location) = In cs (not_a_schema location)
 Names cs (ReferenceNotText location) = In cs (reference_not_text location)

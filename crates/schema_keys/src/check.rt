@@ -1,7 +1,8 @@
-//! The check of a schema by the meta-schemas of its drafts.
+//! Validation of a schema against the meta-schemas of its drafts.
 //!
-//! An embedded resource of another known draft counts as `{}` in the document around it, and is a document of its own: `embedded`
-//! finds where these resources lie, `masked` copies a document without them.
+//! An embedded resource of another known draft counts as `{}` in the document around it, and is a
+//! document of its own. `embedded` finds these resources, and `masked` copies a document without
+//! them.
 ghost use Rattle.std.specs.Prelude.{◌≡◌, IfErr, IfOk, OnOk};
 ghost use Rattle.serde_json.specs.View.{view};
 ghost use Rattle.theory_definitions.specs.Plan.{schema_at};
@@ -30,7 +31,7 @@ use schema_traits::schema_place::SchemaPlace;
 use serde_json::Value;
 use std::alloc::Global;
 
-/// The memory, the resolver and the meta validators of a check, and the place of the schema that is checked.
+/// What a check uses, and the place of the schema that it validates.
 #[derive_where(Clone, Copy)]
 pub(crate) struct SchemaCheck<'p, R, V> {
     pub alloc: Global,
@@ -39,15 +40,18 @@ pub(crate) struct SchemaCheck<'p, R, V> {
     pub root: &'p SchemaPlace,
 }
 
-/// Checks the schema at a place against the meta-schemas, as a schema of this draft. A subschema of another known draft than the
-/// document around it, with an identifier by the draft around it or by its own, is an embedded resource: it counts as `{}` in that
-/// document and is checked by its own draft. What is below a subschema is read by the subschema's own draft. Booleans and `{}` are
-/// not looked at.
+/// Validates the schema at a place against the meta-schemas.
+///
+/// The schema is of this draft. A subschema is an embedded resource if its draft is known and
+/// differs from that of the document around it, and if it has an identifier, by the draft around it
+/// or by its own. It counts as `{}` in that document and is validated against its own draft. Below
+/// a subschema, its own draft applies. Booleans and `{}` are accepted without being validated.
 ///
 /// # Errors
 ///
-/// Fails with `BuildError::MetaSchema` if the meta validators refuse one of these documents: with that error, its instance path
-/// counted from the place, and its text, which is promised where the document holds no fraction. Fails also out of memory.
+/// `BuildError::MetaSchema`, if the meta validators refuse one of these documents. It holds their
+/// error, with its instance path relative to the place, and with the error's text, which is
+/// promised only for documents without fractions. Or out of memory.
 pub fn validate_schema<R: Resolver, V: MetaValidators>(
     alloc: Global,
     resolver: &R,
@@ -68,7 +72,7 @@ pub fn validate_schema<R: Resolver, V: MetaValidators>(
 }
 
 impl<'p, R: Resolver, V: MetaValidators> SchemaCheck<'p, R, V> {
-    /// Whether a value is accepted without a look at it: a boolean, or `{}`.
+    /// Returns whether a value is accepted without validation: a boolean, or `{}`.
     fn passes_unseen(&self, value: &Value) -> bool
         ensures unseen { result ≡ documents.passes_unseen (parts_asked R.Resolver self.now) (view value.now) }
     {
@@ -79,7 +83,6 @@ impl<'p, R: Resolver, V: MetaValidators> SchemaCheck<'p, R, V> {
         }
     }
 
-    /// The error of a document; none where it is accepted.
     fn refusal(&self, draft: Draft, document: &Value) -> Result<Option<OwnedError>, OutOfMemory>
         ensures refusal { IfOk result (IsVerdict (V.checked self.now.metas.now) (draft_of draft) (view document.now)) }
     {
@@ -89,7 +92,9 @@ impl<'p, R: Resolver, V: MetaValidators> SchemaCheck<'p, R, V> {
         }
     }
 
-    /// The error of the document at a place, whose embedded resources are these.
+    /// Returns the error of the document at a place, if it has one.
+    ///
+    /// The document has these embedded resources.
     fn refusal_without(
         &self,
         draft: Draft,
@@ -107,7 +112,7 @@ impl<'p, R: Resolver, V: MetaValidators> SchemaCheck<'p, R, V> {
         self.refusal(draft, &masked)
     }
 
-    /// An error in the document at a place, as it is seen from the schema that is checked.
+    /// Returns an error in the document at a place, relative to the root schema.
     fn located(&self, place: &SchemaPlace, error: OwnedError) -> Result<OwnedError, OutOfMemory>
         ensures located { Shows owned_error_of result
             (prefixed (location_from (place_of self.now.root.now) (place_of place.now)) (owned_error_of error)) }
@@ -116,7 +121,9 @@ impl<'p, R: Resolver, V: MetaValidators> SchemaCheck<'p, R, V> {
         error.with_instance_path_prefix(&below.pointer(self.alloc)?)
     }
 
-    /// Checks the document at a place, which begins with this schema, and whose embedded resources are these.
+    /// Validates the document at a place.
+    ///
+    /// It starts with this schema and has these embedded resources.
     fn check_schema(
         &self,
         draft: Draft,
@@ -137,7 +144,9 @@ impl<'p, R: Resolver, V: MetaValidators> SchemaCheck<'p, R, V> {
         }
     }
 
-    /// Checks the document at a place, whose embedded resources are these. No value counts as null.
+    /// Validates the document at a place with these embedded resources.
+    ///
+    /// A missing value counts as null.
     fn check_document(
         &self,
         draft: Draft,
@@ -153,7 +162,9 @@ impl<'p, R: Resolver, V: MetaValidators> SchemaCheck<'p, R, V> {
         }
     }
 
-    /// Checks the document at a place, and then each of its embedded resources by its own draft.
+    /// Validates the document at a place, and then its embedded resources.
+    ///
+    /// Each of these is validated by its own draft.
     fn check_documents(&self, draft: Draft, place: &SchemaPlace) -> Result<(), BuildError>
         ensures accepted { OnOk result (AcceptsAll R.Resolver self.now V.MetaValidators draft place.now) }
         ensures refused { IfErr result (RefusesFirst R.Resolver self.now V.MetaValidators draft place.now) }

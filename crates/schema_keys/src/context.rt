@@ -1,5 +1,7 @@
-//! The place where a schema is compiled: its key, with the memory, the resolver and the options of the compilation. Its
-//! draft, its vocabularies and its location, and what follows from them. References are in `references`, subschemas in `subschema`.
+//! The context in which a schema is compiled.
+//!
+//! This module has its draft, its vocabularies and its location, and what follows from them.
+//! References are in `references`, subschemas in `subschema`.
 ghost use Rattle.std.specs.Prelude.{◌≡◌, ◌||◌, ◌++◌, ◌∷◌, None, IfOk};
 ghost use Rattle.std.specs.Prelude.{IfSome, drop, not, unwrap_or, option_map, codes};
 ghost use Rattle.std.specs.Prelude.{string_bytes, if◌then◌else◌};
@@ -26,7 +28,9 @@ use schema_traits::resolver::Resolver;
 use serde_json::{Map, Value};
 use std::alloc::Global;
 
-/// A schema's key together with the memory, the resolver and the options of the compilation.
+/// A schema's key, with what its compilation uses.
+///
+/// That is the memory, the resolver and the options.
 #[derive_where(Clone, Copy)]
 pub struct Context<'p, 'c, R: Resolver> {
     pub alloc: Global,
@@ -35,7 +39,9 @@ pub struct Context<'p, 'c, R: Resolver> {
     pub key: &'c SchemaKey<R::State>,
 }
 
-/// What absolute locations in a resource are made of: its URI, and how many bytes of a location lie outside it.
+/// The parts of absolute locations in a resource.
+///
+/// They are its URI, and the number of bytes of a location that lie outside the resource.
 #[derive(Drop)]
 pub struct DeferredAbsoluteLocation {
     pub base: String,
@@ -43,8 +49,13 @@ pub struct DeferredAbsoluteLocation {
 }
 
 impl DeferredAbsoluteLocation {
-    /// Returns the absolute location of a location in the resource: the URI, `#`, and the location from where the resource
-    /// starts, as a fragment. Fails only if memory cannot be allocated.
+    /// Returns the absolute form of a location in the resource.
+    ///
+    /// It is the URI, `#`, and the location from the start of the resource on, as a fragment.
+    ///
+    /// # Errors
+    ///
+    /// Out of memory.
     pub fn resolve(self, location: &Location) -> Result<String, OutOfMemory>
         ensures absolute { Shows string_bytes result (string_bytes self.base ++ (35 ∷ encoded (drop self.resource_start location.now))) }
     {
@@ -69,15 +80,20 @@ impl<'p, 'c, R: Resolver> Context<'p, 'c, R> {
         &self.key.location
     }
 
-    /// Returns the location of the schema's keyword of this name. Fails only if memory cannot be allocated.
+    /// Returns the location of the schema's keyword with this name.
+    ///
+    /// # Errors
+    ///
+    /// Out of memory.
     pub fn new_at_location(&self, name: &str) -> Result<Location, OutOfMemory>
         ensures location { Yields result (joined self.now.key.now.location name.now) }
     {
         self.location().join(LocationSegment::Property(name))
     }
 
-    /// Returns what follows in the schema's location on the part that the last reference gave; none if the location does
-    /// not begin with that part.
+    /// Returns the rest of the schema's location after the last reference's part.
+    ///
+    /// `None` if the location does not begin with that part.
     pub fn suffix(&self) -> Option<&str>
         ensures suffix { IsRest self.now.key.now.resource_base self.now.key.now.location result }
     {
@@ -86,8 +102,13 @@ impl<'p, 'c, R: Resolver> Context<'p, 'c, R> {
             .strip_prefix(self.key.resource_base.as_str())
     }
 
-    /// Returns the URI that absolute locations in the schema's resource begin with; none if its scheme is `json-schema`.
-    /// Fails only if memory cannot be allocated.
+    /// Returns the URI of absolute locations in the schema's resource.
+    ///
+    /// `None` if its scheme is `json-schema`.
+    ///
+    /// # Errors
+    ///
+    /// Out of memory.
     pub fn base_uri(&self) -> Result<Option<String>, OutOfMemory>
         ensures base { Shows (option_map string_bytes) result (base_here R.Resolver self.now) }
     {
@@ -98,8 +119,13 @@ impl<'p, 'c, R: Resolver> Context<'p, 'c, R> {
         Ok(Some(String::from_str(self.alloc, text_before_fragment(uri))?))
     }
 
-    /// Returns what absolute locations in the schema's resource are made of, for one that is wanted later; none if that resource
-    /// has no URI that is shown. Fails only if memory cannot be allocated.
+    /// Returns the parts of absolute locations in the schema's resource.
+    ///
+    /// They serve to make such a location later. `None` if that resource has no URI that is shown.
+    ///
+    /// # Errors
+    ///
+    /// Out of memory.
     pub fn deferred_absolute_location(
         &self,
     ) -> Result<Option<DeferredAbsoluteLocation>, OutOfMemory>
@@ -115,8 +141,13 @@ impl<'p, 'c, R: Resolver> Context<'p, 'c, R> {
         }
     }
 
-    /// Returns the absolute location of a location in the schema's resource; none if that resource has no URI that is
-    /// shown. Fails only if memory cannot be allocated.
+    /// Returns the absolute form of a location in the schema's resource.
+    ///
+    /// `None` if that resource has no URI that is shown.
+    ///
+    /// # Errors
+    ///
+    /// Out of memory.
     pub fn absolute_location(&self, location: &Location) -> Result<Option<String>, OutOfMemory>
         ensures absolute { Shows (option_map string_bytes) result (absolute_here R.Resolver self.now location.now) }
     {
@@ -130,15 +161,17 @@ impl<'p, 'c, R: Resolver> Context<'p, 'c, R> {
         }
     }
 
-    /// Returns whether a vocabulary is in force: always before draft 2019-09, always if it is the core vocabulary, and
-    /// otherwise if it is in the schema's set.
+    /// Returns whether a vocabulary is in force.
+    ///
+    /// Before draft 2019-09 every vocabulary is. From then on the core vocabulary always is, and
+    /// any other if it is in the schema's set.
     pub fn has_vocabulary(&self, vocabulary: &Vocabulary) -> bool
         ensures in_force { result ≡ is_in_force (draft_here self.now) self.now.key.now.vocabularies (vocabulary_of vocabulary.now) }
     {
         has_vocabulary(self.key.draft, &self.key.vocabularies, vocabulary)
     }
 
-    /// What the standard's table says of a keyword's name.
+    /// Returns the row of the standard's keyword with this name, if it is in force.
     #[tactic(auto, unfolding(crate::specs::Builtins::builtin))]
     pub fn builtin_row(&self, name: &str) -> Option<BuiltinRow>
         ensures row { option_map (row_of name.now) result ≡ builtin (draft_here self.now) self.now.key.now.vocabularies name.now }
@@ -146,14 +179,14 @@ impl<'p, 'c, R: Resolver> Context<'p, 'c, R> {
         builtin_row(self.draft(), &self.key.vocabularies, name)
     }
 
-    /// Returns whether keywords beside a `$ref` are applied: from draft 2019-09 on.
+    /// Returns whether keywords beside a `$ref` apply: from draft 2019-09 on.
     pub fn supports_adjacent_validation(&self) -> bool
         ensures beside { result ≡ not (ref_stands_alone (draft_here self.now)) }
     {
         !self.key.draft.is_before_2019_09()
     }
 
-    /// The value of the `$ref` that is taken alone in an object.
+    /// Returns the value of a `$ref` that overrides its siblings, if there is one.
     pub fn lone_reference<'v>(&self, members: &'v Map<String, Value>) -> Option<&'v Value>
         ensures alone { option_map (λ v. view v.now) result ≡ (if ref_stands_alone (draft_here self.now) then
             member_of (codes "$ref") (members_view members.now.entries) else None) }
@@ -165,7 +198,7 @@ impl<'p, 'c, R: Resolver> Context<'p, 'c, R> {
         }
     }
 
-    /// Returns whether a number with an integer's value, such as 1.0, is an integer: from draft 6 on.
+    /// Returns whether a number such as 1.0 is an integer: from draft 6 on.
     pub fn supports_integer_valued_numbers(&self) -> bool
         ensures integers { result ≡ integer_valued_numbers (draft_here self.now) }
     {
@@ -175,7 +208,7 @@ impl<'p, 'c, R: Resolver> Context<'p, 'c, R> {
         }
     }
 
-    /// Returns whether the schema's vocabularies ask for formats to be checked.
+    /// Returns whether the schema's vocabularies require formats to be validated.
     pub fn asserts_formats_by_dialect(&self) -> bool
         ensures asserts { result ≡ asserts_formats self.now.key.now.vocabularies }
     {
@@ -184,8 +217,10 @@ impl<'p, 'c, R: Resolver> Context<'p, 'c, R> {
             || vocabularies.contains(&Vocabulary::Format)
     }
 
-    /// Returns whether formats are checked: as the option says. Where it is not set, they are in the drafts where `$ref`
-    /// is taken alone, and in later ones if the schema's vocabularies ask for it.
+    /// Returns whether formats are validated, as the option says.
+    ///
+    /// If the option is not set, they are in the drafts in which `$ref` overrides its siblings, and
+    /// in later ones if the schema's vocabularies require it.
     pub fn validates_formats_by_default(&self) -> bool
         ensures formats { result ≡ unwrap_or self.now.options.now.formats
             (ref_stands_alone (draft_here self.now) || asserts_formats self.now.key.now.vocabularies) }

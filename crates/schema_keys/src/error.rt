@@ -1,4 +1,4 @@
-//! Why no validator is built.
+//! The reasons why no validator is built.
 ghost use Rattle.std.specs.Prelude.{◌≡◌, Some};
 ghost use Rattle.schema_keys.specs.Refusing.{number_of};
 
@@ -9,7 +9,9 @@ use std::alloc::{AllocError, AllocFailed};
 use std::error::Error;
 use std::fmt;
 
-/// Why a schema was refused. `number` gives the variant's number, `Display` a message for people.
+/// Why a schema was refused.
+///
+/// `number` returns the variant's number, and `Display` writes a message for people.
 #[derive(Drop)]
 pub enum BuildError {
     /// The value at this location is neither an object nor a boolean.
@@ -20,7 +22,7 @@ pub enum BuildError {
     Lookup(String),
     /// A keyword refused the schema, with this error.
     KeywordRefused(OwnedError),
-    /// The vocabulary of this URI is required, but was not declared.
+    /// The vocabulary with this URI is required, but was not declared.
     UnsupportedVocabulary(String),
     /// The schema is not valid against its meta-schema.
     MetaSchema(OwnedError),
@@ -51,9 +53,12 @@ impl BuildError {
     }
 }
 
-/// A line that says where: `refusal`, the variant's number, the place if the refusal has one, and the reason. The place is a
-/// JSON Pointer in the schema; that of `KeywordRefused` is the schema path of the table's error, which may count from the keyword's
-/// own object. `MetaSchema` shows the meta-schema's keyword too. `UnsupportedVocabulary` alone shows no number.
+/// Writes a line that says what was refused, where, and why.
+///
+/// It has the word `refusal`, the variant's number, the place if there is one, and the reason. The
+/// place is a JSON Pointer in the schema. That of `KeywordRefused` is the schema path of the
+/// table's error, which may be relative to the keyword's own object. `MetaSchema` shows the
+/// meta-schema's keyword too. Only `UnsupportedVocabulary` shows no number.
 impl fmt::Display for BuildError {
     ghost use Rattle.schema_keys.specs.Refusing.{refusal_text};
 
@@ -99,7 +104,7 @@ impl fmt::Display for BuildError {
     }
 }
 
-/// The same text as `Display` gives.
+/// Writes the same text as `Display`.
 impl fmt::Debug for BuildError {
     fn fmt<W: fmt::Write>(&self, f: &mut fmt::Formatter<W>) -> fmt::Result {
         write!(f, "{self}")

@@ -1,4 +1,4 @@
-//! Keys: what a node is compiled for. Comparison.
+//! Keys, which nodes are compiled for, and their comparison.
 ghost use Rattle.std.specs.Prelude.{◌≡◌, ◌↔◌, IsTrue};
 ghost use Rattle.schema_keys.specs.KeyViews.{key_of};
 
@@ -7,27 +7,31 @@ use schema_reports::location::Location;
 use schema_traits::resolver::Resolver;
 use schema_traits::schema_place::SchemaPlace;
 
-/// What a node is compiled for: a schema's place in a document, what it is read in there, and how it was reached. Two keys
-/// that are equal share one node.
+/// The key that a node is compiled for.
+///
+/// It holds a schema's place in a document, how the schema is interpreted there, and how it was
+/// reached. Equal keys share one node.
 #[derive(Drop)]
 pub struct SchemaKey<S> {
     /// The place of the schema in its document.
     pub place: SchemaPlace,
     /// The resolver's state there.
     pub state: S,
-    /// The draft that the schema is read in.
+    /// The draft of the schema.
     pub draft: Draft,
     /// The vocabularies in force.
     pub vocabularies: VocabularySet,
-    /// The pointer by which errors name the schema: that of the last reference, and what was passed since.
+    /// The pointer that names the schema in errors.
+    ///
+    /// It is the pointer of the last reference, and the path from there to the schema.
     pub location: Location,
-    /// The part of `location` that the last reference gave.
+    /// The part of `location` that is the last reference's pointer.
     pub resource_base: Location,
     /// How many bytes of `location` lie outside the schema's resource.
     pub resource_start: usize,
 }
 
-/// Whether both are one key.
+/// Returns whether both keys are equal.
 pub(crate) fn same_key<R: Resolver>(left: &SchemaKey<R::State>, right: &SchemaKey<R::State>) -> bool
     ensures same { IsTrue result ↔ (key_of R.point left.now ≡ key_of R.point right.now) }
 {
@@ -52,7 +56,6 @@ pub(crate) fn same_key<R: Resolver>(left: &SchemaKey<R::State>, right: &SchemaKe
     left.resource_start == right.resource_start
 }
 
-// Whether both are one pointer.
 fn same_location(left: &Location, right: &Location) -> bool
     ensures same { IsTrue result ↔ (left.now ≡ right.now) }
 {

@@ -1,5 +1,7 @@
-//! The keys that were reached, in the order of their numbers. A key is found by a hash, from number to number. It is shared with
-//! the step that compiles its node, since a copy of it is as long as its schema is deep.
+//! The keys that were reached, in the order of their numbers.
+//!
+//! A key is found by its hash, along a chain of numbers. It is shared with the step that compiles
+//! its node, since a copy of it is as long as its schema is deep.
 ghost use Rattle.std.specs.Prelude.{◌≡◌, ◌≤◌, ◌<◌, ◌+◌, ◌++◌, ◌∷◌, ℕ, [], IfOk, OnErr, OnOk, Some};
 ghost use Rattle.std.specs.Prelude.{if◌then◌else◌, length, map, nat_eq, slice_get, vec_capacity, vec_len};
 ghost use Rattle.std.specs.HashMap.{IsUnchanged, get};
@@ -15,11 +17,13 @@ use std::hash::{FoldHasher, Hash, Hasher};
 use std::marker::Model;
 use std::rc::Rc;
 
-/// The keys that were reached, in the order of their numbers. A contract sees them as a list.
+/// The keys that were reached, in the order of their numbers.
+///
+/// A contract sees them as a list.
 #[derive(Drop)]
 pub struct Keys<S: Hash> {
     keys: Vec<Rc<SchemaKey<S>>>,
-    // The last number of each hash, and for each number the one before it with the same hash.
+    // The last number of each hash, and for each number the previous one with the same hash.
     last: HashMap<u64, usize>,
     earlier: Vec<Option<usize>>,
 }
@@ -41,7 +45,7 @@ impl<S: Hash> Model for Keys<S> {
 }
 
 impl<S: Hash + Drop> Keys<S> {
-    /// No keys.
+    /// Returns an empty list of keys.
     pub fn new(alloc: Global) -> Keys<S>
         ensures none { result ≡ [] }
     {
@@ -52,14 +56,18 @@ impl<S: Hash + Drop> Keys<S> {
         }
     }
 
-    /// How many there are.
+    /// Returns the number of keys.
     pub fn len(&self) -> usize
         ensures count { result ≡ length self.now }
     {
         self.keys.len()
     }
 
-    /// The key of a number, shared. Fails only if memory cannot be allocated.
+    /// Returns the key of a number, shared.
+    ///
+    /// # Errors
+    ///
+    /// Out of memory.
     pub fn shared(&self, number: usize) -> Result<Rc<SchemaKey<S>>, OutOfMemory>
         requires within { number < length self.now }
         ensures key { IfOk result (λ k. slice_get self.now number ≡ Some k.value) }
@@ -67,7 +75,11 @@ impl<S: Hash + Drop> Keys<S> {
         self.keys[number].clone()
     }
 
-    /// Gives a key the next number.
+    /// Appends a key, at the next number.
+    ///
+    /// # Errors
+    ///
+    /// Out of memory. The list is then unchanged.
     pub fn push(&mut self, key: Rc<SchemaKey<S>>) -> Result<(), OutOfMemory>
         ensures pushed { OnOk result (self.new ≡ self.old ++ key.value ∷ []) }
         ensures unchanged { OnErr result (self.new ≡ self.old) }
@@ -79,7 +91,7 @@ impl<S: Hash + Drop> Keys<S> {
     }
 }
 
-// Links the next number to the one before it with the same hash, with room for its key.
+// Links the next number to the previous one with the same hash, and reserves room for its key.
 fn link<S>(
     keys: &mut Vec<Rc<SchemaKey<S>>>,
     last: &mut HashMap<u64, usize>,
@@ -100,7 +112,6 @@ fn link<S>(
     Ok(())
 }
 
-// The hash by which a key is found.
 #[tactic(auto, unfolding(crate::specs::KeyHashes::hash_of_parts))]
 fn hash_of<S: Hash>(key: &SchemaKey<S>) -> u64
     ensures hash { result ≡ hash_of S.hash_input key.now }
@@ -113,7 +124,7 @@ fn hash_of<S: Hash>(key: &SchemaKey<S>) -> u64
     hasher.finish()
 }
 
-/// The number of a key, if it has one.
+/// Returns the number of a key, if it has one.
 pub fn find<R: Resolver>(keys: &Keys<R::State>, key: &SchemaKey<R::State>) -> Option<usize>
     ensures found { IsNumberOf (map (key_of R.point) keys.now) (key_of R.point key.now) result }
 {

@@ -1,4 +1,6 @@
-//! Keys of schemas: what a node is compiled for, where it stands, and the keys that it leads to.
+//! Keys of schemas, where they are, and the keys that they lead to.
+//!
+//! A node is compiled for each key.
 #![tactic(auto)]
 
 pub mod check;

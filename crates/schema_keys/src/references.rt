@@ -34,7 +34,7 @@ pub enum ReferenceKind {
 }
 
 impl ReferenceKind {
-    /// Returns whether its target counts among those that nest: that of a `$recursiveRef` does not.
+    /// Returns whether targets of this kind nest: those of `$recursiveRef` do not.
     pub fn nests(self) -> bool
         ensures nests { result ≡ not (is_recursive_ref (kind_of self)) }
     {
@@ -42,7 +42,7 @@ impl ReferenceKind {
     }
 }
 
-/// The reference keyword of a name, if it is one.
+/// Returns the reference keyword with this name, if there is one.
 pub fn reference_kind(name: &str) -> Option<ReferenceKind>
     ensures kind { option_map kind_of result ≡ reference_named name.now }
 {
@@ -57,7 +57,6 @@ pub fn reference_kind(name: &str) -> Option<ReferenceKind>
     }
 }
 
-// The text of a pointer in a fragment.
 fn decoded_pointer(alloc: Global, fragment: &str) -> Result<Location, OutOfMemory>
     ensures decoded { Yields result (utf8_lossy (percent_decode fragment.now)) }
 {
@@ -66,25 +65,33 @@ fn decoded_pointer(alloc: Global, fragment: &str) -> Result<Location, OutOfMemor
     Location::from_escaped(alloc, text.as_str())
 }
 
-// What a reference leads to, and the URI that its text stands for.
+// A reference's target, and the URI that the reference resolves to.
 #[derive(Drop)]
 struct Sought<S> {
     target: Target<S>,
     uri: String,
 }
 
-/// Where a reference's target stands: its location, and how much of it lies outside the target's resource.
+/// Where a reference's target is.
 #[derive(Drop)]
 pub struct RefTarget {
-    /// The pointer that the reference's fragment is, or the target's path below the root of its resource.
+    /// The location of the target.
+    ///
+    /// It is the reference's fragment if that is a pointer, or else the target's path in its
+    /// resource.
     pub location: Location,
     /// How many bytes of `location` lie outside the target's resource.
     pub start: usize,
 }
 
 impl<'p, 'c, R: Resolver> Context<'p, 'c, R> {
-    /// Returns the URI that a reference stands for in the schema's resource. An empty reference is read as `#`. Fails if the
-    /// resolver refuses the reference, or if memory cannot be allocated.
+    /// Returns the URI that a reference in the schema's resource resolves to.
+    ///
+    /// An empty reference counts as `#`.
+    ///
+    /// # Errors
+    ///
+    /// The resolver's refusal of the reference, or out of memory.
     pub fn resolve_reference_uri(&self, reference: &str) -> Result<String, LookupError>
         ensures uri { Agrees string_bytes result (resolves R.Resolver self.now reference.now) }
     {
@@ -92,8 +99,13 @@ impl<'p, 'c, R: Resolver> Context<'p, 'c, R> {
         self.resolver.resolve_uri(self.alloc, &self.key.state, text)
     }
 
-    /// Returns what a reference leads to; `dynamic` says that it is a `$dynamicRef`. An empty reference is read as `#`.
-    /// Fails if the resolver refuses the reference, or if memory cannot be allocated.
+    /// Returns the target of a reference, a `$dynamicRef` if `dynamic` is true.
+    ///
+    /// An empty reference counts as `#`.
+    ///
+    /// # Errors
+    ///
+    /// The resolver's refusal of the reference, or out of memory.
     pub fn lookup(&self, reference: &str, dynamic: bool) -> Result<Target<R::State>, LookupError>
         ensures found { Agrees (found_of R.point) result (looks_up R.Resolver self.now dynamic reference.now) }
     {
@@ -102,7 +114,11 @@ impl<'p, 'c, R: Resolver> Context<'p, 'c, R> {
             .lookup(self.alloc, &self.key.state, reference, dynamic)
     }
 
-    /// Returns what a `$recursiveRef` leads to. Fails if the resolver refuses it, or if memory cannot be allocated.
+    /// Returns the target of a `$recursiveRef`.
+    ///
+    /// # Errors
+    ///
+    /// The resolver's refusal of the reference, or out of memory.
     pub fn lookup_recursive_reference(&self) -> Result<Target<R::State>, LookupError>
         ensures found { Agrees (found_of R.point) result
             ((resolver_here R.Resolver self.now).lookup_recursive (R.point self.now.key.now.state)) }
@@ -111,7 +127,6 @@ impl<'p, 'c, R: Resolver> Context<'p, 'c, R> {
             .lookup_recursive_ref(self.alloc, &self.key.state)
     }
 
-    // What the resolver finds for a `$ref`'s or a `$dynamicRef`'s text, and the URI that the text stands for.
     fn sought_by_uri(&self, text: &str, dynamic: bool) -> Result<Sought<R::State>, LookupError>
         ensures found { Agrees (λ s. found_of R.point s.target) result (finds R.Resolver self.now (by_flag dynamic) text.now) }
         ensures uri { IfOk result (λ s. resolves R.Resolver self.now text.now ≡ Ok (string_bytes s.uri)) }
@@ -121,7 +136,8 @@ impl<'p, 'c, R: Resolver> Context<'p, 'c, R> {
         Ok(Sought { target, uri })
     }
 
-    // What the resolver finds for a reference's text, and the URI that the text stands for; a `$recursiveRef` has none.
+    // The target of a reference, and the URI that it resolves to; that of a `$recursiveRef` is
+    // empty.
     fn sought(&self, kind: ReferenceKind, text: &str) -> Result<Sought<R::State>, LookupError>
         ensures found { Agrees (λ s. found_of R.point s.target) result (finds R.Resolver self.now (kind_of kind) text.now) }
         ensures uri { IfOk result (λ s. RefersBy R.Resolver self.now (kind_of kind) text.now s.uri) }
@@ -136,7 +152,6 @@ impl<'p, 'c, R: Resolver> Context<'p, 'c, R> {
         }
     }
 
-    // What a reference's text leads to, and the URI that it stands for.
     fn lookup_reference(
         &self,
         kind: ReferenceKind,
@@ -149,7 +164,8 @@ impl<'p, 'c, R: Resolver> Context<'p, 'c, R> {
         Ok(self.sought(kind, text)?)
     }
 
-    // Whether a reference leads to the object that holds it; `$recursiveRef` counts as one that does not.
+    // Returns whether a reference leads to the object that holds it. A `$recursiveRef` is never
+    // taken to.
     fn is_skipped(&self, kind: ReferenceKind, target: &Target<R::State>) -> bool
         ensures skipped { result ≡ skips (kind_of kind) (place_of target.now.place) (place_here self.now) }
     {
@@ -160,8 +176,13 @@ impl<'p, 'c, R: Resolver> Context<'p, 'c, R> {
         }
     }
 
-    /// Returns the location in its resource of a target that a name leads to: its path below the resource's root. Fails
-    /// only if memory cannot be allocated.
+    /// Returns the location in its resource of a target that is referred to by name.
+    ///
+    /// It is the target's path below the resource's root.
+    ///
+    /// # Errors
+    ///
+    /// Out of memory.
     pub fn anchor_location(&self, target: &Target<R::State>) -> Result<Location, OutOfMemory>
         ensures location { Yields result (pointer_to (path_in_resource R.Resolver self.now target.now)) }
     {
@@ -170,7 +191,8 @@ impl<'p, 'c, R: Resolver> Context<'p, 'c, R> {
         path.pointer(self.alloc)
     }
 
-    // The pointer that a fragment is, or else, for a name, the target's path below the root of its resource.
+    // The fragment if it is a pointer; for a name, the target's path below the root of its
+    // resource.
     fn location_of_target(
         &self,
         target: &Target<R::State>,
@@ -187,7 +209,7 @@ impl<'p, 'c, R: Resolver> Context<'p, 'c, R> {
         self.anchor_location(target)
     }
 
-    // How much of a pointer's location lies outside the target's resource; a name's location lies in it.
+    // The number of bytes of the location that lie outside the target's resource: 0 for a name.
     fn start_of_fragment(
         &self,
         target: &Target<R::State>,
@@ -206,7 +228,13 @@ impl<'p, 'c, R: Resolver> Context<'p, 'c, R> {
         Ok(0)
     }
 
-    /// Returns where a reference's target stands, by the URI that the reference stands for. Fails only if memory cannot be allocated.
+    /// Returns where a reference's target is.
+    ///
+    /// `uri` is the URI that the reference resolves to.
+    ///
+    /// # Errors
+    ///
+    /// Out of memory.
     pub fn ref_target(&self, uri: &str, target: &Target<R::State>) -> Result<RefTarget, OutOfMemory>
         ensures location { IfOk result (λ t. t.location ≡ target_location R.Resolver self.now target.now (fragment uri.now)) }
         ensures start { IfOk result (λ t. t.start ≡ target_start R.Resolver self.now target.now (fragment uri.now)) }
@@ -217,8 +245,13 @@ impl<'p, 'c, R: Resolver> Context<'p, 'c, R> {
         Ok(RefTarget { location, start })
     }
 
-    /// Returns the key of a reference's target that stands there, with the vocabularies that are in force at it. Fails only
-    /// if memory cannot be allocated.
+    /// Returns the key of a reference's target at this location.
+    ///
+    /// It has the vocabularies that are in force at the target.
+    ///
+    /// # Errors
+    ///
+    /// Out of memory.
     pub fn with_resolver_and_draft(
         &self,
         target: Target<R::State>,
@@ -240,7 +273,6 @@ impl<'p, 'c, R: Resolver> Context<'p, 'c, R> {
         })
     }
 
-    // The key of a reference's target.
     fn referred_key(&self, sought: Sought<R::State>) -> Result<SchemaKey<R::State>, OutOfMemory>
         ensures key { Shows (key_of R.point) result (target_key R.Resolver self.now sought.target (string_bytes sought.uri)) }
     {
@@ -248,7 +280,13 @@ impl<'p, 'c, R: Resolver> Context<'p, 'c, R> {
         self.with_resolver_and_draft(sought.target, stands)
     }
 
-    /// Returns the key that a reference leads to; none where it leads to the very object that holds it.
+    /// Returns the key of a reference's target.
+    ///
+    /// `None` if the target is the object that holds the reference.
+    ///
+    /// # Errors
+    ///
+    /// `BuildError::Lookup` if the resolver refuses the reference, or out of memory.
     pub fn target_key(
         &self,
         kind: ReferenceKind,

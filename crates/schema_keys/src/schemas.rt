@@ -1,4 +1,4 @@
-//! The places of a document's schemas: of its objects and booleans.
+//! The places of a document's schemas: its objects and booleans.
 ghost use Rattle.std.specs.Prelude.{◌≡◌, ◌++◌, ◌∷◌, [], IfOk, OnOk};
 ghost use Rattle.serde_json.specs.View.{items_view, members_view, view};
 ghost use Rattle.schema_traits.specs.SchemaViews.{schema_step_of};
@@ -13,8 +13,13 @@ use serde_json::{Map, Value};
 use std::alloc::Global;
 use std::rc::RcStr;
 
-/// Returns the paths of the objects and booleans of a document, in the order of its text, the outer ones first. Fails only out
-/// of memory.
+/// Returns the paths of a document's objects and booleans.
+///
+/// They are in the order of its text, outer ones first.
+///
+/// # Errors
+///
+/// Out of memory.
 pub fn schemas_in(alloc: Global, document: &Value) -> Result<Vec<SchemaPath>, OutOfMemory>
     ensures schemas { IfOk result (λ v. v.items ≡ schemas_in [] (view document.now)) }
     ensures fit { IfOk result (λ v. Each IndicesFit v.items) }
@@ -24,7 +29,6 @@ pub fn schemas_in(alloc: Global, document: &Value) -> Result<Vec<SchemaPath>, Ou
     Ok(paths)
 }
 
-/// The path one step below a path.
 fn one_below(path: &SchemaPath, step: SchemaStep) -> Result<SchemaPath, OutOfMemory>
     ensures below { Yields result (path.now ++ schema_step_of step ∷ []) }
 {
@@ -33,7 +37,7 @@ fn one_below(path: &SchemaPath, step: SchemaStep) -> Result<SchemaPath, OutOfMem
     Ok(below)
 }
 
-/// Adds the paths of the schemas of the value at a path.
+/// Appends the paths of the schemas in the value at a path.
 #[cycle(walk)]
 fn push_schemas(
     alloc: Global,
@@ -58,7 +62,7 @@ fn push_schemas(
     }
 }
 
-/// Adds those of the items of the array at a path.
+/// Appends those in the items of the array at a path.
 #[cycle(walk)]
 fn push_item_schemas(
     alloc: Global,
@@ -76,7 +80,7 @@ fn push_item_schemas(
     Ok(())
 }
 
-/// Adds those of the members of the object at a path.
+/// Appends those in the members of the object at a path.
 #[cycle(walk)]
 fn push_member_schemas(
     alloc: Global,

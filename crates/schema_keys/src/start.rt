@@ -1,4 +1,4 @@
-//! How much of a pointer lies outside the resource of the target that it leads to.
+//! The part of a pointer that lies outside the resource of its target.
 ghost use Rattle.std.specs.Prelude.{◌≡◌};
 ghost use Rattle.theory_definitions.specs.Plan.{lies_in, resource_depth, segment_count, segments_length, start_of};
 ghost use Rattle.schema_traits.specs.ResolverViews.{found_of, place_of};
@@ -10,14 +10,14 @@ use schema_reports::location::{Location, OutOfMemory};
 use schema_traits::resolver::{Resolver, Target};
 use schema_traits::schema_place::SchemaPlace;
 
-// How many segments a pointer has.
+// The number of segments of a pointer.
 fn segment_count(location: &str) -> usize
     ensures count { result ≡ segment_count location.now }
 {
     location.as_bytes().iter().filter(|x| **x == b'/').count()
 }
 
-// How long its first segments are.
+// The length of the pointer's first segments.
 fn segments_length(count: usize, location: &str) -> usize
     ensures length { result ≡ segments_length count location.now }
 {
@@ -35,7 +35,7 @@ fn segments_length(count: usize, location: &str) -> usize
     size
 }
 
-// Whether a place is another, or lies below it.
+// Returns whether a place is at or below another.
 fn lies_in(place: &SchemaPlace, outer: &SchemaPlace) -> bool
     ensures lies { result ≡ lies_in (place_of place.now) (place_of outer.now) }
 {
@@ -43,8 +43,8 @@ fn lies_in(place: &SchemaPlace, outer: &SchemaPlace) -> bool
 }
 
 impl<'p, 'c, R: Resolver> Context<'p, 'c, R> {
-    // How far the root of the target's resource lies below the place that a pointer with so many segments counts from, where
-    // the target lies in that resource; else 0.
+    // How many steps the root of the target's resource lies below the place where a pointer with
+    // this many segments starts; 0 if the target is not in that resource.
     fn resource_depth(
         &self,
         target: &Target<R::State>,
@@ -60,7 +60,7 @@ impl<'p, 'c, R: Resolver> Context<'p, 'c, R> {
         Ok(root.path.len().saturating_sub(from))
     }
 
-    /// The length of a pointer's part that lies outside the target's resource.
+    /// Returns the length of the pointer's part outside the target's resource.
     pub(crate) fn start_of_target(
         &self,
         target: &Target<R::State>,

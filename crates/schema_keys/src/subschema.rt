@@ -1,4 +1,4 @@
-//! The key of a subschema.
+//! The keys of subschemas.
 ghost use Rattle.std.specs.Prelude.{◌≡◌, IfOk, IfErr};
 ghost use Rattle.std.specs.Prelude.{Some, is_some};
 ghost use Rattle.theory_definitions.specs.Pointer.{pointer_to};
@@ -20,7 +20,9 @@ use schema_traits::resolver::{LookupError, Resolver, Target};
 use schema_traits::schema_place::{SchemaPath, SchemaPlace};
 use serde_json::{Map, Value};
 
-/// A subschema: its key, the pointer that leads to it from its schema, and the value that was read there.
+/// A subschema: its key, its pointer, and its value.
+///
+/// The pointer starts at the schema that contains it. The value is the one that was read there.
 #[derive(Drop)]
 pub struct Subschema<'p, S> {
     pub key: SchemaKey<S>,
@@ -29,7 +31,7 @@ pub struct Subschema<'p, S> {
 }
 
 impl<'p, 'c, R: Resolver> Context<'p, 'c, R> {
-    /// Whether a value that was read has an identifier.
+    /// Returns whether a value that was read has an identifier.
     pub(crate) fn identifies(&self, draft: Draft, value: Option<&Value>) -> bool
         ensures identified { result ≡ is_some ((resolver_here R.Resolver self.now).id (draft_of draft) (read_value value.entry)) }
     {
@@ -39,7 +41,9 @@ impl<'p, 'c, R: Resolver> Context<'p, 'c, R> {
         }
     }
 
-    /// The draft of a value that was read, inside a schema of this draft; no value counts as null.
+    /// Returns the draft of a value in a schema of this draft.
+    ///
+    /// A missing value counts as null.
     pub(crate) fn detected(&self, draft: Draft, value: Option<&Value>) -> Draft
         ensures detected { draft_of result ≡ (resolver_here R.Resolver self.now).detect (draft_of draft) (read_value value.entry) }
     {
@@ -61,7 +65,8 @@ impl<'p, 'c, R: Resolver> Context<'p, 'c, R> {
         }
     }
 
-    // The key of the subschema at a place below, in its state and draft, and the pointer to it; whether it has an identifier is known.
+    // The key of the subschema at a place below, with its state and draft, and the pointer to it.
+    // The caller knows whether it has an identifier.
     fn key_inside(
         &self,
         path: &SchemaPath,
@@ -94,7 +99,6 @@ impl<'p, 'c, R: Resolver> Context<'p, 'c, R> {
         Ok((key, pointer))
     }
 
-    // The value at a place below the schema, which is an object with these members.
     fn value_inside(
         &self,
         members: &'p Map<String, Value>,
@@ -108,7 +112,6 @@ impl<'p, 'c, R: Resolver> Context<'p, 'c, R> {
         self.resolver.value_below(members, path, place)
     }
 
-    // The state at a place whose value was read.
     fn state_inside(
         &self,
         draft: Draft,
@@ -122,8 +125,13 @@ impl<'p, 'c, R: Resolver> Context<'p, 'c, R> {
             .in_subresource_read(self.alloc, &self.key.state, draft, place, value)
     }
 
-    /// Returns the subschema at a path below. The schema is an object with these members. Fails if the resolver refuses the state
-    /// there, or if memory cannot be allocated.
+    /// Returns the subschema at a path below.
+    ///
+    /// The schema is an object with these members.
+    ///
+    /// # Errors
+    ///
+    /// `BuildError::Lookup` if the resolver refuses the state there, or out of memory.
     pub fn in_subresource(
         &self,
         members: &'p Map<String, Value>,
@@ -153,9 +161,14 @@ impl<'p, 'c, R: Resolver> Context<'p, 'c, R> {
         })
     }
 
-    /// Returns the key of the subschema at a path below, to be compiled by itself: it stands at the empty location, with
-    /// nothing before it that lies outside its resource. Fails with the resolver's text if the resolver refuses the state there, or
-    /// out of memory.
+    /// Returns the key of the subschema at a path below, to be compiled by itself.
+    ///
+    /// Its location is empty, and no part of that lies outside its resource.
+    ///
+    /// # Errors
+    ///
+    /// `BuildError::Lookup` with the resolver's text if it refuses the state there, or out of
+    /// memory.
     pub fn subschema_alone(&self, path: &SchemaPath) -> Result<SchemaKey<R::State>, BuildError>
         ensures key { IfOk result (λ k. key_by_itself R.Resolver self.now path.now ≡ Some (key_of R.point k)) }
         ensures refused { IfErr result (RefusesKeyAlone (key_by_itself R.Resolver self.now path.now)) }

@@ -3,7 +3,7 @@ ghost use Rattle.std.specs.Prelude.{◌≡◌, ◌==◌, codes};
 ghost use Rattle.std.specs.List.{starts_with};
 ghost use Rattle.theory_definitions.specs.Plan.{fragment, without_fragment};
 
-/// What follows the first `#`, and nothing where there is none.
+/// Returns the text after the first `#`, or nothing if there is none.
 pub(crate) fn fragment_of(text: &str) -> &str
     ensures fragment { result.now ≡ fragment text.now }
 {
@@ -13,7 +13,7 @@ pub(crate) fn fragment_of(text: &str) -> &str
     }
 }
 
-/// Returns what comes before the first `#`, or the whole text if there is none.
+/// Returns the text before the first `#`, or the whole text if there is none.
 pub(crate) fn text_before_fragment(text: &str) -> &str
     ensures before { result.now ≡ without_fragment text.now }
 {
@@ -23,7 +23,7 @@ pub(crate) fn text_before_fragment(text: &str) -> &str
     }
 }
 
-/// Whether a URI has the scheme of schemas that have no URI of their own.
+/// Returns whether a URI has the scheme of schemas without a URI of their own.
 pub(crate) fn has_own_scheme(uri: &str) -> bool
     ensures scheme { result ≡ starts_with (λ x y. x == y) uri.now (codes "json-schema:") }
 {

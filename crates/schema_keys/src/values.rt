@@ -17,14 +17,14 @@ use schema_node_table::node::NodeForm;
 use schema_traits::resolver::Resolver;
 use serde_json::{Map, Value};
 
-/// What is known of the value at a key's place: it was read for the key already, or it was not.
+/// The value at a key's place, if it was read already.
 #[derive(Clone, Copy)]
 pub enum Reading<'p> {
     Read(Option<&'p Value>),
     Unread,
 }
 
-/// The value at a key's place, which is read where it was not read already.
+/// Returns the value at a key's place. Reads it if it was not read already.
 pub fn value_of<'p, R: Resolver>(
     resolver: &'p R,
     key: &SchemaKey<R::State>,
@@ -39,7 +39,7 @@ pub fn value_of<'p, R: Resolver>(
     }
 }
 
-/// The members of a value that was read at a place, if it is an object.
+/// Returns the members of a value, if it is an object.
 pub fn object_of<'v>(value: Option<&'v Value>) -> Option<&'v Map<String, Value>>
     ensures object { option_map (λ m. members_view m.now.entries) result ≡ as_object (read_value value.entry) }
 {
@@ -50,7 +50,7 @@ pub fn object_of<'v>(value: Option<&'v Value>) -> Option<&'v Map<String, Value>>
 }
 
 impl<'p, 'c, R: Resolver> Context<'p, 'c, R> {
-    /// What a value that is no object asks of an instance; only a boolean is a schema.
+    /// Returns the node form of a value that is no object. Only a boolean is a schema.
     pub fn plain_form<K: Drop>(&self, value: Option<&Value>) -> Result<NodeForm<K>, BuildError>
         ensures form { IfOk result (λ form. (b : Bool) × (as_bool (read_value value.entry) ≡ Some b) × (plan_of form ≡ boolean_plan b)) }
         ensures refused { IfErr result (Names (not_a_schema self.now.key.now.location ∷ [])) }
@@ -62,7 +62,9 @@ impl<'p, 'c, R: Resolver> Context<'p, 'c, R> {
         }
     }
 
-    /// The text of the schema's reference of this name; only a text is one.
+    /// Returns the text of the schema's reference with this name.
+    ///
+    /// Its value has to be a string.
     pub fn text_of<'v>(&self, name: &String, value: &'v Value) -> Result<&'v String, BuildError>
         ensures text { IfOk result (λ text. view value.now ≡ string (string_bytes text.now)) }
         ensures refused { IfErr result (RefusesText self.now name.now) }
@@ -78,7 +80,7 @@ impl<'p, 'c, R: Resolver> Context<'p, 'c, R> {
         }
     }
 
-    // That the reference of this name is no text, or want of memory.
+    // The error for a reference with this name that is no string, or out of memory.
     fn not_text(&self, name: &String) -> BuildError
         ensures refused { RefusesText self.now name.now result }
     {
@@ -89,7 +91,6 @@ impl<'p, 'c, R: Resolver> Context<'p, 'c, R> {
     }
 }
 
-// What a boolean asks of an instance.
 fn form_of_boolean<K: Drop>(accepts: bool) -> NodeForm<K>
     ensures form { plan_of result ≡ boolean_plan accepts }
 {

@@ -16,7 +16,7 @@ use schema_traits::resolver::Resolver;
 use schema_traits::schema_place::SchemaPlace;
 use serde_json::Value;
 
-/// What is cut out of a document: where an embedded resource lies, and its own draft.
+/// An embedded resource, which is cut out of the document around it.
 #[derive(Drop)]
 pub(crate) struct Cut {
     pub place: SchemaPlace,
@@ -24,7 +24,9 @@ pub(crate) struct Cut {
 }
 
 impl<'p, R: Resolver, V: MetaValidators> SchemaCheck<'p, R, V> {
-    /// The draft of a schema inside a schema of this draft; no value counts as null.
+    /// Returns the draft of a schema in a schema of this draft.
+    ///
+    /// A missing value counts as null.
     fn own_draft(&self, draft: Draft, schema: Option<&Value>) -> Draft
         ensures own { draft_of result ≡ (R.resolving self.now.resolver.now).detect (draft_of draft) (read_value schema.entry) }
     {
@@ -34,7 +36,9 @@ impl<'p, R: Resolver, V: MetaValidators> SchemaCheck<'p, R, V> {
         }
     }
 
-    /// Whether a schema has an identifier in this draft; no value counts as null.
+    /// Returns whether a schema has an identifier in this draft.
+    ///
+    /// A missing value counts as null.
     fn has_identifier(&self, draft: Draft, schema: Option<&Value>) -> bool
         ensures identified { result ≡ is_some ((R.resolving self.now.resolver.now).id (draft_of draft) (read_value schema.entry)) }
     {
@@ -44,8 +48,10 @@ impl<'p, R: Resolver, V: MetaValidators> SchemaCheck<'p, R, V> {
         }
     }
 
-    /// Whether a schema, of this draft of its own inside a schema of that one, is an embedded resource of a document: it has an
-    /// identifier, and another draft than the document, which is known.
+    /// Returns whether a schema is an embedded resource of a document.
+    ///
+    /// It is if its own draft is known and differs from the document's, and it has an identifier,
+    /// in its own draft or in that of the schema around it.
     fn is_embedded(
         &self,
         document: Draft,
@@ -61,7 +67,7 @@ impl<'p, R: Resolver, V: MetaValidators> SchemaCheck<'p, R, V> {
             && (self.has_identifier(around, schema) || self.has_identifier(own, schema))
     }
 
-    /// Adds the outermost embedded resources of a document below a schema of this draft, whose value was read at its place.
+    /// Appends the outermost embedded resources below a schema with this value.
     fn find_cuts(
         &self,
         document: Draft,
@@ -89,7 +95,9 @@ impl<'p, R: Resolver, V: MetaValidators> SchemaCheck<'p, R, V> {
         Ok(())
     }
 
-    /// The outermost embedded resources of the document at a place. They are looked for only where a draft may change below it.
+    /// Returns the outermost embedded resources of the document at a place.
+    ///
+    /// Searches for them only if a draft may change below it.
     pub(crate) fn cuts(&self, draft: Draft, place: &SchemaPlace) -> Result<Vec<Cut>, OutOfMemory>
         ensures cuts { Shows (λ v. map cut_of v.items) result
             (cuts_at R.Resolver self.now (suc (depth_at R.Resolver self.now place.now)) draft draft place.now) }

@@ -17,7 +17,6 @@ use schema_traits::schema_place::{SchemaPlace, SchemaStep};
 use serde_json::{Map, Value};
 use std::rc::RcStr;
 
-/// The place one step below a place.
 fn one_below(place: &SchemaPlace, step: SchemaStep) -> Result<SchemaPlace, OutOfMemory>
     ensures below { Shows place_of result (at_path (place_of place.now) (schema_step_of step ∷ [])) }
 {
@@ -27,14 +26,13 @@ fn one_below(place: &SchemaPlace, step: SchemaStep) -> Result<SchemaPlace, OutOf
 }
 
 impl<'p, R: Resolver, V: MetaValidators> SchemaCheck<'p, R, V> {
-    /// Whether a place is one of these.
     fn is_cut(&self, cuts: &[Cut], place: &SchemaPlace) -> bool
         ensures cut { result ≡ is_cut_out R.Resolver self.now cuts.now place.now }
     {
         cuts.iter().any(|cut| cut.place.path == place.path)
     }
 
-    /// A copy of the value at a place, with `{}` at these places below it.
+    /// Returns a copy of the value at a place, with `{}` at the cuts below it.
     #[cycle(mask)]
     pub(crate) fn masked(
         &self,
@@ -54,7 +52,7 @@ impl<'p, R: Resolver, V: MetaValidators> SchemaCheck<'p, R, V> {
         }
     }
 
-    /// The same of the items of an array.
+    /// The same for the items of an array.
     #[cycle(mask)]
     fn masked_items(
         &self,
@@ -73,7 +71,7 @@ impl<'p, R: Resolver, V: MetaValidators> SchemaCheck<'p, R, V> {
         Ok(copies)
     }
 
-    /// The same of the members of an object.
+    /// The same for the members of an object.
     #[cycle(mask)]
     fn masked_members(
         &self,
@@ -96,7 +94,7 @@ impl<'p, R: Resolver, V: MetaValidators> SchemaCheck<'p, R, V> {
         Ok(copies)
     }
 
-    /// The copy of a value inside a document: `{}` where its place is one of these.
+    /// Returns the copy of a value inside a document: `{}` if it is cut out.
     #[cycle(mask)]
     fn masked_below(
         &self,
