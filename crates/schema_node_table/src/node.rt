@@ -111,6 +111,14 @@ impl<K: Drop> Nodes<K> {
         self.nodes.len()
     }
 
+    /// States that the table is ordered. Does nothing when it runs.
+    pub fn assert_ordered(&self)
+        ensures ordered { (finished : ℕ) × IsOrdered self.now finished }
+    {
+        // Opens the value, so that the contract sees what it is made of.
+        let _ = &self.nodes;
+    }
+
     /// Returns the node with a number.
     pub fn node(&self, node: SchemaNode) -> &Node<K>
         requires known { node.0 < length self.now }
@@ -228,9 +236,7 @@ impl<K: Drop> Nodes<K> {
             annotations (plan_of form) }
     {
         let node = self.reserve(location, base, start, 0)?;
-        // (the call says that the table is ordered)
-        let count = self.len();
-        let _ordered = count;
+        self.assert_ordered();
         self.fill(node, form, annotations, false);
         Ok(node)
     }
