@@ -1,4 +1,5 @@
--- A table and a clone of it: the clone is ordered as the table is, and the same nodes to the definitions.
+-- A table and its clone: the clone is ordered if the table is, and has the same nodes for the
+-- definitions.
 use Rattle.std.proofs.Common.{◌≡◌, ℕ, suc, ◌+◌, ◌-◌, ◌*◌, ◌<◌, max, cond, List, [], ◌∷◌, refl, sym, ◌∙◌, ap, subst, ◌++◌}
 use Rattle.std.specs.Prelude.{Option, Some, None, slice_get, All, is_some, map, option_map, option_and_then, unwrap_or, flat_map, drop}
 use Rattle.std.proofs.Math.Path.{fun_ext}
@@ -16,7 +17,7 @@ some_there : {A B : Type 0} (f : A → B) (o : Option A) (y : B) → option_map 
 some_there f None y e = absurd (let h : ⊥ = cc in h)
 some_there f (Some x) y e = (x, refl, some_is _ _ e)
 
--- the edges of a plan are not told apart by the keywords' shapes
+-- the shapes of the keywords make no difference to the edges of a plan
 form_edges_shaped : {K S : Type 0} (shape : K → S) (x : NodePart K) → form_edges (shaped_part shape x).form ≡ form_edges x.form
 form_edges_shaped shape x = elim x.form as (λ f. form_edges (shaped_form shape f) ≡ form_edges f) [ node_keyword m es ↦ refl | node_reference e ↦ refl ]
 
@@ -29,7 +30,7 @@ edges_shaped shape node_always = refl
 edges_shaped shape node_never = refl
 edges_shaped shape (node_these xs) = parts_edges shape xs
 
--- ---- the table of the definitions, by what a clone has too
+-- ---- the definitions' table depends only on what a clone has in common
 module _ {S : Type 0} where
   abbrev counted : List (ShapedNode S) → ℕ
   counted [] = 0
@@ -67,7 +68,7 @@ module _ {S : Type 0} where
   same_tables p q r s t = rw (p, q, r, s, t) refl
 
 module _ {K S : Type 0} (shape : K → S) where
-  -- what stands at a number in one table stands there in the other
+  -- a number of one table has the same node in the other
   other_at : (ms ns : List (NodeEntry K)) → shaped_nodes shape ms ≡ shaped_nodes shape ns → (i : ℕ) (m : NodeEntry K) → slice_get ms i ≡ Some m → (n : NodeEntry K) × (slice_get ns i ≡ Some n) × (shaped_node shape n ≡ shaped_node shape m)
   other_at ms ns e i m at =
       some_there (shaped_node shape) (slice_get ns i) (shaped_node shape m) (sym (slice_get-map (shaped_node shape) ns i) ∙ ap (λ xs. slice_get xs i) (sym e) ∙ slice_get-map (shaped_node shape) ms i ∙ ap (option_map (shaped_node shape)) at)

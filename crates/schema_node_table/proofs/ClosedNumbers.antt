@@ -1,4 +1,5 @@
--- What is computed of closed numbers is so, and they stay closed as weights are found.
+-- The computed checks of closed numbers are right, and the numbers stay closed as weights are
+-- found.
 use Rattle.std.proofs.Common.{◌≡◌, ◌∙◌, ◌∷◌, ◌&&◌, ◌<◌, ◌≤◌, ◌==◌, ℕ, zero, suc, Bool, true, false, List, [], Option, Some, None, inl, inr, refl, sym, ap, subst, arith, true≢false, length, map, set, get_or, replicate, not}
 use Rattle.std.specs.Prelude.{All, Contains, filter_map, nat_le, option_map, slice_get, unwrap_or, ◌⊎◌}
 use Rattle.std.specs.List.{cons_option, list_all}
@@ -17,7 +18,7 @@ use Rattle.schema_node_table.specs.declared.node.NodeForm.{NodeForm as CodeForm}
 use Rattle.schema_node_table.specs.ClosedNumbers.{AreClosed, ReachesNoGuard, child_closes, edge_closes, edges_in, form_closes, has_weight, plan_closes}
 use Rattle.schema_node_table.proofs.RankedTable.{node_edges-shaped}
 
--- ---- what is computed of a plan is so of each of its edges
+-- ---- the check of a plan holds of each of its edges
 
 module _ (closed : ℕ → Bool) where
   -- an edge is unguarded, and leads to one that is closed
@@ -63,18 +64,18 @@ module _ (closed : ℕ → Bool) where
     pub entries_close : (es : List (Entry K)) → list_all (λ (e : Entry K). form_closes closed (form_of e.form)) es ≡ plan_closes closed (node_these (map entry_of es))
     entries_close es = sym (list_all-map (λ (x : NodePart K). form_closes closed x.form) entry_of es)
 
-    -- the node that has this form
+    -- the check of a node is that of its form
     pub form_closes_in : (n : Node K) (form : CodeForm K) → n.form ≡ Some form → plan_closes closed (plan_in (Some (node_of n))) ≡ plan_closes closed (plan_of form)
     form_closes_in n form is = ap (λ (o : Option (CodeForm K)). plan_closes closed (unwrap_or (option_map plan_of o) node_always)) is
 
 -- ---- numbers that get a weight
 
--- each of some that is closed by fewer is closed by more
+-- a number that is closed under fewer numbers is closed under more
 closes_more : (edges : ℕ → List NodeEdge) (fewer more : ℕ → Bool) → ((i : ℕ) → fewer i ≡ true → more i ≡ true) → (i : ℕ)
     → ((e : NodeEdge) → Contains (edges i) e → Closes fewer e) → (e : NodeEdge) → Contains (edges i) e → Closes more e
 closes_more edges fewer more h i each e is = let at = each e is in (at.0, h e.node at.1)
 
--- weights that say the same of each number
+-- weights that agree on which numbers have one
 pub closed_same : (edges : ℕ → List NodeEdge) (old new : ℕ → Bool) → ((i : ℕ) → new i ≡ old i) → AreClosed edges old → AreClosed edges new
 closed_same edges old new same are i is = closes_more edges old new (λ j h. same j ∙ h) i (are i (sym (same i) ∙ is))
 
@@ -106,7 +107,7 @@ one_is_weight w l = elim (leb_tells 1 w) [
   | inr none ↦ absurd (omega (arith, none.1, l))
 ]
 
--- one number gets a weight, whose edges lead to numbers that have one
+-- one more number gets a weight, and its edges lead to numbers that have one
 pub closed_more : (edges : ℕ → List NodeEdge) (ws : List ℕ) (i w : ℕ) → i < length ws → 1 ≤ w → All (Closes (has_weight ws)) (edges i) → AreClosed edges (has_weight ws) → AreClosed edges (has_weight (set ws i w))
 closed_more edges ws i w l some leads are j is = elim (weight-set ws i j w l) [
   | inl same ↦ subst (λ (k : ℕ). (e : NodeEdge) → Contains (edges k) e → Closes (has_weight (set ws i w)) e) (sym same.0)
@@ -120,7 +121,7 @@ closed_more edges ws i w l some leads are j is = elim (weight-set ws i j w l) [
       | inr other ↦ ap (λ (v : ℕ). nat_le 1 v) other ∙ h
     ]
 
--- a weight changes, and is one before and after
+-- a weight changes, but is not 0 before or after
 pub weight_kept : (ws : List ℕ) (i w : ℕ) → i < length ws → 1 ≤ get_or ws i 0 → 1 ≤ w → (j : ℕ) → has_weight (set ws i w) j ≡ has_weight ws j
 weight_kept ws i w l was some j = elim (weight-set ws i j w l) [
   | inl same ↦ ap (λ (v : ℕ). nat_le 1 v) same.1 ∙ one_is_weight w some ∙ sym (one_is_weight (get_or ws i 0) was) ∙ ap (λ (k : ℕ). has_weight ws k) (sym same.0)
@@ -145,14 +146,14 @@ closed_next edges ws i was w l at kept leads are = go was w refl refl
         let some : 1 ≤ was = omega (arith, before) in
         closed_same edges (has_weight ws) (has_weight (set ws i w)) (weight_kept ws i w l (omega (arith, some, at)) (omega (arith, some, kept some))) are
 
--- of what is known of a slice, a number of the table, and what was computed of its node
+-- the same, from the facts about a slice, a number of the table, and the check of its node
 pub closed_at : {K : Type 0} (ns : List (NodeEntry K)) (ws vs : List ℕ) (i was w : ℕ) (n : NodeEntry K) → vs ≡ ws → slice_get ns i ≡ Some n → i < length ws → was ≡ get_or ws i 0 → (1 ≤ was → w ≡ was)
     → (was ≡ 0 → 1 ≤ w → plan_closes (has_weight vs) (plan_in (Some n)) ≡ true) → AreClosed (edges_in ns) (has_weight ws) → AreClosed (edges_in ns) (has_weight (set ws i w))
 closed_at {K} ns ws vs i was w n same found l at kept closes = closed_next (edges_in ns) ws i was w l at kept
     (λ before some. subst (λ (o : Option (NodeEntry K)). All (Closes (has_weight ws)) (node_edges (plan_in o))) (sym found)
     (plan_tells (has_weight ws) (plan_in (Some n)) (subst (λ (xs : List ℕ). plan_closes (has_weight xs) (plan_in (Some n)) ≡ true) same (closes before some))))
 
--- one weight after another is kept
+-- changing one weight after another keeps which numbers have one
 pub kept_one : (ws old : List ℕ) (i was w : ℕ) → i < length ws → was ≡ get_or ws i 0 → nat_le 1 w ≡ nat_le 1 was → ((j : ℕ) → has_weight ws j ≡ has_weight old j) → (j : ℕ) → has_weight (set ws i w) j ≡ has_weight old j
 kept_one ws old i was w l at kept same j = elim (weight-set ws i j w l) [
   | inl here ↦ ap (λ (v : ℕ). nat_le 1 v) here.1 ∙ kept ∙ ap (λ (v : ℕ). nat_le 1 v) at ∙ ap (λ (k : ℕ). has_weight ws k) (sym here.0) ∙ same j
@@ -173,7 +174,7 @@ pub closed_edges : (old new : ℕ → List NodeEdge) (closed : ℕ → Bool) →
 closed_edges old new closed same are i is e there = are i is e (subst (λ (es : List NodeEdge). Contains es e) (same i) there)
 
 module _ {K S : Type 0} (shape : K → S) where
-  -- the nodes that stand for a table have its edges
+  -- the definitions' nodes of a table have its edges
   pub edges_numbered : (ns : List (NodeEntry K)) (i : ℕ) → node_edges ((numbered shape ns).entries i) ≡ edges_in ns i
   edges_numbered ns i = node_edges-shaped shape (plan_in (slice_get ns i))
 

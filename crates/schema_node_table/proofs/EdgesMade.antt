@@ -1,4 +1,4 @@
--- Edges to numbers that have their form may be made in the first round, of a node that will not be settled.
+-- In the first round, a node that will not be final may have edges to numbers with a form.
 use Rattle.std.proofs.Common.{◌≡◌, ℕ, ◌<◌, ◌++◌, List, [], ◌∷◌, length, zero, suc, refl, sym, ◌∙◌, ap, arith, false}
 use Rattle.std.specs.Prelude.{Some, None, slice_get, All}
 use Rattle.std.proofs.Common.{inr}
@@ -12,7 +12,7 @@ found (x ∷ xs) zero h = (x, refl)
 found (x ∷ xs) (suc i) h = found xs i (omega arith)
 
 module _ {K : Type 0} (ns : List (NodeEntry K)) (finished : ℕ) (o : IsOrdered ns finished) where
-  -- a node with a form has a round, and none is earlier than the first
+  -- a node with a form has a round, and no round is earlier than the first
   passes_filled : (j : ℕ) (x : NodeEntry K) → slice_get ns j ≡ Some x → IsFilled ns j → MayPass 0 false x
   passes_filled j x at f = record {
     unfilled = λ none. absurd (
@@ -32,7 +32,7 @@ module _ {K : Type 0} (ns : List (NodeEntry K)) (finished : ℕ) (o : IsOrdered 
   pub may_lead_each : (plan : NodePlan K) → AreFilled ns plan → All (MayLead ns 0 false) (node_edges plan)
   may_lead_each plan h = λ k d l. may_lead _ (h k d l)
 
--- numbers that have their form have it after one more
+-- numbers that have their form still have it after one more node
 leads_on : {K : Type 0} (ns : List (NodeEntry K)) (m : NodeEntry K) (e : NodeEdge) → LeadsToFilled ns e → LeadsToFilled (ns ++ m ∷ []) e
 leads_on ns m e l = record {
   within = let w = l.within in let more = length_more ns m in omega arith;

@@ -1,4 +1,5 @@
--- An edge that the guard of its target allows may be made, and still may after each step of its round.
+-- An edge that is guarded as its target requires may be made, and still may be after each step of
+-- its round.
 use Rattle.std.proofs.Common.{◌≡◌, ℕ, ◌≤◌, ◌++◌, Bool, true, false, cond, List, [], ◌∷◌, refl, sym, ◌∙◌, ap, arith, true≢false}
 use Rattle.std.specs.Prelude.{Option, Some, None, slice_get, is_some, not, ◌&&◌, ◌⊎◌}
 use Rattle.std.proofs.Common.{inl, inr, ⊎_elim}
@@ -9,12 +10,12 @@ use Rattle.schema_node_table.specs.NodeTable.{NodeEntry, IsOpen, Fills, filled, 
 use Rattle.schema_node_table.proofs.NodePlaces.{some_is, same_or_not}
 use Rattle.schema_node_table.proofs.NodeSteps.{reserved_stays, filled_there, filled_here}
 
--- a node of the round has it
+-- the test for a round, as an equation
 of_round : (round : ℕ) (r : Option ℕ) → is_of_round round r ≡ true → r ≡ Some round
 of_round round None e = absurd (true≢false (sym e))
 of_round round (Some q) e = ap Some (eqb-true q round e)
 
--- what may be led to by a node that will be settled may be by one that will not be
+-- a target allowed for a node that will be final is allowed for one that will not be
 pass_unsettled : {K : Type 0} (round : ℕ) (settled : Bool) (n : NodeEntry K) → MayPass round settled n → MayPass round false n
 pass_unsettled round settled n may = record {
   unfilled = λ e. (refl, (may.unfilled e).1);
@@ -49,7 +50,8 @@ module _ {K : Type 0} (round : ℕ) (settled : Bool) (n : NodeEntry K) (bare : g
       ] in
       go n.settled (is_of_round round n.round) refl refl plain
 
--- an edge that is guarded as its target asks may be made, of a node that will be settled only if the target is
+-- an edge that is guarded as its target requires may be made, from a node that will be final only
+-- if the target is
 pub guards_lead : {K : Type 0} (ns : List (NodeEntry K)) (round : ℕ) (settled : Bool) (e : NodeEdge) (n : NodeEntry K) → slice_get ns e.node ≡ Some n → (e.guarded ≡ false → guards_at round n ≡ false) → (settled ≡ true → is_settled_entry n ≡ true) → MayLead ns round settled e
 guards_lead ns round settled e n at guard settles = record {
   entry = n;
@@ -57,7 +59,7 @@ guards_lead ns round settled e n at guard settles = record {
   unguarded = λ g. record { unfilled = bare_unfilled round settled n (guard g) settles; formed = bare_formed round settled n (guard g) settles };
 }
 
--- it still may once another number is reserved
+-- it still may after another number is reserved
 pub lead_reserved : {K : Type 0} (old : List (NodeEntry K)) (n : NodeEntry K) (new : List (NodeEntry K)) (round : ℕ) (settled : Bool) (e : NodeEdge) → new ≡ old ++ n ∷ [] → MayLead old round settled e → MayLead new round settled e
 lead_reserved old n new round settled e made m = record { entry = m.entry; at = reserved_stays old n new made e.node m.entry m.at; unguarded = m.unguarded }
 
@@ -69,7 +71,7 @@ open_guarded {K} ns i r round settled n is at may =
     let begun : n.round ≡ Some r = sym (ap (λ (x : NodeEntry K). x.round) same) ∙ is.3 in
     let waits : n.round ≡ None = (may.unfilled none).1 in cc
 
--- and once a number in progress gets its form
+-- and after a number in progress gets its form
 pub lead_filled : {K : Type 0} (old : List (NodeEntry K)) (i r : ℕ) (now : Bool) (annotations : Option Value) (plan : NodePlan K) (new : List (NodeEntry K)) (round : ℕ) (settled : Bool) (e : NodeEdge) → IsOpen old i r → Fills old i now annotations plan new → MayLead old round settled e → MayLead new round settled e
 lead_filled old i r now annotations plan new round settled e is fills m = ⊎_elim
     (λ same. record {

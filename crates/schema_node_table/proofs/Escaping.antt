@@ -1,4 +1,4 @@
--- What is percent-encoded in a URI's fragment: all but what stands plainly.
+-- The set of bytes that are percent-encoded in a URI fragment: all but those that it can hold.
 use Rattle.std.proofs.Common.{◌≡◌, ℕ, suc, arith, ◌<◌, Bool, true, false, cond, not, List, [], ◌∷◌, ◌++◌, refl, ◌∙◌, ap, ap₂}
 use Rattle.std.specs.Prelude.{All}
 use Rattle.std.proofs.lemmas.Bool.{agree_below, agree_below_at}

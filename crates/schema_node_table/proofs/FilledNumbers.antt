@@ -1,4 +1,4 @@
--- Whether a number of the table that the code holds has its form, and whether it waits.
+-- Whether a number of the code's table has its form, and whether it waits.
 use Rattle.std.proofs.Common.{◌≡◌, ℕ, ◌<◌, true, false, List, length, map, refl, sym, ap, arith, true≢false}
 use Rattle.std.specs.Prelude.{Option, Some, None, slice_get, slice_index_or, is_some, option_map}
 use Rattle.std.proofs.lemmas.List.{length-map}

@@ -1,4 +1,4 @@
--- The table stays ordered where a number is reserved, where one is begun, and where one gets its form.
+-- The table stays ordered when a number is reserved, begun, or gets its form.
 use Rattle.std.proofs.Common.{◌≡◌, ℕ, suc, ◌<◌, ◌≤◌, ◌++◌, Bool, List, [], ◌∷◌, sym, ◌∙◌, ap, subst, arith}
 use Rattle.std.specs.Prelude.{Option, Some, None, slice_get, slice_set, All}
 use Rattle.std.proofs.Common.{inl, inr, ⊎_elim}
@@ -16,7 +16,8 @@ pub is_formed : {K : Type 0} (n m : NodeEntry K) (plan : NodePlan K) → n.plan 
 is_formed {K} n m plan is none same =
     let e : n.plan ≡ m.plan = ap (λ (x : NodeEntry K). x.plan) same in cc
 
--- another table in place of one: for the rounds that P holds of, where edges led to what stood at a number, they lead to what stands there now
+-- a table replaces another: in the rounds for which P holds, edges that led to the old node at a
+-- number lead to the new one
 module _ {K : Type 0} (ns ns' : List (NodeEntry K)) (P : ℕ → Type 0) (change : (j : ℕ) (x : NodeEntry K) → slice_get ns j ≡ Some x → (y : NodeEntry K) × (slice_get ns' j ≡ Some y) × ((r : ℕ) (n : NodeEntry K) → P r → Leads r n x → Leads r n y)) where
   edge_kept : (r : ℕ) (n : NodeEntry K) → P r → (e : NodeEdge) → EdgeLeads ns r n e → EdgeLeads ns' r n e
   edge_kept r n p e l =
@@ -40,7 +41,7 @@ ordered_more ns finished m none o = record {
   count = o.count ∙ sym (count_more ns m none);
 }
 
--- another node in place of one
+-- a node replaces another in the table
 module _ {K : Type 0} (ns : List (NodeEntry K)) (i : ℕ) (x y : NodeEntry K) (P : ℕ → Type 0) (at : slice_get ns i ≡ Some x) (turn : (r : ℕ) (n : NodeEntry K) → P r → Leads r n x → Leads r n y) where
   set_change : (j : ℕ) (z : NodeEntry K) → slice_get ns j ≡ Some z → (z' : NodeEntry K) × (slice_get (slice_set ns i y) j ≡ Some z') × ((r : ℕ) (n : NodeEntry K) → P r → Leads r n z → Leads r n z')
   set_change j z at' = ⊎_elim
@@ -51,7 +52,7 @@ module _ {K : Type 0} (ns : List (NodeEntry K)) (i : ℕ) (x y : NodeEntry K) (P
       (same_or_not j i)
 
 module _ {K : Type 0} (ns : List (NodeEntry K)) (finished i round : ℕ) (n : NodeEntry K) (at : slice_get ns i ≡ Some n) (none : n.plan ≡ None) (later : IsNewRound ns round) (o : IsOrdered ns finished) where
-  -- what leads to a node that waits may lead to it once it is begun later
+  -- an edge to a node that waits may still lead to it after it is begun in a later round
   turn_begun : (r : ℕ) (m : NodeEntry K) → r < round → Leads r m n → Leads r m (begun_in n round)
   turn_begun r m before l = record {
     unfilled = λ e. ((l.unfilled none).0, λ q of. subst (λ k. r < k) (some_is round q of) before);
@@ -76,14 +77,14 @@ module _ {K : Type 0} (ns : List (NodeEntry K)) (finished i round : ℕ) (n : No
   abbrev after : List (NodeEntry K)
   after = slice_set ns i new
 
-  -- what leads to a node in progress leads to it once it has its form
+  -- an edge to a node in progress leads to it after it gets its form
   turn_filled : (r : ℕ) (m : NodeEntry K) → Unit {0} → Leads r m n → Leads r m new
   turn_filled r m p l = record {
     unfilled = λ e. absurd (let f : ⊥ = cc in f);
     formed = λ q e. let u = l.unfilled none in inr (u.0, (round, of, inr (u.1 round of)));
   }
 
-  -- where an edge may lead when it is made is where edges lead
+  -- an edge that may lead somewhere when it is made does lead there
   passes : (j : ℕ) (x : NodeEntry K) → slice_get ns j ≡ Some x → MayPass round settled x → Leads round new x
   passes j x at' may = record {
     unfilled = λ e. let u = may.unfilled e in (u.0, λ q of'. absurd (let w = u.1 in let f : ⊥ = cc in f));

@@ -1,4 +1,4 @@
--- What stands at a number, once a table has one more node, or another in place of one.
+-- The node at a number, after a table gets one more node, or a node is replaced.
 use Rattle.std.proofs.Common.{◌≡◌, ℕ, zero, suc, ◌<◌, ◌≤◌, ◌++◌, List, [], ◌∷◌, length, refl, sym, ◌∙◌, ap, arith}
 use Rattle.std.specs.Prelude.{Some, slice_get, slice_set, ◌⊎◌}
 use Rattle.std.proofs.Common.{inl, inr, ⊎_elim}
@@ -6,13 +6,13 @@ use Rattle.std.proofs.Common.{inl, inr, ⊎_elim}
 pub some_is : {A : Type 0} (x y : A) → Some x ≡ Some y → x ≡ y
 some_is x y e = cc
 
--- what stands in a list stands there still after more
+-- an element of a list keeps its place when more are appended
 pub stays : {A : Type 0} (xs ys : List A) (i : ℕ) (x : A) → slice_get xs i ≡ Some x → slice_get (xs ++ ys) i ≡ Some x
 stays [] ys i x e = absurd (let f : ⊥ = cc in f)
 stays (y ∷ xs) ys zero x e = e
 stays (y ∷ xs) ys (suc i) x e = stays xs ys i x e
 
--- what stands in a list with one more stood there, or is the one
+-- an element of a list with one appended was there before, or is the appended one
 pub was_or_last : {A : Type 0} (xs : List A) (y : A) (i : ℕ) (x : A) → slice_get (xs ++ y ∷ []) i ≡ Some x → (slice_get xs i ≡ Some x) ⊎ (x ≡ y)
 was_or_last [] y zero x e = inr (some_is _ _ (sym e))
 was_or_last [] y (suc i) x e = absurd (let f : ⊥ = cc in f)
@@ -23,7 +23,7 @@ pub length_more : {A : Type 0} (xs : List A) (y : A) → length (xs ++ y ∷ [])
 length_more [] y = refl
 length_more (x ∷ xs) y = ap suc (length_more xs y)
 
--- the one more stands at the end
+-- the appended element is at the end
 pub get_end : {A : Type 0} (xs : List A) (x : A) → slice_get (xs ++ x ∷ []) (length xs) ≡ Some x
 get_end [] x = refl
 get_end (y ∷ xs) x = get_end xs x
@@ -61,7 +61,7 @@ same_or_less zero (suc b) h = inr (omega arith)
 same_or_less (suc a) zero h = absurd (omega (arith, h))
 same_or_less (suc a) (suc b) h = ⊎_elim (λ e. inl (ap suc e)) (λ l. inr (omega (arith, l))) (same_or_less a b (omega (arith, h)))
 
--- what stands after a set is what was set, or stood there
+-- after a set, an element is the new one or was there before
 pub set_was : {A : Type 0} (xs : List A) (i : ℕ) (x y : A) (j : ℕ) (z : A) → slice_get xs i ≡ Some x → slice_get (slice_set xs i y) j ≡ Some z → (slice_get xs j ≡ Some z) ⊎ (z ≡ y)
 set_was xs i x y j z at at' = ⊎_elim
     (λ e. inr (some_is _ _ (sym at' ∙ ap (slice_get (slice_set xs i y)) e ∙ set_here xs i x y at)))

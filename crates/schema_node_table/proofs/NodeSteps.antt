@@ -1,4 +1,5 @@
--- What a step does to the other numbers of the table, to its length, and to how many have their form.
+-- The effect of a step on the other numbers of the table, on its length, and on the count of nodes
+-- with a form.
 use Rattle.std.proofs.Common.{◌≡◌, ℕ, suc, ◌++◌, Bool, List, [], ◌∷◌, length, sym, ◌∙◌, ap}
 use Rattle.std.specs.Prelude.{Option, Some, None, slice_get}
 use Rattle.serde_json.specs.declared.value.Value.{Value}

@@ -1,4 +1,4 @@
--- What filling a number, and beginning one, does to the table that the code holds.
+-- The effect of filling or beginning a number on the code's table.
 use Rattle.std.proofs.Common.{◌≡◌, ℕ, suc, ◌+◌, ◌<◌, Bool, List, [], ◌∷◌, zero, length, map, sym, ◌∙◌, ap, subst, arith}
 use Rattle.std.specs.Prelude.{Option, Some, None, slice_get, slice_set}
 use Rattle.std.proofs.lemmas.List.{map-set, length-map}
@@ -55,7 +55,7 @@ module _ {K : Type 0} (items : List (Node K)) (i finished : ℕ) (place : Node K
     new_at : (n : NodeEntry K) → slice_get (map node_of (slice_set items i (with_form place finished settled annotations form))) i ≡ Some n → new ≡ n
     new_at n e = some_is new n (sym (set_here (map node_of items) i (node_of place) new there) ∙ sym (ap (λ (ns : List (NodeEntry K)). slice_get ns i) view_filled) ∙ e)
 
-    -- it comes after all that had their form
+    -- it comes after all nodes that had their form
     pub comes_last : ComesLast (map node_of items) i (map node_of (slice_set items i (with_form place finished settled annotations form)))
     comes_last j m plan n at' formed here = subst (λ (x : NodeEntry K). m.order < x.order) (new_at n here) (o.ordered j m plan at' formed).before
 
@@ -72,7 +72,7 @@ module _ {K : Type 0} (items : List (Node K)) (i finished : ℕ) (place : Node K
         let none : (node_of place).plan ≡ None = sym (ap (λ (x : NodeEntry K). x.plan) same) ∙ waits.2 in
         subst (λ (ns : List (NodeEntry K)). IsOrdered ns finished) (sym view_begun) (ordered_begun (map node_of items) finished i round (node_of place) there none later o)
 
--- what is reserved, of what waits and of what may be filled
+-- numbers that wait, and numbers that may be filled, are reserved
 pub waits_reserved : {K : Type 0} (ns : List (NodeEntry K)) (i : ℕ) → Waits ns i → IsReserved ns i
 waits_reserved ns i w = (w.0, w.1, w.2)
 

@@ -1,4 +1,4 @@
--- A table that is ordered is ranked, as the definitions have it.
+-- An ordered table is ranked, as the definitions require.
 use Rattle.std.proofs.Common.{◌≡◌, ℕ, zero, suc, ◌+◌, ◌-◌, ◌*◌, ◌<◌, ◌≤◌, Bool, true, false, cond, List, [], ◌∷◌, length, refl, sym, ◌∙◌, ap, subst, arith}
 use Rattle.std.proofs.Common.{⊎_elim}
 use Rattle.std.proofs.Math.Nat.{mul-le-mul_right, le-max_left, le-max_right}
@@ -19,13 +19,13 @@ part_edges-shaped : {K S : Type 0} (shape : K → S) (xs : List (NodePart K)) �
 part_edges-shaped shape [] = refl
 part_edges-shaped {K} shape (x ∷ xs) = rw (form_edges-shaped shape x.form) (ap (λ ys. form_edges x.form ++ ys) (part_edges-shaped shape xs))
 
--- what is known of the keywords changes no edge
+-- the shapes of the keywords change no edge
 pub node_edges-shaped : {K S : Type 0} (shape : K → S) (plan : NodePlan K) → node_edges (shaped shape plan) ≡ node_edges plan
 node_edges-shaped shape node_always = refl
 node_edges-shaped shape node_never = refl
 node_edges-shaped shape (node_these xs) = part_edges-shaped shape xs
 
--- ---- a rank as numbers: rounds to go, the size of a round, the order
+-- ---- a rank as a number: the rounds to go, the size of a round, and the order
 
 abbrev ranked : Bool → ℕ → ℕ → ℕ → ℕ
 ranked settled rounds size order = cond settled order (rounds * size + order)
@@ -38,7 +38,7 @@ at_most : (s : Bool) (rounds size order : ℕ) → ranked s rounds size order �
 at_most true rounds size order = omega arith
 at_most false rounds size order = omega arith
 
--- an earlier round is more by a whole round
+-- an earlier round is greater by a whole round
 earlier : (a b size : ℕ) → a < b → a * size + size ≤ b * size
 earlier a b size l =
     let more : suc a * size ≤ b * size = mul-le-mul_right size (let k : suc a ≤ b = omega arith in k) in
@@ -54,7 +54,7 @@ same_round s s' a b size x y rest e l = rw rest (rw e (let h = at_most s' a size
 later_round : (s s' : Bool) (a b size x y : ℕ) → s ≡ false → b < a → y < size → ranked s' b size y < ranked s a size x
 later_round s s' a b size x y rest l within = rw rest (let h = at_most s' b size y in let k = earlier b a size l in omega arith)
 
--- ---- the greatest of a table bound each
+-- ---- the greatest round and order of a table bound each node's
 
 order_bound : {K : Type 0} (ns : List (NodeEntry K)) (i : ℕ) (n : NodeEntry K) → slice_get ns i ≡ Some n → n.order ≤ last_order ns
 order_bound [] i n at = absurd (let f : ⊥ = cc in f)
@@ -66,7 +66,7 @@ round_bound [] i n at = absurd (let f : ⊥ = cc in f)
 round_bound {K} (x ∷ xs) zero n at = subst (λ (m : NodeEntry K). unwrap_or m.round 0 ≤ max (unwrap_or x.round 0) (last_round xs)) (some_is x n at) (le-max_left (unwrap_or x.round 0) (last_round xs))
 round_bound (x ∷ xs) (suc i) n at = let r = round_bound xs i n at in let m = le-max_right (unwrap_or x.round 0) (last_round xs) in omega (arith, r, m)
 
--- ---- an edge that nothing guards leads to a lower rank
+-- ---- an unguarded edge leads to a lower rank
 
 to_go : (rounds a b : ℕ) → a < b → b ≤ rounds → suc rounds - b < suc rounds - a
 to_go rounds a b l h = omega arith

@@ -1,4 +1,5 @@
--- What a clone of a node has of it: all but how its keywords and its annotations are represented.
+-- What a node has in common with its clone: everything but the representation of its keywords and
+-- annotations.
 use Rattle.std.specs.Prelude.{Bool, List, Option, map, option_map, ℕ}
 use Rattle.serde_json.specs.Data.{Data}
 use Rattle.serde_json.specs.View.{view}
@@ -6,7 +7,7 @@ use Rattle.theory_definitions.specs.Instance.{Text}
 use Rattle.theory_definitions.specs.Guarded.{NodePlan}
 use Rattle.schema_node_table.specs.NodeTable.{NodeEntry, shaped}
 
--- a node with the shapes of its keywords, and its annotations as data
+-- a node with abstract values for its keywords, and its annotations as data
 pub record ShapedNode (S : Type 0) : Type 0 where
   pub location : Text
   pub base : Option Text

@@ -1,5 +1,6 @@
--- The table of nodes as data: each number's form, none while it is reserved, and where it stands. The table is filled in
--- rounds: a number that waits is begun in a later round than all that were begun before it.
+-- The table of nodes as data: for each number its form, which is `None` while it is reserved, and
+-- its location. The table is filled in rounds: a number that waits is begun in a round later than
+-- all numbers that were begun before it.
 use Rattle.std.specs.Prelude.{◌≡◌, ℕ, suc, ◌<◌, ◌≤◌, ◌+◌, ◌-◌, ◌*◌, ◌==◌, max, ◌++◌, List, [], ◌∷◌, Bool, true, false, not, ◌&&◌, ◌⊎◌, Option, Some, None, map, option_map, option_and_then, unwrap_or, drop, length, slice_get, slice_set, All, if◌then◌else◌, is_some, IfOk, OnErr, OnOk, Result}
 use Rattle.serde_json.specs.View.{view}
 use Rattle.serde_json.specs.declared.value.Value.{Value}
@@ -9,9 +10,9 @@ use Rattle.theory_definitions.specs.Pointer.{joined}
 use Rattle.theory_definitions.specs.Guarded.{NodeEdge, NodeForm, node_keyword, node_reference, NodePart, NodePlan, node_always, node_never, node_these, Nodes, node_edges}
 use Rattle.schema_traits.specs.declared.numbers.SchemaNode.{SchemaNode}
 
--- a node as data: `round` is the number that the round began with in which it is compiled, none while it waits; `order` is
--- how many had their form before it, once it has its own; `settled` is whether all that it led to was settled when it got
--- its form
+-- a node as data: `round` is the number that its compilation round began with, `None` while it
+-- waits; `order` is how many nodes had their form before it, once it has its own; `settled` says
+-- whether it is final: when it got its form, all its edges led to final nodes
 pub record NodeEntry (K : Type 0) : Type 0 where
   pub location : Text
   pub base : Option Text
@@ -22,15 +23,15 @@ pub record NodeEntry (K : Type 0) : Type 0 where
   pub annotations : Option Value
   pub plan : Option (NodePlan K)
 
--- the absolute location of a location: the URI, `#`, and the pointer from `start` on
+-- the absolute form of a location: the URI, `#`, and the pointer from `start` on
 abbrev pub absolute_in : {K : Type 0} → NodeEntry K → Text → Option Text
 absolute_in n location = option_map (λ base. base ++ (35 ∷ encoded (drop n.start location))) n.base
 
--- the absolute location of a keyword of this name
+-- the absolute location of the keyword with this name
 abbrev pub keyword_absolute : {K : Type 0} → NodeEntry K → Text → Option Text
 keyword_absolute n name = absolute_in n (joined n.location name)
 
--- the same nodes with what is known of their keywords in place of the keywords
+-- the same nodes, with the abstract value of each keyword in its place
 abbrev pub shaped_form : {K S : Type 0} → (K → S) → NodeForm K → NodeForm S
 shaped_form shape (node_keyword m es) = node_keyword (shape m) es
 shaped_form shape (node_reference e) = node_reference e
@@ -43,12 +44,12 @@ shaped shape node_always = node_always
 shaped shape node_never = node_never
 shaped shape (node_these xs) = node_these (map (shaped_part shape) xs)
 
--- the plan of a number; one that is reserved, or that there is none of, accepts
+-- the plan at a number; a reserved number, or one outside the table, accepts everything
 abbrev pub plan_in : {K : Type 0} → Option (NodeEntry K) → NodePlan K
 plan_in None = node_always
 plan_in (Some n) = unwrap_or n.plan node_always
 
--- the greatest round, and the greatest order, in a table
+-- the greatest round and the greatest order in a table
 abbrev pub last_round : {K : Type 0} → List (NodeEntry K) → ℕ
 last_round [] = 0
 last_round (n ∷ ns) = max (unwrap_or n.round 0) (last_round ns)
@@ -57,12 +58,13 @@ abbrev pub last_order : {K : Type 0} → List (NodeEntry K) → ℕ
 last_order [] = 0
 last_order (n ∷ ns) = max n.order (last_order ns)
 
--- the rank of a node in its table: lowest those that have no form, then the settled ones by their order, then the others, those
--- of a later round below those of an earlier one, and in a round by their order
+-- the rank of a node in its table: nodes without a form are lowest, then come the final ones by
+-- their order, then the others; among these a later round ranks below an earlier one, and nodes of
+-- one round rank by their order
 abbrev pub rank_of : {K : Type 0} → List (NodeEntry K) → NodeEntry K → ℕ
 rank_of ns n = if is_some n.plan then suc (if n.settled then n.order else ((suc (last_round ns) - unwrap_or n.round 0) * suc (last_order ns) + n.order)) else 0
 
--- the table as the definitions have it
+-- the table in the form that the definitions use
 abbrev pub numbered : {K S : Type 0} → (K → S) → List (NodeEntry K) → Nodes S
 numbered shape ns = record {
   entries = λ i. shaped shape (plan_in (slice_get ns i));
@@ -72,22 +74,22 @@ numbered shape ns = record {
   rank = λ i. unwrap_or (option_map (rank_of ns) (slice_get ns i)) 0;
 }
 
--- how many have their form
+-- how many nodes have their form
 abbrev pub filled_count : {K : Type 0} → List (NodeEntry K) → ℕ
 filled_count [] = 0
 filled_count (n ∷ ns) = (if is_some n.plan then 1 else 0) + filled_count ns
 
--- ---- what stands at a number
+-- ---- the state of a number
 
 -- the number is reserved
 abbrev pub IsReserved : {K : Type 0} → List (NodeEntry K) → ℕ → Type 0
 IsReserved {K} ns i = (n : NodeEntry K) × (slice_get ns i ≡ Some n) × (n.plan ≡ None)
 
--- the number is reserved, and waits to be begun
+-- the number is reserved and waits to be begun
 abbrev pub Waits : {K : Type 0} → List (NodeEntry K) → ℕ → Type 0
 Waits {K} ns i = (n : NodeEntry K) × (slice_get ns i ≡ Some n) × (n.plan ≡ None) × (n.round ≡ None)
 
--- the number is reserved, and in progress in this round
+-- the number is reserved and in progress in this round
 abbrev pub IsOpen : {K : Type 0} → List (NodeEntry K) → ℕ → ℕ → Type 0
 IsOpen {K} ns i round = (n : NodeEntry K) × (slice_get ns i ≡ Some n) × (n.plan ≡ None) × (n.round ≡ Some round)
 
@@ -99,11 +101,11 @@ IsBegun {K} ns i = (n : NodeEntry K) × (round : ℕ) × (slice_get ns i ≡ Som
 abbrev pub IsFilled : {K : Type 0} → List (NodeEntry K) → ℕ → Type 0
 IsFilled {K} ns i = (n : NodeEntry K) × (plan : NodePlan K) × (slice_get ns i ≡ Some n) × (n.plan ≡ Some plan)
 
--- the number got its form before this many had theirs
+-- the number has its form, and its order is below this one
 abbrev pub IsFilledBelow : {K : Type 0} → List (NodeEntry K) → ℕ → ℕ → Type 0
 IsFilledBelow {K} ns order i = (n : NodeEntry K) × (plan : NodePlan K) × (slice_get ns i ≡ Some n) × (n.plan ≡ Some plan) × (n.order < order)
 
--- the node has its form and is settled
+-- the node has its form and is final
 abbrev pub is_settled_entry : {K : Type 0} → NodeEntry K → Bool
 is_settled_entry n = is_some n.plan && n.settled
 
@@ -112,35 +114,35 @@ abbrev pub is_of_round : ℕ → Option ℕ → Bool
 is_of_round round None = false
 is_of_round round (Some q) = q == round
 
--- an edge made in this round is guarded where its target is in progress, and where it has its form, but is unsettled and of
--- another round
+-- an edge made in this round is guarded if its target is in progress, or has its form but is
+-- neither final nor of this round
 abbrev pub guards_at : {K : Type 0} → ℕ → NodeEntry K → Bool
 guards_at round n = if is_some n.plan then (not n.settled && not (is_of_round round n.round)) else is_some n.round
 
--- every round of the table is an earlier one
+-- this round is later than every round of the table
 abbrev pub IsNewRound : {K : Type 0} → List (NodeEntry K) → ℕ → Type 0
 IsNewRound {K} ns round = (i : ℕ) (n : NodeEntry K) (q : ℕ) → slice_get ns i ≡ Some n → n.round ≡ Some q → q < round
 
--- ---- where an edge may lead, of a node that gets its form
+-- ---- where the edges of a node may lead when it gets its form
 
--- an edge that nothing guards, of a node of this round that will be settled or not, may lead to a node: to one without a form only
--- if it waits and the edge's node will not be settled; to one with a form if it is settled, or the edge's node will not be, and
--- the other's round is no earlier
+-- an unguarded edge from a node of this round, which will be final or not, may lead to this node. A
+-- target without a form has to wait, and the edge's node must not be final. A target with a form
+-- has to be final; or else the edge's node is not final, and the target's round is no earlier
 pub record MayPass {K : Type 0} (round : ℕ) (settled : Bool) (n : NodeEntry K) : Type 0 where
   pub unfilled : n.plan ≡ None → (settled ≡ false) × (n.round ≡ None)
   pub formed : (plan : NodePlan K) → n.plan ≡ Some plan → (n.settled ≡ true) ⊎ ((settled ≡ false) × ((q : ℕ) × (n.round ≡ Some q) × (round ≤ q)))
 
--- an edge leads to a number of the table; where nothing guards it, to one that it may lead to
+-- an edge leads to a number of the table; if it is unguarded, to one that it may lead to
 pub record MayLead {K : Type 0} (ns : List (NodeEntry K)) (round : ℕ) (settled : Bool) (e : NodeEdge) : Type 0 where
   pub entry : NodeEntry K
   pub at : slice_get ns e.node ≡ Some entry
   pub unguarded : e.guarded ≡ false → MayPass round settled entry
 
--- the number is in progress, and may get this form in its round
+-- the number is in progress, and it may get this plan in its round
 abbrev pub MayBeFilled : {K : Type 0} → List (NodeEntry K) → ℕ → Bool → NodePlan K → Type 0
 MayBeFilled ns i settled plan = (round : ℕ) × IsOpen ns i round × All (MayLead ns round settled) (node_edges plan)
 
--- every edge leads to a number of the table, and where nothing guards it, to one that has its form
+-- an edge leads to a number of the table; if it is unguarded, to one that has its form
 pub record LeadsToFilled {K : Type 0} (ns : List (NodeEntry K)) (e : NodeEdge) : Type 0 where
   pub within : e.node < length ns
   pub unguarded : e.guarded ≡ false → IsFilled ns e.node
@@ -148,35 +150,37 @@ pub record LeadsToFilled {K : Type 0} (ns : List (NodeEntry K)) (e : NodeEdge) :
 abbrev pub AreFilled : {K : Type 0} → List (NodeEntry K) → NodePlan K → Type 0
 AreFilled ns plan = All (LeadsToFilled ns) (node_edges plan)
 
--- ---- what is so of every table that was filled so
+-- ---- what holds of every table that was filled like this
 
--- where an edge that nothing guards leads, of a node with a form, of this round: to a node without a form only from an unsettled
--- one, and that node waits or is of a later round; to a node with a form, if that is settled and had its form before; or else
--- from an unsettled one, to a node of the same round that had its form before, or to one of a later round
+-- where an unguarded edge from a node with a form, of this round, leads. To a node without a form
+-- only if the edge's node is not final; that target waits or is of a later round. To a final node
+-- with a form if it got its form earlier; or else from a node that is not final, to a node of the
+-- same round that got its form earlier, or to one of a later round
 pub record Leads {K : Type 0} (round : ℕ) (n x : NodeEntry K) : Type 0 where
   pub unfilled : x.plan ≡ None → (n.settled ≡ false) × ((q : ℕ) → x.round ≡ Some q → round < q)
   pub formed : (plan : NodePlan K) → x.plan ≡ Some plan → ((x.settled ≡ true) × (x.order < n.order))
       ⊎ ((n.settled ≡ false) × ((q : ℕ) × (x.round ≡ Some q) × (((round ≡ q) × (x.order < n.order)) ⊎ (round < q))))
 
--- an edge of a node leads to a number of the table; where nothing guards it, as above
+-- an edge of a node leads to a number of the table; if it is unguarded, as `Leads` says
 pub record EdgeLeads {K : Type 0} (ns : List (NodeEntry K)) (round : ℕ) (n : NodeEntry K) (e : NodeEdge) : Type 0 where
   pub entry : NodeEntry K
   pub at : slice_get ns e.node ≡ Some entry
   pub unguarded : e.guarded ≡ false → Leads round n entry
 
--- a node with this form is of a round, its order is below the number of finished nodes, and its edges lead so
+-- a node with this plan has a round, its order is below the number of finished nodes, and its edges
+-- lead as `EdgeLeads` says
 pub record NodeLeads {K : Type 0} (ns : List (NodeEntry K)) (finished : ℕ) (n : NodeEntry K) (plan : NodePlan K) : Type 0 where
   pub round : ℕ
   pub begun : n.round ≡ Some round
   pub before : n.order < finished
   pub leads : All (EdgeLeads ns round n) (node_edges plan)
 
--- so it is of every node that has its form, and `finished` counts them
+-- every node that has its form leads like this, and `finished` counts them
 pub record IsOrdered {K : Type 0} (ns : List (NodeEntry K)) (finished : ℕ) : Type 0 where
   pub ordered : (i : ℕ) (n : NodeEntry K) (plan : NodePlan K) → slice_get ns i ≡ Some n → n.plan ≡ Some plan → NodeLeads ns finished n plan
   pub count : finished ≡ filled_count ns
 
--- ---- what changes the table
+-- ---- the steps that change the table
 
 -- the node with its form
 abbrev pub filled : {K : Type 0} → NodeEntry K → ℕ → Bool → Option Value → NodePlan K → NodeEntry K
@@ -186,28 +190,28 @@ filled n order settled annotations plan = record n { order = order; settled = se
 abbrev pub begun_in : {K : Type 0} → NodeEntry K → ℕ → NodeEntry K
 begun_in n round = record n { round = Some round }
 
--- a node that has its form, and is not settled, has come at the end
+-- a node that has its form and is not final is appended
 abbrev pub Adds : {K : Type 0} → List (NodeEntry K) → NodeEntry K → Option Value → NodePlan K → List (NodeEntry K) → Type 0
 Adds old n annotations plan new = new ≡ old ++ filled n (filled_count old) false annotations plan ∷ []
 
--- a node has come at the end, and the answer is its number; or else nothing has changed
+-- a node is appended and the result is its number; on `Err` nothing changes
 pub record AddsNode {K E : Type 0} (old new : List (NodeEntry K)) (result : Result SchemaNode E) (n : NodeEntry K) : Type 0 where
   pub number : IfOk result (λ i. i.0 ≡ length old)
   pub added : OnOk result (new ≡ old ++ n ∷ [])
   pub unchanged : OnErr result (new ≡ old)
 
--- so has one that has its form, and is not settled
+-- the same for a node that has its form and is not final
 abbrev pub AddsFilled : {K E : Type 0} → List (NodeEntry K) → List (NodeEntry K) → Result SchemaNode E → NodeEntry K → Option Value → NodePlan K → Type 0
 AddsFilled old new result n annotations plan = AddsNode old new result (filled n (filled_count old) false annotations plan)
 
--- the node at a number has got its form, and nothing else has changed
+-- the node at a number gets its form, and nothing else changes
 abbrev pub Fills : {K : Type 0} → List (NodeEntry K) → ℕ → Bool → Option Value → NodePlan K → List (NodeEntry K) → Type 0
 Fills {K} old i settled annotations plan new = (n : NodeEntry K) × (slice_get old i ≡ Some n) × (new ≡ slice_set old i (filled n (filled_count old) settled annotations plan))
 
--- the node at a number is begun in this round, and nothing else has changed
+-- the node at a number is begun in this round, and nothing else changes
 abbrev pub Begins : {K : Type 0} → List (NodeEntry K) → ℕ → ℕ → List (NodeEntry K) → Type 0
 Begins {K} old i round new = (n : NodeEntry K) × (slice_get old i ≡ Some n) × (new ≡ slice_set old i (begun_in n round))
 
--- the number comes after every other that had its form
+-- the order of the number comes after that of every number that already had its form
 abbrev pub ComesLast : {K : Type 0} → List (NodeEntry K) → ℕ → List (NodeEntry K) → Type 0
 ComesLast {K} old i new = (j : ℕ) (m : NodeEntry K) (plan : NodePlan K) (n : NodeEntry K) → slice_get old j ≡ Some m → m.plan ≡ Some plan → slice_get new i ≡ Some n → m.order < n.order

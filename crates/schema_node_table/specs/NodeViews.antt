@@ -31,14 +31,14 @@ abbrev pub boolean_plan : {K : Type 0} → Bool → spec.NodePlan K
 boolean_plan true = spec.node_always
 boolean_plan false = spec.node_never
 
--- a node without a form, of a round or none
+-- a node without a form, with a round if it is in progress
 abbrev pub unfilled_node : {K : Type 0} → Text → Option Text → ℕ → Option ℕ → NodeEntry K
 unfilled_node location base start round = record { location = location; base = base; start = start; round = round; order = 0; settled = false; annotations = None; plan = None }
 
--- a node whose number is reserved, in progress in this round
+-- a node whose number is reserved and in progress in this round
 abbrev pub reserved_node : {K : Type 0} → Text → Option Text → ℕ → ℕ → NodeEntry K
 reserved_node location base start round = unfilled_node location base start (Some round)
 
--- a node whose number is reserved, and waits
+-- a node whose number is reserved and waits
 abbrev pub waiting_node : {K : Type 0} → Text → Option Text → ℕ → NodeEntry K
 waiting_node location base start = unfilled_node location base start None

@@ -1,4 +1,4 @@
--- What a node asks, one by one.
+-- The validators of a node, one at a time.
 use Rattle.std.specs.Prelude.{ℕ, List, [], ◌∷◌, map, Option, Some, None}
 use Rattle.theory_definitions.specs.Guarded.{NodeForm, NodePart, NodePlan, node_always, node_keyword, node_never, node_reference, node_these}
 use Rattle.schema_node_table.specs.NodeViews.{entry_of}
@@ -7,7 +7,7 @@ use Rattle.schema_node_table.specs.declared.node.validators.NodeValidator.TheVar
 use Rattle.schema_node_table.specs.declared.node.validators.NodeValidatorsIter.{NodeValidatorsIter}
 use Rattle.schema_node_table.specs.declared.node.validators.NodeValidatorsIter.TheVariants as left
 
--- a refusal of everything, a keyword, or the node that a reference leads to
+-- a validator: one that refuses everything, a keyword, or the node that a reference leads to
 pub data Asked (K : Type 0) : Type 0 where
   refusal : Asked K
   a_keyword : K → Asked K
@@ -25,18 +25,18 @@ form_asked (node_reference e) = a_node e.node
 abbrev pub parts_asked : {K : Type 0} → List (NodePart K) → List (Asked K)
 parts_asked xs = map (λ x. form_asked x.form) xs
 
--- none for `true`, a refusal for `false`, else each entry in its order
+-- a `true` plan has none, a `false` plan has a refusal, and any other has each entry in order
 abbrev pub plan_asked : {K : Type 0} → NodePlan K → List (Asked K)
 plan_asked node_always = []
 plan_asked node_never = refusal ∷ []
 plan_asked (node_these xs) = parts_asked xs
 
--- the one entry of a plan that has one
+-- the only entry of a plan with exactly one
 abbrev pub single_asked : {K : Type 0} → NodePlan K → Option (Asked K)
 single_asked (node_these (x ∷ [])) = Some (form_asked x.form)
 single_asked _ = None
 
--- those that are left
+-- the validators that an iterator has left
 abbrev pub left_asked : {K : Type 0} → NodeValidatorsIter K → List (Asked K)
 left_asked left.False = refusal ∷ []
 left_asked (left.Entries es) = parts_asked (map entry_of es.now)

@@ -1,4 +1,4 @@
-//! Numbered nodes: what a schema is once it is compiled.
+//! The nodes of a compiled schema, by number.
 ghost use Rattle.std.specs.Prelude.{◌≡◌, ◌<◌, [], ℕ, Some, true, false};
 ghost use Rattle.std.specs.Prelude.{length, map, option_map, slice_get, string_bytes};
 ghost use Rattle.schema_node_table.specs.NodeViews.{boolean_plan, entry_of, plan_of, reserved_node, unfilled_node, waiting_node, node_of};
@@ -20,7 +20,9 @@ use serde_json::Value;
 use std::alloc::Global;
 use std::marker::Model;
 
-/// A keyword with what each request of its maker got (none where it was skipped), or a reference.
+/// The form of an entry: a keyword or a reference.
+///
+/// A keyword comes with one edge for each request of its maker, `None` if the request was skipped.
 #[derive(Drop)]
 pub enum EntryForm<K> {
     Keyword(K, Vec<Option<Edge>>),
@@ -36,7 +38,7 @@ pub struct Entry<K> {
     pub form: EntryForm<K>,
 }
 
-/// What a node asks of an instance.
+/// What a node requires of an instance.
 #[derive(Drop)]
 pub enum NodeForm<K> {
     Always,
@@ -44,26 +46,30 @@ pub enum NodeForm<K> {
     Keywords(Vec<Entry<K>>),
 }
 
-/// A node. Its form is none while its number is reserved.
+/// A node. Its form is `None` while its number is reserved.
 #[derive(Drop)]
 pub struct Node<K> {
     pub location: Location,
-    /// The URI of its resource, where absolute locations are shown, and how many bytes of the location lie outside it.
+    /// The URI of its resource, if absolute locations are shown.
+    ///
+    /// `start` is the number of bytes of the location that lie outside the resource.
     pub base: Option<String>,
     pub start: usize,
-    /// The number that the round began with in which it is compiled; none while it waits.
+    /// The number that its compilation round began with; `None` while it waits.
     pub round: Option<usize>,
-    /// How many nodes had their form before it, once it has its own.
+    /// How many nodes had their form before it; 0 while it has none.
     pub order: usize,
-    /// Whether all that it led to was settled when it got its form.
+    /// Whether it is final: when it got its form, all its edges led to final nodes.
     pub settled: bool,
-    /// The members that no keyword knows, as an object, where there are any.
+    /// The members that no keyword knows, as an object, if there are any.
     pub annotations: Option<Value>,
     pub form: Option<NodeForm<K>>,
 }
 
-/// The nodes by number. The table is filled in rounds, and chains of edges that nothing guards do not return. A number has a weight where
-/// no guarded edge is reached from it; contracts do not see the weights.
+/// The nodes by number.
+///
+/// The table is filled in rounds, and chains of unguarded edges do not return. A number has a
+/// weight only if no guarded edge is reached from it; contracts do not see the weights.
 #[derive(Drop)]
 pub struct Nodes<K> {
     nodes: Vec<Node<K>>,
@@ -92,7 +98,7 @@ impl<K> Model for Nodes<K> {
 ghost use Rattle.std.specs.Prelude.{None};
 
 impl<K: Drop> Nodes<K> {
-    /// Returns an empty list of nodes.
+    /// Returns an empty table.
     pub fn new(alloc: Global) -> Nodes<K>
         ensures empty { result ≡ [] }
     {
@@ -103,7 +109,7 @@ impl<K: Drop> Nodes<K> {
         }
     }
 
-    /// Returns how many nodes there are, reserved ones included.
+    /// Returns the number of nodes, including reserved ones.
     pub fn len(&self) -> usize
         ensures count { result ≡ length self.now }
         ensures ordered { (finished : ℕ) × IsOrdered self.now finished }
@@ -127,7 +133,8 @@ impl<K: Drop> Nodes<K> {
         &self.nodes[node.0]
     }
 
-    // The next number, for a node without a form, of a round or none.
+    // Adds a node without a form, at the next number. It is in progress if it has a round, and
+    // waits if it has none.
     fn next(
         &mut self,
         location: Location,
@@ -152,11 +159,11 @@ impl<K: Drop> Nodes<K> {
         Ok(SchemaNode(number))
     }
 
-    /// Reserves the next number, for a node at this location that is in progress in this round.
+    /// Reserves the next number, for a node that is in progress in this round.
     ///
     /// # Errors
     ///
-    /// Fails only if memory cannot be allocated.
+    /// Out of memory. The table is then unchanged.
     pub fn reserve(
         &mut self,
         location: Location,
@@ -169,11 +176,11 @@ impl<K: Drop> Nodes<K> {
         self.next(location, base, start, Some(round))
     }
 
-    /// Reserves the next number, for a node at this location that waits to be begun.
+    /// Reserves the next number, for a node that waits to be begun.
     ///
     /// # Errors
     ///
-    /// Fails only if memory cannot be allocated.
+    /// Out of memory. The table is then unchanged.
     pub fn defer(
         &mut self,
         location: Location,
@@ -185,7 +192,7 @@ impl<K: Drop> Nodes<K> {
         self.next(location, base, start, None)
     }
 
-    /// Begins a number that waits, in a round that is later than all before it.
+    /// Begins a number that waits, in a round later than all before it.
     pub fn begin(&mut self, node: SchemaNode, round: usize)
         requires waits { Waits self.old node.0 }
         requires later { IsNewRound self.old round }
@@ -196,8 +203,10 @@ impl<K: Drop> Nodes<K> {
         place.round = Some(round);
     }
 
-    /// Gives a number that is in progress its form and its annotations, and says whether it is settled. It comes after every
-    /// number that had its form.
+    /// Gives a number in progress its form and its annotations.
+    ///
+    /// `settled` says whether the node is final. Its order comes after that of every number that
+    /// already had its form.
     pub fn fill(
         &mut self,
         node: SchemaNode,
@@ -222,7 +231,7 @@ impl<K: Drop> Nodes<K> {
         place.form = Some(form);
     }
 
-    // A node with its form, at the next number, of the first round and not settled.
+    // Adds a node with its form, at the next number. It is of the first round and not final.
     fn add(
         &mut self,
         location: Location,
@@ -241,11 +250,11 @@ impl<K: Drop> Nodes<K> {
         Ok(node)
     }
 
-    /// Adds a node that accepts everything, or nothing.
+    /// Adds a node that accepts everything or nothing.
     ///
     /// # Errors
     ///
-    /// Fails only if memory cannot be allocated.
+    /// Out of memory. The table is then unchanged.
     pub fn from_boolean(
         &mut self,
         location: Location,
@@ -264,11 +273,11 @@ impl<K: Drop> Nodes<K> {
         self.add(location, base, start, form, None)
     }
 
-    /// Adds a node of these keywords, in their order, with its annotations.
+    /// Adds a node with these keywords, in their order, and its annotations.
     ///
     /// # Errors
     ///
-    /// Fails only if memory cannot be allocated.
+    /// Out of memory. The table is then unchanged.
     pub fn from_keywords(
         &mut self,
         location: Location,
@@ -290,11 +299,13 @@ impl<K: Drop> Nodes<K> {
         )
     }
 
-    /// Adds a node of these entries, in their order, without annotations; of none, one that accepts everything.
+    /// Adds a node with these entries, in their order, and no annotations.
+    ///
+    /// With no entry, it accepts everything.
     ///
     /// # Errors
     ///
-    /// Fails only if memory cannot be allocated.
+    /// Out of memory. The table is then unchanged.
     pub fn from_array(
         &mut self,
         location: Location,
@@ -309,7 +320,7 @@ impl<K: Drop> Nodes<K> {
         self.from_keywords(location, base, start, entries, None)
     }
 
-    /// Returns `true` if the number has its form; one that has none is reserved.
+    /// Returns `true` if the number has its form; otherwise it is reserved.
     pub fn is_filled(&self, node: SchemaNode) -> bool
         requires within { node.0 < length self.now }
         ensures filled { result ≡ true → IsFilled self.now node.0 }
@@ -318,7 +329,7 @@ impl<K: Drop> Nodes<K> {
         self.nodes[node.0].form.is_some()
     }
 
-    /// Returns `true` if the number waits; one that does not was begun.
+    /// Returns `true` if the number waits; otherwise it was begun.
     pub fn waits(&self, node: SchemaNode) -> bool
         requires within { node.0 < length self.now }
         ensures waits { result ≡ true → Waits self.now node.0 }
@@ -327,7 +338,7 @@ impl<K: Drop> Nodes<K> {
         self.nodes[node.0].round.is_none()
     }
 
-    /// Returns `true` if the number has its form and is settled.
+    /// Returns `true` if the number has its form and is final.
     pub fn is_settled(&self, node: SchemaNode) -> bool
         requires within { node.0 < length self.now }
         ensures settled { (n : NodeEntry K) × (slice_get self.now node.0 ≡ Some n) × (result ≡ is_settled_entry n) }

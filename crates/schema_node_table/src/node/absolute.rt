@@ -1,4 +1,4 @@
-//! Absolute locations: a URI, `#`, and a pointer as a URI's fragment.
+//! Absolute locations: a URI, `#`, and a pointer as a URI fragment.
 ghost use Rattle.std.specs.Prelude.{◌≡◌, ◌++◌, ◌∷◌, option_map, string_bytes, drop, OnOk};
 ghost use Rattle.schema_traits.specs.Showing.{Shows};
 ghost use Rattle.theory_definitions.specs.Plan.{encoded};
@@ -10,7 +10,7 @@ use percent_encoding::{AsciiSet, NON_ALPHANUMERIC, ascii_set, percent_encode};
 use schema_reports::location::OutOfMemory;
 use std::alloc::Global;
 
-// The bytes of ASCII that are escaped in a URI's fragment (RFC 3986, 3.5).
+// The ASCII bytes that are escaped in a URI fragment (RFC 3986, 3.5).
 const ESCAPED: AsciiSet = ascii_set!(
     NON_ALPHANUMERIC
         .remove(b'-')
@@ -33,14 +33,13 @@ const ESCAPED: AsciiSet = ascii_set!(
         .remove(b'/')
 );
 
-// Adds bytes, percent-encoded where they do not stand plainly in a URI's fragment.
+// Appends bytes. Those that a URI fragment cannot hold are percent-encoded.
 fn push_encoded(text: &mut String, bytes: &[u8]) -> Result<(), OutOfMemory>
     ensures encoded { OnOk result (string_bytes text.new ≡ string_bytes text.old ++ encoded bytes.now) }
 {
     percent_encode(bytes, ESCAPED).append_to(text)
 }
 
-// The bytes from `start` on.
 fn bytes_from(bytes: &[u8], start: usize) -> &[u8]
     ensures dropped { result.now ≡ drop start bytes.now }
 {
@@ -51,7 +50,11 @@ fn bytes_from(bytes: &[u8], start: usize) -> &[u8]
     }
 }
 
-/// Adds `#` and a pointer from its byte `start` on, as a URI's fragment. Fails only if memory cannot be allocated.
+/// Appends `#` and a pointer, from its byte `start` on, as a URI fragment.
+///
+/// # Errors
+///
+/// Out of memory.
 pub fn push_fragment(text: &mut String, pointer: &str, start: usize) -> Result<(), OutOfMemory>
     ensures added { OnOk result (string_bytes text.new ≡ string_bytes text.old ++ (35 ∷ encoded (drop start pointer.now))) }
 {
@@ -59,7 +62,7 @@ pub fn push_fragment(text: &mut String, pointer: &str, start: usize) -> Result<(
     push_encoded(text, bytes_from(pointer.as_bytes(), start))
 }
 
-// The URI of a resource, with a pointer from its byte `start` on as a fragment.
+// The URI of a resource, with a pointer from its byte `start` on as the fragment.
 #[inline(never)]
 fn absolute_text(
     alloc: Global,
@@ -74,7 +77,13 @@ fn absolute_text(
     Ok(text)
 }
 
-/// The absolute location of a location, where the node's resource has a URI that is shown.
+/// Returns the absolute form of a location, if its URI is shown.
+///
+/// That is the URI of the node's resource.
+///
+/// # Errors
+///
+/// Out of memory.
 #[inline(always)]
 pub fn absolute_location<K>(
     alloc: Global,

@@ -1,4 +1,4 @@
-//! Clones of nodes: each keyword is a clone, and all else is the same.
+//! Clones of node tables: each keyword is cloned, and all else is the same.
 ghost use Rattle.std.specs.Prelude.{◌≡◌, IfOk, length, map, option_map, string_bytes};
 ghost use Rattle.schema_traits.specs.Showing.{Shows};
 ghost use Rattle.serde_json.specs.View.{view};
@@ -102,7 +102,6 @@ fn clone_node_form<K: CloneKeyword>(
     }
 }
 
-// A clone of the form, where there is one.
 fn clone_any_form<K: CloneKeyword>(
     alloc: Global,
     form: &Option<NodeForm<K>>,
@@ -170,11 +169,11 @@ fn clone_weights(weights: &Vec<u8>) -> Result<Vec<u8>, OutOfMemory>
 }
 
 impl<K: CloneKeyword> Nodes<K> {
-    /// Returns a clone of the nodes: each keyword is a clone, and all else is the same.
+    /// Returns a clone of the table: each keyword is cloned, and all else is the same.
     ///
     /// # Errors
     ///
-    /// Fails only if memory cannot be allocated.
+    /// Out of memory.
     pub fn clone(&self, alloc: Global) -> Result<Nodes<K>, OutOfMemory>
         ensures count { Shows length result (length self.now) }
         ensures nodes { Shows (shaped_nodes K.shape) result (shaped_nodes K.shape self.now) }

@@ -8,14 +8,16 @@ use schema_reports::location::OutOfMemory;
 use std::alloc::AllocError;
 use std::marker::Model;
 
-// That of a keyword of the standard, or a copy of one that a schema has.
+// A standard keyword's name, or a copy of a name that a schema uses.
 #[derive(Drop)]
 enum NameText {
     Known(BuiltinKeyword),
     Copied(String),
 }
 
-/// The name that a keyword goes by. One of the standard's takes no memory. Contracts see its text.
+/// The name of a keyword.
+///
+/// A name of the standard takes no memory. Contracts see the text.
 #[derive(Drop)]
 pub struct KeywordName {
     text: NameText,
@@ -31,7 +33,7 @@ impl Model for KeywordName {
 }
 
 impl KeywordName {
-    /// Returns the name of a keyword of the standard. It allocates nothing.
+    /// Returns the name of a keyword of the standard. Does not allocate.
     pub fn known(keyword: BuiltinKeyword) -> KeywordName
         ensures name { result ≡ builtin_text keyword }
     {
@@ -40,7 +42,11 @@ impl KeywordName {
         }
     }
 
-    /// Returns a copy of a name. Fails only if memory cannot be allocated.
+    /// Returns a copy of a name.
+    ///
+    /// # Errors
+    ///
+    /// Out of memory.
     pub fn copied(text: &String) -> Result<KeywordName, OutOfMemory>
         ensures name { Yields result (string_bytes text.now) }
     {
@@ -49,7 +55,7 @@ impl KeywordName {
         })
     }
 
-    /// Returns the name. It allocates nothing.
+    /// Returns the text of the name. Does not allocate.
     pub fn as_str(&self) -> &str
         ensures name { result.now ≡ self.now }
     {
@@ -63,7 +69,6 @@ impl KeywordName {
 impl Clone for KeywordName {
     ghost is_clone = { λ n copy. copy ≡ n };
 
-    /// Returns a clone of the name. Fails only if memory cannot be allocated.
     fn clone(&self) -> Result<KeywordName, AllocError> {
         let text = match &self.text {
             NameText::Known(keyword) => NameText::Known(*keyword),

@@ -1,5 +1,8 @@
-//! Numbers that are shared: two edges or more lead to each, it takes many nodes to ask it, and no guarded edge is reached from it. What
-//! such a number says at a place is the same whatever is in progress there, so a run may ask it once a place.
+//! Shared numbers, each of which a run may evaluate once a place.
+//!
+//! A number is shared if at least two edges lead to it, no guarded edge is reached from it, and its
+//! evaluation takes many nodes. The answer of such a number at a place is the same whatever is in
+//! progress there.
 ghost use Rattle.std.specs.List.{list_all};
 ghost use Rattle.std.specs.Prelude.{◌≡◌, ◌≤◌, ℕ, IfOk, Option, Some, nat_le, option_map, slice_index_or, true};
 ghost use Rattle.schema_traits.specs.EdgeViews.{edge_of};
@@ -15,10 +18,12 @@ use schema_reports::location::OutOfMemory;
 use schema_traits::numbers::{Edge, SchemaNode};
 use std::alloc::Global;
 
-/// How many nodes it takes at the least to ask a shared number where each edge is asked along once; no weight is greater.
+/// The weight of a shared number, which is the greatest weight.
+///
+/// A weight is the number of nodes evaluated for a number, if each edge is evaluated once.
 const SHARED_WEIGHT: u8 = 255;
 
-// The weight of a number by the weights of some: 0 where it has none.
+// The weight of a number; 0 if it has none.
 fn weight_of(weights: &[u8], number: usize) -> u8
     ensures weight { result ≡ slice_index_or weights.now number 0 }
 {
@@ -28,14 +33,14 @@ fn weight_of(weights: &[u8], number: usize) -> u8
     }
 }
 
-// Whether an edge is unguarded and leads to a number with a weight.
+// Returns whether an edge is unguarded and leads to a number with a weight.
 fn edge_closes(edge: &Edge, weights: &[u8]) -> bool
     ensures closes { result ≡ edge_closes (has_weight weights.now) (edge_of edge.now) }
 {
     !edge.guarded && 1 <= weight_of(weights, edge.node.0)
 }
 
-// Whether that of a child is, where it has one.
+// The same for a child's edge; a child without an edge passes.
 fn child_closes(child: &Option<Edge>, weights: &[u8]) -> bool
     ensures closes { result ≡ child_closes (has_weight weights.now) (option_map edge_of child.now) }
 {
@@ -45,14 +50,12 @@ fn child_closes(child: &Option<Edge>, weights: &[u8]) -> bool
     }
 }
 
-// Whether those of some children are.
 fn children_close(children: &[Option<Edge>], weights: &[u8]) -> bool
     ensures closes { result ≡ list_all (λ (o : Option Edge). child_closes (has_weight weights.now) (option_map edge_of o)) children.now }
 {
     children.iter().all(|child| child_closes(child, weights))
 }
 
-// Whether those of an entry are.
 fn entry_closes<K: Drop>(entry: &Entry<K>, weights: &[u8]) -> bool
     ensures closes { result ≡ form_closes (has_weight weights.now) (form_of entry.now.form) }
 {
@@ -62,14 +65,12 @@ fn entry_closes<K: Drop>(entry: &Entry<K>, weights: &[u8]) -> bool
     }
 }
 
-// Whether those of some entries are.
 fn entries_close<K: Drop>(entries: &[Entry<K>], weights: &[u8]) -> bool
     ensures closes { result ≡ list_all (λ (e : Entry K). form_closes (has_weight weights.now) (form_of e.form)) entries.now }
 {
     entries.iter().all(|entry| entry_closes(entry, weights))
 }
 
-// Whether those of a node are.
 fn node_closes<K: Drop>(node: &Node<K>, weights: &[u8]) -> bool
     ensures closes { result ≡ plan_closes (has_weight weights.now) (plan_in (Some (node_of node.now))) }
 {
@@ -83,7 +84,7 @@ fn node_closes<K: Drop>(node: &Node<K>, weights: &[u8]) -> bool
     }
 }
 
-// The weights of some children's edges, taken together.
+// The sum of the weights that the children's edges lead to. All sums here saturate.
 fn children_weight(children: &[Option<Edge>], weights: &[u8]) -> u8 {
     let mut weight = 0u8;
     for child in children {
@@ -94,7 +95,6 @@ fn children_weight(children: &[Option<Edge>], weights: &[u8]) -> u8 {
     weight
 }
 
-// Those of an entry's edges.
 fn entry_weight<K: Drop>(entry: &Entry<K>, weights: &[u8]) -> u8 {
     match &entry.form {
         EntryForm::Reference(edge) => weight_of(weights, edge.node.0),
@@ -102,7 +102,6 @@ fn entry_weight<K: Drop>(entry: &Entry<K>, weights: &[u8]) -> u8 {
     }
 }
 
-// Those of some entries' edges.
 fn entries_weight<K: Drop>(entries: &[Entry<K>], weights: &[u8]) -> u8 {
     let mut weight = 0u8;
     for entry in entries {
@@ -111,7 +110,6 @@ fn entries_weight<K: Drop>(entries: &[Entry<K>], weights: &[u8]) -> u8 {
     weight
 }
 
-// Those of a node's edges.
 fn weight_below<K: Drop>(node: &Node<K>, weights: &[u8]) -> u8 {
     match &node.form {
         None => 0,
@@ -123,7 +121,8 @@ fn weight_below<K: Drop>(node: &Node<K>, weights: &[u8]) -> u8 {
     }
 }
 
-// The weight of a node: one more than its edges have, where each of these is unguarded and leads to a number with a weight, and 0 else.
+// The weight of a node: one more than the sum of the weights that its edges lead to; 0 if one of
+// these is guarded or leads to a number without a weight.
 fn node_weight<K: Drop>(node: &Node<K>, weights: &[u8]) -> u8
     ensures closes { 1 ≤ result → plan_closes (has_weight weights.now) (plan_in (Some (node_of node.now))) ≡ true }
 {
@@ -133,7 +132,7 @@ fn node_weight<K: Drop>(node: &Node<K>, weights: &[u8]) -> u8
     weight_below(node, weights).saturating_add(1)
 }
 
-// The weight that a node has, where it has one, and else the one that it gets.
+// The weight that a node has already, or else the one that it can get now.
 fn next_weight<K: Drop>(node: &Node<K>, weights: &[u8], weight: u8) -> u8
     ensures kept { 1 ≤ weight → result ≡ weight }
     ensures closes { weight ≡ 0 → 1 ≤ result → plan_closes (has_weight weights.now) (plan_in (Some (node_of node.now))) ≡ true }
@@ -144,7 +143,7 @@ fn next_weight<K: Drop>(node: &Node<K>, weights: &[u8], weight: u8) -> u8
     node_weight(node, weights)
 }
 
-// Weighs a number, where it has no weight and can have one.
+// Weighs a number that has no weight yet, if it can have one.
 fn weigh_number<K: Drop>(nodes: &Nodes<K>, number: usize, weights: &mut Vec<u8>)
     requires { AreWeighed nodes.now weights.old.items }
     ensures { AreWeighed nodes.now weights.new.items }
@@ -157,7 +156,6 @@ fn weigh_number<K: Drop>(nodes: &Nodes<K>, number: usize, weights: &mut Vec<u8>)
     weights[number] = next;
 }
 
-// Weighs some numbers in turn.
 fn weigh_in_turn<K: Drop>(nodes: &Nodes<K>, numbers: &[usize], weights: &mut Vec<u8>)
     requires { AreWeighed nodes.now weights.old.items }
     ensures { AreWeighed nodes.now weights.new.items }
@@ -167,7 +165,7 @@ fn weigh_in_turn<K: Drop>(nodes: &Nodes<K>, numbers: &[usize], weights: &mut Vec
     }
 }
 
-// The round of one of some numbers.
+// The round of the number at an index of these.
 fn round_at<K: Drop>(nodes: &Nodes<K>, numbers: &[usize], at: usize) -> usize {
     let number = match numbers.get(at) {
         Some(number) => *number,
@@ -182,7 +180,7 @@ fn round_at<K: Drop>(nodes: &Nodes<K>, numbers: &[usize], at: usize) -> usize {
     }
 }
 
-// Weighs the numbers of each round in turn, the last round first.
+// Weighs the numbers round by round, the last round first; within a round, in their order.
 fn weigh_rounds<K: Drop>(nodes: &Nodes<K>, numbers: &[usize], weights: &mut Vec<u8>)
     requires { AreWeighed nodes.now weights.old.items }
     ensures { AreWeighed nodes.now weights.new.items }
@@ -215,7 +213,6 @@ fn in_order<K: Drop>(alloc: Global, nodes: &Nodes<K>) -> Result<Vec<usize>, OutO
     Ok(numbers)
 }
 
-// No number has a weight.
 fn unweighed<K: Drop>(alloc: Global, nodes: &Nodes<K>) -> Result<Vec<u8>, OutOfMemory>
     ensures { IfOk result (λ ws. AreWeighed nodes.now ws.items) }
 {
@@ -224,9 +221,10 @@ fn unweighed<K: Drop>(alloc: Global, nodes: &Nodes<K>) -> Result<Vec<u8>, OutOfM
     Ok(weights)
 }
 
-// Returns the weights of the closed numbers: how many nodes it takes to ask each where each edge is asked along once, or `SHARED_WEIGHT` if
-// it takes more. An edge that nothing guards leads to a number of a lesser rank, and numbers are weighed by their ranks: the settled ones
-// by their order, then the others, those of the last round first. Fails only if memory cannot be allocated.
+// The weights of the closed numbers.
+//
+// An unguarded edge leads to a number of a lower rank, so numbers are weighed by rank: the final
+// ones first, by their order, then the others, round by round, the last round first.
 fn weights_of<K: Drop>(alloc: Global, nodes: &Nodes<K>) -> Result<Vec<u8>, OutOfMemory>
     ensures closed { IfOk result (λ ws. AreClosed (edges_in nodes.now) (has_weight ws.items)) }
 {
@@ -237,14 +235,13 @@ fn weights_of<K: Drop>(alloc: Global, nodes: &Nodes<K>) -> Result<Vec<u8>, OutOf
     Ok(weights)
 }
 
-// Counts an edge as a way to the number that it leads to.
+// Counts an edge for the number that it leads to.
 fn count_edge(edge: &Edge, ways: &mut Vec<u8>) {
     if let Some(count) = ways.get_mut(edge.node.0) {
         *count = count.saturating_add(1);
     }
 }
 
-// Counts the edges of some children.
 fn count_children(children: &[Option<Edge>], ways: &mut Vec<u8>) {
     for child in children {
         if let Some(edge) = child {
@@ -253,7 +250,6 @@ fn count_children(children: &[Option<Edge>], ways: &mut Vec<u8>) {
     }
 }
 
-// Counts the edges of an entry.
 fn count_entry<K: Drop>(entry: &Entry<K>, ways: &mut Vec<u8>) {
     match &entry.form {
         EntryForm::Reference(edge) => count_edge(edge, ways),
@@ -261,7 +257,6 @@ fn count_entry<K: Drop>(entry: &Entry<K>, ways: &mut Vec<u8>) {
     }
 }
 
-// Counts the edges of a node.
 fn count_node<K: Drop>(node: &Node<K>, ways: &mut Vec<u8>) {
     if let Some(form) = &node.form {
         if let NodeForm::Keywords(entries) = form {
@@ -272,7 +267,7 @@ fn count_node<K: Drop>(node: &Node<K>, ways: &mut Vec<u8>) {
     }
 }
 
-// Returns how many edges lead to each number.
+// The number of edges that lead to each number; counts stop at 255.
 fn ways_of<K: Drop>(alloc: Global, nodes: &Nodes<K>) -> Result<Vec<u8>, OutOfMemory> {
     let count = nodes.len();
     let mut ways = Vec::from_elem(alloc, 0u8, count)?;
@@ -282,7 +277,8 @@ fn ways_of<K: Drop>(alloc: Global, nodes: &Nodes<K>) -> Result<Vec<u8>, OutOfMem
     Ok(ways)
 }
 
-// The weight of a number to which so many edges lead: less than that of a shared one where these are fewer than two.
+// The weight of a number to which this many edges lead: less than that of a shared number if there
+// are fewer than two.
 fn kept_weight(weight: u8, ways: u8) -> u8
     ensures kept { nat_le 1 result ≡ nat_le 1 weight }
 {
@@ -292,7 +288,7 @@ fn kept_weight(weight: u8, ways: u8) -> u8
     weight
 }
 
-// Makes the weight of each number less than that of a shared one to which fewer than two edges lead.
+// Lowers the weights of numbers that may not be shared, since fewer than two edges lead to them.
 fn keep_shared(ways: &[u8], weights: &mut Vec<u8>)
     ensures same { (i : ℕ) → has_weight weights.new.items i ≡ has_weight weights.old.items i }
 {
@@ -303,13 +299,15 @@ fn keep_shared(ways: &[u8], weights: &mut Vec<u8>)
 }
 
 impl<K: Drop> Nodes<K> {
-    /// Finds out which numbers are shared: those to which two edges or more lead, from which no guarded edge is reached, and which it takes
-    /// at least 255 nodes to ask where each edge is asked along once. No number is shared any more once another node is added, begun or
-    /// filled.
+    /// Determines which numbers are shared.
+    ///
+    /// A number is shared if at least two edges lead to it, no guarded edge is reached from it, and
+    /// its evaluation takes at least 255 nodes if each edge is evaluated once. After another node
+    /// is added, begun or filled, no number is shared.
     ///
     /// # Errors
     ///
-    /// Fails only if memory cannot be allocated. Then the same numbers are shared as before.
+    /// Out of memory. The shared numbers are then the same as before.
     pub fn share(&mut self, alloc: Global) -> Result<(), OutOfMemory>
         ensures same { self.new ≡ self.old }
     {
@@ -320,7 +318,7 @@ impl<K: Drop> Nodes<K> {
         Ok(())
     }
 
-    /// Returns `true` if the number is shared. It allocates nothing.
+    /// Returns `true` if the number is shared. Does not allocate.
     pub fn is_shared(&self, node: SchemaNode) -> bool
         ensures closed { result ≡ true → ReachesNoGuard (edges_in self.now) node.0 }
     {

@@ -1,4 +1,4 @@
-//! What a node asks, one by one.
+//! The validators of a node, one at a time.
 ghost use Rattle.std.specs.Prelude.{◌≡◌, ◌<◌, length, option_map, slice_get, Some};
 ghost use Rattle.std.specs.Iterator.{YieldsFirstBy, item_count};
 ghost use Rattle.schema_node_table.specs.NodeTable.{plan_in};
@@ -9,7 +9,9 @@ use crate::node::{Entry, EntryForm, NodeForm, Nodes};
 use schema_reports::location::Location;
 use schema_traits::numbers::SchemaNode;
 
-/// What refuses everything, a keyword, or the node that a reference leads to.
+/// A validator of a node.
+///
+/// It refuses everything, or it is a keyword or the node that a reference leads to.
 #[derive(Clone, Copy)]
 pub enum NodeValidator<'n, K> {
     False,
@@ -17,14 +19,15 @@ pub enum NodeValidator<'n, K> {
     Reference(SchemaNode),
 }
 
-/// The validators of a node that are left: what `false` has, or those of some entries in their order.
+/// An iterator over the validators of a node.
+///
+/// It has the one validator of `false`, or those of entries in their order.
 #[derive(Drop)]
 pub enum NodeValidatorsIter<'n, K> {
     False,
     Entries(&'n [Entry<K>]),
 }
 
-// What an entry is.
 fn validator<K>(entry: &Entry<K>) -> NodeValidator<'_, K>
     ensures form { validator_of result ≡ form_asked (form_of entry.now.form) }
 {
@@ -71,7 +74,10 @@ impl<'n, K> ExactSizeIterator for NodeValidatorsIter<'n, K> {
 }
 
 impl<K: Drop> Nodes<K> {
-    /// The validators of a node: none for `true` and for a reserved node, `False` for `false`, else the entries in order.
+    /// Returns the validators of a node.
+    ///
+    /// A `true` node and a reserved node have none, a `false` node has `False`, and any other has
+    /// its entries in order.
     pub fn validators(&self, node: SchemaNode) -> NodeValidatorsIter<'_, K>
         requires known { node.0 < length self.now }
         ensures validators { left_asked result ≡ plan_asked (plan_in (slice_get self.now node.0)) }
@@ -86,7 +92,9 @@ impl<K: Drop> Nodes<K> {
         }
     }
 
-    /// The one validator of a node whose keywords are one entry; none of any other node.
+    /// Returns the only validator of a node with exactly one keyword.
+    ///
+    /// `None` for any other node.
     pub fn single_validator(&self, node: SchemaNode) -> Option<NodeValidator<'_, K>>
         requires known { node.0 < length self.now }
         ensures single { option_map validator_of result ≡ single_asked (plan_in (slice_get self.now node.0)) }
@@ -107,7 +115,7 @@ impl<K: Drop> Nodes<K> {
         }
     }
 
-    /// The location of a node's schema.
+    /// Returns the location of a node's schema.
     pub fn location(&self, node: SchemaNode) -> &Location
         requires known { node.0 < length self.now }
         ensures location { option_map (λ n. n.location) (slice_get self.now node.0) ≡ Some result.now }
