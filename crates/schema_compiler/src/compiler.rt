@@ -136,9 +136,7 @@ pub fn compile_subschema<R: Resolver, K: Validate, T: KeywordTable<K>>(
         nested_limit,
     };
     let mut compiled = compiler.compiled_alone(root)?;
-    // (the call says that the table is ordered)
-    let count = compiled.nodes.len();
-    let _ordered = count;
+    compiled.nodes.assert_ordered();
     compiled.nodes.share(alloc)?;
     Ok(compiled)
 }

@@ -14,7 +14,7 @@ returns-clause-compiled g c =
     let new = filled g.R.Resolver.point c.in_ok-compiled.compiled in
     let done = c.in_ok-compiled.ensures in
     let at = done.2 in
-    let r = c.len-count.ensures.ordered in
+    let r = c.assert_ordered.ensures.ordered in
     λ matcher keywords draft base. rw c.share.ensures.same (compiled (g.R.Resolver.resolving c.args.resolver.now) (record { owns = g.T.KeywordTable.owned c.args.table.now; builtin = builtin; script = g.T.KeywordTable.script c.args.table.now })
     c.args.options.now.formats (map string_bytes c.args.options.now.declared.items) matcher keywords draft base g.K.Validate.shape new.keys new.nodes c.args.options.now.node_limit c.args.nested_limit (v c.args.root)
     at.table at.grown (all_formed _ (v c.args.root) new done.0 at done.1) at.first r.0 r.1 (all_found _ (v c.args.root) new done.0 at done.1) at.under_way.guards at.under_way.within)
