@@ -234,12 +234,7 @@ impl<'p, R: Resolver, T> Compiler<'p, R, T> {
         requires { MayReach R.Resolver T.KeywordTable K.Validate self.now compiled.old key.now reading }
         ensures { GivesPlan R.Resolver T.KeywordTable K.Validate self.now compiled.old compiled.new key.now result }
     {
-        let context = Context {
-            alloc: self.alloc,
-            resolver: self.resolver,
-            options: self.options,
-            key,
-        };
+        let context = self.context(key);
         let value = value_of(self.resolver, key, reading);
         match values::object_of(value) {
             Some(members) => self.planned_object(compiled, key, members),
@@ -263,12 +258,7 @@ impl<'p, R: Resolver, T> Compiler<'p, R, T> {
         requires { MayMake R.Resolver T.KeywordTable K.Validate self.now compiled.old key.now members.now.entries }
         ensures { GivesObject R.Resolver T.KeywordTable K.Validate self.now compiled.old compiled.new key.now members.now.entries result }
     {
-        let context = Context {
-            alloc: self.alloc,
-            resolver: self.resolver,
-            options: self.options,
-            key,
-        };
+        let context = self.context(key);
         match context.lone_reference(members) {
             Some(value) => {
                 let name = String::from_str(self.alloc, "$ref")?;
@@ -451,12 +441,7 @@ impl<'p, R: Resolver, T> Compiler<'p, R, T> {
         requires { MayMake R.Resolver T.KeywordTable K.Validate self.now compiled.old key.now members.now.entries }
         ensures { GivesChild R.Resolver T.KeywordTable K.Validate self.now compiled.old compiled.new key.now path.now result }
     {
-        let context = Context {
-            alloc: self.alloc,
-            resolver: self.resolver,
-            options: self.options,
-            key,
-        };
+        let context = self.context(key);
         let below = context.in_subresource(members, path)?;
         let reading = Reading::Read(below.value);
         Ok(self.edge_to(compiled, below.key, reading, false, below.pointer)?)

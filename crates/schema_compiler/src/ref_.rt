@@ -6,7 +6,6 @@ ghost use Rattle.schema_compiler.specs.Gives.{GivesReference};
 use crate::compiler::compilation::Compilation;
 use crate::compiler::entries::entry_named;
 use crate::compiler::setup::Compiler;
-use schema_keys::context::Context;
 use schema_keys::error::BuildError;
 use schema_keys::key::SchemaKey;
 pub use schema_keys::references::{RefTarget, ReferenceKind};
@@ -113,12 +112,7 @@ impl<'p, R: Resolver, T> Compiler<'p, R, T> {
         ensures { GivesReference R.Resolver T.KeywordTable K.Validate self.now
             compiled.old compiled.new key.now name.now priority kind value.now result }
     {
-        let context = Context {
-            alloc: self.alloc,
-            resolver: self.resolver,
-            options: self.options,
-            key,
-        };
+        let context = self.context(key);
         let text = context.text_of(name, value)?;
         match self.reference_edge(compiled, key, name, kind, text)? {
             None => Ok(None),

@@ -9,7 +9,6 @@ ghost use Rattle.schema_keys.specs.declared.error.BuildError.TheVariants as buil
 
 use crate::compiler::reservations::Reservations;
 use crate::compiler::setup::Compiler;
-use schema_keys::context::Context;
 use schema_keys::error::BuildError;
 use schema_keys::key::SchemaKey;
 use schema_keys::keys::Keys;
@@ -142,12 +141,7 @@ impl<'p, R: Resolver, T> Compiler<'p, R, T> {
         ensures number { IfOk result (λ n. n.0 ≡ length nodes.old) }
     {
         let location = key.location.clone()?;
-        let context = Context {
-            alloc: self.alloc,
-            resolver: self.resolver,
-            options: self.options,
-            key,
-        };
+        let context = self.context(key);
         let base = context.base_uri()?;
         match round {
             Some(number) => nodes.reserve(location, base, key.resource_start, number),

@@ -7,7 +7,6 @@ ghost use Rattle.schema_keys.specs.Compiling.{answers};
 ghost use Rattle.schema_compiler.specs.Gives.{script_of};
 
 use crate::compiler::setup::Compiler;
-use schema_keys::context::Context;
 use schema_keys::key::SchemaKey;
 use schema_reports::location::OutOfMemory;
 use schema_traits::keyword::Validate;
@@ -30,12 +29,7 @@ impl<'p, R: Resolver, T> Compiler<'p, R, T> {
         ensures begins { Shows T.waiting result (begun
             (script_of R.Resolver T.KeywordTable K.Validate self.now key.now members.now.entries own name.now)) }
     {
-        let context = Context {
-            alloc: self.alloc,
-            resolver: self.resolver,
-            options: self.options,
-            key,
-        };
+        let context = self.context(key);
         let formats = context.validates_formats_by_default();
         self.table.begin(
             self.alloc,

@@ -5,7 +5,6 @@ ghost use Rattle.schema_compiler.specs.Carried.{RefusesTarget, Targets, lacking,
 ghost use Rattle.schema_keys.specs.Refusing.{Names};
 
 use crate::compiler::setup::Compiler;
-use schema_keys::context::Context;
 use schema_keys::error::BuildError;
 use schema_keys::key::SchemaKey;
 use schema_keys::references::ReferenceKind;
@@ -46,12 +45,7 @@ impl<'p, R: Resolver, T> Compiler<'p, R, T> {
         ensures refused { IfErr result (RefusesTarget (task R.resolving T.owned T.script K.shape self.now) (key_of R.point key.now)
             (kind_of kind) text.now) }
     {
-        let context = Context {
-            alloc: self.alloc,
-            resolver: self.resolver,
-            options: self.options,
-            key,
-        };
+        let context = self.context(key);
         let target = context.target_key(kind, text)?;
         self.check_target(&target)?;
         Ok(target)
