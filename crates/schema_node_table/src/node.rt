@@ -218,10 +218,8 @@ impl<K: Drop> Nodes<K> {
         ensures filled { Fills self.old node.0 settled annotations (plan_of form) self.new }
         ensures last { ComesLast self.old node.0 self.new }
     {
-        // (the call says that a count of nodes fits the type)
-        let count = self.nodes.len();
-        let _within = count;
         let order = self.finished;
+        prove!(order < self.nodes.len());
         self.finished += 1;
         self.weights.clear();
         let place = &mut self.nodes[node.0];

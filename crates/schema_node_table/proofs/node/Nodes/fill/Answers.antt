@@ -6,13 +6,19 @@ use Rattle.schema_node_table.proofs.ClosedNumbers.{closed_none}
 use Rattle.schema_node_table.proofs.NodesFilled.{no_more_than, stays_ordered, fills, comes_last, within, open_reserved}
 use Rattle.schema_node_table.proofs.node.Nodes.fill.Goals as goal
 
+pub prove-unreachable-requires : goal.prove-unreachable-requires
+prove-unreachable-requires g c =
+    let ready = subst (λ ns. MayBeFilled ns c.args.node.0 c.args.settled (plan_of c.args.form)) (sym c.self.view_is) c.requires.ready in
+    let b = no_more_than c.self.inside.nodes.items c.args.node.0 c.self.inside.finished (open_reserved c.self.inside.nodes.items c.args.node.0 c.args.settled c.args.form ready) c.self.invariant.ordered in
+    omega (arith, b, c.len.ensures, c.if-prove.true)
+
 pub overflow_add-self : goal.overflow_add-self
 overflow_add-self g c =
     let ready = subst (λ ns. MayBeFilled ns c.args.node.0 c.args.settled (plan_of c.args.form)) (sym c.self.view_is) c.requires.ready in
     let b = no_more_than c.self.inside.nodes.items c.args.node.0 c.self.inside.finished (open_reserved c.self.inside.nodes.items c.args.node.0 c.args.settled c.args.form ready) c.self.invariant.ordered in
     let h = c.self.inside.nodes.ok in
-    let t = c.len-count.type_inv in
-    omega (arith, b, h.0, t, c.len-count.ensures)
+    let t = c.len.type_inv in
+    omega (arith, b, h.0, t, c.len.ensures)
 
 pub index_mut-place-requires : goal.index_mut-place-requires
 index_mut-place-requires g c =
