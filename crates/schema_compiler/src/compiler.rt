@@ -148,6 +148,16 @@ struct ObjectKeywords<K> {
     annotating: Map<String, Value>,
 }
 
+// What is known of an entry before its maker has run: whether the table's own keyword makes it, and
+// its name, its priority and its kind.
+#[derive(Clone, Copy)]
+struct EntryHead<'n> {
+    is_own: bool,
+    name: &'n String,
+    priority: u8,
+    is_leaf: bool,
+}
+
 impl<'p, R: Resolver, T> Compiler<'p, R, T> {
     /// The edge to the node of a key, which is compiled first where it has no number, or put on the list where it nests and as
     /// many targets as may nest are open. The value at the key's place is read only where the node is compiled and it was not
@@ -331,16 +341,13 @@ impl<'p, R: Resolver, T> Compiler<'p, R, T> {
     {
         let text = name.as_str();
         if self.table.owns(text) {
-            return self.made_entry(
-                compiled,
-                key,
-                members,
-                true,
+            let head = EntryHead {
+                is_own: true,
                 name,
-                CUSTOM_PRIORITY,
-                false,
-                absorbed,
-            );
+                priority: CUSTOM_PRIORITY,
+                is_leaf: false,
+            };
+            return self.made_entry(compiled, key, members, head, absorbed);
         }
         let context = Context {
             alloc: self.alloc,
@@ -352,16 +359,15 @@ impl<'p, R: Resolver, T> Compiler<'p, R, T> {
             None => Ok(None),
             Some(row) => match reference_kind(text) {
                 Some(kind) => self.reference_by(compiled, key, name, row.priority, kind, value),
-                None => self.made_entry(
-                    compiled,
-                    key,
-                    members,
-                    false,
-                    name,
-                    row.priority,
-                    row.is_leaf,
-                    absorbed,
-                ),
+                None => {
+                    let head = EntryHead {
+                        is_own: false,
+                        name,
+                        priority: row.priority,
+                        is_leaf: row.is_leaf,
+                    };
+                    self.made_entry(compiled, key, members, head, absorbed)
+                }
             },
         }
     }
@@ -373,21 +379,18 @@ impl<'p, R: Resolver, T> Compiler<'p, R, T> {
         compiled: &mut Compilation<R::State, K>,
         key: &SchemaKey<R::State>,
         members: &'p Map<String, Value>,
-        own: bool,
-        name: &String,
-        priority: u8,
-        is_leaf: bool,
+        head: EntryHead<'_>,
         absorbed: &mut Vec<String>,
     ) -> Result<Option<Entry<K>>, BuildError>
     where
         T: KeywordTable<K>,
         requires { MayMake R.Resolver T.KeywordTable K.Validate self.now compiled.old key.now members.now.entries }
         ensures { GivesMade R.Resolver T.KeywordTable K.Validate self.now
-            compiled.old compiled.new key.now members.now.entries own name.now priority is_leaf
-            absorbed.old.items absorbed.new.items result }
+            compiled.old compiled.new key.now members.now.entries head.entry.is_own head.entry.name.now
+            head.entry.priority head.entry.is_leaf absorbed.old.items absorbed.new.items result }
     {
         let first = compiled.reservations.len();
-        let mut maker = self.maker_of(key, members, own, name)?;
+        let mut maker = self.maker_of(key, members, head.is_own, head.name)?;
         let mut children = Vec::new(self.alloc);
         let mut reply = MakerReply::Begun;
         loop {
@@ -399,14 +402,20 @@ impl<'p, R: Resolver, T> Compiler<'p, R, T> {
                     reply = keep_edge(&mut children, Some(edge))?;
                 }
                 MakerStep::Refer(text) => {
-                    let edge = self.reference_edge(compiled, key, name, ReferenceKind::Ref, &text)?;
+                    let edge = self.reference_edge(
+                        compiled,
+                        key,
+                        head.name,
+                        ReferenceKind::Ref,
+                        &text,
+                    )?;
                     reply = keep_edge(&mut children, edge)?;
                 }
                 MakerStep::Pending(kind) => {
                     reply = compiled.reservations.pending_reply(kind, &key.place);
                 }
                 MakerStep::Reserve(kind) => {
-                    reply = compiled.reservations.reserve(kind, &key.place, name)?;
+                    reply = compiled.reservations.reserve(kind, &key.place, head.name)?;
                 }
                 MakerStep::Keyword(keyword, names) => {
                     absorb(absorbed, names)?;
@@ -414,7 +423,7 @@ impl<'p, R: Resolver, T> Compiler<'p, R, T> {
                         .reservations
                         .give_up(first, ReservedNode::OfItsKeyword);
                     let form = EntryForm::Keyword(keyword, children);
-                    return Ok(Some(entry_named(name, priority, is_leaf, form)?));
+                    return Ok(Some(entry_named(head.name, head.priority, head.is_leaf, form)?));
                 }
                 MakerStep::Nothing => {
                     compiled

@@ -370,10 +370,10 @@ made_entry-loop-children-init g t c =
     let old = filled g.R.Resolver.point c.args.compiled.now in
     let k = v c.args.key.now in
     let whole = members_view c.args.members.now.entries in
-    let name = string_bytes c.args.name.now in
-    let making = making s.parts k whole c.args.own name in
-    let script = g.T.KeywordTable.script c.args.self.now.table.now c.args.own name whole k.target.draft k.target.vocabularies (checks_formats s.parts k) in
-    let alike = asks_alike g.K.Validate.absorbed g.K.Validate.is_whole whole script (g.met.T.KeywordTable.right c.args.self.now.table.now c.args.own name whole k.target.draft k.target.vocabularies (checks_formats s.parts k)) in
+    let name = string_bytes c.args.head.name.now in
+    let making = making s.parts k whole c.args.head.is_own name in
+    let script = g.T.KeywordTable.script c.args.self.now.table.now c.args.head.is_own name whole k.target.draft k.target.vocabularies (checks_formats s.parts k) in
+    let alike = asks_alike g.K.Validate.absorbed g.K.Validate.is_whole whole script (g.met.T.KeywordTable.right c.args.self.now.table.now c.args.head.is_own name whole k.target.draft k.target.vocabularies (checks_formats s.parts k)) in
     (rw c.new-children.ensures.items (asked_begun s.parts s.shape s.limit s.nested k name making script (g.T.KeywordTable.waiting c.in_ok-maker.maker) old.keys old.nodes old refl alike c.in_ok-maker.ensures.begins c.requires.table c.requires.under_way), refl)
 
 pub made_entry-returns-in_err-edge-in-Compile : goal.made_entry-returns-in_err-edge-in-Compile
@@ -383,8 +383,8 @@ made_entry-returns-in_err-edge-in-Compile g t c =
     let old = filled g.R.Resolver.point c.args.compiled.now in
     let k = v c.args.key.now in
     let whole = members_view c.args.members.now.entries in
-    let name = string_bytes c.args.name.now in
-    let making = making s.parts k whole c.args.own name in
+    let name = string_bytes c.args.head.name.now in
+    let making = making s.parts k whole c.args.head.is_own name in
     let inv = c.loop-children.invariant.0 in
     let waiting = g.T.KeywordTable.waiting c.loop-children.maker in
     let waiting' = g.T.KeywordTable.waiting c.turn.new.maker in
@@ -403,8 +403,8 @@ made_entry-loop-children-preserved-in-Compile g t c =
     let old = filled g.R.Resolver.point c.args.compiled.now in
     let k = v c.args.key.now in
     let whole = members_view c.args.members.now.entries in
-    let name = string_bytes c.args.name.now in
-    let making = making s.parts k whole c.args.own name in
+    let name = string_bytes c.args.head.name.now in
+    let making = making s.parts k whole c.args.head.is_own name in
     let inv = c.loop-children.invariant.0 in
     let waiting = g.T.KeywordTable.waiting c.loop-children.maker in
     let waiting' = g.T.KeywordTable.waiting c.turn.new.maker in
@@ -427,8 +427,8 @@ made_entry-returns-in_err-edge-in-Refer g t c =
     let old = filled g.R.Resolver.point c.args.compiled.now in
     let k = v c.args.key.now in
     let whole = members_view c.args.members.now.entries in
-    let name = string_bytes c.args.name.now in
-    let making = making s.parts k whole c.args.own name in
+    let name = string_bytes c.args.head.name.now in
+    let making = making s.parts k whole c.args.head.is_own name in
     let inv = c.loop-children.invariant.0 in
     let waiting = g.T.KeywordTable.waiting c.loop-children.maker in
     let waiting' = g.T.KeywordTable.waiting c.turn.new.maker in
@@ -456,8 +456,8 @@ made_entry-loop-children-preserved-in-Refer g t c =
     let old = filled g.R.Resolver.point c.args.compiled.now in
     let k = v c.args.key.now in
     let whole = members_view c.args.members.now.entries in
-    let name = string_bytes c.args.name.now in
-    let making = making s.parts k whole c.args.own name in
+    let name = string_bytes c.args.head.name.now in
+    let making = making s.parts k whole c.args.head.is_own name in
     let inv = c.loop-children.invariant.0 in
     let waiting = g.T.KeywordTable.waiting c.loop-children.maker in
     let waiting' = g.T.KeywordTable.waiting c.turn.new.maker in
@@ -480,8 +480,8 @@ made_entry-loop-children-preserved-in-Pending g t c =
     let old = filled g.R.Resolver.point c.args.compiled.now in
     let k = v c.args.key.now in
     let whole = members_view c.args.members.now.entries in
-    let name = string_bytes c.args.name.now in
-    let making = making s.parts k whole c.args.own name in
+    let name = string_bytes c.args.head.name.now in
+    let making = making s.parts k whole c.args.head.is_own name in
     let inv = c.loop-children.invariant.0 in
     let waiting = g.T.KeywordTable.waiting c.loop-children.maker in
     let waiting' = g.T.KeywordTable.waiting c.turn.new.maker in
@@ -501,8 +501,8 @@ made_entry-loop-children-preserved g t c =
     let old = filled g.R.Resolver.point c.args.compiled.now in
     let k = v c.args.key.now in
     let whole = members_view c.args.members.now.entries in
-    let name = string_bytes c.args.name.now in
-    let making = making s.parts k whole c.args.own name in
+    let name = string_bytes c.args.head.name.now in
+    let making = making s.parts k whole c.args.head.is_own name in
     let inv = c.loop-children.invariant.0 in
     let waiting = g.T.KeywordTable.waiting c.loop-children.maker in
     let waiting' = g.T.KeywordTable.waiting c.turn.new.maker in
@@ -522,8 +522,8 @@ made_entry-returns-in-Keyword g t c =
     let old = filled g.R.Resolver.point c.args.compiled.now in
     let k = v c.args.key.now in
     let whole = members_view c.args.members.now.entries in
-    let name = string_bytes c.args.name.now in
-    let making = making s.parts k whole c.args.own name in
+    let name = string_bytes c.args.head.name.now in
+    let making = making s.parts k whole c.args.head.is_own name in
     let inv = c.loop-children.invariant.0 in
     let waiting = g.T.KeywordTable.waiting c.loop-children.maker in
     let waiting' = g.T.KeywordTable.waiting c.turn.new.maker in
@@ -532,14 +532,14 @@ made_entry-returns-in-Keyword g t c =
     let keys' = map v c.loop-children.compiled.keys in
     let nodes' = c.loop-children.compiled.nodes in
     let takes = rw c.in-Keyword.is at c.in_ok-path.ensures.takes in
-    let made = made_keyword s.parts s.shape s.limit s.nested k name making waiting waiting' told es old.keys keys' old.nodes nodes' c.args.priority c.args.is_leaf c.in-Keyword.keyword c.in-Keyword.names inv takes in
+    let made = made_keyword s.parts s.shape s.limit s.nested k name making waiting waiting' told es old.keys keys' old.nodes nodes' c.args.head.priority c.args.head.is_leaf c.in-Keyword.keyword c.in-Keyword.names inv takes in
     let before = map string_bytes c.args.absorbed.now.items in
     let rs = c.give_up.new.self in
     let ends = ends_held k.target.place name of_its_keyword c.len-first.result old.reserved _ rs inv.holds c.len-first.ensures.count c.give_up.ensures.given_up in (
       rw c.in_ok-entry_named-in-Keyword.ensures.entry (record { step = made.0; made = made.1 }),
       c.in_ok-absorb-in-Keyword.ensures.added ∙ ap (λ (so_far : List (String Global)). map string_bytes so_far ++ map string_bytes c.in-Keyword.names.items) c.loop-children.invariant.1
           ∙ ap (λ (names : List Text). before ++ names)
-          (sym (absorbed_keyword s.parts s.shape s.limit s.nested k name making waiting waiting' told es old.keys keys' old.nodes nodes' c.args.priority c.args.is_leaf c.in-Keyword.keyword c.in-Keyword.names inv takes)),
+          (sym (absorbed_keyword s.parts s.shape s.limit s.nested k name making waiting waiting' told es old.keys keys' old.nodes nodes' c.args.head.priority c.args.head.is_leaf c.in-Keyword.keyword c.in-Keyword.names inv takes)),
       subst (λ (x : NodePart _). Goes s old (having (filled g.R.Resolver.point c.loop-children.compiled) rs) (maker_edges s.parts k name making) (form_edges x.form)) (sym c.in_ok-entry_named-in-Keyword.ensures.entry)
           (keyword_goes s.parts s.shape s.limit s.nested k name making waiting waiting' told es old.keys keys' old.nodes nodes' c.in-Keyword.keyword c.in-Keyword.names inv takes rs (ends_reserves k.target.place name of_its_keyword old.reserved rs refl ends)),
       ends,
@@ -552,8 +552,8 @@ made_entry-returns-in-Nothing g t c =
     let old = filled g.R.Resolver.point c.args.compiled.now in
     let k = v c.args.key.now in
     let whole = members_view c.args.members.now.entries in
-    let name = string_bytes c.args.name.now in
-    let making = making s.parts k whole c.args.own name in
+    let name = string_bytes c.args.head.name.now in
+    let making = making s.parts k whole c.args.head.is_own name in
     let inv = c.loop-children.invariant.0 in
     let waiting = g.T.KeywordTable.waiting c.loop-children.maker in
     let waiting' = g.T.KeywordTable.waiting c.turn.new.maker in
@@ -562,13 +562,13 @@ made_entry-returns-in-Nothing g t c =
     let keys' = map v c.loop-children.compiled.keys in
     let nodes' = c.loop-children.compiled.nodes in
     let takes = rw c.in-Nothing.is at c.in_ok-path.ensures.takes in
-    let made = made_nothing s.parts s.shape s.limit s.nested k name making waiting waiting' told es old.keys keys' old.nodes nodes' c.args.priority c.args.is_leaf inv takes in
+    let made = made_nothing s.parts s.shape s.limit s.nested k name making waiting waiting' told es old.keys keys' old.nodes nodes' c.args.head.priority c.args.head.is_leaf inv takes in
     let before = map string_bytes c.args.absorbed.now.items in
     let rs = c.give_up-in-Nothing.new.self in
     let ends = ends_held k.target.place name of_no_entry c.len-first.result old.reserved _ rs inv.holds c.len-first.ensures.count c.give_up-in-Nothing.ensures.given_up in (
       record { step = made.0; made = made.1 },
       ap (λ (so_far : List (String Global)). map string_bytes so_far) c.loop-children.invariant.1
-          ∙ sym (ap (λ (names : List Text). before ++ names) (absorbed_nothing s.parts s.shape s.limit s.nested k name making waiting waiting' told es old.keys keys' old.nodes nodes' c.args.priority c.args.is_leaf inv takes) ∙ append-nil before),
+          ∙ sym (ap (λ (names : List Text). before ++ names) (absorbed_nothing s.parts s.shape s.limit s.nested k name making waiting waiting' told es old.keys keys' old.nodes nodes' c.args.head.priority c.args.head.is_leaf inv takes) ∙ append-nil before),
       nothing_goes s.parts s.shape s.limit s.nested k name making waiting waiting' told es old.keys keys' old.nodes nodes' inv takes rs (ends_reserves k.target.place name of_no_entry old.reserved rs refl ends),
       ends,
     )
@@ -579,8 +579,8 @@ made_entry-returns-in-Refuse g t c =
     let s = task g.R.Resolver.resolving g.T.KeywordTable.owned g.T.KeywordTable.script g.K.Validate.shape c.args.self.now in
     let old = filled g.R.Resolver.point c.args.compiled.now in
     let k = v c.args.key.now in
-    let name = string_bytes c.args.name.now in
-    let making = making s.parts k (members_view c.args.members.now.entries) c.args.own name in
+    let name = string_bytes c.args.head.name.now in
+    let making = making s.parts k (members_view c.args.members.now.entries) c.args.head.is_own name in
     let waiting = g.T.KeywordTable.waiting c.loop-children.maker in
     let waiting' = g.T.KeywordTable.waiting c.turn.new.maker in
     let told = maker_reply_of c.loop-children.reply in
