@@ -21,7 +21,6 @@ use crate::compiler::makers::keep_edge;
 use crate::compiler::reservations::ReservedNode;
 use crate::compiler::setup::Compiler;
 use schema_drafts::keywords::priorities::{CUSTOM_PRIORITY, REF_PRIORITY};
-use schema_keys::context::Context;
 use schema_keys::error::BuildError;
 use schema_keys::key::SchemaKey;
 use schema_keys::keys::find;
@@ -349,12 +348,7 @@ impl<'p, R: Resolver, T> Compiler<'p, R, T> {
             };
             return self.made_entry(compiled, key, members, head, absorbed);
         }
-        let context = Context {
-            alloc: self.alloc,
-            resolver: self.resolver,
-            options: self.options,
-            key,
-        };
+        let context = self.context(key);
         match context.builtin_row(text) {
             None => Ok(None),
             Some(row) => match reference_kind(text) {
