@@ -1,4 +1,4 @@
--- Two plans of nodes that are one key's plan are alike, where a rule says of each number whether edges to it are guarded.
+-- Two plans of one key are alike, if a rule says for each number whether edges to it are guarded.
 use Rattle.std.proofs.Common.{◌≡◌, ℕ, List, [], ◌∷◌, refl, sym, ◌∙◌, inl}
 use Rattle.std.specs.Prelude.{Bool, None, Option, Some}
 use Rattle.theory_definitions.specs.Instance.{Text}

@@ -1,4 +1,5 @@
--- Tables whose plans are alike, with the same locations and annotations, run alike, and have the same sense.
+-- Tables with alike plans and the same locations and annotations run alike and have the same
+-- meaning.
 use Rattle.std.proofs.Common.{◌≡◌, ℕ, List, [], ◌∷◌, refl}
 use Rattle.std.specs.Prelude.{None, Some}
 use Rattle.std.proofs.Math.Path.{fun_ext}
@@ -32,7 +33,7 @@ module _ {K R : Type 0} (keywords : Keywords K R) (matcher : Matcher) (nodes nod
   same_edges : (es es' : Children) → ((i : ℕ) → node_child es i ≡ node_child es' i) → same_edge es ≡ same_edge es'
   same_edges es es' same = λ j. λ a b. edges_same es es' same a b j
 
-  -- ---- what they say
+  -- ---- their answers
 
   module _ (c : Completion) (i : ℕ) (path : Text) (p : Place) (go : NodeEdge → Below → Outcome) where
     part_same : (name name' : Text) → name ≡ name' → (x x' : NodeForm K) → AlikeForm x x' → node_part keywords matcher nodes subject_of c i path p go name x ≡ node_part keywords matcher nodes' subject_of c i path p go name' x'
@@ -115,7 +116,7 @@ module _ {K R : Type 0} (keywords : Keywords K R) (matcher : Matcher) (nodes nod
     unit_same : node_unit keywords matcher nodes subject_of c i path p go ≡ node_unit keywords matcher nodes' subject_of c i path p go
     unit_same = plan_units (nodes.entries i) (nodes'.entries i) (entries i)
 
-  -- ---- what their runs meet
+  -- ---- the unfinished matches that their runs meet
 
   module _ (as' : Assumptions) where
     module _ (i : ℕ) (path : Text) (p : Place) (go : NodeEdge → Below → Run) where

@@ -1,5 +1,5 @@
--- In which order a cycle of three keys is found, of which the first asks for the second by a reference, the second for the third
--- as a subschema, and the third for the first: with targets nested, and with none.
+-- The order in which a cycle of three keys is found, with nested targets and with none. The first
+-- requests the second by a reference, the second the third as a subschema, and the third the first.
 use Rattle.std.proofs.Common.{◌≡◌, ◌≢◌, ℕ, zero, suc, true, false, [], ◌∷◌, ◌++◌, length, refl, ap, sym, ◌∙◌, subst, arith, true≢false}
 use Rattle.std.specs.Prelude.{Bool, Some, slice_get}
 use Rattle.theory_definitions.specs.Parts.{Parts}
@@ -23,11 +23,11 @@ module _ {S K R : Type 0} (w : Parts S K R) (a : Key S) (x y z : Edge S) (asks_a
   new_c (suc (suc i)) e = let g : ⊥ = cc in g
 
   module _ (nested : ℕ) where
-    -- the third key asks for the first, which has a number, from any course that begins with it
+    -- the third key requests the first, which has a number, from any course that begins with it
     finds_a : (c : Course S) → slice_get c.keys 0 ≡ Some a → Finds w nested c (asked_edges w y.key) (passed c 0)
     finds_a c at = subst (λ es. Finds w nested c es (passed c 0)) (sym asks_c) (and_then c 0 (was_found (at ∙ ap Some (sym to_a))) no_more)
 
-    -- where the second key is in progress, the third is compiled at once
+    -- if the second key is in progress, the third is compiled at once
     abbrev third : Course S → Course S
     third c = closed c (passed (begun c y) 0)
 

@@ -37,7 +37,7 @@ use Rattle.schema_keys.specs.declared.error.BuildError.TheVariants.{KeywordRefus
 use Rattle.schema_keys.proofs.Lists.{all_of, contains_of, each_in, each_map, in_of, there}
 use Rattle.schema_keys.proofs.SameKeys.{and_parts, draft_true, one_key, schema_place_true, vocabularies_true}
 
--- two keys with the same parts are one
+-- keys with the same parts are equal
 same_key_true : {S K R : Type 0} (w : Parts S K R) → ((a b : S) → w.resolver.same_state a b ≡ true → a ≡ b) → (a b : Key S) → same_key w a b ≡ true → a ≡ b
 same_key_true w law a b h =
     let h1 = and_parts _ _ h in
@@ -74,7 +74,7 @@ front [] x e = absurd cc
 front (y ∷ ys) x e = inl cc
 
 module _ {S K R : Type 0} (w : Parts S K R) where
-  -- a cause that stands below stands at a root too, whose vocabularies are asked for besides
+  -- a cause below is also one of the root, whose vocabularies have to be declared besides
   pub stands_too : {root : Key S} {cause : Cause} → alone.StandsBelow w root cause → Stands w root cause
   stands_too (stands_in k reach has) = stands_at k reach has
   stands_too (required_in edge reach asks is has) = is_required edge.key (referred_by edge reach asks is) has
@@ -84,7 +84,7 @@ module _ {S K R : Type 0} (w : Parts S K R) where
   stands_but {cause = cause} clean (is_required k the_root has) = absurd (subst (λ cs. In cs cause) clean (in_of _ cause has))
   stands_but clean (is_required k (referred_by edge reach asks is) has) = required_in edge reach asks is has
 
-  -- where the root's vocabularies are declared
+  -- if the root's vocabularies are declared
   pub compilation_of : {C : Type 0} {shape : C → K} {limit nested : ℕ} {root : Key S} {keys : List (Key S)} {nodes : List (NodeEntry C)} → flat_map (undeclared w) root.target.vocabularies ≡ []
       → IsCompilationAlone w shape limit nested root keys nodes → IsCompilation w shape limit nested root keys nodes
   compilation_of clean c = record {

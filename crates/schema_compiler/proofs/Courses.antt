@@ -1,4 +1,4 @@
--- What a course of finding keeps, that it is determined by where it begins, and how courses are put together.
+-- What a course of finding keeps, that its start determines it, and how courses are put together.
 use Rattle.std.proofs.Common.{◌≡◌, ℕ, zero, suc, ◌+◌, List, [], ◌∷◌, ◌++◌, length, map, refl, ap, sym, ◌∙◌, subst, arith, append_assoc, append-nil}
 use Rattle.std.specs.Prelude.{Bool, None, Option, Some, slice_get}
 use Rattle.serde_json.specs.declared.value.Value.{Value}
@@ -14,14 +14,15 @@ use Rattle.schema_compiler.specs.Finding.{Course, Finds, FindsAll, Standing, Vis
 use Rattle.schema_keys.proofs.Lists.{length-more, set-length, some_is}
 use Rattle.schema_compiler.proofs.Tables.{pushed_distinct}
 
--- a course goes on: keys are put at the end, and the round and the count of open targets are what they were
+-- a course continues: keys are appended, and the round and the count of open targets are the same
+-- after
 pub record GoesOn {S : Type 0} (c d : Course S) : Type 0 where
   pub more : List (Key S)
   pub keys : d.keys ≡ c.keys ++ more
   pub round : d.round ≡ c.round
   pub depth : d.depth ≡ c.depth
 
--- each key once, and a standing for each
+-- each key occurs once and has a state
 pub record IsEven {S : Type 0} (c : Course S) : Type 0 where
   pub distinct : AreDistinct c.keys
   pub lengths : length c.standings ≡ length c.keys
@@ -112,7 +113,7 @@ module _ {S K R : Type 0} (w : Parts S K R) (nested : ℕ) where
   works_off_even (passes_over lt other r) h = works_off_even r h
   works_off_even (in_a_round {i = i} {c = c} k d at wait f r) h = works_off_even r (formed_even d i (finds_even f (begun_round_even c i h)))
 
-  -- ---- one course alone begins so
+  -- ---- only one course has this start
 
   same_passed : (d d' : Course S) (i j : ℕ) → d ≡ d' → i ≡ j → passed d' j ≡ passed d i
   same_passed d d' i j p q = ap (λ x. passed x j) (sym p) ∙ ap (λ x. passed d x) (sym q)
@@ -151,7 +152,7 @@ module _ {S K R : Type 0} (w : Parts S K R) (nested : ℕ) where
       let one : d ≡ d1 = one_finding f begins again in
       one_working_off r (formed_even d i (finds_even f begins)) (subst (λ x. WorksOff w nested (suc i) (formed x i) d') (sym one) r1)
 
-  -- the root determines the keys in their order, and how their numbers stand
+  -- the root determines the keys in their order, and the states of their numbers
   pub one_order : (root : Key S) (keys keys' : List (Key S)) (standings standings' : List Standing) → FindsAll w nested root keys standings → FindsAll w nested root keys' standings'
       → (keys ≡ keys') × (standings ≡ standings')
   one_order root keys keys' standings standings' f g =

@@ -23,7 +23,7 @@ use Rattle.schema_keys.specs.declared.error.BuildError.{BuildError}
 use Rattle.schema_compiler.proofs.Growing.{grown_stays, parts_stay, refused_first, refused_later, step_none, step_then}
 use Rattle.schema_compiler.proofs.Placing.{one_placed}
 
--- the edges of parts with one more in its place
+-- the edges of parts after one more is inserted
 placed_edges : {C : Type 0} (P : NodeEdge → Type 0) (x : NodePart C) (es : List (NodePart C)) → Each P (form_edges x.form) → Each P (node_edges (node_these es)) → Each P (node_edges (node_these (placed_after x es)))
 placed_edges P x [] h hs = each_append P (form_edges x.form) [] h tt
 placed_edges P x (y ∷ ys) h hs =
@@ -53,7 +53,7 @@ module _ {S K C : Type 0} (w : Parts S K (Unit {0})) (shape : C → K) (limit ne
   pub so_far_none : (keys : List (Key S)) (nodes : List (NodeEntry C)) (t : Table S C) → IsTable w shape limit keys nodes → IsUnderWay given t → SoFar whole [] keys keys nodes nodes t t
   so_far_none keys nodes t stands way = record { edges = []; causes = []; made = []; all_edges = refl; all_causes = refl; all_parts = refl; steps = step_none w shape limit keys nodes stands; entries = tt; goes = goes_none given t way }
 
-  -- the entries with one more, if it is one
+  -- the entries with one more, if there is one
   abbrev pub with_one : Option (NodePart C) → List (NodePart C) → List (NodePart C)
   with_one None es = es
   with_one (Some x) es = placed_after x es
@@ -89,7 +89,7 @@ module _ {S K C : Type 0} (w : Parts S K (Unit {0})) (shape : C → K) (limit ne
         goes = goes_made given t t'' (a.edges ++ member_edges w k whole name value) (node_edges (node_these es) ++ part_edges o) (node_edges (node_these (with_one o es))) both (more_now t'' o es both.now);
       }
 
-  -- when none is left
+  -- if none is left
   pub all_steps : (es : List (NodePart C)) (keys keys' : List (Key S)) (nodes nodes' : List (NodeEntry C)) {t t' : Table S C} → SoFar no_members es keys keys' nodes nodes' t t'
       → IsStep w shape limit (members_edges w k whole whole) (members_causes w k whole whole) keys keys' nodes nodes'
   all_steps es keys keys' nodes nodes' a =

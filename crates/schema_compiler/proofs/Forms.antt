@@ -1,4 +1,4 @@
--- What a key asks for, by what stands at its place.
+-- What a key requests, by the value at its place.
 use Rattle.std.proofs.Common.{◌≡◌, ◌∙◌, ℕ, Bool, true, false, List, [], ◌∷◌, refl, ap, sym, subst}
 use Rattle.std.specs.Prelude.{Option, Some, None}
 use Rattle.serde_json.specs.Data.{Data, Members, array, boolean, null, number, object, string}
@@ -29,7 +29,7 @@ module _ {S K R : Type 0} (w : Parts S K R) (k : Key S) where
   abbrev annotations_at : Data → Option Data
   annotations_at d = elim d [ object ms ↦ object_annotations w k ms | _ ↦ None ]
 
-  -- P of what an object asks for, of its causes, its plan and its annotations
+  -- P of an object's requests, its causes, its plan and its annotations
   pub object_stands : (P : List (Edge S) → List Cause → Plan K → Option Data → Type 0) (ms : Members) → schema_of w k ≡ object ms → P (object_edges w k ms) (schema_causes w k (object ms)) (plan_of w k (object ms)) (object_annotations w k ms)
       → P (asked_edges w k) (causes w k) (plan w k) (annotations_of w k)
   object_stands P ms h x = subst (λ d. P (edges_at d) (schema_causes w k d) (plan_of w k d) (annotations_at d)) (sym h) x
@@ -72,7 +72,7 @@ module _ {S K R : Type 0} (w : Parts S K R) (k : Key S) where
   pub other_refused : (limit : ℕ) (keys : List (Key S)) (e : BuildError) → ◌≡◌ {A = Option Members} None (as_object (schema_of w k)) → as_bool (schema_of w k) ≡ None → Names (not_a_schema k.location ∷ []) e → Refused w limit (asked_edges w k) (causes w k) keys e
   other_refused limit keys e i j n = names_refused w limit (asked_edges w k) (causes w k) keys e (subst (λ cs. Names cs e) (sym (no_schema (schema_of w k) i j)) n)
 
--- a boolean asks for nothing
+-- a boolean requests nothing
 pub boolean_goes : {S K C : Type 0} (g : Task S K C) (t : Table S C) (k : Key S) (b : Bool) (p : NodePlan C) → as_bool (schema_of g.parts k) ≡ Some b → p ≡ boolean_plan b → IsUnderWay g t → Goes g t t (asked_edges g.parts k) (node_edges p)
 boolean_goes {S} {K} {C} g t k b p is e way =
     let none : (x : Bool) → node_edges (boolean_plan {K = C} x) ≡ [] = elim [ true ↦ refl | false ↦ refl ] in

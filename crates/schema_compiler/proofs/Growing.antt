@@ -1,4 +1,4 @@
--- What is reached and blamed along edges, refusals, and tables that grow.
+-- Reached keys and causes along edges, refusals, and tables that grow.
 use Rattle.std.proofs.Common.{◌≡◌, ℕ, ◌<◌, ◌≤◌, inl, inr, List, [], ◌∷◌, ◌++◌, length, map, refl, ap, sym, ◌∙◌, subst, arith, append_assoc, true}
 use Rattle.std.specs.Prelude.{Option, Some, None, slice_get, flat_map}
 use Rattle.std.proofs.lemmas.List.{append-nil}
@@ -18,7 +18,7 @@ use Rattle.schema_keys.specs.declared.error.BuildError.{BuildError}
 use Rattle.schema_keys.specs.declared.error.BuildError.TheVariants.{KeywordRefused, Lookup, MetaSchema, MissingRoot, NodeLimit, NotASchema, OutOfMemory, ReferenceNotText, UnsupportedVocabulary}
 use Rattle.schema_keys.proofs.Lists.{below_or, contains_of, each_append, each_map, get-append, in_left, in_right, longer, there}
 
--- a key of an edge stands among the edges' keys
+-- the key of an edge is among the edges' keys
 key_in : {S : Type 0} (es : List (Edge S)) (e : Edge S) → In es e → In (map (λ (d : Edge S). d.key) es) e.key
 key_in [] e i = absurd i
 key_in {S} (d ∷ es) e (inl q) = inl (ap (λ (d : Edge S). d.key) q)
@@ -107,7 +107,7 @@ module _ {S K R : Type 0} (w : Parts S K R) where
   vocabulary_refused limit edge cs keys (NodeLimit n) r h = absurd h
   vocabulary_refused limit edge cs keys OutOfMemory r h = tt
 
-  -- a refusal of what an edge leads to
+  -- a refusal below the target of an edge
   pub edge_refused : (limit : ℕ) (edge : Edge S) (cs : List Cause) (keys : List (Key S)) (e : BuildError)
       → IsRefusal limit keys (Reached w edge.key) (StandsBelow w edge.key) e → Refused w limit (edge ∷ []) cs keys e
   edge_refused limit edge cs keys e h =

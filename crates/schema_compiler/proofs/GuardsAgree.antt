@@ -1,4 +1,5 @@
--- Which edges of a number are guarded follows from how its target stands; so edges of one number to one number are guarded alike.
+-- The state of an edge's target determines whether it is guarded, so edges between the same two
+-- numbers are guarded alike.
 use Rattle.std.proofs.Common.{◌≡◌, ℕ, ◌<◌, List, [], length, map, refl, ap, sym, ◌∙◌, subst, arith}
 use Rattle.std.specs.Prelude.{Bool, Contains, None, Option, Some, option_map, slice_get, unwrap_or}
 use Rattle.std.proofs.lemmas.Option.{slice_get-map}
@@ -9,7 +10,7 @@ use Rattle.schema_compiler.specs.Finding.{GuardsByStanding, Standing, guards_edg
 use Rattle.schema_compiler.specs.UnderWay.{EdgesWithin}
 use Rattle.schema_keys.proofs.Lists.{in_of, there}
 
--- how a number stands among these
+-- the state of a number among these
 abbrev pub standing_at : List Standing → ℕ → Standing
 standing_at standings i = unwrap_or (slice_get standings i) waits
 

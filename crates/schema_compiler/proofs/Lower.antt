@@ -1,8 +1,9 @@
--- How far a call of the cycle that compiles is from its end: by the keys that may still come, and then by the order of its functions.
+-- A measure for the calls of the compiling cycle: first the number of keys that may still come,
+-- then the order of its functions.
 use Rattle.std.proofs.Common.{◌≡◌, ℕ, ◌<◌, ◌+◌, ◌-◌, ◌*◌, ◌++◌, ◌∙◌, List, ap, arith, length, map, suc}
 use Rattle.std.proofs.lemmas.List.{length-append, length-map}
 
--- where keys came meanwhile, or none, the next function in the order is lower
+-- whether keys came meanwhile or not, the next function in the order is lower
 pub lower_grown : {A B : Type 0} (v : A → B) (old new : List A) (added : List B) (limit i t : ℕ) → map v new ≡ map v old ++ added
     → 11 * (limit - length old) + suc i ≡ t → 11 * (limit - length new) + i < t
 lower_grown v old new added limit i t grown here =

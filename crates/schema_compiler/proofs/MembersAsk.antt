@@ -1,4 +1,5 @@
--- What one member asks for, by what it is: the table's own, a reference, or another built-in keyword.
+-- What one member requests: the table's own keyword, a reference, or another keyword of the
+-- standard.
 use Rattle.std.proofs.Common.{◌≡◌, ℕ, Bool, true, false, List, [], ◌∷◌, cond, refl, sym, subst, ap}
 use Rattle.std.specs.Prelude.{Option, Some, None, codes, option_map}
 use Rattle.serde_json.specs.Data.{Data, Members, array, boolean, null, number, object, string}
@@ -128,7 +129,7 @@ module _ {S K R : Type 0} (w : Parts S K R) (k : Key S) where
   other_text_refused limit keys e name kind d h n = names_refused w limit (reference_edges w k name kind d) (reference_causes w k name kind d) keys e (subst (λ cs. Names cs e) (sym (no_text name kind d h)) n)
 
   module _ {C : Type 0} (shape : C → K) (limit : ℕ) (keys keys' : List (Key S)) (nodes nodes' : List (NodeEntry C)) where
-    -- the part of a reference, by the edge that it got
+    -- the part of a reference, from the edge that it got
     abbrev pub reference_node : Text → ℕ → NodeEdge → NodePart C
     reference_node name priority e = record { name = name; priority = priority; is_leaf = false; form = node_reference e }
 
@@ -157,18 +158,18 @@ module _ {S K R : Type 0} (w : Parts S K R) (k : Key S) where
     made_alone None (Some y) h = absurd h
     made_alone (Some x) None h = absurd h
 
-    -- the plan of a part that stands alone
+    -- the plan with only one part
     pub planned_alone : (es : List (Edge S)) (cs : List Cause) (o : Option (NodePart C)) (p : Option (Part K)) (n : NodePlan C) (annotations : Option Value) → n ≡ alone o → annotations ≡ None
         → MakesPart w shape limit keys keys' nodes nodes' es cs k o p → MakesPlan w shape limit keys keys' nodes nodes' es cs k n (plan_alone w p) (option_map view annotations) None
     planned_alone es cs o p n annotations is none m = record { step = m.step; plan = subst (λ x. IsPlan w keys' shape k x (plan_alone w p)) (sym is) (made_alone o p m.made); annotated = ap (option_map view) none }
 
--- a reference goes on as its text has it
+-- a reference continues as its text says
 pub text_goes : {S K C : Type 0} (g : Task S K C) (t t' : Table S C) (k : Key S) (name : Text) (kind : Reference) (text : Text) (d : Data) (made : List NodeEdge) → d ≡ string text
     → Goes g t t' (option_list (reference_asked g.parts k name kind text)) made → Goes g t t' (reference_edges g.parts k name kind d) made
 text_goes g t t' k name kind text d made is h = subst (λ x. Goes g t t' (reference_edges g.parts k name kind x) made) (sym is)
     (subst (λ es. Goes g t t' es made) (reference_edges_of g.parts k name kind text) h)
 
--- a part that stands alone has the edges of its plan
+-- a part that is alone has the edges of its plan
 pub alone_goes : {S K C : Type 0} (g : Task S K C) (t t' : Table S C) (es : List (Edge S)) (o : Option (NodePart C)) → Goes g t t' es (part_edges o) → Goes g t t' es (node_edges (alone o))
 alone_goes g t t' es None h = h
 alone_goes g t t' es (Some x) h = goes_made g t t' es (form_edges x.form) (node_edges (node_these (x ∷ []))) h (each_append (EdgeNow t') (form_edges x.form) [] h.now tt)

@@ -1,4 +1,5 @@
--- At each step no more targets that nest are open than may; and what the edges of a key led to says whether its number is settled.
+-- At each step no more targets that nest are open than the limit allows; and the edges of a key
+-- determine whether its number is final.
 use Rattle.std.proofs.Common.{◌≡◌, ◌≤◌, ◌<◌, ◌∙◌, ℕ, suc, Bool, true, false, ◌||◌, not, List, [], ◌∷◌, ◌++◌, length, refl, sym, ap, ap₂, subst, arith}
 use Rattle.std.specs.Prelude.{◌↔◌, if◌then◌else◌, slice_get, slice_set}
 use Rattle.theory_definitions.specs.Parts.{Parts}
@@ -44,7 +45,7 @@ module _ {S K R : Type 0} (w : Parts S K R) (nested : ℕ) where
   pub nests_within : NestsWithin w nested
   nests_within c i k around d comes = comes_within comes refl (omega arith)
 
-  -- ---- which numbers are settled
+  -- ---- which numbers are final
 
   mutual
     visits_longer : {c : Course S} {e : Edge S} {d : Course S} {i : ℕ} → Visits w nested c e d i → length c.standings ≤ length d.standings
@@ -81,7 +82,7 @@ module _ {S K R : Type 0} (w : Parts S K R) (nested : ℕ) where
         λ h. rest.1 (ap₂ (λ a b. a || not b) (same ∙ h.0) h.1.0, h.1.1),
       )
 
-  -- where nothing was noted at the beginning
+  -- if nothing was recorded at the start
   by_edges : (loose : Bool) {P : Type 0} (b : Bool) → b ≡ not loose → (loose ≡ false) ↔ ((◌≡◌ {A = Bool} false false) × P) → (b ≡ true) ↔ P
   by_edges loose b is edges = (λ e. (edges.0 (from_true loose (sym is ∙ e))).1, λ p. is ∙ ap not (edges.1 (refl, p)))
 

@@ -1,4 +1,4 @@
--- Parts whose keys ask for the same find them in the same order.
+-- Parts whose keys request the same find them in the same order.
 use Rattle.std.proofs.Common.{◌≡◌, ℕ, List, subst}
 use Rattle.theory_definitions.specs.Parts.{Parts}
 use Rattle.theory_definitions.specs.Plan.{Edge, Key}

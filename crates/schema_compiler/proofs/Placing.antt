@@ -1,4 +1,5 @@
--- Keywords put into their places one after another are sorted, those of one priority in the order in which they came.
+-- Keywords that are inserted one after another are sorted, and those of one priority keep their
+-- order.
 use Rattle.std.proofs.Common.{inl, inr, ℕ, zero, suc, ◌≡◌, ◌∙◌, ◌<◌, ◌+◌, ◌++◌, Bool, true, false, cond, ltb, List, [], ◌∷◌, length, map, ap, sym, refl, subst, arith}
 use Rattle.std.specs.Prelude.{None, Some, insert, nat_le, not, unwrap_or}
 use Rattle.std.specs.List.{position_or_len}
@@ -26,7 +27,7 @@ module _ {K : Type 0} where
   after y [] = y ∷ []
   after y (z ∷ zs) = cond (nat_le z.priority y.priority) (z ∷ after y zs) (y ∷ z ∷ zs)
 
-  -- one put in its place from the front, and another from the back, in either order
+  -- inserting one from the front and another from the back commutes
   swapped : (x y : Part K) (zs : List (Part K)) → placed x (after y zs) ≡ after y (placed x zs)
   swapped x y [] = refl
   swapped x y (z ∷ zs) =
@@ -61,14 +62,14 @@ module _ {S K R C : Type 0} (w : Parts S K R) (shape : C → K) (keys : List (Ke
       let go : (b : Bool) → AreParts w keys shape k (cond b (u ∷ placed_after x xs) (x ∷ u ∷ xs)) (cond b (z ∷ after y zs) (y ∷ z ∷ zs)) = elim [ true ↦ (hs.0, after_parts x y xs zs h hs.1) | false ↦ (h, hs) ] in
       subst (λ b. AreParts w keys shape k (cond (nat_le u.priority x.priority) (u ∷ placed_after x xs) (x ∷ u ∷ xs)) (cond b (z ∷ after y zs) (y ∷ z ∷ zs))) same (go (nat_le u.priority x.priority))
 
-  -- one part more, put in its place
+  -- one more part is inserted
   pub one_placed : (x : NodePart C) (y : Part K) (xs : List (NodePart C)) (ps : List (Part K)) → IsPart w keys shape k x y → AreParts w keys shape k xs (sorted ps)
       → AreParts w keys shape k (placed_after x xs) (sorted (ps ++ y ∷ []))
   one_placed x y xs ps h hs = subst (λ zs. AreParts w keys shape k (placed_after x xs) zs) (sym (sorted_more ps y)) (after_parts x y xs (sorted ps) h hs)
 
 -- ---- the place of a keyword
 
--- what `position` finds, or else the length
+-- the result of `position`, or else the length
 pub first_or_end : {A : Type 0} (test : A → Bool) (xs : List A)
     → unwrap_or (cond (ltb (position_or_len test xs) (length xs)) (Some (position_or_len test xs)) None) (length xs) ≡ position_or_len test xs
 first_or_end test xs =

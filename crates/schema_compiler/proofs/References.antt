@@ -1,4 +1,4 @@
--- What a reference asks for, and the steps to one subschema or one target.
+-- What a reference requests, and the steps to one subschema or one target.
 use Rattle.std.proofs.Common.{◌≡◌, ℕ, Bool, true, false, cond, List, [], ◌∷◌, refl, ap, sym, ◌∙◌, subst, true≢false}
 use Rattle.std.specs.Prelude.{Option, Some, None, Result, Ok, Err, flat_map, option_map, unwrap_or}
 use Rattle.serde_json.specs.Data.{string}
@@ -42,7 +42,7 @@ module _ {S K R : Type 0} (w : Parts S K R) where
   self_found p (Ok a) h = refl
   self_found p (Err e) h = absurd (true≢false (sym h))
 
-  -- nor is a reference that is skipped
+  -- nor is a skipped reference
   pub self_clean : (k : Key S) (kind : Reference) (text : Text) → is_self w k kind text ≡ true → lookup_causes w (found w k kind text) ≡ []
   self_clean k to_ref text h = self_found _ _ h
   self_clean k to_dynamic text h = self_found _ _ h
@@ -60,7 +60,7 @@ module _ {S K R : Type 0} (w : Parts S K R) where
   target_refused limit k name kind text edge cs keys e self at is h =
       subst (λ o. Refused w limit (option_list o) cs keys e) (sym (asked_edge k name kind text edge self at)) (vocabulary_refused w limit edge cs keys e is h)
 
-  -- what a reference asks for, as the definitions have it
+  -- what a reference requests, in terms of the definitions
   pub reference_edges_of : (k : Key S) (name : Text) (kind : Reference) (text : Text) → option_list (reference_asked w k name kind text) ≡ reference_edges w k name kind (string text)
   reference_edges_of k name kind text =
       let one : (o : Option (Edge S)) → option_list o ≡ option_list o = elim [ None ↦ refl | Some e ↦ refl ] in
@@ -68,7 +68,7 @@ module _ {S K R : Type 0} (w : Parts S K R) where
       go (is_self w k kind text)
 
   module _ {C : Type 0} (shape : C → K) (limit : ℕ) where
-    -- the step to what one edge leads to
+    -- the step to the target of one edge
     pub step_asked : (o : Option (Edge S)) (edge : Edge S) (cs : List Cause) (keys keys' : List (Key S)) (nodes nodes' : List (NodeEntry C)) → o ≡ Some edge → cs ≡ []
         → IsTable w shape limit keys' nodes' → IsGrown (Reached w edge.key) keys keys' nodes nodes' → Settled w keys' edge → IsStep w shape limit (option_list o) cs keys keys' nodes nodes'
     step_asked o edge cs keys keys' nodes nodes' e clean t g s =
@@ -78,7 +78,7 @@ module _ {S K R : Type 0} (w : Parts S K R) where
     step_skipped o cs keys nodes e clean t =
         subst (λ q. IsStep w shape limit (option_list q) cs keys keys nodes nodes) (sym e) (subst (λ xs. IsStep w shape limit [] xs keys keys nodes nodes) (sym clean) (step_none w shape limit keys nodes t))
 
-    -- what was asked for got the edge to its key
+    -- the requested edge leads to the number of its key
     pub is_answered : (o : Option (Edge S)) (edge : Edge S) (cs : List Cause) (keys keys' : List (Key S)) (nodes nodes' : List (NodeEntry C)) (e : NodeEdge) (path : Text) → o ≡ Some edge → cs ≡ [] → IsDeclared w edge → path ≡ edge.path
         → IsEdgeTo w shape limit keys keys' nodes nodes' edge.key path e → IsAnswered w shape limit keys keys' nodes nodes' o cs (Some e)
     is_answered o edge cs keys keys' nodes nodes' e path is clean declared same t =
@@ -87,7 +87,7 @@ module _ {S K R : Type 0} (w : Parts S K R) where
           leads = (t.number, t.at_path ∙ same);
         })
 
-    -- and no edge where it is skipped
+    -- and there is no edge if it is skipped
     pub is_skipped : (o : Option (Edge S)) (cs : List Cause) (keys : List (Key S)) (nodes : List (NodeEntry C)) → o ≡ None → cs ≡ [] → IsTable w shape limit keys nodes → IsAnswered w shape limit keys keys nodes nodes o cs None
     is_skipped o cs keys nodes is clean t =
         subst (λ q. IsAnswered w shape limit keys keys nodes nodes q cs None) (sym is) (record { step = step_skipped None cs keys nodes refl clean t; leads = tt })
@@ -96,7 +96,7 @@ module _ {S K R : Type 0} (w : Parts S K R) where
       → IsRefusal limit keys (Reached w edge.key) (StandsBelow w edge.key) e → Refused w limit (option_list o) cs keys e
   asked_refused limit o edge cs keys e is h = subst (λ q. Refused w limit (option_list q) cs keys e) (sym is) (edge_refused w limit edge cs keys e h)
 
-  -- ---- what an edge, or none, tells of what was asked
+  -- ---- what an edge, or none, says about the request
 
   pub leads_none : (keys : List (Key S)) (x : Option (Edge S)) → LeadsTo w keys None x → x ≡ None
   leads_none keys None h = refl

@@ -1,4 +1,4 @@
--- What a maker is told of reserved numbers, as its script has it.
+-- The replies to a maker about reserved numbers, as its script requires.
 use Rattle.std.proofs.Common.{◌≡◌, ℕ, ◌⊎◌, inl, inr, List, None, Some, refl}
 use Rattle.theory_definitions.specs.Drafts.{SchemaPlace}
 use Rattle.theory_definitions.specs.Making.{Purpose}

@@ -1,4 +1,4 @@
--- Reserved numbers: how what is reserved on the way adds up, and how a maker's own are given up.
+-- Reserved numbers: how reservations add up, and how a maker's own are given up.
 use Rattle.std.proofs.Common.{◌≡◌, ℕ, suc, zero, ◌<◌, Bool, true, false, List, [], ◌∷◌, ◌++◌, length, map, refl, ap, sym, ◌∙◌, subst, append_assoc, arith, true≢false}
 use Rattle.std.specs.Prelude.{Some, if◌then◌else◌, slice_get, slice_set}
 use Rattle.std.proofs.lemmas.List.{append-nil}
@@ -84,7 +84,7 @@ module _ (object : SchemaPlace) (keyword : Text) where
     each [] = tt
     each (r ∷ rs) = (up r, each rs)
 
--- ---- one after another is filled
+-- ---- they are filled one after another
 
 pub filled_next : (node : ReservedNode) (n : ℕ) (rs : List Reserved) (r : Reserved) → slice_get rs n ≡ Some r → with_nodes_from (suc n) node (slice_set rs n (with_node node r)) ≡ with_nodes_from n node rs
 filled_next node n [] r at = absurd (let g : ⊥ = cc in g)

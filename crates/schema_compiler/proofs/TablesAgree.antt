@@ -1,4 +1,5 @@
--- Two compilations of one schema agree: their keys are found in one order, their edges are guarded by one rule, so they run alike.
+-- Two compilations of one schema agree: their keys are found in one order and their edges are
+-- guarded by one rule, so they run alike.
 use Rattle.std.proofs.Common.{◌≡◌, ℕ, ◌<◌, ◌≤◌, List, [], length, map, refl, ap, sym, ◌∙◌, subst, arith, inl, inr}
 use Rattle.std.specs.Prelude.{Contains, None, Option, Some, option_and_then, option_map, slice_get, unwrap_or}
 use Rattle.std.proofs.Math.Path.{fun_ext}
@@ -23,7 +24,7 @@ use Rattle.schema_compiler.proofs.Courses.{one_order}
 use Rattle.schema_compiler.proofs.GuardsAgree.{guard_between, guarded_so}
 use Rattle.schema_keys.proofs.Lists.{below_or, contains_of, there}
 
--- beyond the end of a table a number accepts
+-- a number beyond the end of a table accepts everything
 module _ {K C : Type 0} (shape : C → K) (nodes : List (NodeEntry C)) (i : ℕ) (past : length nodes ≤ i) where
   none_there : slice_get nodes i ≡ None
   none_there = slice_get_past nodes i past
@@ -57,14 +58,14 @@ module _ {S K R C : Type 0} (w : Parts S K R) (shape : C → K) (limit nested : 
       let l = (compiled.ranked i here e (subst (λ es. Contains es e) (sym (node_edges-shaped shape (plan_in (slice_get nodes i)))) has)).0 in
       omega (arith, l, lengths)
 
-  -- each edge is guarded by the rule of the standings
+  -- each edge is guarded by the rule of the states
   rule_guards : (standings : List Standing) → standings ≡ map standing_of nodes → (i : ℕ) → i < length keys → (e : NodeEdge) → In (node_edges ((numbered shape nodes).entries i)) e → e.guarded ≡ guard_between standings i e.node
   rule_guards standings same i lt e is_in =
       let lengths = compiled.lengths in
       let here : i < length nodes = omega (arith, lt, lengths) in
       guarded_so nodes shape compiled.guards edges_within i here e (contains_of (node_edges ((numbered shape nodes).entries i)) e is_in) ∙ sym (λ j. guard_between (same j) i e.node)
 
--- two compilations with one list of keys and one list of standings
+-- two compilations with the same keys and the same states
 module _ {S K R C D : Type 0} (w : Parts S K R) (shape : C → K) (shape' : D → K) (limit limit' nested : ℕ) (root : Key S) (keys : List (Key S)) (nodes : List (NodeEntry C)) (nodes' : List (NodeEntry D))
     (first : IsCompilation w shape limit nested root keys nodes) (second : IsCompilation w shape' limit' nested root keys nodes') (stand : map standing_of nodes ≡ map standing_of nodes') where
   past : (i : ℕ) → length keys ≤ i → length nodes ≤ i
@@ -89,7 +90,7 @@ module _ {S K R C D : Type 0} (w : Parts S K R) (shape : C → K) (shape' : D �
     | inr le ↦ subst (λ x. AlikePlan x (table'.entries i)) (sym (accepts_past shape nodes i (past i le))) (subst (λ x. AlikePlan node_always x) (sym (accepts_past shape' nodes' i (past' i le))) tt)
   ]
 
-  -- what is of the key in both tables, and the same beyond their end
+  -- equal in both tables for each key, and beyond their ends
   alike_at : {X : Type 0} (read : Nodes K → ℕ → X) → ((i : ℕ) (k : Key S) → slice_get keys i ≡ Some k → read table i ≡ read table' i) → ((i : ℕ) → length keys ≤ i → read table i ≡ read table' i) → (i : ℕ) → read table i ≡ read table' i
   alike_at read here beyond i = elim (below_or i (length keys)) [ inl lt ↦ let (k, at) = there keys i lt in here i k at | inr le ↦ beyond i le ]
 

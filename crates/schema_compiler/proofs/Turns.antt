@@ -1,4 +1,4 @@
--- How a maker's turns are followed, and what it has asked for so far.
+-- The turns of a maker, and what it has requested so far.
 use Rattle.std.proofs.Common.{◌≡◌, ◌<◌, arith, ℕ, suc, max, Bool, cond, List, [], ◌∷◌, ◌++◌, length, map, refl, ap, sym, ◌∙◌, ◌⊎◌, ⊎_elim, inl, subst, append_assoc}
 use Rattle.std.specs.Prelude.{Option, Some, None, String, string_bytes, filter_map, flat_map, Vec}
 use Rattle.std.specs.declared.alloc.Global.{Global}
@@ -36,7 +36,7 @@ use Rattle.schema_compiler.specs.Filling.{AreChildren, IsMadePart, IsStep, IsTab
 use Rattle.schema_keys.proofs.Lists.{length-more}
 use Rattle.schema_compiler.proofs.Growing.{children_stay, grown_stays, refused_first, refused_later, step_none, step_then}
 
--- the script that a maker goes on with, by what it is told
+-- the script that a maker continues with after a reply
 abbrev pub resumed : {K : Type 0} → Waiting K → Told → Script K
 resumed (begun s) told = s
 resumed (waits n s skipped) a_skip = skipped
@@ -46,7 +46,7 @@ resumed (wants_pending n free held) told = free
 resumed (wants_reserved n s) told = s
 resumed ended told = then_end nothing
 
--- the reply that is due, where so many requests were made
+-- the reply that is due after this many requests
 abbrev pub IsDue : {K : Type 0} → Waiting K → Told → ℕ → Type 0
 IsDue (begun s) nothing_yet n = n ≡ 0
 IsDue (waits m s skipped) (the_number j) n = (j ≡ m) × (n ≡ suc m)
@@ -63,7 +63,8 @@ turns (then_pending purpose free held) = suc (max (turns free) (turns held))
 turns (then_reserve purpose s) = suc (turns s)
 turns (then_end m) = 0
 
--- wherever a script asks for a pending number, it asks for the same and ends alike whether there is one or none
+-- if a script asks for a pending number, it requests the same and ends alike whether there is one
+-- or none
 abbrev pub AsksAlike : {K : Type 0} → Script K → Type 0
 AsksAlike (then_compile p s) = AsksAlike s
 AsksAlike (then_refer t s skipped) = AsksAlike s × AsksAlike skipped
@@ -130,7 +131,7 @@ module _ {C K : Type 0} (shape : C → K) where
   refer_step n (then_end nothing) t' w h = absurd h
   refer_step n (then_end (refused told x)) t' w h = absurd h
 
-  -- after a reference was asked for, there are fewer turns to come
+  -- after a request for a reference, fewer turns are left
   pub fewer_refer : (waiting waiting' : Waiting K) (told told' : Told) (n : ℕ) (text : String Global) (o : Option NodeEdge) (m : ℕ) → IsDue waiting told n → TakesTurn shape waiting told (Refer text) waiting' → told' ≡ answers o m
       → turns (resumed waiting' told') < turns (resumed waiting told)
   fewer_refer waiting waiting' told told' n text None m due takes is =
@@ -242,21 +243,21 @@ module _ {S K C : Type 0} (w : Parts S K (Unit {0})) (shape : C → K) (limit ne
   abbrev pub until : Making K → Making K
   until m = until_refused (is_refused w k) m.requests m.ends
 
-  -- what is left to be asked for by a script
+  -- what a script still requests
   abbrev pub left_of : Script K → Making K
   left_of s = until (followed (is_self w k to_ref) s)
 
   goes_on : (r : Request) (m : Making K) → request_causes w k r ≡ [] → until (after_request r m) ≡ after_request r (until m)
   goes_on r m clean = ap (λ b. after_request r (cond b stopped (until m))) (not_refused w k r clean)
 
-  -- what a maker has asked for so far, and what each request got
+  -- what a maker has requested so far, and what each request got
   pub record Asked (making : Making K) (waiting : Waiting K) (told : Told) (es : Children) (keys keys' : List (Key S)) (nodes nodes' : List (NodeEntry C)) (t t' : Table S C) : Type 0 where
     pub requests : List Request
     pub due : IsDue waiting told (length requests)
     pub so_far : making ≡ after requests (left_of (resumed waiting told))
     pub children : AreChildren w keys' k name es requests
     pub alike : AsksAlike (resumed waiting told)
-    -- edges and numbers as they are without what the maker reserved
+    -- edges and numbers, without the maker's reservations
     pub goes : Goes given t (having t' t.reserved) (edges_of requests) (filter_map (λ (o : Option NodeEdge). o) es)
     pub holds : Holds k.target.place name t.reserved t'.reserved
     pub steps : IsStep w shape limit (edges_of requests) (causes_of requests) keys keys' nodes nodes'
@@ -307,7 +308,8 @@ module _ {S K C : Type 0} (w : Parts S K (Unit {0})) (shape : C → K) (limit ne
       (subst (λ x. AsksAlike (resumed x (the_number n))) (sym st.2) (let all : AsksAlike (then_compile path st.0) = subst AsksAlike st.1 a.alike in all))
       leads goes step
 
-  -- the number that is pending is asked for; where there is one, the same is asked for and the maker ends alike
+  -- the pending number is asked for; if there is one, the requests are the same and the maker ends
+  -- alike
   pub asked_pending : (making : Making K) (waiting waiting' : Waiting K) (told told' : Told) (es : Children) (keys keys' : List (Key S)) (nodes nodes' : List (NodeEntry C)) {t t' : Table S C} (kind : PendingKind)
       → Asked making waiting told es keys keys' nodes nodes' t t' → TakesTurn shape waiting told (Pending kind) waiting' → (told' ≡ none_pending) ⊎ (told' ≡ one_pending)
       → Asked making waiting' told' es keys keys' nodes nodes' t t'
@@ -429,7 +431,7 @@ module _ {S K C : Type 0} (w : Parts S K (Unit {0})) (shape : C → K) (limit ne
       let e = keyword_step shape (length a.requests) (resumed waiting told) m names waiting' (due_step shape waiting told (length a.requests) (Keyword m names) waiting' a.due takes) in
       ap (λ f. absorbed_by (part_made w name priority leaf f)) (ended_by making waiting told es keys keys' nodes nodes' _ a e)
 
-  -- ---- refusals on the way
+  -- ---- refusals meanwhile
 
   pub ask_refused : (making : Making K) (waiting : Waiting K) (told : Told) (es : Children) (keys keys' : List (Key S)) (nodes nodes' : List (NodeEntry C)) {t t' : Table S C} (r : Request) (f : Making K) (e : BuildError)
       → Asked making waiting told es keys keys' nodes nodes' t t' → followed (is_self w k to_ref) (resumed waiting told) ≡ after_request r f

@@ -1,4 +1,5 @@
--- While keys are found: what edges that were made say of the table stays, when numbers are added, begun and get their forms.
+-- While keys are found: what holds of the edges that were made still holds after numbers are added,
+-- begun and get their forms.
 use Rattle.std.proofs.Common.{◌≡◌, ◌≢◌, ℕ, suc, ◌<◌, ◌≤◌, ◌⊎◌, ◌==◌, ◌&&◌, ◌||◌, not, inl, inr, Bool, true, false, List, [], ◌∷◌, ◌++◌, length, map, refl, ap, sym, ◌∙◌, subst, arith, true≢false, ⊎_elim}
 use Rattle.std.specs.Prelude.{None, Option, Some, if◌then◌else◌, nat_le, slice_get, slice_set}
 use Rattle.std.proofs.Math.Decide.{dec_lt}
@@ -22,7 +23,7 @@ use Rattle.schema_compiler.proofs.Reserving.{having, reserves_between, reserves_
 use Rattle.schema_compiler.proofs.Courses.{finds_append, formed_counts}
 use Rattle.schema_keys.proofs.Lists.{all_of, each_append, each_in, each_map, equal_or, get-append, get-end, get-pushed, get-set_other, get-set_same, length-more, longer, set-length, some_is}
 
--- ---- how a number stands
+-- ---- the state of a number
 
 module _ {C : Type 0} (n : NodeEntry C) where
   pub stands_waiting : n.plan ≡ None → n.round ≡ None → standing_of n ≡ waits
@@ -49,7 +50,7 @@ module _ {C : Type 0} (n : NodeEntry C) where
 pub course_is : {S : Type 0} (c d : Course S) → c.keys ≡ d.keys → c.standings ≡ d.standings → c.round ≡ d.round → c.depth ≡ d.depth → c.loose ≡ d.loose → c ≡ d
 course_is c d keys standings round depth loose = λ i. record { keys = keys i; standings = standings i; round = round i; depth = depth i; loose = loose i }
 
--- ---- what holds of rounds and guards, of nodes alone
+-- ---- the invariant of rounds and guards, on nodes alone
 
 record Way {C : Type 0} (ns : List (NodeEntry C)) (round : ℕ) : Type 0 where
   guards : GuardsByStanding ns
@@ -67,7 +68,7 @@ module _ {S K C : Type 0} (g : Task S K C) where
       let w : Way t.nodes t.round = subst (λ (r : ℕ). Way t.nodes r) (sym rounds) (subst (λ (ms : List (NodeEntry C)). Way ms round) (sym nodes) way) in
       record { guards = w.guards; within = w.within; rounds = w.rounds; opens = w.opens; formed = w.formed; nested = nested }
 
--- one more that has no form, in this round or waiting
+-- one more node without a form, in this round or waiting
 module _ {C : Type 0} (ns : List (NodeEntry C)) (x : NodeEntry C) (round : ℕ) (none : x.plan ≡ None) (of : (r : ℕ) → x.round ≡ Some r → r ≡ round) (w : Way ns round) where
   had_form : (i : ℕ) (n : NodeEntry C) (p : NodePlan C) → slice_get (ns ++ x ∷ []) i ≡ Some n → n.plan ≡ Some p → slice_get ns i ≡ Some n
   had_form i n p at has = ⊎_elim
@@ -103,7 +104,7 @@ not_le a b h =
     let go : (x : Bool) → nat_le a b ≡ x → x ≡ false = elim [ true ↦ λ e. absurd (let l = leb-true a b e in omega arith) | false ↦ λ e. refl ] in
     go (nat_le a b) refl
 
--- an edge to what is in progress in this round is guarded alike once that has its form
+-- an edge to a number in progress in this round is guarded alike after that has its form
 guards_kept : (r o round f : ℕ) (b s : Bool) → r ≤ round → o < f → guards_edge (is_formed r o b) (is_open round) ≡ guards_edge (is_formed r o b) (is_formed round f s)
 guards_kept r o round f b s no_later before =
     let go : (x : Bool) → (round == r) ≡ x → guards_edge (is_formed r o b) (is_open round) ≡ guards_edge (is_formed r o b) (is_formed round f s) = elim [
@@ -112,7 +113,8 @@ guards_kept r o round f b s no_later before =
     ] in
     go (round == r) refl
 
--- an edge of what gets its form, to what has its own, is guarded as when it was made
+-- an edge from a number that gets its form, to one that has its form, is guarded as when it was
+-- made
 guards_formed : (r o round f : ℕ) (b s : Bool) → r ≤ round → o < f → (not b && not (r == round)) ≡ guards_edge (is_formed round f s) (is_formed r o b)
 guards_formed r o round f b s no_later before =
     let go : (x : Bool) → (r == round) ≡ x → (c : Bool) → (not c && not (r == round)) ≡ guards_edge (is_formed round f s) (is_formed r o c) = elim [
@@ -131,7 +133,7 @@ guards_self : (r o : ℕ) (b s : Bool) → guards_edge (is_formed r o b) (is_for
 guards_self r o b s = rw (eq-eqb r r refl, le-leb o o (omega arith)) refl
 
 module _ {C : Type 0} (ns : List (NodeEntry C)) (round : ℕ) (w : Way ns round) (j : ℕ) (m : NodeEntry C) (at : slice_get ns j ≡ Some m) where
-  -- an edge made in this round, of a node that gets its form next, is guarded as the standings say
+  -- an edge made in this round, from the node that gets its form next, is guarded as the states say
   guards_now : (s : Bool) → guards_at round m ≡ guards_edge (is_formed round (filled_count ns) s) (standing_of m)
   guards_now s =
       let go : (o : Option (NodePlan C)) (r : Option ℕ) → m.plan ≡ o → m.round ≡ r → guards_at round m ≡ guards_edge (is_formed round (filled_count ns) s) (standing_of m) = elim [
@@ -145,7 +147,7 @@ module _ {C : Type 0} (ns : List (NodeEntry C)) (round : ℕ) (w : Way ns round)
       ] in
       go m.plan m.round refl refl
 
-  -- where nothing guards an edge that was made, it may lead there
+  -- an unguarded edge that was made may lead to its target
   may_pass : (loose : Bool) → guards_at round m ≡ false → (is_settled_entry m ≡ false → loose ≡ true) → MayPass round (not loose) m
   may_pass loose free noted = record {
     unfilled = λ none.
@@ -259,11 +261,11 @@ module _ {C : Type 0} (ns : List (NodeEntry C)) (i round : ℕ) (n : NodeEntry C
 -- ---- a round begins
 
 module _ {C : Type 0} (m x : NodeEntry C) (q : NodePlan C) (r : ℕ) (has : m.plan ≡ Some q) (of : m.round ≡ Some r) (none : x.plan ≡ None) where
-  -- an edge to what waits is not guarded
+  -- an edge to a number that waits is not guarded
   guards_waiting : x.round ≡ None → guards_edge (standing_of m) (standing_of x) ≡ false
   guards_waiting no_round = rw (has, of, none, no_round) refl
 
-  -- nor one to what is open, of an earlier round
+  -- nor is one to an open number, from an earlier round
   guards_later : (i : ℕ) → x.round ≡ Some i → r < i → guards_edge (standing_of m) (standing_of x) ≡ false
   guards_later i is less = rw (has, of, none, is) (differ i r less)
     where
@@ -283,7 +285,7 @@ module _ {C : Type 0} (ns : List (NodeEntry C)) (i round : ℕ) (n : NodeEntry C
       (λ other. was_other ns i n begins at j m other at')
       (equal_or j i)
 
-  -- what waited was led to by edges that nothing guarded, of earlier rounds
+  -- the edges to a number that waited were unguarded, and from earlier rounds
   begun_guards : GuardsByStanding (slice_set ns i begins)
   begun_guards j m q e x at' has is to =
       let was = begun_had_form j m q at' has in
@@ -319,11 +321,11 @@ module _ {C : Type 0} (ns : List (NodeEntry C)) (i round : ℕ) (n : NodeEntry C
 -- ---- the public lemmas, over tables
 
 module _ {S K C : Type 0} (g : Task S K C) where
-  -- nothing is asked for; one after another; and other edges that were made, all the same
+  -- no request; one after another; and the same with other edges
   pub goes_none : (t : Table S C) → IsUnderWay g t → Goes g t t [] []
   goes_none t u = record { finds = no_more; now = tt; under_way = u; stay = λ i n e. e; same_round = refl; same_depth = refl; looser = λ e. e; reserves = reserves_none t.reserved }
 
-  -- edges that were made stay as they were made
+  -- the edges stay as they were made
   edge_stays : (t t' : Table S C) → ((i : ℕ) (n : NodeEntry C) → slice_get t.nodes i ≡ Some n → slice_get t'.nodes i ≡ Some n) → t'.round ≡ t.round → (t.loose ≡ true → t'.loose ≡ true)
       → (e : NodeEdge) → EdgeNow t e → EdgeNow t' e
   edge_stays t t' stay same_round looser e now = record {
@@ -421,11 +423,11 @@ module _ {S K C : Type 0} (g : Task S K C) where
   key_more : (t t' : Table S C) (k : Key S) (e : Edge S) → e.key ≡ k → t'.keys ≡ t.keys ++ k ∷ [] → t'.keys ≡ t.keys ++ e.key ∷ []
   key_more t t' k e of_key keys = keys ∙ ap (λ (q : Key S). t.keys ++ q ∷ []) (sym of_key)
 
-  -- the standings with one more
+  -- the states with one more
   standing_more : (t t' : Table S C) (n : NodeEntry C) (s : Standing) → t'.nodes ≡ t.nodes ++ n ∷ [] → standing_of n ≡ s → map standing_of t'.nodes ≡ map standing_of t.nodes ++ s ∷ []
   standing_more t t' n s nodes stands = ap (map standing_of) nodes ∙ map-append standing_of t.nodes (n ∷ []) ∙ ap (λ (x : Standing). map standing_of t.nodes ++ x ∷ []) stands
 
-  -- nothing is found yet
+  -- no key is found yet
   pub empty_way : (t : Table S C) → t.nodes ≡ [] → t.depth ≤ g.nested → IsUnderWay g t
   empty_way t nodes nested = under_way g t [] t.round nodes refl nested (record {
     guards = λ i n p e m at has is to. absurd (none_there i n at);
@@ -437,7 +439,7 @@ module _ {S K C : Type 0} (g : Task S K C) where
     none_there : (i : ℕ) (n : NodeEntry C) → slice_get [] i ≡ Some n → ⊥
     none_there i n at = let f : ⊥ = cc in f
 
-  -- a number was added, and waits
+  -- a number is added and waits
   pub waiting_way : (t t' : Table S C) (n : NodeEntry C) → IsUnderWay g t → t'.nodes ≡ t.nodes ++ n ∷ [] → n.plan ≡ None → n.round ≡ None → t'.round ≡ t.round → t'.depth ≤ g.nested → IsUnderWay g t'
   waiting_way t t' n u nodes none no_round round nested =
       under_way g t' (t.nodes ++ n ∷ []) t.round nodes round nested (more_way t.nodes n t.round none (λ r is. absurd (let f : ⊥ = cc in f)) (way_of g t u))
@@ -458,7 +460,7 @@ module _ {S K C : Type 0} (g : Task S K C) where
     within = let l : length t'.nodes ≡ suc (length t.nodes) = ap length nodes ∙ length-more t.nodes n in omega arith;
   }
 
-  -- a number was added, in progress in this round
+  -- a number is added, in progress in this round
   pub opened_way : (t o : Table S C) (n : NodeEntry C) → IsUnderWay g t → o.nodes ≡ t.nodes ++ n ∷ [] → n.plan ≡ None → n.round ≡ Some t.round → o.round ≡ t.round → o.depth ≤ g.nested → IsUnderWay g o
   opened_way t o n u nodes none of round nested =
       under_way g o (t.nodes ++ n ∷ []) t.round nodes round nested (more_way t.nodes n t.round none (λ r is. some_is r t.round (sym is ∙ of)) (way_of g t u))
@@ -475,7 +477,7 @@ module _ {S K C : Type 0} (g : Task S K C) where
         unguarded = λ free. may_pass d.nodes d.round (way_of g d u) e.node l.entry l.at d.loose (sym l.guard ∙ free) l.loose;
       }
 
-  -- and then it has its form
+  -- and then it gets its form
   pub filled_way : (d t' : Table S C) (i : ℕ) (n : NodeEntry C) (annotations : Option Value) (p : NodePlan C) → IsUnderWay g d → slice_get d.nodes i ≡ Some n → n.plan ≡ None → n.round ≡ Some d.round → Each (EdgeNow d) (node_edges p)
       → Fills d.nodes i (not d.loose) annotations p t'.nodes → t'.round ≡ d.round → t'.depth ≤ g.nested → IsUnderWay g t'
   filled_way d t' i n annotations p u at none of now fills round nested =
@@ -485,7 +487,7 @@ module _ {S K C : Type 0} (g : Task S K C) where
       let made = each_map (EdgeNow d) (Made d.nodes d.round) (node_edges p) (λ e l. (l.entry, l.at, l.guard)) now in
       under_way g t' (slice_set d.nodes i (filled n (filled_count d.nodes) (not d.loose) annotations p)) d.round nodes round nested (form_way d.nodes i d.round n (not d.loose) annotations p at none of (way_of g d u) made)
 
-  -- how the standings are once a number has its form
+  -- the states after a number has its form
   standing_formed : (d t' : Table S C) (i : ℕ) (n : NodeEntry C) (annotations : Option Value) (p : NodePlan C) → slice_get d.nodes i ≡ Some n → n.round ≡ Some d.round → Fills d.nodes i (not d.loose) annotations p t'.nodes
       → map standing_of t'.nodes ≡ slice_set (map standing_of d.nodes) i (is_formed d.round (formed_count (map standing_of d.nodes)) (not d.loose))
   standing_formed d t' i n annotations p at of fills =
@@ -495,7 +497,8 @@ module _ {S K C : Type 0} (g : Task S K C) where
       ap (map standing_of) fills.2 ∙ map-set standing_of d.nodes i x
       ∙ ap (slice_set (map standing_of d.nodes) i) (stands_formed x d.round p refl round ∙ ap (λ (o : ℕ). is_formed d.round o (not d.loose)) (sym (formed_counts d.nodes)))
 
-  -- t: before; o: the number added and begun; d: all that its key asks for is found; t': the number has its form
+  -- t: before; o: the number is added and begun; d: all that its key requests is found; t': the
+  -- number has its form
   pub reaches_opened : (t o d t' : Table S C) (k : Key S) (nesting : Bool) (i : ℕ) (n : NodeEntry C) (annotations : Option Value) (p : NodePlan C) → IsUnderWay g t → IsNew (course_of t) k → (nesting ≡ true → t.depth < g.nested) → length t.nodes ≡ length t.keys
       → o.keys ≡ t.keys ++ k ∷ [] → o.nodes ≡ t.nodes ++ n ∷ [] → n.plan ≡ None → n.round ≡ Some t.round → o.round ≡ t.round → o.depth ≡ (if nesting then suc t.depth else t.depth) → o.loose ≡ false → o.reserved ≡ t.reserved → t'.reserved ≡ d.reserved → i ≡ length t.nodes
       → Goes g o d (asked_edges g.parts k) (node_edges p) → Fills d.nodes i (not d.loose) annotations p t'.nodes → t'.keys ≡ d.keys → t'.round ≡ t.round → t'.depth ≡ t.depth → t'.loose ≡ t.loose → Reaches g t t' k nesting i
@@ -525,7 +528,7 @@ module _ {S K C : Type 0} (g : Task S K C) where
     of_now : n.round ≡ Some d.round
     of_now = of ∙ ap (λ (r : ℕ). Some r) (sym now_round)
 
-    -- what the key asks for, found from where the number is begun
+    -- what the key requests, found from where its number is begun
     inner : (e : Edge S) → e.key ≡ k → nests e ≡ nesting → Finds g.parts g.nested (begun (course_of t) e) (asked_edges g.parts e.key) (course_of d)
     inner e of_key of_nesting =
         let same : course_of o ≡ begun (course_of t) e = course_is (course_of o) (begun (course_of t) e) (key_more t o k e of_key o_keys) (standing_more t o n (is_open t.round) o_nodes (stands_open n t.round none of)) o_round
@@ -538,7 +541,8 @@ module _ {S K C : Type 0} (g : Task S K C) where
         (standing_formed d t' i n annotations p there of_now fills ∙ ap (λ (j : ℕ). slice_set (map standing_of d.nodes) j (is_formed d.round (formed_count (map standing_of d.nodes)) (not d.loose))) (at ∙ lengths))
         (round ∙ sym now_round) depth loose
 
-  -- a round begins with a number that waits, where nothing is in progress and every round is an earlier one
+  -- a round begins with a number that waits, when nothing is in progress and every round is an
+  -- earlier one
   pub begun_way : (t b : Table S C) (i : ℕ) → ((j : ℕ) (n : NodeEntry C) → slice_get t.nodes j ≡ Some n → HasFormOrWaits n) → IsUnderWay g t → IsNewRound t.nodes i → Waits t.nodes i → Begins t.nodes i i b.nodes → b.round ≡ i → b.depth ≡ 0 → IsUnderWay g b
   begun_way t b i each u later waiting begins round depth =
       let is : waiting.0 ≡ begins.0 = some_is waiting.0 begins.0 (sym waiting.1 ∙ begins.1) in
@@ -546,7 +550,7 @@ module _ {S K C : Type 0} (g : Task S K C) where
       let no_round : begins.0.round ≡ None = ap (λ (n : NodeEntry C). n.round) (sym is) ∙ waiting.3 in
       under_way g b (slice_set t.nodes i (begun_in begins.0 i)) i begins.2 round (omega (arith, depth)) (begun_round_way t.nodes i t.round begins.0 begins.1 none no_round (way_of g t u) each later)
 
-  -- t: before the round; b: begun; d: all found; t': the number has its form
+  -- t: before the round; b: begun; d: all is found; t': the number has its form
   pub round_done : (t b d t' : Table S C) (k : Key S) (i : ℕ) (annotations : Option Value) (p : NodePlan C) → length t.nodes ≡ length t.keys → slice_get t.keys i ≡ Some k → Waits t.nodes i → Begins t.nodes i i b.nodes → b.keys ≡ t.keys → b.round ≡ i → b.depth ≡ 0 → b.loose ≡ false
       → Goes g b d (asked_edges g.parts k) (node_edges p) → Fills d.nodes i (not d.loose) annotations p t'.nodes → t'.keys ≡ d.keys → t'.round ≡ d.round → t'.depth ≡ d.depth → t'.loose ≡ d.loose
       → IsUnderWay g t' × ((c : Course S) → WorksOff g.parts g.nested (suc i) (course_of t') c → WorksOff g.parts g.nested i (course_of t) c)
@@ -577,7 +581,7 @@ module _ {S K C : Type 0} (g : Task S K C) where
       form_course : course_of t' ≡ formed (course_of d) i
       form_course = course_is (course_of t') (formed (course_of d) i) keys (standing_formed d t' i (begun_in begins.0 i) annotations p there of_now fills) round depth loose
 
--- one target more that is open is no more than may nest
+-- one more open target is no more than may nest
 pub deeper : (nests : Bool) (depth nested new : ℕ) → new ≡ (if nests then suc depth else depth) → depth ≤ nested → (nests ≡ true → depth < nested) → new ≤ nested
 deeper true depth nested new e le room = let l = room refl in omega arith
 deeper false depth nested new e le room = omega arith

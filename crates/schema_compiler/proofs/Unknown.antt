@@ -26,7 +26,7 @@ module _ {S K R : Type 0} (w : Parts S K R) (k : Key S) (whole : Members) where
   abbrev known : Text → Bool
   known name = w.resolver.is_known_keyword k.target.draft name
 
-  -- with one member in front, if no keyword is made of it and its name is not known
+  -- with one member in front, if no keyword is made of it and its name is unknown
   abbrev with_member : Option (Part K) → Bool → Text → Data → Members → Members
   with_member o known name value ms = elim o [ Some p ↦ ms | None ↦ cond known ms (member name value ms) ]
 
@@ -52,7 +52,7 @@ module _ {S K R : Type 0} (w : Parts S K R) (k : Key S) (whole : Members) where
       put_over o b (string_bytes first.0) (string_bytes e.0) (view first.1) (view e.1) (unknown w k whole (members_view done)) above
       ∙ ap (with_member o b (string_bytes first.0) (view first.1)) (unknown_last done e more h.1 is)
 
-  -- the names that are absorbed, with one member more
+  -- the absorbed names, with one more member
   absorbed_more : (done : List Entry) (e : Entry) → absorbed_in w k whole (members_view (done ++ e ∷ [])) ≡ absorbed_in w k whole (members_view done) ++ absorbed_by (part w k whole (string_bytes e.0) (view e.1))
   absorbed_more [] e = append-nil (absorbed_by (part w k whole (string_bytes e.0) (view e.1)))
   absorbed_more (first ∷ done) e = let own = absorbed_by (part w k whole (string_bytes first.0) (view first.1)) in
@@ -62,14 +62,14 @@ module _ {S K R : Type 0} (w : Parts S K R) (k : Key S) (whole : Members) where
       → new ≡ old ++ absorbed_by (part w k whole (string_bytes e.0) (view e.1)) → new ≡ absorbed_in w k whole (members_view (done ++ e ∷ []))
   more_absorbed done e old new is added = added ∙ ap (λ (names : List Text). names ++ absorbed_by (part w k whole (string_bytes e.0) (view e.1))) is ∙ sym (absorbed_more done e)
 
-  -- a member that is made into a keyword is none of them
+  -- a member with a keyword is none of them
   pub made_known : {C : Type 0} (shape : C → K) (keys : List (Key S)) (x : NodePart C) (done : List Entry) (e : Entry) (old : Members)
       → IsMadePart w keys shape k (Some x) (part w k whole (string_bytes e.0) (view e.1)) → old ≡ unknown w k whole (members_view done) → old ≡ unknown w k whole (members_view (done ++ e ∷ []))
   made_known shape keys x done e old made is =
       let go : (o : Option (Part K)) → IsMadePart w keys shape k (Some x) o → with_member o (known (string_bytes e.0)) (string_bytes e.0) (view e.1) no_members ≡ no_members = elim [ Some p ↦ λ h. refl | None ↦ λ h. absurd h ] in
       is ∙ unknown_same done e (go (part w k whole (string_bytes e.0) (view e.1)) made)
 
-  -- another is kept where its name is not known
+  -- another is kept if its name is unknown
   pub kept_unknown : {C : Type 0} (shape : C → K) (keys : List (Key S)) (done : List Entry) (e : Entry) (more : List Entry) (old new : Members)
       → IsStrictlySortedBy string_cmp (keys_of (done ++ e ∷ more)) → IsMadePart w keys shape k None (part w k whole (string_bytes e.0) (view e.1)) → old ≡ unknown w k whole (members_view done)
       → new ≡ cond (known (string_bytes e.0)) old (put (string_bytes e.0) (view e.1) old) → new ≡ unknown w k whole (members_view (done ++ e ∷ []))

@@ -1,4 +1,5 @@
--- The worked row, by computation: each key of the circle asks for one, and what the rule says of its standings.
+-- The worked example, by computation: each key of the cycle requests one other, and the rule
+-- decides which edges are guarded.
 use Rattle.std.proofs.Common.{◌≡◌, ◌≢◌, ◌<◌, ℕ, zero, suc, true, false, List, [], ◌∷◌, length, map, refl, ap, sym, ◌∙◌, subst, arith}
 use Rattle.std.proofs.lemmas.List.{length-map}
 use Rattle.std.specs.Prelude.{Option, Some, option_map, slice_get, unwrap_or}
@@ -45,7 +46,7 @@ inner_stands_inside : nests (first_edge inner_key) ≡ false
 unfolding digits percent_decode utf8_lossy utf8_valid_len is_utf8 chars encode
 inner_stands_inside = refl
 
--- the keys differ in how long their locations are
+-- the keys differ in the lengths of their locations
 abbrev reach_of : Key Text → ℕ
 reach_of k = length k.location
 
@@ -61,7 +62,7 @@ last_reach : reach_of last_key ≡ 12
 unfolding digits percent_decode utf8_lossy utf8_valid_len is_utf8 chars encode
 last_reach = refl
 
--- keys that reach differently far are apart
+-- keys with locations of different lengths differ
 apart : (a b : Key Text) (m n : ℕ) → reach_of a ≡ m → reach_of b ≡ n → m < n → a ≢ b
 apart a b m n far_a far_b lt same = let one : reach_of a ≡ reach_of b = ap reach_of same in absurd (omega (arith, far_a, far_b, lt, one))
 
@@ -86,7 +87,7 @@ module _ (standings : List Standing) (nodes : List (NodeEntry Word)) (stand : ma
   stands_so : (i : ℕ) (n : NodeEntry Word) → slice_get nodes i ≡ Some n → slice_get standings i ≡ Some (standing_of n)
   stands_so i n at = subst (λ ss. slice_get ss i ≡ Some (standing_of n)) stand (slice_get-map standing_of nodes i ∙ ap (λ (o : Option (NodeEntry Word)). option_map standing_of o) at)
 
-  -- the standing of a number that is there
+  -- the state of a number that exists
   standing_there : (i : ℕ) (s : Standing) (n : NodeEntry Word) → slice_get standings i ≡ Some s → slice_get nodes i ≡ Some n → standing_of n ≡ s
   standing_there i s n is at = let both : Some (standing_of n) ≡ Some s = sym (stands_so i n at) ∙ is in ap (λ (o : Option Standing). unwrap_or o waits) both
 

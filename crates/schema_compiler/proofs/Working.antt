@@ -1,4 +1,5 @@
--- The worklist is worked off number by number: how a number is passed over, how a round ends, and how it all begins.
+-- The worklist is worked off number by number: how a number is passed, how a round ends, and how it
+-- starts.
 use Rattle.std.proofs.Common.{◌≡◌, ◌≢◌, ℕ, suc, zero, ◌<◌, ◌≤◌, inl, inr, List, [], ◌∷◌, ◌++◌, length, map, refl, ap, sym, ◌∙◌, subst, arith}
 use Rattle.std.specs.Prelude.{Option, Some, None, false, option_map, slice_get, not, unwrap_or}
 use Rattle.std.proofs.lemmas.Option.{slice_get-map, slice_get_within}
@@ -34,7 +35,7 @@ formed_stands {C} n p is e =
     ] in
     go n.plan is e
 
--- where nothing was numbered, what is reached and has its form or waits has grown
+-- if nothing was numbered, every reached key that has its form or waits is new
 from_nothing : {S C : Type 0} (P : Key S → Type 0) (keys : List (Key S)) (nodes : List (NodeEntry C)) → Each P keys → ((j : ℕ) (n : NodeEntry C) → slice_get nodes j ≡ Some n → HasFormOrWaits n) → IsGrown P [] keys [] nodes
 from_nothing P keys nodes each stands = record { added = (keys, refl, each); stay = λ i n at. absurd (no_number i n at); filled = λ i n le at. stands i n at }
 
@@ -50,7 +51,7 @@ module _ {S K C : Type 0} (g : Task S K C) (root : Key S) where
   each_at (x ∷ ks) zero q h at = subst (Reached g.parts root) (some_is x q at) h.0
   each_at (x ∷ ks) (suc j) q h at = each_at ks j q h.1 at
 
-  -- the root's key waits, and is all that was found
+  -- the root's key waits, and is the only one that is found
   pub at_first_number : (t : Table S C) (n : NodeEntry C) → IsWell g t → t.keys ≡ root ∷ [] → t.nodes ≡ n ∷ [] → n.plan ≡ None → n.round ≡ None → t.round ≡ 0 → t.depth ≡ 0 → t.loose ≡ false → t.reserved ≡ [] → IsAtNumber g root t 0
   at_first_number t n well keys nodes none unbegun round depth loose reserved =
       let only : (j : ℕ) (m : NodeEntry C) → slice_get t.nodes j ≡ Some m → m ≡ n = λ j m at. the_only j m (subst (λ (ns : List (NodeEntry C)). slice_get ns j ≡ Some m) nodes at) in
@@ -80,7 +81,7 @@ module _ {S K C : Type 0} (g : Task S K C) (root : Key S) where
       the_only zero m at = sym (some_is n m at)
       the_only (suc j) m at = absurd (no_number j m at)
 
-  -- a number that was begun is passed over
+  -- a number that was begun is passed
   pub at_next_number : (t : Table S C) (i : ℕ) → IsAtNumber g root t i → i < length t.keys → IsBegun t.nodes i → IsAtNumber g root t (suc i)
   at_next_number t i a lt begun =
       let formed : IsFilled t.nodes i = elim (each_stands t i a i begun.0 begun.2) [
@@ -137,7 +138,7 @@ module _ {S K C : Type 0} (g : Task S K C) (root : Key S) where
         order = λ c works. a.order c (done.1 c works);
       }
 
-  -- a refusal in a round is one of the root's key
+  -- a refusal in a round is a refusal of the root's key
   pub round_refused : (t : Table S C) (k : Key S) (i : ℕ) (e : BuildError) → IsAtNumber g root t i → slice_get t.keys i ≡ Some k → Refused g.parts g.limit (asked_edges g.parts k) (causes g.parts k) t.keys e → RefusesRootKey g root e
   round_refused t k i e a at h =
       let reached_k : Reached g.parts root k = each_at t.keys i k (each_reached t i a) at in

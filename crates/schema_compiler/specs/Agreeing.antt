@@ -1,5 +1,6 @@
--- Two compilations of one schema agree: whichever keywords were made for them and however their nodes are stored, the same keys
--- have the same numbers, and a number runs alike in both, so that it has the same sense.
+-- Two compilations of one schema agree. Whichever keywords were made for them and however their
+-- nodes are stored, the same keys have the same numbers, and a number runs alike in both, so it has
+-- the same meaning.
 use Rattle.std.specs.Prelude.{List, [], map, ℕ, ◌≡◌, ◌∷◌}
 use Rattle.theory_definitions.specs.Instance.{Place, Subject, Text}
 use Rattle.theory_definitions.specs.Matching.{Assumptions}
@@ -11,28 +12,30 @@ use Rattle.schema_compiler.specs.Compilation.{IsCompilation}
 use Rattle.schema_compiler.specs.Finding.{FindsAll, Standing, standing_of}
 
 module _ {K : Type 0} where
-  -- the same keyword, whose requests got the same edges, guarded alike; or the same edge of a reference
+  -- the same keyword, whose requests got the same edges, guarded alike; or the same edge of a
+  -- reference
   abbrev pub AlikeForm : NodeForm K → NodeForm K → Type 0
   AlikeForm (node_keyword m es) (node_keyword m' es') = (m ≡ m') × ((i : ℕ) → node_child es i ≡ node_child es' i)
   AlikeForm (node_reference e) (node_reference e') = e ≡ e'
   AlikeForm (node_keyword m es) (node_reference e) = ⊥
   AlikeForm (node_reference e) (node_keyword m es) = ⊥
 
-  -- parts of one name, priority and kind
+  -- parts with the same name, priority and kind
   pub record AlikePart (x x' : NodePart K) : Type 0 where
     pub name : x.name ≡ x'.name
     pub priority : x.priority ≡ x'.priority
     pub is_leaf : x.is_leaf ≡ x'.is_leaf
     pub form : AlikeForm x.form x'.form
 
-  -- part by part
+  -- lists of parts that are alike one by one
   abbrev pub AlikeParts : List (NodePart K) → List (NodePart K) → Type 0
   AlikeParts [] [] = Unit {0}
   AlikeParts (x ∷ xs) (x' ∷ xs') = AlikePart x x' × AlikeParts xs xs'
   AlikeParts [] (x ∷ xs) = ⊥
   AlikeParts (x ∷ xs) [] = ⊥
 
-  -- both accept, both refuse, or their parts are alike: so each edge of one is an edge of the other, guarded alike
+  -- both accept everything, both refuse everything, or their parts are alike: so each edge of one
+  -- is an edge of the other, guarded alike
   abbrev pub AlikePlan : NodePlan K → NodePlan K → Type 0
   AlikePlan node_always node_always = Unit {0}
   AlikePlan node_never node_never = Unit {0}
@@ -45,8 +48,9 @@ module _ {K : Type 0} where
   AlikePlan (node_these xs) node_never = ⊥
 
 module _ {S K R : Type 0} (w : Parts S K R) where
-  -- a number has the same plan in both tables, with the same edges guarded, the same location and annotations; it gives the same
-  -- run at every place and depth: what it says, its units, and what it meets; and it has the same sense
+  -- a number has the same plan in both tables, with the same edges guarded, and the same location
+  -- and annotations. It has the same run at every place and depth: its answer, its units, and the
+  -- unfinished matches that it meets. And it has the same meaning
   pub record AreAlike (nodes nodes' : Nodes K) : Type 0 where
     pub entries : (i : ℕ) → AlikePlan (nodes.entries i) (nodes'.entries i)
     pub locations : (i : ℕ) → nodes.location i ≡ nodes'.location i
@@ -56,12 +60,14 @@ module _ {S K R : Type 0} (w : Parts S K R) where
         → guarded_within (yes_run nodes) (guarded_node w.keywords w.matcher nodes subject_of as') n i path p busy ≡ guarded_within (yes_run nodes') (guarded_node w.keywords w.matcher nodes' subject_of as') n i path p busy
     pub senses : (subject_of : Place → Subject) (n i : ℕ) → guarded_sense w.keywords w.matcher nodes subject_of n i ≡ guarded_sense w.keywords w.matcher nodes' subject_of n i
 
-  -- the keys that a root's reaches are found in one order, and their numbers stand in one way
+  -- the keys that a root's key reaches are found in one order, and their numbers have the same
+  -- states
   abbrev pub OneOrder : Type 0
   OneOrder = (nested : ℕ) (root : Key S) (keys keys' : List (Key S)) (standings standings' : List Standing) → FindsAll w nested root keys standings → FindsAll w nested root keys' standings'
       → (keys ≡ keys') × (standings ≡ standings')
 
-  -- two compilations of one root, where as many targets may nest, number the same keys alike, guard the same edges, and run alike
+  -- two compilations of one root that allow the same number of nested targets number the keys
+  -- alike, guard the same edges, and run alike
   abbrev pub TablesAgree : {C D : Type 0} → (C → K) → (D → K) → Type 0
   TablesAgree {C} {D} shape shape' = (limit limit' nested : ℕ) (root : Key S) (keys keys' : List (Key S)) (nodes : List (NodeEntry C)) (nodes' : List (NodeEntry D))
       → IsCompilation w shape limit nested root keys nodes → IsCompilation w shape' limit' nested root keys' nodes'

@@ -1,5 +1,5 @@
--- What the compiler carries: what it is given and does not change, and the table that it fills; and what each of its
--- functions answers, over the two.
+-- What the compiler carries: its fixed input, and the table that it fills. And the results of its
+-- functions, in terms of these two.
 use Rattle.std.specs.Prelude.{Bool, List, MatchOption, Option, Some, [], false, flat_map, map, true, ℕ, ◌≡◌}
 use Rattle.serde_json.specs.Data.{Data, Members, object}
 use Rattle.theory_definitions.specs.Instance.{Place, Text}
@@ -27,15 +27,16 @@ use Rattle.schema_keys.specs.declared.options.CompileOptions.{CompileOptions}
 use Rattle.schema_compiler.specs.declared.compiler.setup.Compiler.{Compiler}
 use Rattle.schema_compiler.specs.declared.compiler.compilation.Compilation.{Compilation}
 
--- what is given, as parts, with the shape of keywords, the limit on keys, and how many targets may nest
+-- the input, as parts, with the shape of keywords, the limit on keys, and how many targets may nest
 pub record Task (S K C : Type 0) : Type 0 where
   pub parts : Parts S K (Unit {0})
   pub shape : C → K
   pub limit : ℕ
   pub nested : ℕ
 
--- the keys and the nodes so far; the number that the round began with, how many targets of references are open, and whether
--- an edge was made, since the innermost open number was begun, to one that is not settled; and the numbers that makers reserved
+-- the keys and the nodes so far; the number that the round began with, how many targets of
+-- references are open, and whether an edge was made to a number that is not final, since the
+-- innermost open number was begun; and the numbers that makers reserved
 pub record Table (S C : Type 0) : Type 0 where
   pub keys : List (Key S)
   pub nodes : List (NodeEntry C)
@@ -44,7 +45,7 @@ pub record Table (S C : Type 0) : Type 0 where
   pub loose : Bool
   pub reserved : List Reserved
 
--- what is given, by the senses of resolver, table and keywords
+-- the input, from the meanings of the resolver, the table and the keywords
 abbrev pub task_of : {R T S K C : Type 0} → (R → Resolver S) → (T → Text → Bool) → (T → Bool → Text → Members → Draft → Vocabularies → Bool → Script K) → (C → K) → R → T → CompileOptions → ℕ → Task S K C
 task_of resolving owned script shape resolver table options nested = record {
   parts = given_parts (resolving resolver) (owned table) (script table) options;
@@ -53,11 +54,11 @@ task_of resolving owned script shape resolver table options nested = record {
   nested = nested;
 }
 
--- the same of a compiler
+-- the same for a compiler
 abbrev pub task : {R T S K C : Type 0} → (R → Resolver S) → (T → Text → Bool) → (T → Bool → Text → Members → Draft → Vocabularies → Bool → Script K) → (C → K) → Compiler R T → Task S K C
 task resolving owned script shape g = task_of resolving owned script shape g.resolver.now g.table.now g.options.now g.nested_limit
 
--- what is filled so far, by the sense of the resolver's states
+-- the table that a compilation has filled so far, from the meaning of the resolver's states
 abbrev pub filled : {S P C : Type 0} → (S → P) → Compilation S C → Table P C
 filled point c = record {
   keys = map (key_of point) c.keys;
@@ -69,44 +70,44 @@ filled point c = record {
 }
 
 module _ {S K C : Type 0} (g : Task S K C) where
-  -- the causes for what is required and not declared
+  -- the causes for the required vocabularies that are not declared
   abbrev pub lacking : Vocabularies → List Cause
   lacking vocabularies = flat_map (undeclared g.parts) vocabularies
 
-  -- a reference leads to this key, which lacks no vocabulary; to none where it is skipped
+  -- a reference leads to this key, which lacks no vocabulary; to none if it is skipped
   abbrev pub Targets : {P : Type 0} → (P → S) → Key S → Reference → Text → Option (SchemaKey P) → Type 0
   Targets point k kind text o = MatchOption o (is_self g.parts k kind text ≡ true)
       (λ t. (is_self g.parts k kind text ≡ false)
       × ((name : Text) → reference_edge g.parts k name kind text ≡ Some (record { key = key_of point t; path = joined [] name; is_reference = true; is_recursive = is_recursive_ref kind }))
       × (lacking t.vocabularies ≡ []))
 
-  -- the names that a member's keyword absorbs, and those that the keyword which a maker makes absorbs
+  -- the names that a member's keyword absorbs, and those that the keyword of a maker absorbs
   abbrev pub member_absorbs : Key S → Members → Text → Data → List Text
   member_absorbs k ms name value = absorbed_by (part g.parts k ms name value)
 
   abbrev pub keyword_absorbs : Key S → Members → Bool → Text → ℕ → Bool → List Text
   keyword_absorbs k ms own name priority is_leaf = absorbed_by (part_made g.parts name priority is_leaf (making g.parts k ms own name))
 
-  -- why no target is found, or is refused: said for whatever name and keys go with it
+  -- why no target is found, or why it is refused, for any name and any keys
   abbrev pub RefusesTarget : Key S → Reference → Text → BuildError → Type 0
   RefusesTarget k kind text e = (name : Text) (keys : List (Key S)) → Refused g.parts g.limit (option_list (reference_asked g.parts k name kind text)) (lookup_causes g.parts (found g.parts k kind text)) keys e
 
 module _ {S K C : Type 0} (g : Task S K C) (t : Table S C) where
-  -- the key's form and annotations may be filled in
+  -- the key's node may be filled with this plan
   abbrev pub PlannedAs : Key S → NodePlan C → Type 0
   PlannedAs = IsPlanned g.parts g.shape t.keys
 
-  -- the keys and nodes so far are as the parts have them
+  -- the keys and nodes so far are as the parts require
   abbrev pub IsWell : Type 0
   IsWell = IsTable g.parts g.shape g.limit t.keys t.nodes
 
-  -- ---- what refuses
+  -- ---- reasons for a refusal
 
   -- why a key gets no number
   abbrev pub RefusesKey : Key S → BuildError → Type 0
   RefusesKey k = IsRefusal g.limit t.keys (Reached g.parts k) (StandsBelow g.parts k)
 
-  -- why a step is refused that asks for these edges, and that these causes stand against
+  -- why a step is refused that requests these edges and has these causes
   abbrev pub Refuses : List (Edge S) → List Cause → BuildError → Type 0
   Refuses es cs = Refused g.parts g.limit es cs t.keys
 
@@ -177,7 +178,7 @@ module _ {S K C : Type 0} (g : Task S K C) (t : Table S C) where
     abbrev pub AnswersChild : Place → NodeEdge → Type 0
     AnswersChild path e = IsAnswered g.parts g.shape g.limit t.keys t'.keys t.nodes t'.nodes (subschema g.parts k path) (request_causes g.parts k (compile path)) (Some e)
 
-    -- this edge leads to a reference's target; none where it is skipped
+    -- this edge leads to a reference's target; `None` if it is skipped
     abbrev pub AnswersReference : Text → Reference → Text → Option NodeEdge → Type 0
     AnswersReference name kind text o = IsAnswered g.parts g.shape g.limit t.keys t'.keys t.nodes t'.nodes (reference_asked g.parts k name kind text) (lookup_causes g.parts (found g.parts k kind text)) o
 

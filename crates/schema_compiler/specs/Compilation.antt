@@ -1,6 +1,6 @@
--- What a compilation gives: a number for each key that the root reaches, whose node is the key's plan; and what its
--- refusal says. The root is a schema's, or a subschema that is compiled by itself: then a vocabulary is asked for only where a
--- reference leads.
+-- The result of a compilation: a number for each key that the root reaches, whose node is the key's
+-- plan; and what its refusal claims. The root belongs to a schema, or to a subschema that is
+-- compiled by itself: then only the targets of references have to declare their vocabularies.
 use Rattle.std.specs.Prelude.{All, Bool, List, Option, Some, [], flat_map, length, map, slice_get, string_bytes, ℕ, ◌≡◌, ◌≤◌, ◌⊎◌}
 use Rattle.theory_definitions.specs.Instance.{Text}
 use Rattle.theory_definitions.specs.Drafts.{Draft}
@@ -23,7 +23,7 @@ use Rattle.schema_keys.specs.Alone.{RefusesVocabularies}
 use Rattle.schema_keys.specs.declared.error.BuildError.{BuildError}
 use Rattle.schema_keys.specs.declared.error.BuildError.TheVariants.{KeywordRefused, Lookup, MetaSchema, MissingRoot, NodeLimit, NotASchema, OutOfMemory, ReferenceNotText, UnsupportedVocabulary}
 
--- everything that is handed in: what the compiler reads, and what it does not
+-- all parts: those that the compiler reads, and those that it does not
 abbrev pub all_parts : {S K R : Type 0} → Resolver S → Table K → Option Bool → List Text → Matcher → Keywords K R → Option Draft → Option Text → Parts S K R
 all_parts resolver table formats declared matcher keywords draft base = record {
   resolver = resolver;
@@ -37,25 +37,27 @@ all_parts resolver table formats declared matcher keywords draft base = record {
 }
 
 module _ {S K R : Type 0} (w : Parts S K R) where
-  -- by what is said to be a cause of refusal
+  -- a compilation, for some notion of a cause of refusal
   pub record IsCompilationBy {C : Type 0} (stands : Cause → Type 0) (shape : C → K) (limit nested : ℕ) (root : Key S) (keys : List (Key S)) (nodes : List (NodeEntry C)) : Type 0 where
     -- the root has the first number
     pub first : slice_get keys 0 ≡ Some root
-    -- keys and numbers correspond one to one, and each number's node is the plan of its key
+    -- keys and numbers correspond one to one, and the node at a number is the plan of its key
     pub numbers : AreNumbered w (map Some keys) (numbered shape nodes)
-    -- an edge that nothing guards leads to a node of lower rank
+    -- an unguarded edge leads to a node of lower rank
     pub ranked : Ranked (numbered shape nodes) (length keys)
-    -- no number is only reserved
+    -- every node has its form
     pub filled : (i : ℕ) (n : NodeEntry C) → slice_get nodes i ≡ Some n → (p : NodePlan C) × (n.plan ≡ Some p)
     pub lengths : length nodes ≡ length keys
-    -- every key that is reached has a number, and every number's key is reached
+    -- every key that is reached has a number, and the key of every number is reached
     pub whole : (k : Key S) → Reached w root k → (i : ℕ) × (slice_get keys i ≡ Some k)
     pub sound : All (Reached w root) keys
     pub within : length keys ≤ limit
     pub compiles : (cause : Cause) → ¬ (stands cause)
-    -- the keys are found in the one order that the schema and the limit on nested targets give, and their nodes get their forms so
+    -- the keys are found in the one order that the schema and the limit on nested targets
+    -- determine, and their nodes get their forms accordingly
     pub order : FindsAll w nested root keys (map standing_of nodes)
-    -- an edge is guarded exactly where its target was in progress when it was made, or an unsettled number of an earlier round
+    -- an edge is guarded if and only if its target was in progress when it was made, or was of an
+    -- earlier round and not final
     pub guards : GuardsByStanding nodes
 
   -- the compilation of a schema's root, and of a subschema by itself
@@ -65,7 +67,8 @@ module _ {S K R : Type 0} (w : Parts S K R) where
   abbrev pub IsCompilationAlone : {C : Type 0} → (C → K) → ℕ → ℕ → Key S → List (Key S) → List (NodeEntry C) → Type 0
   IsCompilationAlone shape limit nested root keys nodes = IsCompilationBy (StandsBelow w root) shape limit nested root keys nodes
 
-  -- a refusal shows a cause that stands; one for the limit says that more keys are reached; want of memory says nothing
+  -- a refusal shows a real cause; one for the limit says that more keys are reached; `OutOfMemory`
+  -- claims nothing
   abbrev pub RefusesBy : (Cause → Type 0) → ℕ → Key S → BuildError → Type 0
   RefusesBy stands limit root (NotASchema location) = stands (not_a_schema location)
   RefusesBy stands limit root (ReferenceNotText location) = stands (reference_not_text location)
@@ -84,6 +87,7 @@ module _ {S K R : Type 0} (w : Parts S K R) where
   abbrev pub RefusesAlone : ℕ → Key S → BuildError → Type 0
   RefusesAlone limit root e = RefusesBy (StandsBelow w root) limit root e
 
-  -- what a refusal of a schema's root names first: the first of its own vocabularies that is not declared; and where all are declared, what refuses it as a subschema by itself
+  -- the first refusal of a schema's root: the first of its own vocabularies that is not declared;
+  -- or, if all are declared, a refusal as a subschema by itself
   abbrev pub RefusesInOrder : ℕ → Key S → BuildError → Type 0
   RefusesInOrder limit root e = RefusesVocabularies w root e ⊎ ((flat_map (undeclared w) root.target.vocabularies ≡ []) × RefusesAlone limit root e)

@@ -1,4 +1,5 @@
--- The table of keys and nodes while it is filled: what a number's node says of its key, and how the table grows.
+-- The table of keys and nodes while it is filled: what the node of a number says about its key, and
+-- how the table grows.
 use Rattle.std.specs.Prelude.{List, None, Option, Some, [], length, option_map, slice_get, slice_set, ℕ, ◌++◌, ◌∷◌, ◌≡◌, ◌≤◌, ◌⊎◌}
 use Rattle.theory_definitions.specs.Instance.{Text}
 use Rattle.theory_definitions.specs.Parts.{Parts}
@@ -24,7 +25,7 @@ module _ {S K R : Type 0} (w : Parts S K R) where
     LeadsTo None (Some edge) = ⊥
     LeadsTo (Some e) None = ⊥
 
-    -- what each request got
+    -- the edges that the requests got
     abbrev pub AreChildren : Key S → Text → Children → List Request → Type 0
     AreChildren k name [] [] = Unit {0}
     AreChildren k name (e ∷ es) (r ∷ rs) = LeadsTo e (requested w k name r) × AreChildren k name es rs
@@ -61,7 +62,8 @@ module _ {S K R : Type 0} (w : Parts S K R) where
   -- ---- the table
 
   module _ {C : Type 0} (shape : C → K) where
-    -- a number that has its form is the plan of its key, all that it asks for has a number, and no cause stands for it
+    -- a number that has its form is the plan of its key, everything that it requests has a number,
+    -- and no cause is against it
     pub record IsPlanned (keys : List (Key S)) (k : Key S) (p : NodePlan C) : Type 0 where
       pub plans : IsPlan keys shape k p (plan w k)
       pub settled : Each (Settled w keys) (asked_edges w k)
@@ -85,13 +87,13 @@ module _ {S K R : Type 0} (w : Parts S K R) where
 abbrev pub HasFormOrWaits : {C : Type 0} → NodeEntry C → Type 0
 HasFormOrWaits {C} n = ((p : NodePlan C) × (n.plan ≡ Some p)) ⊎ ((n.plan ≡ None) × (n.round ≡ None))
 
--- numbers and nodes stay, and what came since is one of these keys, and has its form or waits
+-- numbers and nodes stay; each new one belongs to one of these keys, and has its form or waits
 pub record IsGrown {S C : Type 0} (P : Key S → Type 0) (keys keys' : List (Key S)) (nodes nodes' : List (NodeEntry C)) : Type 0 where
   pub added : (ks : List (Key S)) × (keys' ≡ keys ++ ks) × Each P ks
   pub stay : (i : ℕ) (n : NodeEntry C) → slice_get nodes i ≡ Some n → slice_get nodes' i ≡ Some n
   pub filled : (i : ℕ) (n : NodeEntry C) → length keys ≤ i → slice_get nodes' i ≡ Some n → HasFormOrWaits n
 
--- a step that asked for these edges, and for which none of these causes stands
+-- a step that requested these edges, and that none of these causes refuses
 pub record IsStep {S K R C : Type 0} (w : Parts S K R) (shape : C → K) (limit : ℕ) (es : List (Edge S)) (cs : List Cause) (keys keys' : List (Key S)) (nodes nodes' : List (NodeEntry C)) : Type 0 where
   pub table : IsTable w shape limit keys' nodes'
   pub grown : IsGrown (ReachedFrom w es) keys keys' nodes nodes'

@@ -1,6 +1,7 @@
--- How keys are found: which are compiled inside the one that asks for them, which wait, and in which order their nodes get
--- their forms. At most so many targets of references are open one inside another; a new one that is found then waits, and
--- each that waits is compiled in a round of its own, in the order of finding. A `$recursiveRef`'s target never waits.
+-- How keys are found: which are compiled inside the one that requests them, which wait, and in
+-- which order their nodes get their forms. Only so many targets of references may be open one
+-- inside another; a new one that is found then waits, and is compiled in a round of its own, in the
+-- order of finding. The target of a `$recursiveRef` never waits.
 use Rattle.std.specs.Prelude.{Bool, List, None, Option, Some, [], false, if◌then◌else◌, length, nat_le, not, slice_get, slice_set, suc, true, unwrap_or, ℕ, ◌&&◌, ◌++◌, ◌<◌, ◌==◌, ◌||◌, ◌∷◌, ◌≡◌, ◌≢◌, ◌≤◌}
 use Rattle.theory_definitions.specs.Parts.{Parts}
 use Rattle.theory_definitions.specs.Plan.{Edge, Key}
@@ -9,8 +10,8 @@ use Rattle.theory_definitions.specs.Guarded.{NodeEdge, NodePlan, node_edges}
 use Rattle.schema_node_table.specs.NodeTable.{NodeEntry}
 use Rattle.schema_keys.specs.Compiling.{In}
 
--- how a number stands that was found: it waits; it is open, in the round that began with this number; or it has its form,
--- from that round, with so many before it, and is settled or not
+-- the state of a number that was found: it waits; or it is open, in the round that began with this
+-- number; or it has its form, from that round, with this many before it, and is final or not
 pub data Standing : Type 0 where
   waits : Standing
   is_open : (round : ℕ) → Standing
@@ -29,21 +30,22 @@ formed_count (waits ∷ ss) = formed_count ss
 formed_count (is_open r ∷ ss) = formed_count ss
 formed_count (is_formed r o b ∷ ss) = suc (formed_count ss)
 
--- has its form and is settled
+-- it has its form and is final
 abbrev pub is_settled : Option Standing → Bool
 is_settled (Some (is_formed r o b)) = b
 is_settled _ = false
 
--- an edge from a number to another is guarded where the other was in progress when the edge was made, which is so where both
--- are of one round and the other gets its form no earlier; or where it was an unsettled one of an earlier round
+-- an edge is guarded if its target was in progress when the edge was made, which holds if both are
+-- of one round and the target gets its form no earlier; or if the target was of an earlier round
+-- and not final
 abbrev pub guards_edge : Standing → Standing → Bool
 guards_edge (is_formed r o b) (is_formed q p s) = if q == r then nat_le o p else (nat_le (suc q) r && not s)
 guards_edge (is_formed r o b) (is_open q) = q == r
 guards_edge _ _ = false
 
--- how far the finding of keys has come: the keys in the order of finding and how each stands, the number that the round began
--- with, how many targets of references are open, and whether an edge was made since the innermost open number was begun to
--- one that was not settled
+-- the progress of finding keys: the keys in the order of finding and the state of each, the number
+-- that the round began with, how many targets of references are open, and whether an edge was made
+-- to a number that was not final, since the innermost open number was begun
 pub record Course (S : Type 0) : Type 0 where
   pub keys : List (Key S)
   pub standings : List Standing
@@ -52,7 +54,7 @@ pub record Course (S : Type 0) : Type 0 where
   pub loose : Bool
 
 module _ {S : Type 0} where
-  -- an edge counts among those that nest: that of a `$ref` or a `$dynamicRef`
+  -- an edge nests if it is that of a `$ref` or a `$dynamicRef`
   abbrev pub nests : Edge S → Bool
   nests e = e.is_reference && not e.is_recursive
 
@@ -72,11 +74,11 @@ module _ {S : Type 0} where
     loose = false;
   }
 
-  -- a number gets its form: it is settled where no edge was made to one that was not
+  -- a number gets its form: it is final if all edges led to final numbers
   abbrev pub formed : Course S → ℕ → Course S
   formed c i = record c { standings = slice_set c.standings i (is_formed c.round (formed_count c.standings) (not c.loose)) }
 
-  -- what was begun as this number has got its form
+  -- the number that was begun after this course has got its form
   abbrev pub closed : Course S → Course S → Course S
   closed before c = record (formed c (length before.keys)) { depth = before.depth; loose = before.loose }
 
@@ -88,14 +90,15 @@ module _ {S : Type 0} where
   abbrev pub round_begun : Course S → ℕ → Course S
   round_begun c i = record c { standings = slice_set c.standings i (is_open i); round = i; depth = 0; loose = false }
 
-  -- nothing is found but the root's key, which waits
+  -- only the root's key is found, and it waits
   abbrev pub at_root : Key S → Course S
   at_root root = record { keys = root ∷ []; standings = waits ∷ []; round = 0; depth = 0; loose = false }
 
 module _ {S K R : Type 0} (w : Parts S K R) (nested : ℕ) where
   mutual
-    -- the target of an edge has a number: it had one; or it is new and waits, where as many targets as may nest are open; or
-    -- it is new and compiled at once, with all that its key asks for
+    -- the target of an edge has a number. It had one; or it is new and waits, if as many targets
+    -- are open as may nest; or it is new and compiled at once, with everything that its key
+    -- requests
     pub data Visits : Course S → Edge S → Course S → ℕ → Type 0 where
       was_found : {c : Course S} {e : Edge S} {i : ℕ} → slice_get c.keys i ≡ Some e.key → Visits c e c i
       is_put : {c : Course S} {e : Edge S} {c' : Course S} {i : ℕ} → IsNew c e.key → nests e ≡ true → nested ≤ c.depth → c' ≡ put c e.key → i ≡ length c.keys → Visits c e c' i
@@ -114,11 +117,12 @@ module _ {S K R : Type 0} (w : Parts S K R) (nested : ℕ) where
     in_a_round : {i : ℕ} {c c' : Course S} (k : Key S) (d : Course S) → slice_get c.keys i ≡ Some k → slice_get c.standings i ≡ Some waits → Finds (round_begun c i) (asked_edges w k) d
         → WorksOff (suc i) (formed d i) c' → WorksOff i c c'
 
-  -- the keys that the root's reaches are found in this order, and their numbers stand so in the end
+  -- the keys that the root's key reaches are found in this order, and in the end their numbers have
+  -- these states
   abbrev pub FindsAll : Key S → List (Key S) → List Standing → Type 0
   FindsAll root keys standings = (c : Course S) × WorksOff 0 (at_root root) c × (c.keys ≡ keys) × (c.standings ≡ standings)
 
--- every edge is guarded as the standings of its source and its target say
+-- every edge is guarded as the states of its source and its target say
 abbrev pub GuardsByStanding : {C : Type 0} → List (NodeEntry C) → Type 0
 GuardsByStanding {C} nodes = (i : ℕ) (n : NodeEntry C) (p : NodePlan C) (e : NodeEdge) (m : NodeEntry C) → slice_get nodes i ≡ Some n → n.plan ≡ Some p → In (node_edges p) e → slice_get nodes e.node ≡ Some m
     → e.guarded ≡ guards_edge (standing_of n) (standing_of m)

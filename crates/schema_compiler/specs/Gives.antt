@@ -1,4 +1,5 @@
--- What the functions of the compiler answer, in one word each: what was made and found on the way, or why it is refused.
+-- The results of the compiler's functions, one definition each: what was made and found, or why it
+-- is refused.
 use Rattle.std.specs.Prelude.{Bool, List, MatchResult, Option, Result, String, map, option_map, string_bytes, ℕ, ◌++◌, ◌≡◌}
 use Rattle.std.specs.declared.alloc.Global.{Global}
 use Rattle.serde_json.specs.View.{members_view, view}
@@ -37,21 +38,22 @@ use Rattle.schema_compiler.specs.declared.compiler.setup.Compiler.{Compiler}
 abbrev pub Entries : Type 0
 Entries = List (String Global × Value)
 
--- these names have come to those that were absorbed before
+-- these names are appended to those that were absorbed before
 abbrev pub Absorbs : List (String Global) → List (String Global) → List Text → Type 0
 Absorbs old new names = map string_bytes new ≡ map string_bytes old ++ names
 
 module _ {A P S T C Maker Run K : Type 0} (r : ResolverMembers A P S) (t : TableMembers T C Maker Run K) (k : KeywordMembers C Run K) (compiler : Compiler A T) where
-  -- what the compiler is given
+  -- the input of the compiler
   abbrev pub g : Given P S K C
   g = given_by r t k compiler
 
-  -- the script of a member of a key's object with these members, by its own keyword or a built-in one
+  -- the script of a member in a key's object with these members, for the table's own keyword or one
+  -- of the standard
   abbrev pub script_of : SchemaKey P → Entries → Bool → String Global → Script K
   script_of key members own name = t.script compiler.table.now own (string_bytes name) (members_view members) (draft_of key.draft) key.vocabularies (checks_formats g.task.parts (key_of g.point key))
 
   module _ (old : Compilation P C) (key : SchemaKey P) where
-    -- why a key gets no number, with what was numbered before
+    -- why a key gets no number, given what was numbered before
     abbrev pub KeyRefused : BuildError → Type 0
     KeyRefused = RefusesKey g.task (filled g.point old) (key_of g.point key)
 
@@ -68,17 +70,17 @@ module _ {A P S T C Maker Run K : Type 0} (r : ResolverMembers A P S) (t : Table
     abbrev pub after : Table S C
     after = filled g.point new
 
-    -- the key that is asked for
+    -- the key that is requested
     abbrev pub asked_key : Key S
     asked_key = key_of g.point key
 
     -- ---- the next number
 
-    -- the key has the next number, in progress in this round, or waiting
+    -- the key has the next number, in progress in this round or waiting
     abbrev pub NextTaken : Option ℕ → SchemaNode → Type 0
     NextTaken round n = TakesNext g.task g.point old new asked_key round n.0
 
-    -- so it is, or the key is refused
+    -- the key has the next number like this, or it is refused
     abbrev pub GivesNext : Option ℕ → Result SchemaNode BuildError → Type 0
     GivesNext round result = MatchResult result (NextTaken round) (KeyRefused old key)
 
@@ -88,7 +90,7 @@ module _ {A P S T C Maker Run K : Type 0} (r : ResolverMembers A P S) (t : Table
 
     -- ---- a number, and the edge that leads there
 
-    -- the number of the key, as the target of an edge that nests or does not
+    -- the number of the key, as the target of an edge that nests or not
     abbrev pub GivesNumber : Bool → Result ℕ BuildError → Type 0
     GivesNumber nests result = MatchResult result
         (λ n. (Numbers g.task before after asked_key n)
@@ -109,23 +111,23 @@ module _ {A P S T C Maker Run K : Type 0} (r : ResolverMembers A P S) (t : Table
         × (GoesChild g.task before after asked_key path (edge_of e)))
         (RefusesChild g.task before asked_key path)
 
-    -- the edge to a reference's target; none where it is skipped
+    -- the edge to a reference's target; `None` if it is skipped
     abbrev pub GivesTarget : String Global → ReferenceKind → String Global → Result (Option Edge) BuildError → Type 0
     GivesTarget name kind text result = MatchResult result
         (λ o. (AnswersReference g.task before after asked_key (string_bytes name) (kind_of kind) (string_bytes text) (option_map edge_of o))
         × (GoesRefer g.task before after asked_key (string_bytes name) (kind_of kind) (string_bytes text) (option_map edge_of o)))
         (RefusesEdge g.task before asked_key (string_bytes name) (kind_of kind) (string_bytes text))
 
-    -- ---- what a node asks of an instance, and its annotations
+    -- ---- the plan of a node, and its annotations
 
-    -- of the key
+    -- those of the key
     abbrev pub GivesPlan : Result (PlannedNode C) BuildError → Type 0
     GivesPlan result = MatchResult result
         (λ n. (PlansNode g.task before after asked_key (plan_of n.form) (option_map view n.annotations))
         × (GoesNode g.task before after asked_key (plan_of n.form)))
         (RefusesNode g.task before asked_key)
 
-    -- of the key's object with these members
+    -- those of the key's object with these members
     abbrev pub GivesObject : Entries → Result (PlannedNode C) BuildError → Type 0
     GivesObject members result = MatchResult result
         (λ n. (PlansObject g.task before after asked_key (members_view members) (plan_of n.form) (option_map view n.annotations))
@@ -141,7 +143,7 @@ module _ {A P S T C Maker Run K : Type 0} (r : ResolverMembers A P S) (t : Table
 
     -- ---- one keyword, if there is one, and the names that it absorbs
 
-    -- of a member
+    -- that of a member
     abbrev pub GivesMember : Entries → String Global → Value → List (String Global) → List (String Global) → Result (Option (Entry C)) BuildError → Type 0
     GivesMember members name value absorbed absorbed' result = MatchResult result
         (λ o. (MakesMember g.task before after asked_key (members_view members) (string_bytes name) (view value) (option_map entry_of o))
@@ -149,7 +151,7 @@ module _ {A P S T C Maker Run K : Type 0} (r : ResolverMembers A P S) (t : Table
         × (GoesMember g.task before after asked_key (members_view members) (string_bytes name) (view value) (option_map entry_of o)))
         (RefusesMember g.task before asked_key (members_view members) (string_bytes name) (view value))
 
-    -- that a maker makes, and what it reserved is given up
+    -- that of a maker, whose reservations are given up
     abbrev pub GivesMade : Entries → Bool → String Global → ℕ → Bool → List (String Global) → List (String Global) → Result (Option (Entry C)) BuildError → Type 0
     GivesMade members own name priority is_leaf absorbed absorbed' result = MatchResult result
         (λ o. (MakesKeyword g.task before after asked_key (members_view members) own (string_bytes name) priority is_leaf (option_map entry_of o))
@@ -168,7 +170,7 @@ module _ {A P S T C Maker Run K : Type 0} (r : ResolverMembers A P S) (t : Table
     abbrev pub ReferenceFound : String Global → Reference → Value → Option (Entry C) → Type 0
     ReferenceFound name kind value o = GoesReference g.task before after asked_key (string_bytes name) kind (view value) (option_map entry_of o)
 
-    -- so it is made and found, or refused
+    -- it is made and found like this, or refused
     abbrev pub GivesReference : String Global → ℕ → ReferenceKind → Value → Result (Option (Entry C)) BuildError → Type 0
     GivesReference name priority kind value result = MatchResult result
         (λ o. (ReferenceMade name priority (kind_of kind) value o) × (ReferenceFound name (kind_of kind) value o))
@@ -177,26 +179,26 @@ module _ {A P S T C Maker Run K : Type 0} (r : ResolverMembers A P S) (t : Table
   -- ---- the worklist of a root
 
   module _ (root : SchemaKey P) where
-    -- it is worked off up to this number
+    -- the list is worked off up to this number
     abbrev pub IsAt : Compilation P C → ℕ → Type 0
     IsAt c i = IsAtNumber g.task (key_of g.point root) (filled g.point c) i
 
-    -- why it is not worked off
+    -- why the list is not worked off
     abbrev pub RootRefused : BuildError → Type 0
     RootRefused = RefusesRootKey g.task (key_of g.point root)
 
-    -- so it is after a step that gives nothing, or the root is refused
+    -- the list is worked off up to this number, or the root is refused
     abbrev pub ComesTo : {A : Type 0} → Compilation P C → ℕ → Result A BuildError → Type 0
     ComesTo c i result = MatchResult result (λ _. IsAt c i) RootRefused
 
-    -- it is worked off in this compilation
+    -- the list is worked off in this compilation
     abbrev pub IsWorked : Compilation P C → Type 0
     IsWorked c = IsWorkedOff g.task (key_of g.point root) (filled g.point c)
 
-    -- so it is after all steps, or the root is refused
+    -- the list is worked off, or the root is refused
     abbrev pub ComesToEnd : {A : Type 0} → Compilation P C → Result A BuildError → Type 0
     ComesToEnd c result = MatchResult result (λ _. IsWorked c) RootRefused
 
-    -- so is the compilation that is given
+    -- the resulting compilation is worked off, or the root is refused
     abbrev pub GivesWorked : Result (Compilation P C) BuildError → Type 0
     GivesWorked result = MatchResult result IsWorked RootRefused

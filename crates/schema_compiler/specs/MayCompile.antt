@@ -19,25 +19,25 @@ use Rattle.schema_compiler.specs.declared.compiler.compilation.Compilation.{Comp
 use Rattle.schema_compiler.specs.declared.compiler.setup.Compiler.{Compiler}
 
 module _ {P S K C : Type 0} (g : Given P S K C) where
-  -- the keys and nodes of a compilation are as the parts have them
+  -- the keys and nodes of a compilation are as the parts require
   abbrev pub TableIsWell : Compilation P C → Type 0
   TableIsWell c = IsWell g.task (filled g.point c)
 
-  -- what holds of rounds and guards while keys are found holds of it
+  -- the invariant of rounds and guards holds
   abbrev pub TableIsUnderWay : Compilation P C → Type 0
   TableIsUnderWay c = IsUnderWay g.task (filled g.point c)
 
-  -- so may be gone on with
+  -- a compilation that may be continued
   pub record IsReady (c : Compilation P C) : Type 0 where
     pub table : TableIsWell c
     pub under_way : TableIsUnderWay c
 
 module _ {A P S T C Maker Run K : Type 0} (r : ResolverMembers A P S) (t : TableMembers T C Maker Run K) (w : KeywordMembers C Run K) (compiler : Compiler A T) where
-  -- what the compiler is given
+  -- the input of the compiler
   abbrev pub g : Given P S K C
   g = given_by r t w compiler
 
-  -- what stands at the place of a key
+  -- the value at the place of a key
   abbrev pub value_at : SchemaKey P → Option Data
   value_at k = g.task.parts.resolver.value (place_of k.place)
 
@@ -45,15 +45,15 @@ module _ {A P S T C Maker Run K : Type 0} (r : ResolverMembers A P S) (t : Table
   abbrev pub HasNoNumber : Compilation P C → SchemaKey P → Type 0
   HasNoNumber c k = (i : ℕ) → slice_get (map (key_of g.point) c.keys) i ≢ Some (key_of g.point k)
 
-  -- one more target of references may be open, where it nests
+  -- one more target of references may be open, if it nests
   abbrev pub HasRoom : Compilation P C → Bool → Type 0
   HasRoom c nests = nests ≡ true → c.progress.depth < g.task.nested
 
-  -- a reference may be followed
+  -- a reference may be compiled
   abbrev pub MayRefer : Compilation P C → Type 0
   MayRefer c = IsReady g c
 
-  -- a key may be led to, of whose value this was read
+  -- an edge to a key may be made; this is known of its value
   pub record MayReach (c : Compilation P C) (k : SchemaKey P) (known : Reading) : Type 0 where
     pub table : TableIsWell g c
     pub under_way : TableIsUnderWay g c
@@ -70,14 +70,14 @@ module _ {A P S T C Maker Run K : Type 0} (r : ResolverMembers A P S) (t : Table
     pub table : TableIsWell g c
     pub absent : HasNoNumber c k
 
-  -- a key may get the next number and be open, as the target of an edge that nests or does not
+  -- a key may get the next number and be open, as the target of an edge that nests or not
   pub record MayOpen (c : Compilation P C) (k : SchemaKey P) (nests : Bool) : Type 0 where
     pub table : TableIsWell g c
     pub under_way : TableIsUnderWay g c
     pub absent : HasNoNumber c k
     pub room : HasRoom c nests
 
-  -- the same of a key that is compiled at once, of whose value this was read
+  -- the same for a key that is compiled at once; this is known of its value
   pub record MayCompile (c : Compilation P C) (k : SchemaKey P) (nests : Bool) (known : Reading) : Type 0 where
     pub table : TableIsWell g c
     pub under_way : TableIsUnderWay g c

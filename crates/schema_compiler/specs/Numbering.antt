@@ -1,4 +1,4 @@
--- What is so when a key that had no number has the next one.
+-- What holds after a new key gets the next number.
 use Rattle.std.specs.Prelude.{Bool, None, Option, Some, [], false, if◌then◌else◌, length, map, suc, ℕ, ◌++◌, ◌∷◌, ◌≡◌}
 use Rattle.theory_definitions.specs.Plan.{Key}
 use Rattle.theory_definitions.specs.Resolving.{Resolver}
@@ -12,7 +12,7 @@ use Rattle.schema_compiler.specs.Passing.{Numbered}
 use Rattle.schema_compiler.specs.UnderWay.{IsUnderWay}
 use Rattle.schema_compiler.specs.declared.compiler.compilation.Compilation.{Compilation}
 
--- the node of a key that had none: in progress in this round, or waiting
+-- the node of a new key: in progress in this round, or waiting
 abbrev pub node_begun : {S P C : Type 0} → Resolver P → (S → P) → SchemaKey S → Option ℕ → NodeEntry C
 node_begun resolving point key round = record {
   location = key.location;
@@ -26,7 +26,7 @@ node_begun resolving point key round = record {
 }
 
 module _ {S P K C : Type 0} (g : Task P K C) (point : S → P) (old new : Compilation S C) (k : Key P) where
-  -- the key has this number, with a node in progress in this round, or waiting; all else is as it was
+  -- the key has this number, with a node in progress in this round or waiting; nothing else changes
   pub record TakesNext (round : Option ℕ) (n : ℕ) : Type 0 where
     pub table : IsWell g (filled point new)
     pub keys : map (key_of point) new.keys ≡ map (key_of point) old.keys ++ k ∷ []
@@ -35,7 +35,7 @@ module _ {S P K C : Type 0} (g : Task P K C) (point : S → P) (old new : Compil
     pub reserved : new.reservations ≡ old.reservations
     pub number : n ≡ length old.nodes
 
-  -- the key has this number, and is open: what is made from now on is made inside it
+  -- the key has this number and is open: what is made from now on is made inside it
   pub record BeginsNext (nests : Bool) (n : ℕ) : Type 0 where
     pub table : IsWell g (filled point new)
     pub under_way : IsUnderWay g (filled point new)

@@ -1,4 +1,4 @@
--- What a compilation is given, as parts.
+-- The input of a compilation, as parts.
 use Rattle.std.specs.Prelude.{Bool, map, string_bytes}
 use Rattle.serde_json.specs.Data.{Members}
 use Rattle.theory_definitions.specs.Instance.{Text}

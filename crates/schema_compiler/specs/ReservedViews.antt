@@ -27,17 +27,17 @@ reserved_of r = record { purpose = purpose_of r.kind; object = place_of r.object
 abbrev pub reserved_by : PendingKind → code.SchemaPlace → String Global → spec.Reserved
 reserved_by kind object keyword = record { purpose = purpose_of kind; object = place_of object; keyword = string_bytes keyword; node = spec.in_force }
 
--- the number that is pending is found, or there is none
+-- the pending number is found, or there is none
 abbrev pub FindsPending : List spec.Reserved → Purpose → SchemaPlace → Option PendingSchemaNode → Type 0
 FindsPending rs purpose object o = MatchOption o (spec.NonePending rs purpose object) (λ n. spec.IsPending rs purpose object n.0)
 
--- a maker is told the number that is pending, or that there is none
+-- the reply is the pending number, or that there is none
 abbrev pub TellsPending : List spec.Reserved → Purpose → SchemaPlace → MakerReply → Type 0
 TellsPending rs purpose object (reply.Pending None) = spec.NonePending rs purpose object
 TellsPending rs purpose object (reply.Pending (Some n)) = spec.IsPending rs purpose object n.0
 TellsPending rs purpose object _ = ⊥
 
--- a maker is told that it reserved this number
+-- the reply is that this number was reserved
 abbrev pub TellsReserved : ℕ → MakerReply → Type 0
 TellsReserved number (reply.Reserved n) = n.0 ≡ number
 TellsReserved number _ = ⊥

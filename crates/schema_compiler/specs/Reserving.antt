@@ -1,5 +1,6 @@
--- Numbers that makers reserve, each for an object and a purpose: it is in force until its maker ends, and then stands for a
--- node of the keyword that was made alone, or of no entry. They are counted apart from the numbers of nodes.
+-- Numbers that makers reserve, each for an object and a purpose. A number is in force until its
+-- maker ends, and then stands for a node with only the keyword that was made, or for a node without
+-- an entry. They are counted apart from the numbers of nodes.
 use Rattle.std.specs.Prelude.{Bool, List, None, Option, Some, [], false, if◌then◌else◌, map, slice_get, suc, true, zero, ℕ, ◌&&◌, ◌<◌, ◌≡◌, ◌++◌, ◌∷◌}
 use Rattle.theory_definitions.specs.Instance.{Text}
 use Rattle.theory_definitions.specs.Drafts.{SchemaPlace, same_schema_place}
@@ -7,7 +8,8 @@ use Rattle.theory_definitions.specs.Making.{Purpose, for_items, for_properties}
 use Rattle.theory_definitions.specs.Guarded.{NodePart}
 use Rattle.schema_keys.specs.Compiling.{Each}
 
--- what a reserved number stands for: nothing yet, as its maker goes on; a node of the maker's keyword alone; or one of no entry
+-- what a reserved number stands for: nothing while its maker runs; then a node with only the
+-- maker's keyword, or a node without an entry
 pub data ReservedNode : Type 0 where
   in_force : ReservedNode
   of_its_keyword : ReservedNode
@@ -39,7 +41,7 @@ is_for purpose object r = same_purpose r.purpose purpose && is_in_force r.node &
 abbrev pub NonePending : List Reserved → Purpose → SchemaPlace → Type 0
 NonePending rs purpose object = (i : ℕ) (r : Reserved) → slice_get rs i ≡ Some r → is_for purpose object r ≡ false
 
--- the number that was reserved last for this purpose and this object, of those that are in force
+-- the last number in force that was reserved for this purpose and this object
 pub record IsPending (rs : List Reserved) (purpose : Purpose) (object : SchemaPlace) (i : ℕ) : Type 0 where
   pub reserved : Reserved
   pub at : slice_get rs i ≡ Some reserved
@@ -60,7 +62,7 @@ pub record Reserves (rs rs' : List Reserved) : Type 0 where
 abbrev pub with_node : ReservedNode → Reserved → Reserved
 with_node node r = record { purpose = r.purpose; object = r.object; keyword = r.keyword; node = if is_in_force r.node then node else r.node }
 
--- those from a number on
+-- the same for those from a number on
 abbrev pub with_nodes_from : ℕ → ReservedNode → List Reserved → List Reserved
 with_nodes_from n node [] = []
 with_nodes_from zero node (r ∷ rs) = with_node node r ∷ with_nodes_from zero node rs
@@ -70,19 +72,19 @@ with_nodes_from (suc n) node (r ∷ rs) = r ∷ with_nodes_from n node rs
 abbrev pub IsOwn : SchemaPlace → Text → Reserved → Type 0
 IsOwn object keyword r = is_in_force r.node ≡ true → (r.object ≡ object) × (r.keyword ≡ keyword)
 
--- what a maker that has not ended reserved since, and what makers below it did
+-- the reservations of a maker that has not ended, and of the makers below it
 pub record Holds (object : SchemaPlace) (keyword : Text) (rs rs' : List Reserved) : Type 0 where
   pub more : List Reserved
   pub added : rs' ≡ rs ++ more
   pub own : Each (IsOwn object keyword) more
 
--- a maker has ended: what it had reserved stands for this node
+-- a maker has ended: its reservations stand for this node
 pub record Ends (object : SchemaPlace) (keyword : Text) (node : ReservedNode) (rs rs' : List Reserved) : Type 0 where
   pub held : List Reserved
   pub own : Each (IsOwn object keyword) held
   pub filled : rs' ≡ rs ++ map (with_node node) held
 
--- what a maker's reservations stand for, by the keyword that it made, if it made one
+-- what a maker's reservations stand for, given the keyword that it made, if any
 abbrev pub node_made : {C : Type 0} → Option (NodePart C) → ReservedNode
 node_made None = of_no_entry
 node_made (Some x) = of_its_keyword

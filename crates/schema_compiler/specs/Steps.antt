@@ -1,4 +1,4 @@
--- What the compiler's functions answer where nothing is refused: the step that was made, and what came of it.
+-- The results of the compiler's functions if nothing is refused: the step, and what it made.
 use Rattle.std.specs.Prelude.{List, None, Option, Some, [], slice_get, ℕ, ◌≡◌, ◌∷◌}
 use Rattle.serde_json.specs.Data.{Data, Members}
 use Rattle.theory_definitions.specs.Instance.{Text}
@@ -22,20 +22,21 @@ module _ {S K R C : Type 0} (w : Parts S K R) (shape : C → K) (limit : ℕ) (k
     pub grown : IsGrown (Reached w k) keys keys' nodes nodes'
     pub number : slice_get keys' n ≡ Some k
 
-  -- a key has a number, and this edge leads there
+  -- a key has a number, and this edge leads to it
   pub record IsEdgeTo (k : Key S) (path : Text) (e : NodeEdge) : Type 0 where
     pub table : IsTable w shape limit keys' nodes'
     pub grown : IsGrown (Reached w k) keys keys' nodes nodes'
     pub number : slice_get keys' e.node ≡ Some k
     pub at_path : e.path ≡ path
 
-  -- what was asked for has a number, and this edge leads there; no edge where nothing was asked for
+  -- the target of the requested edge has a number, and this edge leads to it; no edge if none was
+  -- requested
   pub record IsAnswered (asked : Option (Edge S)) (cs : List Cause) (o : Option NodeEdge) : Type 0 where
     pub step : IsStep w shape limit (option_list asked) cs keys keys' nodes nodes'
     pub leads : LeadsTo w keys' o asked
 
   module _ (es : List (Edge S)) (cs : List Cause) (k : Key S) where
-    -- a step that made a member's part, if it is to have one
+    -- a step that made a member's part, if there is one
     pub record MakesPart (o : Option (NodePart C)) (wanted : Option (Part K)) : Type 0 where
       pub step : IsStep w shape limit es cs keys keys' nodes nodes'
       pub made : IsMadePart w keys' shape k o wanted
@@ -52,7 +53,7 @@ module _ {S K R C : Type 0} (w : Parts S K R) (shape : C → K) (limit : ℕ) (k
       pub plan : IsPlan w keys' shape k p wanted
       pub annotated : annotations ≡ wanted_annotations
 
--- the plan of a part that stands alone
+-- the plan with only this part
 abbrev pub alone : {C : Type 0} → Option (NodePart C) → NodePlan C
 alone None = node_always
 alone (Some x) = node_these (x ∷ [])

@@ -1,4 +1,5 @@
--- The table while keys are found: which rounds its numbers are of, what is open, and how the edges stand that were made.
+-- The table while keys are found: the rounds of its numbers, which of them are open, and how the
+-- edges are guarded.
 use Rattle.std.specs.Prelude.{Bool, List, None, Option, Some, [], false, length, map, slice_get, true, ℕ, ◌<◌, ◌∷◌, ◌≡◌, ◌≤◌}
 use Rattle.serde_json.specs.Data.{Data, Members}
 use Rattle.theory_definitions.specs.Instance.{Place, Text}
@@ -12,12 +13,12 @@ use Rattle.schema_compiler.specs.Carried.{Table, Task}
 use Rattle.schema_compiler.specs.Steps.{part_edges}
 use Rattle.schema_compiler.specs.Reserving.{Reserves}
 
--- how far the finding of keys has come
+-- the progress of finding keys
 abbrev pub course_of : {S C : Type 0} → Table S C → Course S
 course_of t = record { keys = t.keys; standings = map standing_of t.nodes; round = t.round; depth = t.depth; loose = t.loose }
 
--- an edge that was made since the innermost open number was begun: it is guarded as its target stands, and where that is not
--- settled, so is noted
+-- an edge that was made since the innermost open number was begun: it is guarded as the state of
+-- its target requires, and it is recorded if the target is not final
 pub record EdgeNow {S C : Type 0} (t : Table S C) (e : NodeEdge) : Type 0 where
   pub entry : NodeEntry C
   pub at : slice_get t.nodes e.node ≡ Some entry
@@ -28,21 +29,21 @@ pub record EdgeNow {S C : Type 0} (t : Table S C) (e : NodeEdge) : Type 0 where
 abbrev pub EdgesWithin : {C : Type 0} → List (NodeEntry C) → Type 0
 EdgesWithin {C} nodes = (i : ℕ) (n : NodeEntry C) (p : NodePlan C) (e : NodeEdge) → slice_get nodes i ≡ Some n → n.plan ≡ Some p → In (node_edges p) e → e.node < length nodes
 
--- what holds of rounds and guards while keys are found
+-- the invariant of rounds and guards while keys are found
 pub record IsUnderWay {S K C : Type 0} (g : Task S K C) (t : Table S C) : Type 0 where
   pub guards : GuardsByStanding t.nodes
   pub within : EdgesWithin t.nodes
   -- no round is later than this one
   pub rounds : (i r : ℕ) (n : NodeEntry C) → slice_get t.nodes i ≡ Some n → n.round ≡ Some r → r ≤ t.round
-  -- what is open is of this round
+  -- an open number is of this round
   pub opens : (i r : ℕ) (n : NodeEntry C) → slice_get t.nodes i ≡ Some n → n.plan ≡ None → n.round ≡ Some r → r ≡ t.round
-  -- what has its form has a round, and a place in the order of forms
+  -- a number with its form has a round, and a place in the order of forms
   pub formed : (i : ℕ) (n : NodeEntry C) (p : NodePlan C) → slice_get t.nodes i ≡ Some n → n.plan ≡ Some p → (r : ℕ) × (n.round ≡ Some r) × (n.order < filled_count t.nodes)
   -- no more targets of references are open one inside another than may nest
   pub nested : t.depth ≤ g.nested
 
 module _ {S K C : Type 0} (g : Task S K C) (t t' : Table S C) where
-  -- these edges were asked for, one after another, and these were made
+  -- these edges were requested, one after another, and these were made
   pub record Goes (es : List (Edge S)) (made : List NodeEdge) : Type 0 where
     pub finds : Finds g.parts g.nested (course_of t) es (course_of t')
     pub now : Each (EdgeNow t') made
@@ -51,11 +52,11 @@ module _ {S K C : Type 0} (g : Task S K C) (t t' : Table S C) where
     pub same_round : t'.round ≡ t.round
     pub same_depth : t'.depth ≡ t.depth
     pub looser : t.loose ≡ true → t'.loose ≡ true
-    -- what was reserved on the way is given up
+    -- what was reserved meanwhile is given up
     pub reserves : Reserves t.reserved t'.reserved
 
   module _ (k : Key S) where
-    -- the key has this number, as the target of an edge that nests or does not
+    -- the key has this number, as the target of an edge that nests or not
     pub record Reaches (nesting : Bool) (i : ℕ) : Type 0 where
       pub visits : (e : Edge S) → e.key ≡ k → nests e ≡ nesting → Visits g.parts g.nested (course_of t) e (course_of t') i
       pub under_way : IsUnderWay g t'

@@ -1,4 +1,5 @@
--- How far the worklist is worked off: the numbers below one have their forms, each other one has its form or waits.
+-- The progress of the worklist: the numbers below one have their forms, and each other one has its
+-- form or waits.
 use Rattle.std.specs.Prelude.{Some, [], length, slice_get, ℕ, ◌<◌, ◌≡◌, ◌≤◌}
 use Rattle.theory_definitions.specs.Plan.{Key}
 use Rattle.theory_meaning.specs.Reach.{Reached}
@@ -24,13 +25,13 @@ module _ {S K C : Type 0} (g : Task S K C) (root : Key S) where
     pub first : slice_get t.keys 0 ≡ Some root
     -- no reservation is in force
     pub given_up : Each IsGivenUp t.reserved
-    -- what is still to come makes the whole
+    -- the rest of the work completes the whole
     pub order : (c : Course S) → WorksOff g.parts g.nested i (course_of t) c → WorksOff g.parts g.nested 0 (at_root root) c
 
   -- the list is worked off
   abbrev pub IsWorkedOff : Table S C → Type 0
   IsWorkedOff t = (i : ℕ) × (length t.keys ≤ i) × IsAtNumber t i
 
-  -- a refusal of the root's key, of which nothing is numbered
+  -- a refusal of the root's key, when nothing is numbered
   abbrev pub RefusesRootKey : BuildError → Type 0
   RefusesRootKey e = IsRefusal g.limit [] (Reached g.parts root) (StandsBelow g.parts root) e

@@ -1,9 +1,12 @@
-//! The compiler: from a key to numbered nodes, one for each key that is reached. What a key asks for is compiled before its
-//! own node is filled.
+//! The compiler: it makes numbered nodes, one for each key that is reached.
 //!
-//! What it is given is in `setup`, what it fills in `compilation`. Keys, the contexts where they stand, subschemas, the targets of
-//! references and the check by meta validators are of `schema_keys`, and handed on. The steps are in `vocabularies`, `makers`,
-//! `targets`, `entries` and `annotations`, references are in `ref_`.
+//! What a key requests is compiled before its own node is filled, unless it is in progress or
+//! waits.
+//!
+//! The compiler's input is in `setup`, its output in `compilation`. The steps are in
+//! `vocabularies`, `makers`, `targets`, `entries` and `annotations`, and references in `ref_`.
+//! Keys, contexts, subschemas, the targets of references, and validation by meta validators belong
+//! to `schema_keys` and are re-exported.
 ghost use Rattle.std.specs.Prelude.{IfErr, IfOk, OnOk};
 ghost use Rattle.schema_keys.specs.Alone.{RefusesVocabularies};
 ghost use Rattle.schema_compiler.specs.Compilation.{RefusesAlone, RefusesInOrder, RefusesRoot};
@@ -51,18 +54,24 @@ mod worklist;
 
 pub use schema_keys::{check, context, error, key};
 
-/// Compiles the schema of a key and every schema that it reaches through subschemas and references. Returns their keys and
-/// nodes, one number for each key, the given key's being 0. At most `nested_limit` targets of `$ref` and `$dynamicRef` are
-/// compiled one inside another; the others wait on a list, and each is compiled in a round of its own. A matcher, the runs of
-/// keywords, and the options' draft and base are not read, so the contract holds for all of them. A compiler of the same parts and
-/// limits may go on with the result, as by `compile_ref`.
+/// Compiles the schema of a key and every schema that it reaches.
+///
+/// It follows subschemas and references, and returns the keys that are reached and their nodes.
+/// Each key has one number, and the given key has number 0. At most `nested_limit` targets of
+/// `$ref` and `$dynamicRef` are compiled one inside another; any further ones wait on a list, and
+/// each is compiled in a round of its own.
+///
+/// The compiler reads no matcher, no runs of keywords, and neither the draft nor the base of the
+/// options, so the contract holds for all of them. A compiler with the same parts and limits may
+/// continue with the result, for example by `compile_ref`.
 ///
 /// # Errors
 ///
-/// Fails if a schema that is reached cannot be compiled: it is neither an object nor a boolean, a reference in it is no
-/// string or is refused by the resolver, a keyword refuses it, or a vocabulary that it requires is not declared. Fails also
-/// if more keys are reached than the limit, or out of memory. What the root itself requires comes first, of that the first that is not
-/// declared.
+/// A schema that is reached cannot be compiled: it is neither an object nor a boolean, a reference
+/// in it is no string or is refused by the resolver, a keyword refuses it, or it requires a
+/// vocabulary that is not declared. Or more keys are reached than the limit allows, or out of
+/// memory. The root's own vocabularies come first, and the first of these that is not declared is
+/// reported.
 pub fn compile<R: Resolver, K: Validate, T: KeywordTable<K>>(
     alloc: Global,
     resolver: &R,
@@ -81,11 +90,11 @@ pub fn compile<R: Resolver, K: Validate, T: KeywordTable<K>>(
     Ok(compile_subschema(alloc, resolver, table, options, nested_limit, root)?)
 }
 
-/// Refuses the key of a schema's root whose vocabularies hold a custom one that is not declared: the first of these is named.
+/// Refuses a root key that requires a custom vocabulary that is not declared.
 ///
 /// # Errors
 ///
-/// Fails if the root requires such a vocabulary, or out of memory.
+/// `BuildError::UnsupportedVocabulary` with the first of these vocabularies, or out of memory.
 pub fn check_vocabularies<R: Resolver, K: Validate, T: KeywordTable<K>>(
     alloc: Global,
     resolver: &R,
@@ -108,12 +117,14 @@ pub fn check_vocabularies<R: Resolver, K: Validate, T: KeywordTable<K>>(
     Ok(())
 }
 
-/// Compiles a schema as `compile` does, but by itself as a subschema of a document: whether the vocabularies of the key's own
-/// are declared is not asked, only of those that a reference leads to. Which nodes are shared has been found out.
+/// Compiles a schema like `compile`, but as a subschema of a document.
+///
+/// The key's own vocabularies need not be declared, only those of the targets of references. The
+/// result knows which of its nodes are shared.
 ///
 /// # Errors
 ///
-/// Fails where `compile` fails, but for the vocabularies of the key's own.
+/// The errors of `compile`, except for the key's own vocabularies.
 pub fn compile_subschema<R: Resolver, K: Validate, T: KeywordTable<K>>(
     alloc: Global,
     resolver: &R,
@@ -140,7 +151,7 @@ pub fn compile_subschema<R: Resolver, K: Validate, T: KeywordTable<K>>(
     Ok(compiled)
 }
 
-// The keywords of an object, by their priorities, and the members that become annotations.
+// The keywords of an object, by priority, and the members that become annotations.
 #[derive(Drop)]
 struct ObjectKeywords<K> {
     entries: Vec<Entry<K>>,
@@ -158,9 +169,11 @@ struct EntryHead<'n> {
 }
 
 impl<'p, R: Resolver, T> Compiler<'p, R, T> {
-    /// The edge to the node of a key, which is compiled first where it has no number, or put on the list where it nests and as
-    /// many targets as may nest are open. The value at the key's place is read only where the node is compiled and it was not
-    /// read already.
+    /// Returns the edge to the node of a key.
+    ///
+    /// If the key has no number, it is compiled first; or it is put on the list, if the edge nests
+    /// and as many targets are open as may nest. The value at the key's place is read only if the
+    /// node is compiled and the value was not read already.
     #[cycle(compile)]
     fn edge_to<K: Validate>(
         &self,
@@ -179,7 +192,7 @@ impl<'p, R: Resolver, T> Compiler<'p, R, T> {
         Ok(compiled.edge_at(number, path))
     }
 
-    // The number of a key, which is compiled first where it has none, or put on the list.
+    // The number of a key. A key without one is compiled first, or put on the list.
     #[cycle(compile)]
     fn number_of<K: Validate>(
         &self,
@@ -205,7 +218,7 @@ impl<'p, R: Resolver, T> Compiler<'p, R, T> {
         Ok(self.compiled_number(compiled, &shared, reading, nests)?)
     }
 
-    // The next number, for a key that has none, which is compiled at once.
+    // Compiles a key that has no number, at the next number.
     #[cycle(compile)]
     fn compiled_number<K: Validate>(
         &self,
@@ -230,7 +243,7 @@ impl<'p, R: Resolver, T> Compiler<'p, R, T> {
         Ok(number.0)
     }
 
-    // What a key's node asks of an instance, and its annotations.
+    // The form and the annotations of a key's node.
     #[cycle(compile)]
     fn planned_node<K: Validate>(
         &self,
@@ -254,7 +267,8 @@ impl<'p, R: Resolver, T> Compiler<'p, R, T> {
         }
     }
 
-    // What the node of an object asks of an instance; a `$ref` that stands alone is all of it.
+    // The form and the annotations of an object's node. A `$ref` that overrides its siblings is all
+    // of it.
     #[cycle(compile)]
     fn planned_object<K: Validate>(
         &self,
@@ -291,7 +305,6 @@ impl<'p, R: Resolver, T> Compiler<'p, R, T> {
         }
     }
 
-    // The keywords of an object, by their priorities, and the members that become annotations.
     #[cycle(compile)]
     fn keywords_of<K: Validate>(
         &self,
@@ -320,8 +333,9 @@ impl<'p, R: Resolver, T> Compiler<'p, R, T> {
         })
     }
 
-    // The keyword of a member, if it is one: the table's own, or else a built-in one; references are the engine's. The names
-    // that it absorbs are added.
+    // The keyword of a member, if it is one. The table's own keywords come first, then the
+    // standard's; references are compiled by the engine itself. The names that the keyword absorbs
+    // are added.
     #[cycle(compile)]
     fn entry_of<K: Validate>(
         &self,
@@ -366,7 +380,8 @@ impl<'p, R: Resolver, T> Compiler<'p, R, T> {
         }
     }
 
-    // The keyword that a maker makes. The names that it absorbs are added.
+    // Runs a maker and returns the keyword that it makes, if any. The names that it absorbs are
+    // added.
     #[cycle(compile)]
     fn made_entry<K: Validate>(
         &self,
@@ -450,7 +465,7 @@ impl<'p, R: Resolver, T> Compiler<'p, R, T> {
         Ok(self.edge_to(compiled, below.key, reading, false, below.pointer)?)
     }
 
-    /// The edge to a reference's target; none where the reference is skipped.
+    /// Returns the edge to a reference's target; `None` if the reference is skipped.
     #[cycle(compile)]
     pub(crate) fn reference_edge<K: Validate>(
         &self,

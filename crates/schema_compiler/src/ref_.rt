@@ -1,4 +1,4 @@
-//! The keywords that references are.
+//! Keywords that are references.
 ghost use Rattle.schema_keys.specs.declared.references.ReferenceKind.TheVariants.{Dynamic, Recursive, Ref};
 ghost use Rattle.schema_compiler.specs.MayCompile.{MayRefer};
 ghost use Rattle.schema_compiler.specs.Gives.{GivesReference};
@@ -16,13 +16,16 @@ use schema_traits::table::KeywordTable;
 use serde_json::Value;
 
 impl<'p, R: Resolver, T> Compiler<'p, R, T> {
-    /// Compiles the `$ref` with this value that stands in a key's schema under a keyword of this name, and what it leads to.
-    /// Returns its keyword; none if it leads to the very object that holds it.
+    /// Compiles a `$ref` with this value, and what it leads to.
+    ///
+    /// It belongs to the key's schema, under a keyword with this name. Returns the keyword; `None`
+    /// if the reference leads to the very object that holds it.
     ///
     /// # Errors
     ///
-    /// Fails if the value is no string, if the resolver refuses it, if a vocabulary that the target requires is not declared,
-    /// if a schema that is reached cannot be compiled or is one too many, or if memory cannot be allocated.
+    /// The value is no string, the resolver refuses it, the target requires a vocabulary that is
+    /// not declared, a schema that is reached cannot be compiled or exceeds the limit, or out of
+    /// memory.
     pub fn compile_ref<K: Validate>(
         &self,
         compiled: &mut Compilation<R::State, K>,
@@ -40,13 +43,16 @@ impl<'p, R: Resolver, T> Compiler<'p, R, T> {
         self.reference_by(compiled, key, name, priority, ReferenceKind::Ref, value)
     }
 
-    /// Compiles the `$dynamicRef` with this value that stands in a key's schema under a keyword of this name, and what it leads to.
-    /// Returns its keyword; none if it leads to the very object that holds it.
+    /// Compiles a `$dynamicRef` with this value, and what it leads to.
+    ///
+    /// It belongs to the key's schema, under a keyword with this name. Returns the keyword; `None`
+    /// if the reference leads to the very object that holds it.
     ///
     /// # Errors
     ///
-    /// Fails if the value is no string, if the resolver refuses it, if a vocabulary that the target requires is not declared,
-    /// if a schema that is reached cannot be compiled or is one too many, or if memory cannot be allocated.
+    /// The value is no string, the resolver refuses it, the target requires a vocabulary that is
+    /// not declared, a schema that is reached cannot be compiled or exceeds the limit, or out of
+    /// memory.
     pub fn compile_dynamic_ref<K: Validate>(
         &self,
         compiled: &mut Compilation<R::State, K>,
@@ -64,13 +70,15 @@ impl<'p, R: Resolver, T> Compiler<'p, R, T> {
         self.reference_by(compiled, key, name, priority, ReferenceKind::Dynamic, value)
     }
 
-    /// Compiles the `$recursiveRef` with this value that stands in a key's schema under a keyword of this name, and what it leads to.
-    /// Returns its keyword.
+    /// Compiles a `$recursiveRef` with this value, and what it leads to.
+    ///
+    /// It belongs to the key's schema, under a keyword with this name. Returns the keyword.
     ///
     /// # Errors
     ///
-    /// Fails if the value is no string, if the resolver refuses it, if a vocabulary that the target requires is not declared,
-    /// if a schema that is reached cannot be compiled or is one too many, or if memory cannot be allocated.
+    /// The value is no string, the resolver refuses it, the target requires a vocabulary that is
+    /// not declared, a schema that is reached cannot be compiled or exceeds the limit, or out of
+    /// memory.
     pub fn compile_recursive_ref<K: Validate>(
         &self,
         compiled: &mut Compilation<R::State, K>,
@@ -95,7 +103,7 @@ impl<'p, R: Resolver, T> Compiler<'p, R, T> {
         )
     }
 
-    /// The reference under a keyword of this name, by its kind; none where it is skipped.
+    /// Compiles the reference of this kind under a keyword; `None` if it is skipped.
     #[cycle(compile)]
     pub(crate) fn reference_by<K: Validate>(
         &self,

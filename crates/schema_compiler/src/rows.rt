@@ -1,12 +1,15 @@
-//! A worked row: what the definitions say of the order of keys, and of which edges are guarded, in a small schema.
+//! A worked example: the order of keys and the guarded edges of a small schema.
 ghost use Rattle.schema_compiler.specs.Rows.{CircleCloses, FoundNested, FoundWaiting, OnlyTheWayBack, nested_standings, waiting_standings};
 
-/// The keys of `{"$ref": "#/$defs/a", "$defs": {"a": {"not": {"$ref": "#"}}}}` are found in the order root, `/$defs/a`, what
-/// stands in `not`: with eight targets nested in one round, with none nested in two. Of the edges of this cycle only the one back
-/// to the root is guarded, either way.
+/// States how the keys of a small cyclic schema are found.
 ///
-/// The row is computed from the definitions alone, over a tiny resolver, table, matcher and keyword type. The function does
-/// nothing when it runs.
+/// The keys of `{"$ref": "#/$defs/a", "$defs": {"a": {"not": {"$ref": "#"}}}}` are found in this
+/// order: the root, `/$defs/a`, and the value of `not`. With eight nested targets, that takes one
+/// round; with none, two. In both cases, the edge back to the root is the only guarded edge of this
+/// cycle.
+///
+/// The example is computed from the definitions alone, with a tiny resolver, table, matcher and
+/// keyword type. The function does nothing when it runs.
 pub fn guarded_rows()
     ensures circle_closes { CircleCloses }
     ensures found_nested { FoundNested }

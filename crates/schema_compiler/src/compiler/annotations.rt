@@ -1,4 +1,7 @@
-//! Annotations: the members that no keyword is made of, that no keyword absorbs, and whose names the draft does not know.
+//! Annotations: the members that are no keyword of the schema.
+//!
+//! These are the members that no keyword is made of, that no keyword absorbs, and whose names the
+//! draft does not know.
 ghost use Rattle.std.specs.Prelude.{◌≡◌, ◌++◌, OnOk, map, option_map, string_bytes, if◌then◌else◌};
 ghost use Rattle.serde_json.specs.Data.{put};
 ghost use Rattle.serde_json.specs.View.{view, members_view};
@@ -12,7 +15,7 @@ use schema_traits::resolver::Resolver;
 use serde_json::{Map, Value};
 
 impl<'p, R: Resolver, T> Compiler<'p, R, T> {
-    /// Keeps a member whose name the key's draft does not know.
+    /// Stores a member whose name the key's draft does not know.
     pub(crate) fn keep_unknown(
         &self,
         key: &SchemaKey<R::State>,
@@ -32,7 +35,7 @@ impl<'p, R: Resolver, T> Compiler<'p, R, T> {
     }
 }
 
-/// Adds the names that a keyword absorbs to those of the keywords before it.
+/// Appends the names that a keyword absorbs to those of the keywords before it.
 pub(crate) fn absorb(absorbed: &mut Vec<String>, names: Vec<String>) -> Result<(), OutOfMemory>
     ensures added { OnOk result (map string_bytes absorbed.new.items ≡
         map string_bytes absorbed.old.items ++ map string_bytes names.items) }
@@ -42,7 +45,7 @@ pub(crate) fn absorb(absorbed: &mut Vec<String>, names: Vec<String>) -> Result<(
     Ok(())
 }
 
-/// The members without those of these names.
+/// Returns the members except those with these names.
 pub(crate) fn without(members: Map<String, Value>, names: &[String]) -> Map<String, Value>
     ensures left { members_view result.entries ≡ without (map string_bytes names.now) (members_view members.entries) }
 {
@@ -53,7 +56,7 @@ pub(crate) fn without(members: Map<String, Value>, names: &[String]) -> Map<Stri
     left
 }
 
-/// The members as an object, where there are any.
+/// Returns the members as an object, if there are any.
 pub(crate) fn object_of(members: Map<String, Value>) -> Option<Value>
     ensures object { option_map view result ≡ object_of (members_view members.entries) }
 {

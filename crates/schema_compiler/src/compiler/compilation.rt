@@ -1,4 +1,4 @@
-//! The keys that were reached and their nodes, while they are filled.
+//! The keys that are reached, and their nodes, while they are filled.
 ghost use Rattle.std.specs.Prelude.{◌≡◌, ◌<◌, ◌≤◌, ◌++◌, ◌∷◌, [], true, false, suc, IfOk, OnOk};
 ghost use Rattle.std.specs.Prelude.{MatchResult, length, if◌then◌else◌};
 ghost use Rattle.schema_compiler.specs.Numbering.{node_begun};
@@ -23,8 +23,11 @@ use std::alloc::Global;
 use std::hash::Hash;
 use std::rc::Rc;
 
-/// How far a compilation has come: the number that the round began with, how many targets of references are open one inside
-/// another, and whether an edge was made, since the innermost open number was begun, to one that is not settled.
+/// The progress of a compilation.
+///
+/// It holds the number that the round began with, how many targets of references are open one
+/// inside another, and whether an edge was made to a number that is not final, since the innermost
+/// open number was begun.
 #[derive(Clone, Copy)]
 pub struct Progress {
     pub round: usize,
@@ -32,8 +35,9 @@ pub struct Progress {
     pub reaches_unsettled: bool,
 }
 
-/// The result of a compilation: the keys that were reached, and at the same numbers their nodes; how far it has come; and the
-/// numbers that makers reserved.
+/// The result of a compilation: the keys that are reached, and their nodes.
+///
+/// A key and its node have the same number.
 #[derive(Drop)]
 pub struct Compilation<S: Hash, K> {
     pub keys: Keys<S>,
@@ -43,7 +47,9 @@ pub struct Compilation<S: Hash, K> {
     pub reservations: Reservations,
 }
 
-/// What a key's node asks of an instance, and the members that no keyword is made of, as an object.
+/// The form of a key's node, and its annotations.
+///
+/// The annotations are the members that no keyword is made of, as an object.
 #[derive(Drop)]
 pub(crate) struct PlannedNode<K> {
     pub form: NodeForm<K>,
@@ -51,7 +57,9 @@ pub(crate) struct PlannedNode<K> {
 }
 
 impl Progress {
-    /// A round that begins with this number: no target is open inside another yet.
+    /// Returns the start of a round that begins with this number.
+    ///
+    /// No target is open.
     pub(crate) fn at_round(number: usize) -> Progress
         ensures round { result.round ≡ number }
         ensures depth { result.depth ≡ 0 }
@@ -64,7 +72,9 @@ impl Progress {
         }
     }
 
-    /// Whether the target of an edge has to wait: it nests, and as many targets as may nest are open.
+    /// Returns whether the target of an edge has to wait.
+    ///
+    /// It has to if it nests and as many targets are open as may nest.
     pub(crate) fn is_full(self, nests: bool, limit: usize) -> bool
         ensures full { result ≡ true → (nests ≡ true) × (limit ≤ self.depth) }
         ensures room { result ≡ false → nests ≡ true → self.depth < limit }
@@ -72,7 +82,9 @@ impl Progress {
         nests && self.depth >= limit
     }
 
-    /// The same round inside a number that is begun; one that nests counts as open.
+    /// Returns the progress inside a number that is begun, in the same round.
+    ///
+    /// A target that nests counts as open.
     pub(crate) fn inside(self, nests: bool, limit: usize) -> Progress
         requires room { nests ≡ true → self.depth < limit }
         ensures round { result.round ≡ self.round }
@@ -89,7 +101,7 @@ impl Progress {
 }
 
 impl<S: Hash + Drop, K: Validate> Compilation<S, K> {
-    /// Returns a table with no key and no node.
+    /// Returns an empty compilation.
     pub fn new(alloc: Global) -> Compilation<S, K>
         ensures keys { result.keys ≡ [] }
         ensures nodes { result.nodes ≡ [] }
@@ -106,8 +118,10 @@ impl<S: Hash + Drop, K: Validate> Compilation<S, K> {
         }
     }
 
-    /// The edge to a number that is there, made now: guarded where the number is in progress, or an unsettled one of an earlier
-    /// round. Where the number is not settled, so is noted.
+    /// Returns an edge to an existing number, which is made now.
+    ///
+    /// It is guarded if the number is in progress, or if it is not final and of an earlier round.
+    /// If the number is not final, that is recorded.
     pub(crate) fn edge_at(&mut self, number: usize, path: Location) -> Edge
         requires within { number < length self.old.nodes }
         ensures node { result.node.0 ≡ number }
@@ -130,7 +144,7 @@ impl<S: Hash + Drop, K: Validate> Compilation<S, K> {
 }
 
 impl<'p, R: Resolver, T> Compiler<'p, R, T> {
-    // Adds the node of a key: in progress in this round, or else waiting.
+    // Adds the node of a key. It is in progress if it has a round, and waits if it has none.
     fn add_node<K: Validate>(
         &self,
         nodes: &mut Nodes<K>,
@@ -149,7 +163,7 @@ impl<'p, R: Resolver, T> Compiler<'p, R, T> {
         }
     }
 
-    // Gives a key the next number, with a node that is in progress in this round, or waits.
+    // Adds a key and its node at the next number.
     fn number_key<K: Validate>(
         &self,
         compiled: &mut Compilation<R::State, K>,
@@ -169,7 +183,7 @@ impl<'p, R: Resolver, T> Compiler<'p, R, T> {
         Ok(number)
     }
 
-    /// Gives a key the next number, with a node that is in progress in this round, or else waits, unless the limit is reached.
+    /// Adds a key and its node at the next number, unless the limit is reached.
     pub(crate) fn number_within<K: Validate>(
         &self,
         compiled: &mut Compilation<R::State, K>,
@@ -187,8 +201,9 @@ impl<'p, R: Resolver, T> Compiler<'p, R, T> {
         Ok(self.number_key(compiled, key, round)?)
     }
 
-    /// Gives a key that is compiled at once the next number, with a node that is in progress in this round, unless the limit is
-    /// reached. What is made from now on is made inside it.
+    /// Adds a key that is compiled at once, unless the limit is reached.
+    ///
+    /// Its node is in progress in this round. What is made from now on is made inside it.
     pub(crate) fn begin_number<K: Validate>(
         &self,
         compiled: &mut Compilation<R::State, K>,

@@ -1,4 +1,4 @@
-//! Keywords in the order of their priorities; those of one priority stay in the order in which they came.
+//! Keywords in order of priority; those of one priority keep their order.
 ghost use Rattle.std.specs.Prelude.{◌≡◌, ◌≤◌, IfOk, None, map, length, insert, option_map, string_bytes, OnOk};
 ghost use Rattle.schema_traits.specs.Showing.{Shows, Yields};
 ghost use Rattle.theory_definitions.specs.Guarded.{NodePart};
@@ -13,7 +13,7 @@ use schema_node_table::node::{Entry, EntryForm, NodeForm};
 use schema_reports::location::OutOfMemory;
 use std::alloc::Global;
 
-// The place after all keywords of this priority or a lower one that stand in front.
+// The index after the leading keywords with this priority or a lower one.
 fn place_for<K>(entries: &[Entry<K>], priority: u8) -> usize
     ensures within { result ≤ length entries.now }
     ensures place { (x : NodePart K) → x.priority ≡ priority →
@@ -25,7 +25,7 @@ fn place_for<K>(entries: &[Entry<K>], priority: u8) -> usize
         .unwrap_or(entries.len())
 }
 
-/// Puts a keyword in its place.
+/// Inserts a keyword at its place.
 pub(crate) fn insert_by_priority<K: Drop>(
     entries: &mut Vec<Entry<K>>,
     entry: Entry<K>,
@@ -37,7 +37,7 @@ pub(crate) fn insert_by_priority<K: Drop>(
     Ok(())
 }
 
-// The name of a keyword, which is copied where it is not that of the standard's keyword of this priority.
+// The name of a keyword. It is copied unless it is that of the standard's keyword of this priority.
 fn name_for(name: &String, priority: u8) -> Result<KeywordName, OutOfMemory>
     ensures name { Yields result (string_bytes name.now) }
 {
@@ -49,7 +49,7 @@ fn name_for(name: &String, priority: u8) -> Result<KeywordName, OutOfMemory>
     KeywordName::copied(name)
 }
 
-/// A keyword of this name and form.
+/// Returns a keyword with this name and form.
 pub(crate) fn entry_named<K: Drop>(
     name: &String,
     priority: u8,
@@ -71,7 +71,9 @@ pub(crate) fn entry_named<K: Drop>(
     })
 }
 
-/// What a keyword that is taken alone asks of an instance; nothing where it is skipped.
+/// Returns the plan of a node with one keyword.
+///
+/// Without a keyword, the node accepts everything.
 pub(crate) fn node_alone<K: Drop>(
     alloc: Global,
     entry: Option<Entry<K>>,

@@ -1,4 +1,4 @@
-//! The maker of one keyword: how it begins, and what it is told of what it asked for.
+//! The maker of one keyword: its start, and the replies to its requests.
 ghost use Rattle.std.specs.Prelude.{◌≡◌, ◌++◌, ◌∷◌, [], OnOk, length, map, option_map};
 ghost use Rattle.schema_traits.specs.Showing.{Shows};
 ghost use Rattle.schema_traits.specs.MakerViews.{begun, is_own, maker_reply_of, name_of};
@@ -16,7 +16,7 @@ use schema_traits::table::{KeywordOrigin, KeywordTable, MakerReply};
 use serde_json::{Map, Value};
 
 impl<'p, R: Resolver, T> Compiler<'p, R, T> {
-    /// The maker of a key's member, which has asked for nothing yet.
+    /// Returns the maker of a key's member, before its first request.
     pub(crate) fn maker_of<K: Validate>(
         &self,
         key: &SchemaKey<R::State>,
@@ -42,7 +42,6 @@ impl<'p, R: Resolver, T> Compiler<'p, R, T> {
     }
 }
 
-// What a maker makes, by the name.
 fn origin_of(own: bool, name: &str) -> KeywordOrigin<'_>
     ensures own { is_own result ≡ own }
     ensures name { name_of result ≡ name.now }
@@ -54,7 +53,7 @@ fn origin_of(own: bool, name: &str) -> KeywordOrigin<'_>
     }
 }
 
-// What a maker is told of a request with this number, which got this edge.
+// The reply to the request with this number, which got this edge.
 fn reply_for(edge: &Option<Edge>, number: usize) -> MakerReply
     ensures reply { maker_reply_of result ≡ answers (option_map edge_of edge.now) number }
 {
@@ -64,7 +63,7 @@ fn reply_for(edge: &Option<Edge>, number: usize) -> MakerReply
     }
 }
 
-/// Keeps the edge that a request got, and gives what the maker is told of it.
+/// Appends the edge that a request got, and returns the reply to the maker.
 pub(crate) fn keep_edge(
     edges: &mut Vec<Option<Edge>>,
     edge: Option<Edge>,

@@ -1,5 +1,7 @@
-//! The numbers that makers reserve: each is in force until its maker ends, and stands for a node of the keyword that was made
-//! alone, or of no entry. They are only ever marked, and counted apart from the numbers of nodes.
+//! The numbers that makers reserve.
+//!
+//! Each is in force until its maker ends. Then it stands for a node with only the keyword that was
+//! made, or for a node without an entry. They are counted apart from the numbers of nodes.
 ghost use Rattle.std.specs.Prelude.{◌≡◌, ◌++◌, ◌∷◌, [], IfOk, OnErr, OnOk, length, map};
 ghost use Rattle.schema_traits.specs.MakerViews.{purpose_of};
 ghost use Rattle.schema_traits.specs.ResolverViews.{place_of};
@@ -13,8 +15,10 @@ use schema_traits::table::{MakerReply, PendingKind};
 use std::alloc::Global;
 use std::marker::Model;
 
-/// What a reserved number stands for: nothing yet, as its maker goes on; a node of the maker's keyword alone; or one of no
-/// entry, where the maker made nothing.
+/// What a reserved number stands for.
+///
+/// It stands for nothing while its maker runs, then for a node with only the maker's keyword, or
+/// for a node without an entry if the maker made no keyword.
 #[derive(Clone, Copy, PartialEq, Eq)]
 pub enum ReservedNode {
     InForce,
@@ -22,7 +26,9 @@ pub enum ReservedNode {
     OfNoEntry,
 }
 
-/// A number that the maker of a keyword reserved for a purpose: the place of the object, and the keyword's name.
+/// A number that a maker reserved, for a purpose.
+///
+/// It names the place of the object, and the keyword.
 #[derive(Drop)]
 pub struct Reservation {
     pub kind: PendingKind,
@@ -31,7 +37,7 @@ pub struct Reservation {
     pub node: ReservedNode,
 }
 
-/// The numbers that were reserved, in order. A contract sees them as a list.
+/// The reserved numbers, in order. A contract sees them as a list.
 #[derive(Drop)]
 pub struct Reservations {
     items: Vec<Reservation>,
@@ -48,14 +54,14 @@ impl Model for Reservations {
 }
 
 impl Reservation {
-    // Whether it is for this purpose and this object, and in force.
+    // Returns whether it is in force, for this purpose and this object.
     fn is_for(&self, kind: PendingKind, object: &SchemaPlace) -> bool
         ensures is { result ≡ is_for (purpose_of kind) (place_of object.now) (reserved_of self.now) }
     {
         self.kind == kind && self.node == ReservedNode::InForce && self.object == *object
     }
 
-    // Gets its node, where it is in force.
+    // Sets its node, if it is in force.
     fn fill(&mut self, node: ReservedNode)
         ensures filled { reserved_of self.new ≡ with_node (node_of node) (reserved_of self.old) }
     {
@@ -65,7 +71,7 @@ impl Reservation {
     }
 }
 
-// The number of the last one that is for this purpose and this object, and in force.
+// The last number in force for this purpose and this object.
 fn last_pending(
     items: &[Reservation],
     kind: PendingKind,
@@ -83,7 +89,7 @@ fn last_pending(
     None
 }
 
-// Those from a number on get this node, where they are in force.
+// Sets the node of those in force from a number on.
 fn fill_from(items: &mut Vec<Reservation>, from: usize, node: ReservedNode)
     ensures filled { map reserved_of items.new.items ≡ with_nodes_from from (node_of node) (map reserved_of items.old.items) }
 {
@@ -95,7 +101,7 @@ fn fill_from(items: &mut Vec<Reservation>, from: usize, node: ReservedNode)
 }
 
 impl Reservations {
-    /// No number is reserved.
+    /// Returns an empty list of reservations.
     pub(crate) fn new(alloc: Global) -> Reservations
         ensures none { result ≡ [] }
     {
@@ -104,14 +110,14 @@ impl Reservations {
         }
     }
 
-    /// Returns how many numbers were reserved.
+    /// Returns the number of reservations.
     pub fn len(&self) -> usize
         ensures count { result ≡ length self.now }
     {
         self.items.len()
     }
 
-    /// Returns the number that was reserved last for this purpose and this object, of those that are in force.
+    /// Returns the last number in force that was reserved for this purpose and object.
     pub(crate) fn pending(
         &self,
         kind: PendingKind,
@@ -122,14 +128,16 @@ impl Reservations {
         last_pending(self.items.as_slice(), kind, object)
     }
 
-    /// What a maker is told that asks for the number pending for this purpose and this object.
+    /// Returns the reply to a maker that requests its pending number.
     pub(crate) fn pending_reply(&self, kind: PendingKind, object: &SchemaPlace) -> MakerReply
         ensures told { TellsPending self.now (purpose_of kind) (place_of object.now) result }
     {
         MakerReply::Pending(self.pending(kind, object))
     }
 
-    /// Reserves the next number, for the maker of this keyword. Returns what it is told. On `Err` nothing has changed.
+    /// Reserves the next number, for the maker of this keyword.
+    ///
+    /// Returns the reply to the maker.
     pub(crate) fn reserve(
         &mut self,
         kind: PendingKind,
@@ -151,7 +159,7 @@ impl Reservations {
         Ok(MakerReply::Reserved(PendingSchemaNode(number)))
     }
 
-    /// Gives up what is in force from a number on: each stands for this node.
+    /// Gives up the numbers in force from one on, which then stand for this node.
     pub(crate) fn give_up(&mut self, from: usize, node: ReservedNode)
         ensures given_up { self.new ≡ with_nodes_from from (node_of node) self.old }
     {

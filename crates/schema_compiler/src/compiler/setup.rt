@@ -1,4 +1,4 @@
-//! What a compilation is given, and does not change.
+//! The fixed input of a compilation.
 ghost use Rattle.std.specs.Prelude.{◌≡◌};
 
 use schema_keys::context::Context;
@@ -7,9 +7,11 @@ pub use schema_keys::options::CompileOptions;
 use schema_traits::resolver::Resolver;
 use std::alloc::Global;
 
-/// The memory, the resolver, the keyword table and the options of a compilation, and how many targets of `$ref` and
-/// `$dynamicRef` may be open one inside another; one that is found then is compiled later. The compiler's functions are its
-/// methods; what they fill is a `Compilation`.
+/// The fixed input of a compilation.
+///
+/// `nested_limit` is how many targets of `$ref` and `$dynamicRef` may be open one inside another; a
+/// further one is compiled later. The functions of the compiler are methods of this type, and fill
+/// a `Compilation`.
 #[derive_where(Clone, Copy)]
 pub struct Compiler<'p, R, T> {
     pub alloc: Global,

@@ -1,4 +1,4 @@
-//! What a reference leads to, where that requires no vocabulary that is not declared.
+//! The targets of references, which may require only declared vocabularies.
 ghost use Rattle.std.specs.Prelude.{◌≡◌, [], IfOk, IfErr, IfSome, MatchOption, OnOk};
 ghost use Rattle.schema_keys.specs.KeyViews.{key_of, kind_of};
 ghost use Rattle.schema_compiler.specs.Carried.{RefusesTarget, Targets, lacking, task};
@@ -13,7 +13,7 @@ use schema_traits::resolver::Resolver;
 use schema_traits::table::KeywordTable;
 
 impl<'p, R: Resolver, T> Compiler<'p, R, T> {
-    // Refuses a custom vocabulary that is not declared, where a reference's target requires it.
+    // Refuses a target that requires a custom vocabulary that is not declared.
     fn check_target<K: Validate>(
         &self,
         target: &Option<SchemaKey<R::State>>,
@@ -31,7 +31,7 @@ impl<'p, R: Resolver, T> Compiler<'p, R, T> {
         }
     }
 
-    /// The key that a reference leads to, where it requires no vocabulary that is not declared; none where it is skipped.
+    /// Returns the key of a reference's target; `None` if the reference is skipped.
     pub(crate) fn target_of<K: Validate>(
         &self,
         key: &SchemaKey<R::State>,

@@ -1,4 +1,4 @@
-//! Whether the custom vocabularies that a schema requires are declared.
+//! Checks that the custom vocabularies that a schema requires are declared.
 ghost use Rattle.std.specs.Prelude.{◌≡◌, [], OnOk, IfErr, map, string_bytes, bytes_eq};
 ghost use Rattle.std.specs.List.{list_any};
 ghost use Rattle.theory_definitions.specs.Drafts.{custom_vocabulary};
@@ -13,7 +13,6 @@ use schema_traits::keyword::Validate;
 use schema_traits::resolver::Resolver;
 use schema_traits::table::KeywordTable;
 
-// Whether a custom vocabulary is declared.
 fn is_declared(declared: &[String], uri: &str) -> bool
     ensures declared { result ≡ list_any (bytes_eq uri.now) (map string_bytes declared.now) }
 {
@@ -21,7 +20,7 @@ fn is_declared(declared: &[String], uri: &str) -> bool
 }
 
 impl<'p, R: Resolver, T> Compiler<'p, R, T> {
-    // Refuses the first vocabulary of these URIs that is not declared.
+    // Refuses the first of these vocabularies that is not declared.
     fn check_each<K: Validate>(&self, uris: &[String]) -> Result<(), BuildError>
     where
         T: KeywordTable<K>,

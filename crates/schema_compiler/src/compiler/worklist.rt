@@ -1,5 +1,7 @@
-//! The worklist: keys that were found while as many targets of references as may nest were open. Each is compiled in a round
-//! of its own, in the order of finding, which is that of the numbers.
+//! The worklist of keys that wait.
+//!
+//! They were found while as many targets of references were open as may nest. Each is compiled in a
+//! round of its own, in the order in which they were found, which is the order of their numbers.
 ghost use Rattle.std.specs.Prelude.{◌<◌, length, suc};
 ghost use Rattle.schema_node_table.specs.NodeTable.{Waits};
 ghost use Rattle.schema_compiler.specs.Gives.{ComesTo, ComesToEnd, GivesWorked, IsAt};
@@ -43,7 +45,7 @@ impl<'p, R: Resolver, T> Compiler<'p, R, T> {
         Ok(())
     }
 
-    // Goes on to the next number: compiles what waits at this one.
+    // Moves past a number, and compiles its key if it waits.
     fn pass_number<K: Validate>(
         &self,
         compiled: &mut Compilation<R::State, K>,
@@ -62,7 +64,7 @@ impl<'p, R: Resolver, T> Compiler<'p, R, T> {
         Ok(())
     }
 
-    /// Compiles what waits, number by number, and what is found on the way, until no number waits.
+    /// Compiles the keys that wait, by number, including those found meanwhile.
     pub(crate) fn work_off<K: Validate>(
         &self,
         compiled: &mut Compilation<R::State, K>,
@@ -81,7 +83,7 @@ impl<'p, R: Resolver, T> Compiler<'p, R, T> {
         Ok(())
     }
 
-    /// The table of a key before which none was compiled, and of all that is found on the way.
+    /// Compiles a key into an empty table, with everything that it reaches.
     pub(crate) fn compiled_alone<K: Validate>(
         &self,
         root: SchemaKey<R::State>,

@@ -47,7 +47,7 @@ decreases-child_edge g l = 11 * (l.self.now.options.now.node_limit - length l.co
 abbrev pub decreases-reference_edge : goal.decreases-reference_edge
 decreases-reference_edge g l = 11 * (l.self.now.options.now.node_limit - length l.compiled.now.keys) + 3
 
--- what the maker has asked for so far; no name is absorbed yet
+-- what the maker has requested so far; no name is absorbed yet
 abbrev pub invariant-made_entry-loop-children : goal.invariant-made_entry-loop-children
 invariant-made_entry-loop-children g l =
     let v = key_of g.R.Resolver.point in

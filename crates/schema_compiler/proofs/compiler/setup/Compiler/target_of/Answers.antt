@@ -13,7 +13,7 @@ use Rattle.schema_keys.specs.declared.key.SchemaKey.{SchemaKey}
 use Rattle.schema_compiler.proofs.References.{target_refused}
 use Rattle.schema_compiler.proofs.compiler.setup.Compiler.target_of.Goals as goal
 
--- what holds of the value that is there, where that there is none is out
+-- what holds of the value, if it cannot be missing
 at_some : {X : Type 0} (P : Type 0) (A B : X → Type 0) (Q : Type 0) (o : Option X) → MatchOption o P A → MatchOption o ⊥ B → ((x : X) → A x → B x → Q) → Q
 at_some P A B Q None a b f = absurd b
 at_some P A B Q (Some x) a b f = f x a b
