@@ -113,7 +113,7 @@ impl<'p, R: Resolver, V: MetaValidators> SchemaCheck<'p, R, V> {
     }
 
     /// Returns an error in the document at a place, relative to the root schema.
-    fn located(&self, place: &SchemaPlace, error: OwnedError) -> Result<OwnedError, OutOfMemory>
+    fn locate(&self, place: &SchemaPlace, error: OwnedError) -> Result<OwnedError, OutOfMemory>
         ensures located { Shows owned_error_of result
             (prefixed (location_from (place_of self.now.root.now) (place_of place.now)) (owned_error_of error)) }
     {
@@ -139,7 +139,7 @@ impl<'p, R: Resolver, V: MetaValidators> SchemaCheck<'p, R, V> {
             return Ok(());
         }
         match self.refusal_without(draft, place, schema, cuts)? {
-            Some(error) => Err(BuildError::MetaSchema(self.located(place, error)?)),
+            Some(error) => Err(BuildError::MetaSchema(self.locate(place, error)?)),
             None => Ok(()),
         }
     }

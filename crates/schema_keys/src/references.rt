@@ -127,7 +127,7 @@ impl<'p, 'c, R: Resolver> Context<'p, 'c, R> {
             .lookup_recursive_ref(self.alloc, &self.key.state)
     }
 
-    fn sought_by_uri(&self, text: &str, dynamic: bool) -> Result<Sought<R::State>, LookupError>
+    fn seek_by_uri(&self, text: &str, dynamic: bool) -> Result<Sought<R::State>, LookupError>
         ensures found { Agrees (λ s. found_of R.point s.target) result (finds R.Resolver self.now (by_flag dynamic) text.now) }
         ensures uri { IfOk result (λ s. resolves R.Resolver self.now text.now ≡ Ok (string_bytes s.uri)) }
     {
@@ -138,13 +138,13 @@ impl<'p, 'c, R: Resolver> Context<'p, 'c, R> {
 
     // The target of a reference, and the URI that it resolves to; that of a `$recursiveRef` is
     // empty.
-    fn sought(&self, kind: ReferenceKind, text: &str) -> Result<Sought<R::State>, LookupError>
+    fn seek(&self, kind: ReferenceKind, text: &str) -> Result<Sought<R::State>, LookupError>
         ensures found { Agrees (λ s. found_of R.point s.target) result (finds R.Resolver self.now (kind_of kind) text.now) }
         ensures uri { IfOk result (λ s. RefersBy R.Resolver self.now (kind_of kind) text.now s.uri) }
     {
         match kind {
-            ReferenceKind::Ref => self.sought_by_uri(text, false),
-            ReferenceKind::Dynamic => self.sought_by_uri(text, true),
+            ReferenceKind::Ref => self.seek_by_uri(text, false),
+            ReferenceKind::Dynamic => self.seek_by_uri(text, true),
             ReferenceKind::Recursive => Ok(Sought {
                 target: self.lookup_recursive_reference()?,
                 uri: String::new(self.alloc),
@@ -161,7 +161,7 @@ impl<'p, 'c, R: Resolver> Context<'p, 'c, R> {
         ensures uri { IfOk result (λ s. RefersBy R.Resolver self.now (kind_of kind) text.now s.uri) }
         ensures refused { IfErr result (RefusesReference R.Resolver self.now (kind_of kind) text.now) }
     {
-        Ok(self.sought(kind, text)?)
+        Ok(self.seek(kind, text)?)
     }
 
     // Returns whether a reference leads to the object that holds it. A `$recursiveRef` is never

@@ -44,7 +44,7 @@ impl<'p, 'c, R: Resolver> Context<'p, 'c, R> {
     /// Returns the draft of a value in a schema of this draft.
     ///
     /// A missing value counts as null.
-    pub(crate) fn detected(&self, draft: Draft, value: Option<&Value>) -> Draft
+    pub(crate) fn detect(&self, draft: Draft, value: Option<&Value>) -> Draft
         ensures detected { draft_of result ≡ (resolver_here R.Resolver self.now).detect (draft_of draft) (read_value value.entry) }
     {
         match value {
@@ -145,7 +145,7 @@ impl<'p, 'c, R: Resolver> Context<'p, 'c, R> {
     {
         let place = self.key.place.below(self.alloc, path)?;
         let value = self.value_inside(members, path, &place);
-        let draft = self.detected(self.key.draft, value);
+        let draft = self.detect(self.key.draft, value);
         let state = self.state_inside(draft, &place, value)?;
         let has_id = self.identifies(draft, value);
         let below = Target {
@@ -176,7 +176,7 @@ impl<'p, 'c, R: Resolver> Context<'p, 'c, R> {
     {
         let place = self.key.place.below(self.alloc, path)?;
         let value = self.resolver.value(&place);
-        let own_draft = self.detected(self.key.draft, value);
+        let own_draft = self.detect(self.key.draft, value);
         let state = self.state_inside(own_draft, &place, value)?;
         let below = Target {
             place,
