@@ -145,7 +145,7 @@ pub fn compile_subschema<R: Resolver, K: Validate, T: KeywordTable<K>>(
         options,
         nested_limit,
     };
-    let mut compiled = compiler.compiled_alone(root)?;
+    let mut compiled = compiler.compile_alone(root)?;
     compiled.nodes.assert_ordered();
     compiled.nodes.share(alloc)?;
     Ok(compiled)
@@ -215,12 +215,12 @@ impl<'p, R: Resolver, T> Compiler<'p, R, T> {
             let number = self.number_within(compiled, &shared, None)?;
             return Ok(number.0);
         }
-        Ok(self.compiled_number(compiled, &shared, reading, nests)?)
+        Ok(self.compile_number(compiled, &shared, reading, nests)?)
     }
 
     // Compiles a key that has no number, at the next number.
     #[cycle(compile)]
-    fn compiled_number<K: Validate>(
+    fn compile_number<K: Validate>(
         &self,
         compiled: &mut Compilation<R::State, K>,
         key: &Rc<SchemaKey<R::State>>,
@@ -234,7 +234,7 @@ impl<'p, R: Resolver, T> Compiler<'p, R, T> {
     {
         let outer = compiled.progress;
         let number = self.begin_number(compiled, key, nests)?;
-        let planned = self.planned_node(compiled, key, reading)?;
+        let planned = self.plan_node(compiled, key, reading)?;
         let settled = !compiled.progress.reaches_unsettled;
         compiled.progress = outer;
         compiled
@@ -245,7 +245,7 @@ impl<'p, R: Resolver, T> Compiler<'p, R, T> {
 
     // The form and the annotations of a key's node.
     #[cycle(compile)]
-    fn planned_node<K: Validate>(
+    fn plan_node<K: Validate>(
         &self,
         compiled: &mut Compilation<R::State, K>,
         key: &SchemaKey<R::State>,
@@ -259,7 +259,7 @@ impl<'p, R: Resolver, T> Compiler<'p, R, T> {
         let context = self.context(key);
         let value = value_of(self.resolver, key, reading);
         match values::object_of(value) {
-            Some(members) => self.planned_object(compiled, key, members),
+            Some(members) => self.plan_object(compiled, key, members),
             None => Ok(PlannedNode {
                 form: context.plain_form(value)?,
                 annotations: None,
@@ -270,7 +270,7 @@ impl<'p, R: Resolver, T> Compiler<'p, R, T> {
     // The form and the annotations of an object's node. A `$ref` that overrides its siblings is all
     // of it.
     #[cycle(compile)]
-    fn planned_object<K: Validate>(
+    fn plan_object<K: Validate>(
         &self,
         compiled: &mut Compilation<R::State, K>,
         key: &SchemaKey<R::State>,
@@ -360,7 +360,7 @@ impl<'p, R: Resolver, T> Compiler<'p, R, T> {
                 priority: CUSTOM_PRIORITY,
                 is_leaf: false,
             };
-            return self.made_entry(compiled, key, members, head, absorbed);
+            return self.make_entry(compiled, key, members, head, absorbed);
         }
         let context = self.context(key);
         match context.builtin_row(text) {
@@ -374,7 +374,7 @@ impl<'p, R: Resolver, T> Compiler<'p, R, T> {
                         priority: row.priority,
                         is_leaf: row.is_leaf,
                     };
-                    self.made_entry(compiled, key, members, head, absorbed)
+                    self.make_entry(compiled, key, members, head, absorbed)
                 }
             },
         }
@@ -383,7 +383,7 @@ impl<'p, R: Resolver, T> Compiler<'p, R, T> {
     // Runs a maker and returns the keyword that it makes, if any. The names that it absorbs are
     // added.
     #[cycle(compile)]
-    fn made_entry<K: Validate>(
+    fn make_entry<K: Validate>(
         &self,
         compiled: &mut Compilation<R::State, K>,
         key: &SchemaKey<R::State>,

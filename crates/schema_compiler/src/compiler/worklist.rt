@@ -34,7 +34,7 @@ impl<'p, R: Resolver, T> Compiler<'p, R, T> {
         let key = compiled.keys.shared(number)?;
         compiled.nodes.begin(SchemaNode(number), number);
         compiled.progress = Progress::at_round(number);
-        let planned = self.planned_node(compiled, &key, Reading::Unread)?;
+        let planned = self.plan_node(compiled, &key, Reading::Unread)?;
         let settled = !compiled.progress.reaches_unsettled;
         compiled.nodes.fill(
             SchemaNode(number),
@@ -84,7 +84,7 @@ impl<'p, R: Resolver, T> Compiler<'p, R, T> {
     }
 
     /// Compiles a key into an empty table, with everything that it reaches.
-    pub(crate) fn compiled_alone<K: Validate>(
+    pub(crate) fn compile_alone<K: Validate>(
         &self,
         root: SchemaKey<R::State>,
     ) -> Result<Compilation<R::State, K>, BuildError>

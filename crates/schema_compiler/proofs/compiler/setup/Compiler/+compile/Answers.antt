@@ -107,8 +107,8 @@ number_of-returns-then-is_full g t c =
           (ap (λ (p : Progress). p.round) same) (ap (λ (p : Progress). p.depth) same) (ap (λ (p : Progress). p.reaches_unsettled) same) c.in_ok-number.ensures.reserved c.in_ok-number.ensures.number),
     )
 
-pub compiled_number-returns-in_err-planned : goal.compiled_number-returns-in_err-planned
-compiled_number-returns-in_err-planned g t c =
+pub compile_number-returns-in_err-planned : goal.compile_number-returns-in_err-planned
+compile_number-returns-in_err-planned g t c =
     let v = key_of g.R.Resolver.point in
     let s = task g.R.Resolver.resolving g.T.KeywordTable.owned g.T.KeywordTable.script g.K.Validate.shape c.args.self.now in
     let old = filled g.R.Resolver.point c.args.compiled.now in
@@ -116,19 +116,19 @@ compiled_number-returns-in_err-planned g t c =
     let k = v c.args.key.now.value in
     rw (p.1, p.2) (refusal_map s.limit _ _ _ _ old.keys (map v c.begin_number.new.compiled.keys) (k ∷ []) (from_key s.parts k) (blames_key s.parts k) c.in_ok-number.ensures.keys (at_first, tt) _ (rw c.deref.ensures at c.in_err-planned.ensures))
 
-pub compiled_number-fill-requires : goal.compiled_number-fill-requires
-compiled_number-fill-requires g t c =
+pub compile_number-fill-requires : goal.compile_number-fill-requires
+compile_number-fill-requires g t c =
     let v = key_of g.R.Resolver.point in
     let s = task g.R.Resolver.resolving g.T.KeywordTable.owned g.T.KeywordTable.script g.K.Validate.shape c.args.self.now in
     let old = filled g.R.Resolver.point c.args.compiled.now in
     let n = c.in_ok-number.ensures.nodes in
     let o = c.in_ok-planned.ensures.1 in
-    let d = filled g.R.Resolver.point c.planned_node.new.compiled in
+    let d = filled g.R.Resolver.point c.plan_node.new.compiled in
     let there = reserved_after old.nodes c.begin_number.new.compiled.nodes d.nodes n.0 c.in_ok-number.number.0 c.in_ok-number.ensures.number n.1 o.stay in
     record { ready = may_be_filled s d c.in_ok-number.number.0 n.0 (plan_of c.in_ok-planned.planned.form) o.under_way there n.2 (n.3 ∙ ap (λ (r : ℕ). Some r) (sym (o.same_round ∙ c.in_ok-number.ensures.round))) o.now }
 
-pub compiled_number-returns : goal.compiled_number-returns
-compiled_number-returns g t c =
+pub compile_number-returns : goal.compile_number-returns
+compile_number-returns g t c =
     let v = key_of g.R.Resolver.point in
     let s = task g.R.Resolver.resolving g.T.KeywordTable.owned g.T.KeywordTable.script g.K.Validate.shape c.args.self.now in
     let old = filled g.R.Resolver.point c.args.compiled.now in
@@ -140,14 +140,14 @@ compiled_number-returns g t c =
     let p = plan_of c.in_ok-planned.planned.form in
     let annotations = c.in_ok-planned.planned.annotations in
     let begun = map v c.begin_number.new.compiled.keys in
-    let planned = map v c.planned_node.new.compiled.keys in
+    let planned = map v c.plan_node.new.compiled.keys in
     let nodes' = c.begin_number.new.compiled.nodes in
-    let nodes'' = c.planned_node.new.compiled.nodes in
+    let nodes'' = c.plan_node.new.compiled.nodes in
     let nodes-filled = c.fill.new.self in
-    let settled = not c.planned_node.new.compiled.progress.reaches_unsettled in
+    let settled = not c.plan_node.new.compiled.progress.reaches_unsettled in
     let at = numbered_after old.keys begun planned m.step.grown.added.0 k i (c.in_ok-number.ensures.number ∙ c.requires.table.lengths) added m.step.grown.added.1 in
     let b = filled g.R.Resolver.point c.begin_number.new.compiled in
-    let d = filled g.R.Resolver.point c.planned_node.new.compiled in
+    let d = filled g.R.Resolver.point c.plan_node.new.compiled in
     let new : Table _ _ = record { keys = d.keys; nodes = c.fill.new.self; round = old.round; depth = old.depth; loose = old.loose; reserved = d.reserved } in (
       record {
         table = finished_table s.parts s.shape s.limit planned nodes'' nodes-filled i k settled annotations p m.step.table at c.fill.ensures.filled (record { plans = m.plan; settled = m.step.settled; clean = m.step.clean }) m.annotated;
@@ -305,7 +305,7 @@ entry_of-returns-then-owns g t c =
     let value = view c.args.value.now in
     let before = map string_bytes c.args.absorbed.now.items in
     let owns = rw c.as_str-text.ensures.value at c.owns.ensures.owned in
-    let made = c.made_entry in
+    let made = c.make_entry in
     let new = filled g.R.Resolver.point made.new.compiled in
     own_is s.parts k whole name value (λ (es : List (Edge _)) (cs : List Cause) (p : Option (Part _)). MatchResult made.result (λ o. (MakesPart s.parts s.shape s.limit old.keys new.keys old.nodes new.nodes es cs k (option_map entry_of o) p) × (map string_bytes made.new.absorbed.items ≡ before ++ absorbed_by p) × (Goes s old new es (part_edges (option_map entry_of o)))) (Refused s.parts s.limit es cs old.keys))
     (sym owns ∙ c.if-owns.true) (value_says made.result _ _ _ (λ o h. (h.0, h.1, h.2)) made.ensures)
@@ -343,7 +343,7 @@ entry_of-returns-in-None-reference_kind g t c =
     let owns = rw c.as_str-text.ensures.value at c.owns.ensures.owned in
     let row = rw c.as_str-text.ensures.value at c.in-Some.ensures.row in
     let kind = rw c.as_str-text.ensures.value at c.in-None-reference_kind.ensures.kind in
-    let made = c.made_entry-in-None-reference_kind in
+    let made = c.make_entry-in-None-reference_kind in
     let new = filled g.R.Resolver.point made.new.compiled in
     built_is s.parts k whole name value (λ (es : List (Edge _)) (cs : List Cause) (p : Option (Part _)). MatchResult made.result (λ o. (MakesPart s.parts s.shape s.limit old.keys new.keys old.nodes new.nodes es cs k (option_map entry_of o) p) × (map string_bytes made.new.absorbed.items ≡ before ++ absorbed_by p) × (Goes s old new es (part_edges (option_map entry_of o)))) (Refused s.parts s.limit es cs old.keys))
     _ (sym owns ∙ c.if-owns.false) row kind (value_says made.result _ _ _ (λ o h. (h.0, h.1, h.2)) made.ensures)
@@ -363,8 +363,8 @@ entry_of-returns-in-None g t c =
     no_member s.parts k whole name value (λ (es : List (Edge _)) (cs : List Cause) (p : Option (Part _)). (MakesPart s.parts s.shape s.limit old.keys old.keys old.nodes old.nodes es cs k None p) × (before ≡ before ++ absorbed_by p) × (Goes s old old es []))
     (sym owns ∙ c.if-owns.false) row (record { step = step_none s.parts s.shape s.limit old.keys old.nodes c.requires.table; made = tt }, sym (append-nil before), goes_none s old c.requires.under_way)
 
-pub made_entry-loop-children-init : goal.made_entry-loop-children-init
-made_entry-loop-children-init g t c =
+pub make_entry-loop-children-init : goal.make_entry-loop-children-init
+make_entry-loop-children-init g t c =
     let v = key_of g.R.Resolver.point in
     let s = task g.R.Resolver.resolving g.T.KeywordTable.owned g.T.KeywordTable.script g.K.Validate.shape c.args.self.now in
     let old = filled g.R.Resolver.point c.args.compiled.now in
@@ -376,8 +376,8 @@ made_entry-loop-children-init g t c =
     let alike = asks_alike g.K.Validate.absorbed g.K.Validate.is_whole whole script (g.met.T.KeywordTable.right c.args.self.now.table.now c.args.head.is_own name whole k.target.draft k.target.vocabularies (checks_formats s.parts k)) in
     (rw c.new-children.ensures.items (asked_begun s.parts s.shape s.limit s.nested k name making script (g.T.KeywordTable.waiting c.in_ok-maker.maker) old.keys old.nodes old refl alike c.in_ok-maker.ensures.begins c.requires.table c.requires.under_way), refl)
 
-pub made_entry-returns-in_err-edge-in-Compile : goal.made_entry-returns-in_err-edge-in-Compile
-made_entry-returns-in_err-edge-in-Compile g t c =
+pub make_entry-returns-in_err-edge-in-Compile : goal.make_entry-returns-in_err-edge-in-Compile
+make_entry-returns-in_err-edge-in-Compile g t c =
     let v = key_of g.R.Resolver.point in
     let s = task g.R.Resolver.resolving g.T.KeywordTable.owned g.T.KeywordTable.script g.K.Validate.shape c.args.self.now in
     let old = filled g.R.Resolver.point c.args.compiled.now in
@@ -396,8 +396,8 @@ made_entry-returns-in_err-edge-in-Compile g t c =
     let p = err_from_is_err_and c.from_residual-in_err-edge-in-Compile.result c.from_residual-in_err-edge-in-Compile.ensures.1 in
     rw (p.1, p.2) (compile_refused s.parts s.shape s.limit s.nested k name making waiting waiting' told es old.keys keys' old.nodes nodes' c.in-Compile.path _ inv takes c.in_err-edge-in-Compile.ensures)
 
-pub made_entry-loop-children-preserved-in-Compile : goal.made_entry-loop-children-preserved-in-Compile
-made_entry-loop-children-preserved-in-Compile g t c =
+pub make_entry-loop-children-preserved-in-Compile : goal.make_entry-loop-children-preserved-in-Compile
+make_entry-loop-children-preserved-in-Compile g t c =
     let v = key_of g.R.Resolver.point in
     let s = task g.R.Resolver.resolving g.T.KeywordTable.owned g.T.KeywordTable.script g.K.Validate.shape c.args.self.now in
     let old = filled g.R.Resolver.point c.args.compiled.now in
@@ -420,8 +420,8 @@ made_entry-loop-children-preserved-in-Compile g t c =
       c.loop-children.invariant.1,
     )
 
-pub made_entry-returns-in_err-edge-in-Refer : goal.made_entry-returns-in_err-edge-in-Refer
-made_entry-returns-in_err-edge-in-Refer g t c =
+pub make_entry-returns-in_err-edge-in-Refer : goal.make_entry-returns-in_err-edge-in-Refer
+make_entry-returns-in_err-edge-in-Refer g t c =
     let v = key_of g.R.Resolver.point in
     let s = task g.R.Resolver.resolving g.T.KeywordTable.owned g.T.KeywordTable.script g.K.Validate.shape c.args.self.now in
     let old = filled g.R.Resolver.point c.args.compiled.now in
@@ -440,8 +440,8 @@ made_entry-returns-in_err-edge-in-Refer g t c =
     let p = err_from_is_err_and c.from_residual-in_err-edge-in-Refer.result c.from_residual-in_err-edge-in-Refer.ensures.1 in
     rw (p.1, p.2) (refer_refused s.parts s.shape s.limit s.nested k name making waiting waiting' told es old.keys keys' old.nodes nodes' c.in-Refer.text _ inv takes c.in_err-edge-in-Refer.ensures)
 
-pub made_entry-loop-children-smaller-in-Refer : goal.made_entry-loop-children-smaller-in-Refer
-made_entry-loop-children-smaller-in-Refer g t c =
+pub make_entry-loop-children-smaller-in-Refer : goal.make_entry-loop-children-smaller-in-Refer
+make_entry-loop-children-smaller-in-Refer g t c =
     let inv = c.loop-children.invariant.0 in
     let waiting = g.T.KeywordTable.waiting c.loop-children.maker in
     let waiting' = g.T.KeywordTable.waiting c.turn.new.maker in
@@ -449,8 +449,8 @@ made_entry-loop-children-smaller-in-Refer g t c =
     let takes = rw c.in-Refer.is at c.in_ok-path.ensures.takes in
     fewer_refer g.K.Validate.shape waiting waiting' told _ _ c.in-Refer.text (option_map edge_of c.in_ok-edge-in-Refer.edge) _ inv.due takes c.in_ok-reply-in-Refer.ensures.told
 
-pub made_entry-loop-children-preserved-in-Refer : goal.made_entry-loop-children-preserved-in-Refer
-made_entry-loop-children-preserved-in-Refer g t c =
+pub make_entry-loop-children-preserved-in-Refer : goal.make_entry-loop-children-preserved-in-Refer
+make_entry-loop-children-preserved-in-Refer g t c =
     let v = key_of g.R.Resolver.point in
     let s = task g.R.Resolver.resolving g.T.KeywordTable.owned g.T.KeywordTable.script g.K.Validate.shape c.args.self.now in
     let old = filled g.R.Resolver.point c.args.compiled.now in
@@ -473,8 +473,8 @@ made_entry-loop-children-preserved-in-Refer g t c =
       c.loop-children.invariant.1,
     )
 
-pub made_entry-loop-children-preserved-in-Pending : goal.made_entry-loop-children-preserved-in-Pending
-made_entry-loop-children-preserved-in-Pending g t c =
+pub make_entry-loop-children-preserved-in-Pending : goal.make_entry-loop-children-preserved-in-Pending
+make_entry-loop-children-preserved-in-Pending g t c =
     let v = key_of g.R.Resolver.point in
     let s = task g.R.Resolver.resolving g.T.KeywordTable.owned g.T.KeywordTable.script g.K.Validate.shape c.args.self.now in
     let old = filled g.R.Resolver.point c.args.compiled.now in
@@ -494,8 +494,8 @@ made_entry-loop-children-preserved-in-Pending g t c =
       c.loop-children.invariant.1,
     )
 
-pub made_entry-loop-children-preserved : goal.made_entry-loop-children-preserved
-made_entry-loop-children-preserved g t c =
+pub make_entry-loop-children-preserved : goal.make_entry-loop-children-preserved
+make_entry-loop-children-preserved g t c =
     let v = key_of g.R.Resolver.point in
     let s = task g.R.Resolver.resolving g.T.KeywordTable.owned g.T.KeywordTable.script g.K.Validate.shape c.args.self.now in
     let old = filled g.R.Resolver.point c.args.compiled.now in
@@ -515,8 +515,8 @@ made_entry-loop-children-preserved g t c =
       c.loop-children.invariant.1,
     )
 
-pub made_entry-returns-in-Keyword : goal.made_entry-returns-in-Keyword
-made_entry-returns-in-Keyword g t c =
+pub make_entry-returns-in-Keyword : goal.make_entry-returns-in-Keyword
+make_entry-returns-in-Keyword g t c =
     let v = key_of g.R.Resolver.point in
     let s = task g.R.Resolver.resolving g.T.KeywordTable.owned g.T.KeywordTable.script g.K.Validate.shape c.args.self.now in
     let old = filled g.R.Resolver.point c.args.compiled.now in
@@ -545,8 +545,8 @@ made_entry-returns-in-Keyword g t c =
       ends,
     )
 
-pub made_entry-returns-in-Nothing : goal.made_entry-returns-in-Nothing
-made_entry-returns-in-Nothing g t c =
+pub make_entry-returns-in-Nothing : goal.make_entry-returns-in-Nothing
+make_entry-returns-in-Nothing g t c =
     let v = key_of g.R.Resolver.point in
     let s = task g.R.Resolver.resolving g.T.KeywordTable.owned g.T.KeywordTable.script g.K.Validate.shape c.args.self.now in
     let old = filled g.R.Resolver.point c.args.compiled.now in
@@ -573,8 +573,8 @@ made_entry-returns-in-Nothing g t c =
       ends,
     )
 
-pub made_entry-returns-in-Refuse : goal.made_entry-returns-in-Refuse
-made_entry-returns-in-Refuse g t c =
+pub make_entry-returns-in-Refuse : goal.make_entry-returns-in-Refuse
+make_entry-returns-in-Refuse g t c =
     let v = key_of g.R.Resolver.point in
     let s = task g.R.Resolver.resolving g.T.KeywordTable.owned g.T.KeywordTable.script g.K.Validate.shape c.args.self.now in
     let old = filled g.R.Resolver.point c.args.compiled.now in
@@ -589,8 +589,8 @@ made_entry-returns-in-Refuse g t c =
     maker_refused s.parts s.shape s.limit s.nested k name making waiting waiting' told es old.keys keys' old.nodes c.loop-children.compiled.nodes c.in-Refuse.error c.loop-children.invariant.0
     (rw c.in-Refuse.is at c.in_ok-path.ensures.takes)
 
-pub planned_object-returns-in_err-entry-in-Some : goal.planned_object-returns-in_err-entry-in-Some
-planned_object-returns-in_err-entry-in-Some g t c =
+pub plan_object-returns-in_err-entry-in-Some : goal.plan_object-returns-in_err-entry-in-Some
+plan_object-returns-in_err-entry-in-Some g t c =
     let v = key_of g.R.Resolver.point in
     let s = task g.R.Resolver.resolving g.T.KeywordTable.owned g.T.KeywordTable.script g.K.Validate.shape c.args.self.now in
     let old = filled g.R.Resolver.point c.args.compiled.now in
@@ -599,8 +599,8 @@ planned_object-returns-in_err-entry-in-Some g t c =
     let p = err_from_is_err_and c.from_residual-in_err-entry-in-Some.result c.from_residual-in_err-entry-in-Some.ensures.1 in
     rw (p.1, p.2) (lone_refused s.parts k s.limit old.keys _ whole (view c.in-Some.value.now) c.in-Some.ensures.alone (rw c.in_ok-name-in-Some.ensures.ok at c.in_err-entry-in-Some.ensures))
 
-pub planned_object-returns-in_err-keywords-in-None : goal.planned_object-returns-in_err-keywords-in-None
-planned_object-returns-in_err-keywords-in-None g t c =
+pub plan_object-returns-in_err-keywords-in-None : goal.plan_object-returns-in_err-keywords-in-None
+plan_object-returns-in_err-keywords-in-None g t c =
     let v = key_of g.R.Resolver.point in
     let s = task g.R.Resolver.resolving g.T.KeywordTable.owned g.T.KeywordTable.script g.K.Validate.shape c.args.self.now in
     let old = filled g.R.Resolver.point c.args.compiled.now in
@@ -609,8 +609,8 @@ planned_object-returns-in_err-keywords-in-None g t c =
     let p = err_from_is_err_and c.from_residual-in_err-keywords-in-None.result c.from_residual-in_err-keywords-in-None.ensures.1 in
     rw (p.1, p.2) (members_refused s.parts k s.limit old.keys _ whole c.in-None.ensures.alone c.in_err-keywords-in-None.ensures)
 
-pub planned_object-returns-in_ok-node_alone-in-Some : goal.planned_object-returns-in_ok-node_alone-in-Some
-planned_object-returns-in_ok-node_alone-in-Some g t c =
+pub plan_object-returns-in_ok-node_alone-in-Some : goal.plan_object-returns-in_ok-node_alone-in-Some
+plan_object-returns-in_ok-node_alone-in-Some g t c =
     let v = key_of g.R.Resolver.point in
     let s = task g.R.Resolver.resolving g.T.KeywordTable.owned g.T.KeywordTable.script g.K.Validate.shape c.args.self.now in
     let old = filled g.R.Resolver.point c.args.compiled.now in
@@ -627,8 +627,8 @@ planned_object-returns-in_ok-node_alone-in-Some g t c =
           (alone_goes s old new (reference_edges s.parts k (codes "$ref") to_ref (view c.in-Some.value.now)) (option_map entry_of c.in_ok-entry-in-Some.entry) (rw c.in_ok-name-in-Some.ensures.ok at c.in_ok-entry-in-Some.ensures.1))),
     )
 
-pub planned_object-returns-in_ok-keywords-in-None : goal.planned_object-returns-in_ok-keywords-in-None
-planned_object-returns-in_ok-keywords-in-None g t c =
+pub plan_object-returns-in_ok-keywords-in-None : goal.plan_object-returns-in_ok-keywords-in-None
+plan_object-returns-in_ok-keywords-in-None g t c =
     let v = key_of g.R.Resolver.point in
     let s = task g.R.Resolver.resolving g.T.KeywordTable.owned g.T.KeywordTable.script g.K.Validate.shape c.args.self.now in
     let old = filled g.R.Resolver.point c.args.compiled.now in
@@ -750,20 +750,20 @@ reference_by-returns-in_ok-entry_named-in-Some g t c =
       subst (λ (x : NodePart _). Goes s old (filled g.R.Resolver.point c.reference_edge.new.compiled) (reference_edges s.parts k name kind (view c.args.value.now)) (form_edges x.form)) (sym c.in_ok-entry_named-in-Some.ensures.entry) (text_goes s old (filled g.R.Resolver.point c.reference_edge.new.compiled) k name kind text (view c.args.value.now) (edge_of c.in-Some.edge ∷ []) c.in_ok-text.ensures.text (rw c.in-Some.is at c.in_ok-reference_edge.ensures.1)),
     )
 
-pub planned_node-returns-in-Some : goal.planned_node-returns-in-Some
-planned_node-returns-in-Some g t c =
+pub plan_node-returns-in-Some : goal.plan_node-returns-in-Some
+plan_node-returns-in-Some g t c =
     let v = key_of g.R.Resolver.point in
     let s = task g.R.Resolver.resolving g.T.KeywordTable.owned g.T.KeywordTable.script g.K.Validate.shape c.args.self.now in
     let old = filled g.R.Resolver.point c.args.compiled.now in
     let k = v c.args.key.now in
     let members = members_view c.in-Some.members.now.entries in
     let object = ap (λ (o : Option Data). as_object (unwrap_or o null)) c.value_of-value.ensures.value in
-    let new = filled g.R.Resolver.point c.planned_object.new.compiled in
-    object_stands s.parts k (λ (es : List (Edge _)) (cs : List Cause) (q : Plan _) (a : Option Data). MatchResult c.planned_object.result (λ n. (MakesPlan s.parts s.shape s.limit old.keys new.keys old.nodes new.nodes es cs k (plan_of n.form) q (option_map view n.annotations) a) × (Goes s old new es (node_edges (plan_of n.form)))) (Refused s.parts s.limit es cs old.keys))
-    members (object_is s.parts k _ members (c.in-Some.ensures.object ∙ object)) c.planned_object.ensures
+    let new = filled g.R.Resolver.point c.plan_object.new.compiled in
+    object_stands s.parts k (λ (es : List (Edge _)) (cs : List Cause) (q : Plan _) (a : Option Data). MatchResult c.plan_object.result (λ n. (MakesPlan s.parts s.shape s.limit old.keys new.keys old.nodes new.nodes es cs k (plan_of n.form) q (option_map view n.annotations) a) × (Goes s old new es (node_edges (plan_of n.form)))) (Refused s.parts s.limit es cs old.keys))
+    members (object_is s.parts k _ members (c.in-Some.ensures.object ∙ object)) c.plan_object.ensures
 
-pub planned_node-returns-in_err-plain_form-in-None : goal.planned_node-returns-in_err-plain_form-in-None
-planned_node-returns-in_err-plain_form-in-None g t c =
+pub plan_node-returns-in_err-plain_form-in-None : goal.plan_node-returns-in_err-plain_form-in-None
+plan_node-returns-in_err-plain_form-in-None g t c =
     let v = key_of g.R.Resolver.point in
     let s = task g.R.Resolver.resolving g.T.KeywordTable.owned g.T.KeywordTable.script g.K.Validate.shape c.args.self.now in
     let old = filled g.R.Resolver.point c.args.compiled.now in
@@ -773,8 +773,8 @@ planned_node-returns-in_err-plain_form-in-None g t c =
     let p = err_from_is_err_and c.from_residual.result c.from_residual.ensures.1 in
     rw (p.1, p.2) (other_refused s.parts k s.limit old.keys _ (c.in-None.ensures.object ∙ object) (sym boolean ∙ c.in_err-plain_form-in-None.ensures.other) c.in_err-plain_form-in-None.ensures.refused)
 
-pub planned_node-returns-in_ok-plain_form-in-None : goal.planned_node-returns-in_ok-plain_form-in-None
-planned_node-returns-in_ok-plain_form-in-None g t c =
+pub plan_node-returns-in_ok-plain_form-in-None : goal.plan_node-returns-in_ok-plain_form-in-None
+plan_node-returns-in_ok-plain_form-in-None g t c =
     let v = key_of g.R.Resolver.point in
     let s = task g.R.Resolver.resolving g.T.KeywordTable.owned g.T.KeywordTable.script g.K.Validate.shape c.args.self.now in
     let old = filled g.R.Resolver.point c.args.compiled.now in

@@ -20,14 +20,14 @@ decreases-edge_to g l = 11 * (l.self.now.options.now.node_limit - length l.compi
 abbrev pub decreases-number_of : goal.decreases-number_of
 decreases-number_of g l = 11 * (l.self.now.options.now.node_limit - length l.compiled.now.keys) + 1
 
-abbrev pub decreases-compiled_number : goal.decreases-compiled_number
-decreases-compiled_number g l = 11 * (l.self.now.options.now.node_limit - length l.compiled.now.keys)
+abbrev pub decreases-compile_number : goal.decreases-compile_number
+decreases-compile_number g l = 11 * (l.self.now.options.now.node_limit - length l.compiled.now.keys)
 
-abbrev pub decreases-planned_node : goal.decreases-planned_node
-decreases-planned_node g l = 11 * (l.self.now.options.now.node_limit - length l.compiled.now.keys) + 10
+abbrev pub decreases-plan_node : goal.decreases-plan_node
+decreases-plan_node g l = 11 * (l.self.now.options.now.node_limit - length l.compiled.now.keys) + 10
 
-abbrev pub decreases-planned_object : goal.decreases-planned_object
-decreases-planned_object g l = 11 * (l.self.now.options.now.node_limit - length l.compiled.now.keys) + 9
+abbrev pub decreases-plan_object : goal.decreases-plan_object
+decreases-plan_object g l = 11 * (l.self.now.options.now.node_limit - length l.compiled.now.keys) + 9
 
 abbrev pub decreases-keywords_of : goal.decreases-keywords_of
 decreases-keywords_of g l = 11 * (l.self.now.options.now.node_limit - length l.compiled.now.keys) + 8
@@ -35,8 +35,8 @@ decreases-keywords_of g l = 11 * (l.self.now.options.now.node_limit - length l.c
 abbrev pub decreases-entry_of : goal.decreases-entry_of
 decreases-entry_of g l = 11 * (l.self.now.options.now.node_limit - length l.compiled.now.keys) + 7
 
-abbrev pub decreases-made_entry : goal.decreases-made_entry
-decreases-made_entry g l = 11 * (l.self.now.options.now.node_limit - length l.compiled.now.keys) + 4
+abbrev pub decreases-make_entry : goal.decreases-make_entry
+decreases-make_entry g l = 11 * (l.self.now.options.now.node_limit - length l.compiled.now.keys) + 4
 
 abbrev pub decreases-reference_by : goal.decreases-reference_by
 decreases-reference_by g l = 11 * (l.self.now.options.now.node_limit - length l.compiled.now.keys) + 4
@@ -48,8 +48,8 @@ abbrev pub decreases-reference_edge : goal.decreases-reference_edge
 decreases-reference_edge g l = 11 * (l.self.now.options.now.node_limit - length l.compiled.now.keys) + 3
 
 -- what the maker has requested so far; no name is absorbed yet
-abbrev pub invariant-made_entry-loop-children : goal.invariant-made_entry-loop-children
-invariant-made_entry-loop-children g l =
+abbrev pub invariant-make_entry-loop-children : goal.invariant-make_entry-loop-children
+invariant-make_entry-loop-children g l =
     let v = key_of g.R.Resolver.point in
     let w = given_parts (g.R.Resolver.resolving l.self.resolver.now) (g.T.KeywordTable.owned l.self.table.now) (g.T.KeywordTable.script l.self.table.now) l.self.options.now in
     (Asked w g.K.Validate.shape l.self.options.now.node_limit l.self.nested_limit (v l.key) (string_bytes l.head.name.now) (making w (v l.key) (members_view l.members.entries) l.head.is_own (string_bytes l.head.name.now))
@@ -57,8 +57,8 @@ invariant-made_entry-loop-children g l =
     (map v l.initial.compiled.keys) (map v l.compiled.keys) l.initial.compiled.nodes l.compiled.nodes (filled g.R.Resolver.point l.initial.compiled) (filled g.R.Resolver.point l.compiled))
     × (l.absorbed.items ≡ l.initial.absorbed.items)
 
-abbrev pub decreases-made_entry-loop-children : goal.decreases-made_entry-loop-children
-decreases-made_entry-loop-children g l = turns (resumed (g.T.KeywordTable.waiting l.maker) (maker_reply_of l.reply))
+abbrev pub decreases-make_entry-loop-children : goal.decreases-make_entry-loop-children
+decreases-make_entry-loop-children g l = turns (resumed (g.T.KeywordTable.waiting l.maker) (maker_reply_of l.reply))
 
 -- the keywords so far, the members that no keyword is made of, and the names that are absorbed
 abbrev pub invariant-keywords_of-loop-name : goal.invariant-keywords_of-loop-name

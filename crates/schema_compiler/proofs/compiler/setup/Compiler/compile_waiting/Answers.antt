@@ -12,8 +12,8 @@ use Rattle.schema_compiler.proofs.UnderWay.{begun_way}
 use Rattle.schema_compiler.proofs.Working.{at_rounds_end, each_stands, key_stays, round_fills, round_refused}
 use Rattle.schema_compiler.proofs.compiler.setup.Compiler.compile_waiting.Goals as goal
 
-pub planned_node-requires : goal.planned_node-requires
-planned_node-requires g c =
+pub plan_node-requires : goal.plan_node-requires
+plan_node-requires g c =
     let s = task g.R.Resolver.resolving g.T.KeywordTable.owned g.T.KeywordTable.script g.K.Validate.shape c.args.self.now in
     let old = filled g.R.Resolver.point c.args.compiled.now in
     let begun : Table _ _ = record { keys = old.keys; nodes = c.begin.new.self; round = c.at_round-compiled.result.round; depth = c.at_round-compiled.result.depth; loose = c.at_round-compiled.result.reaches_unsettled; reserved = old.reserved } in
@@ -38,7 +38,7 @@ fill-requires g c =
     let s = task g.R.Resolver.resolving g.T.KeywordTable.owned g.T.KeywordTable.script g.K.Validate.shape c.args.self.now in
     let old = filled g.R.Resolver.point c.args.compiled.now in
     let begun : Table _ _ = record { keys = old.keys; nodes = c.begin.new.self; round = c.at_round-compiled.result.round; depth = c.at_round-compiled.result.depth; loose = c.at_round-compiled.result.reaches_unsettled; reserved = old.reserved } in
-    let found = filled g.R.Resolver.point c.planned_node.new.compiled in
+    let found = filled g.R.Resolver.point c.plan_node.new.compiled in
     record { ready = round_fills s (key_of g.R.Resolver.point c.args.root.now.value) old begun found c.args.number _ (plan_of c.in_ok-planned.planned.form) c.requires.waits c.begin.ensures.begun c.at_round-compiled.ensures.round c.in_ok-planned.ensures.1 }
 
 pub returns : goal.returns
@@ -49,7 +49,7 @@ returns g c =
     let root = v c.args.root.now.value in
     let k = v c.in_ok-key.key.value in
     let begun : Table _ _ = record { keys = old.keys; nodes = c.begin.new.self; round = c.at_round-compiled.result.round; depth = c.at_round-compiled.result.depth; loose = c.at_round-compiled.result.reaches_unsettled; reserved = old.reserved } in
-    let found = filled g.R.Resolver.point c.planned_node.new.compiled in
+    let found = filled g.R.Resolver.point c.plan_node.new.compiled in
     let new : Table _ _ = record { keys = found.keys; nodes = c.fill.new.self; round = found.round; depth = found.depth; loose = found.loose; reserved = found.reserved } in
     let m = rw c.deref.ensures at c.in_ok-planned.ensures.0 in
     let o = rw c.deref.ensures at c.in_ok-planned.ensures.1 in

@@ -4,7 +4,7 @@ use Rattle.schema_keys.specs.KeyViews.{key_of}
 use Rattle.schema_compiler.specs.Carried.{filled}
 use Rattle.schema_compiler.specs.declared.compiler.compilation.Progress.{Progress}
 use Rattle.schema_compiler.proofs.Working.{at_first_number}
-use Rattle.schema_compiler.proofs.compiler.setup.Compiler.compiled_alone.Goals as goal
+use Rattle.schema_compiler.proofs.compiler.setup.Compiler.compile_alone.Goals as goal
 
 pub work_off-requires : goal.work_off-requires
 work_off-requires g c =
