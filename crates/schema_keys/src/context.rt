@@ -171,7 +171,9 @@ impl<'p, 'c, R: Resolver> Context<'p, 'c, R> {
         has_vocabulary(self.key.draft, &self.key.vocabularies, vocabulary)
     }
 
-    /// Returns the row of the standard's keyword with this name, if it is in force.
+    /// Returns the row of the standard's keyword with this name.
+    ///
+    /// `None` if the schema's draft does not have it, or if its vocabulary is not in force.
     #[tactic(auto, unfolding(crate::specs::Builtins::builtin))]
     pub fn builtin_row(&self, name: &str) -> Option<BuiltinRow>
         ensures row { option_map (row_of name.now) result ≡ builtin (draft_here self.now) self.now.key.now.vocabularies name.now }

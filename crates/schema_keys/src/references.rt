@@ -164,8 +164,8 @@ impl<'p, 'c, R: Resolver> Context<'p, 'c, R> {
         Ok(self.seek(kind, text)?)
     }
 
-    // Returns whether a reference leads to the object that holds it. A `$recursiveRef` is never
-    // taken to.
+    // Returns whether a reference is skipped: it leads to the object that holds it, and is no
+    // `$recursiveRef`.
     fn is_skipped(&self, kind: ReferenceKind, target: &Target<R::State>) -> bool
         ensures skipped { result ≡ skips (kind_of kind) (place_of target.now.place) (place_here self.now) }
     {
