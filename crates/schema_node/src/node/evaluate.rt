@@ -61,10 +61,8 @@ fn evaluate_plan<'i, K: Validate, M: Matcher>(
                 let pointer = SharedLocation::new(engine.alloc, place)?;
                 let path = EvaluationPath::kept(&kept);
                 let asked = Question {
-                    instance: question.instance,
-                    place: question.place,
                     path: &path,
-                    mode: question.mode,
+                    ..*question
                 };
                 let children = evaluate_entries(
                     engine,
@@ -126,10 +124,8 @@ fn evaluate_entry<'i, K: Validate, M: Matcher>(
         EntryForm::Reference(edge) => {
             let path = question.path.under_reference();
             let asked = Question {
-                instance: question.instance,
-                place: question.place,
                 path: &path,
-                mode: question.mode,
+                ..*question
             };
             let unit = evaluate_edge(engine, edge, &asked, context)?;
             units_of_reference(engine.alloc, &entry.name, question, unit, context)
@@ -186,8 +182,7 @@ pub(crate) fn evaluate_child<'i, K: Validate, M: Matcher>(
                 let asked = Question {
                     instance: inner,
                     place: &lower,
-                    path: question.path,
-                    mode: question.mode,
+                    ..*question
                 };
                 evaluate_edge(engine, edge, &asked, context)
             }
@@ -209,20 +204,17 @@ fn evaluate_edge<'i, K: Validate, M: Matcher>(
     let whole = question.path.across(&edge.path);
     if !edge.guarded {
         let asked = Question {
-            instance: question.instance,
-            place: question.place,
             path: &whole,
-            mode: question.mode,
+            ..*question
         };
         return evaluate_node(engine, edge.node, &asked, context);
     }
     let pair = GuardedPair::new(context, edge.node, question.place)?;
     let place = pair.numbered_place();
     let asked = Question {
-        instance: question.instance,
         place: &place,
         path: &whole,
-        mode: question.mode,
+        ..*question
     };
     if pair.is_in_progress(context) {
         return accepting_unit(engine.alloc, engine.nodes.node(edge.node), &asked, context);

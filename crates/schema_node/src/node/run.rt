@@ -122,10 +122,8 @@ fn run_entry<'i, K: Validate, M: Matcher>(
 {
     if entry.is_leaf {
         let asked = Question {
-            instance: question.instance,
-            place: question.place,
-            path: question.path,
             mode: Mode::Verdict,
+            ..*question
         };
         let valid = verdict_form(engine, node, entry, &asked, context)?;
         if valid {
@@ -160,10 +158,8 @@ fn run_form<'i, K: Validate, M: Matcher>(
         EntryForm::Reference(edge) => {
             let path = question.path.under_reference();
             let asked = Question {
-                instance: question.instance,
-                place: question.place,
                 path: &path,
-                mode: question.mode,
+                ..*question
             };
             let reply = run_edge(engine, edge, &asked, context)?;
             stamped_reply(engine.alloc, engine.nodes.node(node), &entry.name, reply)
@@ -221,8 +217,7 @@ pub(crate) fn run_child<'i, K: Validate, M: Matcher>(
                 let asked = Question {
                     instance: inner,
                     place: &lower,
-                    path: question.path,
-                    mode: question.mode,
+                    ..*question
                 };
                 if is_asked_first(engine, hopes, below, &lower) {
                     return run_refused(engine, edge, &asked, context);
@@ -281,10 +276,8 @@ fn run_refused<'i, K: Validate, M: Matcher>(
     ensures { ReplyOfEdge K.Validate M.Matcher.own engine.now question.now edge.now context.old context.new result }
 {
     let asked = Question {
-        instance: question.instance,
-        place: question.place,
-        path: question.path,
         mode: Mode::Verdict,
+        ..*question
     };
     let valid = verdict_edge(engine, edge, &asked, context)?;
     if valid {
@@ -307,10 +300,8 @@ fn run_edge<'i, K: Validate, M: Matcher>(
     let whole = question.path.across(&edge.path);
     if !edge.guarded {
         let asked = Question {
-            instance: question.instance,
-            place: question.place,
             path: &whole,
-            mode: question.mode,
+            ..*question
         };
         return run_node(engine, edge.node, &asked, context);
     }
@@ -321,10 +312,9 @@ fn run_edge<'i, K: Validate, M: Matcher>(
     pair.enter(context)?;
     let place = pair.numbered_place();
     let asked = Question {
-        instance: question.instance,
         place: &place,
         path: &whole,
-        mode: question.mode,
+        ..*question
     };
     let reply = run_node(engine, edge.node, &asked, context)?;
     pair.exit(context);

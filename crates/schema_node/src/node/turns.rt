@@ -71,10 +71,8 @@ fn run_turns<'i, K: Validate, M: Matcher>(
         match step {
             Step::Ask(child, below, wanted) => {
                 let asked = Question {
-                    instance: question.instance,
-                    place: question.place,
-                    path: question.path,
                     mode: wanted,
+                    ..*question
                 };
                 let hopes = refusals < 2;
                 reply = ask_child(engine, node, children, child, below, hopes, &asked, context)?;

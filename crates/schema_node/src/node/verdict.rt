@@ -157,10 +157,8 @@ fn verdict_reference<'i, K: Validate, M: Matcher>(
 {
     let path = question.path.under_reference();
     let asked = Question {
-        instance: question.instance,
-        place: question.place,
         path: &path,
-        mode: question.mode,
+        ..*question
     };
     verdict_edge(engine, edge, &asked, context)
 }
@@ -191,8 +189,7 @@ pub(crate) fn verdict_child<'i, K: Validate, M: Matcher>(
                 let asked = Question {
                     instance: inner,
                     place: &lower,
-                    path: question.path,
-                    mode: question.mode,
+                    ..*question
                 };
                 verdict_edge(engine, edge, &asked, context)
             }
@@ -217,10 +214,8 @@ pub(crate) fn verdict_edge<'i, K: Validate, M: Matcher>(
     }
     let whole = question.path.across(&edge.path);
     let asked = Question {
-        instance: question.instance,
-        place: question.place,
         path: &whole,
-        mode: question.mode,
+        ..*question
     };
     if engine.nodes.is_shared(edge.node) {
         return shared_verdict(engine, edge.node, &asked, context);
@@ -247,10 +242,8 @@ fn shared_verdict<'i, K: Validate, M: Matcher>(
     }
     let place = pair.numbered_place();
     let asked = Question {
-        instance: question.instance,
         place: &place,
-        path: question.path,
-        mode: question.mode,
+        ..*question
     };
     let valid = verdict_node(engine, node, &asked, context)?;
     pair.remember_verdict(context, valid)?;
@@ -278,10 +271,9 @@ fn guarded_verdict<'i, K: Validate, M: Matcher>(
     let place = pair.numbered_place();
     let whole = question.path.across(&edge.path);
     let asked = Question {
-        instance: question.instance,
         place: &place,
         path: &whole,
-        mode: question.mode,
+        ..*question
     };
     let mark = context.start_ref_visit();
     let valid = verdict_node(engine, edge.node, &asked, context)?;

@@ -189,8 +189,7 @@ fn verdict_there<'i, K: Validate, M: Matcher>(
                 let there = Question {
                     instance: inner,
                     place: &lower,
-                    path: question.path,
-                    mode: question.mode,
+                    ..*question
                 };
                 verdict_edge(engine, edge, &there, context)
             }
