@@ -57,6 +57,14 @@ impl<'i> Places<'i> {
         self.table.len()
     }
 
+    /// States that the place above each numbered place is numbered too. Does nothing when it runs.
+    pub fn assert_closed(&self)
+        ensures closed { Closed self.now }
+    {
+        // Opens the value, so that the contract sees what it is made of.
+        let _ = &self.table;
+    }
+
     /// Returns the greatest number at or below the place with this number: the places at or below it have the numbers from its own
     /// to that one, and no others have. It allocates nothing.
     pub fn last(&self, place: usize) -> usize
