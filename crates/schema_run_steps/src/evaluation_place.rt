@@ -82,8 +82,8 @@ impl<'p, 'i> EvaluationPlace<'p, 'i> {
                 _ => match above.walked_number(places) {
                     Some(number) => places.child(number, *step),
                     None => {
-                        // (the call says that below a place that is not there is none)
-                        let _count = places.len();
+                        // Nothing is below a place that does not exist.
+                        places.assert_closed();
                         None
                     }
                 },

@@ -42,6 +42,6 @@ pub returns-in-None : goal.returns-in-None
 returns-in-None t c =
     let ps = c.args.places.now in
     record {
-      number = sym (none_below (steps_to c.in-Below.above.now) (step_of c.in-Below.step) ps c.len-count.ensures.closed (sym c.in-None.ensures.number))
+      number = sym (none_below (steps_to c.in-Below.above.now) (step_of c.in-Below.step) ps c.assert_closed.ensures.closed (sym c.in-None.ensures.number))
           ∙ ap (λ (p : EvaluationPlace). number_of (steps_to p) ps) (sym c.in-Below.is);
     }
