@@ -1,4 +1,5 @@
--- Above each place stands the one a step up; and where a subject stands there is a place.
+-- If a place has a number, then so has the one a step up; and each place with a subject has a
+-- number.
 use Rattle.std.proofs.Common.{◌≡◌, ℕ, suc, ◌+◌, ◌<◌, ◌&&◌, Bool, true, false, cond, List, [], ◌∷◌, ◌++◌, length, map, refl, sym, ◌∙◌, ap, ap₂, subst, arith, true≢false}
 use Rattle.std.specs.Prelude.{Option, Some, None, is_some, option_map, ◌||◌}
 use Rattle.serde_json.specs.Data.{Data, Items, Members, array, boolean, item, member, no_items, no_members, null, number, object, string}

@@ -1,4 +1,5 @@
--- What stands right below a place, found: items at their indices, and names, which rise, by halves.
+-- How a step is found one step below a place: an item by its index, and a name, since names ascend,
+-- by bisection.
 use Rattle.std.proofs.Common.{◌≡◌, ℕ, zero, suc, ◌+◌, ◌<◌, ◌≤◌, Bool, true, false, cond, bytes_eq, nat_cmp, is_eq, Ordering, Less, Equal, Greater, List, [], ◌∷◌, length, get_or, refl, sym, ◌∙◌, ap, subst, arith, true≢false, Err, ⊎_elim, Bor}
 use Rattle.std.specs.Prelude.{Option, Some, None, option_map, slice_get}
 use Rattle.std.specs.Cmp.Lexicographic.{slice_cmp}

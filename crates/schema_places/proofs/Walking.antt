@@ -6,7 +6,7 @@ use Rattle.theory_definitions.specs.Instance.{Place, Step}
 use Rattle.schema_places.specs.Numbers.{Closed, number_of, place_at}
 use Rattle.schema_places.proofs.Closing.{none_below, stands}
 
--- below a place that is not there is none
+-- below a place that does not exist there is none
 pub none_further : (p q : Place) (ps : List Place) → Closed ps → number_of p ps ≡ None → number_of (p ++ q) ps ≡ None
 none_further p [] ps c e = ap (λ (x : Place). number_of x ps) (append-nil p) ∙ e
 none_further p (s ∷ q) ps c e =

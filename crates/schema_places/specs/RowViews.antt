@@ -1,4 +1,4 @@
--- What rows say beside the table of the numbers of items and of names.
+-- The rows of the code as contracts see them, read with its list of item and name numbers.
 use Rattle.std.specs.Prelude.{List, [], length, map, slice_index_or, slice_range, ℕ, ◌∷◌, ◌<◌, ◌≤◌}
 use Rattle.theory_definitions.specs.Instance.{Text}
 use Rattle.schema_places.specs.Rows.{Laid, LaidBelow, items_below, members_below, nothing, own_name}
@@ -34,7 +34,7 @@ text_of (below.Name s) = s.now
 abbrev pub text_at : List Row → ℕ → Text
 text_at rows n = text_of (slice_index_or rows n empty_row).below
 
--- what a row names is within a table of this length
+-- the indices of a row are within a list of this length
 abbrev pub IsWithin : ℕ → Below → Type 0
 IsWithin b below.Nothing = Unit {0}
 IsWithin b (below.Items from to) = (from ≤ to) × (to ≤ b)
@@ -45,12 +45,12 @@ abbrev pub AllWithin : ℕ → List Row → Type 0
 AllWithin b [] = Unit {0}
 AllWithin b (r ∷ rs) = IsWithin b r.below × AllWithin b rs
 
--- each number has a next one
+-- each number is below 2^63, so that the next one exists
 abbrev pub AllSmall : List ℕ → Type 0
 AllSmall [] = Unit {0}
 AllSmall (b ∷ bs) = (b < 9223372036854775808) × AllSmall bs
 
--- rows and the table that they speak of
+-- the rows refer to numbers that the list has
 pub record AreRows (bs : List ℕ) (rows : List Row) : Type 0 where
   pub within : AllWithin (length bs) rows
   pub small : AllSmall bs

@@ -1,5 +1,5 @@
--- How places are laid out in rows: the row of each place has the number of the last place at or below it, and the steps to the
--- places right below it with their numbers.
+-- The layout of places in rows: the row of each place holds the number of the last place at or
+-- below it, and the steps to the places one step below it with their numbers.
 use Rattle.std.specs.Prelude.{List, None, Option, Some, [], bytes_eq, if◌then◌else◌, length, slice_index_or, suc, zero, ℕ, ◌++◌, ◌+◌, ◌∷◌, ◌<◌, ◌≡◌}
 use Rattle.std.specs.Cmp.Lexicographic.{slice_cmp}
 use Rattle.std.specs.Ordering.{nat_cmp}
@@ -14,23 +14,24 @@ use Rattle.schema_places.specs.Numbers.{NumbersAll}
 abbrev pub Led : Type 0
 Led = Step × ℕ
 
--- a name, its number, and its member's
+-- a name, its number, and the number of its member
 abbrev pub NameNumbers : Type 0
 NameNumbers = Text × ℕ × ℕ
 
--- what is right below a place: nothing, items with these numbers, or names with these and after each its member; the row of a name keeps it
+-- what is one step below a place: nothing, items with these numbers, or names with these numbers,
+-- each followed by its member; nothing is below a name, and its row holds the name
 pub data LaidBelow : Type 0 where
   nothing : LaidBelow
   items : List ℕ → LaidBelow
   members : List ℕ → LaidBelow
   own_name : Text → LaidBelow
 
--- items with these numbers, if there are some
+-- items with these numbers, or nothing if there are none
 abbrev pub items_below : List ℕ → LaidBelow
 items_below [] = nothing
 items_below (b ∷ bs) = items (b ∷ bs)
 
--- names with these numbers, if there are some
+-- names with these numbers, or nothing if there are none
 abbrev pub members_below : List ℕ → LaidBelow
 members_below [] = nothing
 members_below (b ∷ bs) = members (b ∷ bs)
@@ -48,28 +49,28 @@ pub record Laid : Type 0 where
 abbrev pub laid : ℕ → LaidBelow → Laid
 laid n b = record { last = n; below = b }
 
--- the row of a place
+-- the row of the place that has a number
 abbrev pub row_in : List Laid → ℕ → Laid
 row_in rows n = slice_index_or rows n (laid 0 nothing)
 
 abbrev pub last_in : List Laid → ℕ → ℕ
 last_in rows n = (row_in rows n).last
 
--- the name that a row keeps
+-- the name that a row holds
 abbrev pub name_in : List Laid → ℕ → Text
 name_in rows n = name_of (row_in rows n).below
 
--- names that stand at these numbers: each with its number and the next one, which is its member's
+-- the names at these numbers: each with its number and the next one, which is its member's
 abbrev pub named_by : (ℕ → Text) → List ℕ → List NameNumbers
 named_by f [] = []
 named_by f (b ∷ bs) = (f b, b, b + 1) ∷ named_by f bs
 
--- where a step leads to
+-- the number of the place that a step leads to
 abbrev pub led_by : Step → List Led → Option ℕ
 led_by s [] = None
 led_by s (l ∷ ls) = if same_step s l.0 then Some l.1 else led_by s ls
 
--- the steps to items with these numbers, from an index on
+-- the steps to items with these numbers, beginning at an index
 abbrev pub leads_to_items : ℕ → List ℕ → List Led
 leads_to_items n [] = []
 leads_to_items n (b ∷ bs) = (to_item n, b) ∷ leads_to_items (n + 1) bs
@@ -90,19 +91,20 @@ abbrev pub number_of_name : Text → List NameNumbers → Option ℕ
 number_of_name k [] = None
 number_of_name k (m ∷ ms) = if bytes_eq k m.0 then Some m.1 else number_of_name k ms
 
--- the numbers of so many places that follow one another below a place, from the first one's on: each is one past the last number at or
--- below the place before it. That last number is asked of an item itself (a gap of 0), and of a name's member, whose number is one more
--- than the name's (a gap of 1)
+-- the numbers of a count of places that follow one another below a place, beginning with a first
+-- one: each is one past the last number at or below the place before it. That last number is looked
+-- up at the item itself (a gap of 0), or at the name's member, whose number is one more than the
+-- name's (a gap of 1)
 abbrev pub numbers_from : (ℕ → ℕ) → ℕ → ℕ → ℕ → List ℕ
 numbers_from last gap n zero = []
 numbers_from last gap n (suc count) = n ∷ numbers_from last gap (last (n + gap) + 1) count
 
--- so many follow one another among so many places
+-- the walk of `numbers_from` stays below a number of places
 abbrev pub Walks : (ℕ → ℕ) → ℕ → ℕ → ℕ → ℕ → Type 0
 Walks last size gap n zero = Unit {0}
 Walks last size gap n (suc count) = (n + gap < size) × (last (n + gap) < size) × Walks last size gap (last (n + gap) + 1) count
 
--- the numbers of the items of an array, and of the names of an object, from a number on
+-- the numbers of the items of an array, and of the names of an object, beginning with a number
 abbrev pub item_numbers : ℕ → Items → List ℕ
 item_numbers b no_items = []
 item_numbers b (item d ds) = b ∷ item_numbers (b + length (places d)) ds
@@ -111,7 +113,7 @@ abbrev pub name_numbers : ℕ → Members → List ℕ
 name_numbers b no_members = []
 name_numbers b (member k d ms) = b ∷ name_numbers (b + 1 + length (places d)) ms
 
--- the rows of all places, from a number on
+-- the rows of all places of a value, with numbers that begin at this one
 abbrev mutual
   pub rows_at : ℕ → Data → List Laid
   rows_at b null = laid b nothing ∷ []
@@ -129,7 +131,7 @@ abbrev mutual
   member_rows b no_members = []
   member_rows b (member k d ms) = laid b (own_name k) ∷ (rows_at (b + 1) d ++ member_rows (b + 1 + length (places d)) ms)
 
--- a name comes before all these
+-- a name comes before all of these
 abbrev pub IsFirst : Text → List NameNumbers → Type 0
 IsFirst k [] = Unit {0}
 IsFirst k (m ∷ ms) = (slice_cmp nat_cmp k m.0 ≡ Less) × IsFirst k ms
@@ -139,14 +141,14 @@ abbrev pub Rising : List NameNumbers → Type 0
 Rising [] = Unit {0}
 Rising (m ∷ ms) = IsFirst m.0 ms × Rising ms
 
--- so it is where names are below a place
+-- if names are below a place, then they ascend
 abbrev pub RisesBelow : List Laid → LaidBelow → Type 0
 RisesBelow rows nothing = Unit {0}
 RisesBelow rows (items bs) = Unit {0}
 RisesBelow rows (members bs) = Rising (named_by (name_in rows) bs)
 RisesBelow rows (own_name k) = Unit {0}
 
--- a name comes before all those of an object
+-- a name comes before all names of an object
 abbrev pub ComesFirst : Text → Members → Type 0
 ComesFirst k no_members = Unit {0}
 ComesFirst k (member l d ms) = (slice_cmp nat_cmp k l ≡ Less) × ComesFirst k ms
@@ -173,11 +175,11 @@ abbrev mutual
 abbrev pub places_of : Value → List Place
 places_of v = places (view v)
 
--- these are the places of a value, and one has a number exactly where something stands there
+-- these are the places of a value, and exactly those that exist in it have a number
 abbrev pub ArePlacesOf : Value → List Place → Type 0
 ArePlacesOf v ps = (ps ≡ places (view v)) × NumbersAll (view v) ps
 
--- a value's places are laid out in rows, and in each object the names ascend
+-- the rows are those of a value's places, and in each object the names ascend
 pub record LaidOut (v : Value) (rows : List Laid) : Type 0 where
   pub rows_are : rows ≡ rows_at 0 (view v)
   pub ascend : NamesAscend (view v)

@@ -1,4 +1,4 @@
-//! The places of an instance by number.
+//! Numbers for the places of an instance.
 #![tactic(auto)]
 
 mod numbering;

@@ -1,4 +1,4 @@
-//! Rows are laid out: one for each place of a value, in the order of their numbers.
+//! Builds the rows of a value: one for each of its places, in the order of their numbers.
 ghost use Rattle.std.specs.Prelude.{◌≡◌, ◌++◌, OnOk, length};
 ghost use Rattle.schema_reports.specs.Showing.{Yields};
 ghost use Rattle.serde_json.specs.Data.{array, object};
@@ -10,13 +10,13 @@ use schema_reports::location::OutOfMemory;
 use serde_json::{Map, Value};
 use std::alloc::Global;
 
-// How many rows get room when a table is begun, so that few places need no more.
+// The number of rows that a new table has room for. A small instance needs no more.
 const FIRST_ROWS: usize = 64;
 
-// How many numbers of items and names get room then.
+// The number of item and name numbers that a new table has room for.
 const FIRST_NUMBERS: usize = 32;
 
-/// Lays out the rows of a value. Fails only if memory cannot be allocated.
+/// Builds the rows of a value.
 pub(crate) fn lay_out<'i>(alloc: Global, value: &'i Value) -> Result<Table<'i>, OutOfMemory>
     ensures rows { Yields result (rows_at 0 (view value.now)) }
     ensures ascend { OnOk result (NamesAscend (view value.now)) }
@@ -26,7 +26,8 @@ pub(crate) fn lay_out<'i>(alloc: Global, value: &'i Value) -> Result<Table<'i>, 
     Ok(table)
 }
 
-// Adds the rows of a value and of all below it. It stands in the loops below, so that what is no array and no object takes no call.
+// Adds the rows of a value and of everything below it. Inlined into the loops below, so that a
+// value that is neither an array nor an object costs no call.
 #[cycle(number)]
 #[inline(always)]
 fn push_value<'i>(value: &'i Value, table: &mut Table<'i>) -> Result<(), OutOfMemory>
@@ -50,7 +51,7 @@ fn push_value<'i>(value: &'i Value, table: &mut Table<'i>) -> Result<(), OutOfMe
     }
 }
 
-// Adds those of an array and of all below it.
+// Adds the rows of an array and of everything below it.
 #[cycle(number)]
 fn push_items<'i>(items: &'i Vec<Value>, table: &mut Table<'i>) -> Result<(), OutOfMemory>
     ensures rows { OnOk result (table.new ≡ table.old ++ rows_at (length table.old) (array (items_view items.now.items))) }
@@ -66,7 +67,7 @@ fn push_items<'i>(items: &'i Vec<Value>, table: &mut Table<'i>) -> Result<(), Ou
     Ok(())
 }
 
-// Adds those of an object and of all below it.
+// Adds the rows of an object and of everything below it.
 #[cycle(number)]
 fn push_members<'i>(
     members: &'i Map<String, Value>,
@@ -82,7 +83,8 @@ fn push_members<'i>(
     Ok(())
 }
 
-// Adds those of the members of an object and of their names. Many an object has one member, and takes no iterator.
+// Adds the rows of an object's members and of their names. Many objects have a single member, which
+// needs no iterator.
 #[cycle(number)]
 #[inline(always)]
 fn push_parts<'i>(members: &'i Map<String, Value>, table: &mut Table<'i>) -> Result<(), OutOfMemory>
@@ -99,7 +101,7 @@ fn push_parts<'i>(members: &'i Map<String, Value>, table: &mut Table<'i>) -> Res
     push_each(members, table)
 }
 
-// The same, of however many members.
+// Like `push_parts`, but iterates over any number of members.
 #[cycle(number)]
 #[inline(never)]
 fn push_each<'i>(members: &'i Map<String, Value>, table: &mut Table<'i>) -> Result<(), OutOfMemory>

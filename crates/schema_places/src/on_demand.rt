@@ -1,4 +1,4 @@
-//! The places of an instance, numbered when they are first asked for.
+//! The places of an instance, numbered when their numbers are first requested.
 ghost use Rattle.std.specs.Prelude.{◌≡◌, IfOk, OnErr, OnOk, Some, ⊤};
 ghost use Rattle.std.specs.Borrow.{sem};
 ghost use Rattle.theory_definitions.specs.Instance.{places};
@@ -11,8 +11,10 @@ use serde_json::Value;
 use std::alloc::Global;
 use std::marker::Model;
 
-/// The places of an instance, which are numbered when their numbers are first asked for: a run that never asks for one pays
-/// nothing. Contracts see the instance, whether its places are numbered or not.
+/// The places of an instance, numbered on first use.
+///
+/// A run that never requests a number pays nothing for them. Contracts see the instance, whether
+/// its places are numbered or not.
 #[derive(Drop)]
 pub struct PlacesOnDemand<'i> {
     root: &'i Value,
@@ -38,7 +40,7 @@ impl<'i> Model for PlacesOnDemand<'i> {
 impl<'i> PlacesOnDemand<'i> {
     ghost use Rattle.schema_places.specs.Lending.{EndsAs};
 
-    /// Returns the places of an instance, not numbered yet. It allocates nothing.
+    /// Returns the places of an instance, not yet numbered. Allocates nothing.
     pub fn of(root: &'i Value) -> PlacesOnDemand<'i>
         ensures root { result ≡ root.now }
     {
@@ -48,8 +50,11 @@ impl<'i> PlacesOnDemand<'i> {
         }
     }
 
-    /// Returns the numbered places. They are numbered at the first call. Fails only if memory cannot be allocated, and then nothing
-    /// has changed.
+    /// Returns the numbered places. The first call numbers them.
+    ///
+    /// # Errors
+    ///
+    /// Out of memory. Then nothing has changed.
     pub fn numbered(&mut self, alloc: Global) -> Result<&Places<'i>, OutOfMemory>
         ensures places { IfOk result (λ ps. ps.now ≡ places (view self.old)) }
         ensures there { IfOk result (λ ps. NumbersAll (view self.old) ps.now) }
@@ -65,7 +70,7 @@ impl<'i> PlacesOnDemand<'i> {
     }
 }
 
-// Numbers the places of a root. It stands apart, so that what asks for numbered places stays small.
+// Numbers the places of a root. Not inlined, so that callers of `numbered` stay small.
 #[inline(never)]
 fn number_root<'i>(
     numbered: &mut Option<Places<'i>>,

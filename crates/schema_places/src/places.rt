@@ -1,4 +1,4 @@
-//! The places of an instance, each with its number.
+//! The numbered places of an instance.
 ghost use Rattle.std.specs.Prelude.{◌≡◌, ◌<◌, ◌≤◌, ◌&&◌, ◌++◌, ◌∷◌, [], ℕ, IfOk, length, map, nat_le};
 ghost use Rattle.schema_reports.specs.Showing.{Yields};
 ghost use Rattle.theory_definitions.specs.Instance.{places};
@@ -14,8 +14,11 @@ use serde_json::Value;
 use std::alloc::Global;
 use std::marker::Model;
 
-/// The places of an instance, each with its number: the root is 0; in an object each name comes before its member, in the order of
-/// the names; the items of an array come by index. Contracts see the list of the places, in the order of their numbers.
+/// The places of an instance, each with its number.
+///
+/// The root has number 0. In an object each name comes before its member, in the order of the
+/// names; the items of an array come in the order of their indices. Contracts see the list of the
+/// places, in the order of their numbers.
 #[derive(Drop)]
 pub struct Places<'i> {
     root: &'i Value,
@@ -35,8 +38,13 @@ impl<'i> Model for Places<'i> {
 }
 
 impl<'i> Places<'i> {
-    /// Numbers the places of an instance: each place at which something stands gets a number, and no two get the same. Fails only if
-    /// memory cannot be allocated.
+    /// Numbers the places of an instance.
+    ///
+    /// Each place that exists in the instance gets a number, and no two get the same one.
+    ///
+    /// # Errors
+    ///
+    /// Out of memory.
     pub fn number(alloc: Global, value: &'i Value) -> Result<Places<'i>, OutOfMemory>
         ensures places { Yields result (places (view value.now)) }
         ensures there { IfOk result (λ ps. NumbersAll (view value.now) ps) }
@@ -47,7 +55,7 @@ impl<'i> Places<'i> {
         Ok(Places { root: value, table })
     }
 
-    /// Returns how many places there are. It allocates nothing.
+    /// Returns the number of places. Allocates nothing.
     pub fn len(&self) -> usize
         ensures count { result ≡ length self.now }
         ensures own { OwnNumbers self.now }
@@ -65,8 +73,10 @@ impl<'i> Places<'i> {
         let _ = &self.table;
     }
 
-    /// Returns the greatest number at or below the place with this number: the places at or below it have the numbers from its own
-    /// to that one, and no others have. It allocates nothing.
+    /// Returns the greatest number at or below the place with this number.
+    ///
+    /// Exactly the places at or below it have the numbers from its own to that one. Allocates
+    /// nothing.
     pub fn last(&self, place: usize) -> usize
         requires known { place < length self.now }
         ensures from { place ≤ result }
@@ -77,7 +87,9 @@ impl<'i> Places<'i> {
         self.table.last(place)
     }
 
-    /// Returns the number of the place one step below the place with this number, if there is one. It allocates nothing.
+    /// Returns the number of the place one step below another one, if it exists.
+    ///
+    /// Allocates nothing.
     #[inline(always)]
     pub fn child(&self, place: usize, step: InstanceStep<'_>) -> Option<usize>
         requires known { place < length self.now }
@@ -86,13 +98,14 @@ impl<'i> Places<'i> {
         self.table.child(place, step)
     }
 
-    /// Returns the number of the place that the steps lead to from the place with this number, if there is such a place. It
-    /// allocates nothing.
+    /// Returns the number of the place that the steps lead to from another one, if it exists.
+    ///
+    /// Allocates nothing.
     pub fn find_from(&self, place: usize, steps: &[InstanceStep<'_>]) -> Option<usize>
         requires known { place < length self.now }
         ensures number { result ≡ number_of (place_at self.now place ++ map step_of steps.now) self.now }
     {
-        // Opens the value, so that what its rows say is known below.
+        // Opens the value, so that the contents of its rows are known below.
         let _ = &self.table;
         let mut number = place;
         for step in steps {
@@ -104,7 +117,9 @@ impl<'i> Places<'i> {
         Some(number)
     }
 
-    /// Returns the number of the place that the steps lead to from the root, if there is such a place. It allocates nothing.
+    /// Returns the number of the place that the steps lead to from the root, if it exists.
+    ///
+    /// Allocates nothing.
     pub fn find(&self, steps: &[InstanceStep<'_>]) -> Option<usize>
         ensures number { result ≡ number_of (map step_of steps.now) self.now }
     {

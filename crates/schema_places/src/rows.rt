@@ -1,4 +1,7 @@
-//! A row for each place: the number of the last place at or below it, and the places one step below it.
+//! A table with one row for each place.
+//!
+//! The row of a place holds the number of the last place at or below it, and the places one step
+//! below it.
 ghost use Rattle.std.specs.Prelude.{◌≡◌, ◌<◌, ◌≤◌, ◌-◌, ◌+◌, ◌++◌, ◌∷◌, [], OnErr, OnOk};
 ghost use Rattle.std.specs.Prelude.{bytes_eq, length, slice_range, slice_set};
 ghost use Rattle.schema_reports.specs.Showing.{Yields};
@@ -16,9 +19,10 @@ use std::alloc::Global;
 use std::cmp::Ordering;
 use std::marker::Model;
 
-/// The places one step below a place: none, items, or names and members. The numbers of items stand in a table from an index up to
-/// another one, in their order, and so do the numbers of names; each member has the number after its name's. Below a name is none, and
-/// its row keeps it.
+/// The places one step below a place: none, items, or names and members.
+///
+/// The two indices bound the numbers of the items, or of the names, in the table's list of numbers.
+/// A member has the number after its name's. Nothing is below a name, and its row holds the name.
 #[derive(Clone, Copy)]
 enum Below<'i> {
     Nothing,
@@ -27,15 +31,21 @@ enum Below<'i> {
     Name(&'i str),
 }
 
-/// The number of the last place at or below one, and the places one step below it.
+/// What the table holds for a place.
+///
+/// `last` is the number of the last place at or below it, and `below` has the places one step
+/// below.
 #[derive(Clone, Copy)]
 struct Row<'i> {
     last: usize,
     below: Below<'i>,
 }
 
-/// The rows of places, in the order of their numbers; and the numbers of the items of all arrays and of the names of all objects, one
-/// array or object after another, those of names by the bytes of the names. Contracts see what each row says.
+/// The rows of places, in the order of the places' numbers.
+///
+/// `numbers` holds the numbers of the items of all arrays and of the names of all objects, one
+/// array or object after another; the names of an object are ordered by their bytes. Contracts see
+/// the content of each row.
 #[derive(Drop)]
 pub(crate) struct Table<'i> {
     rows: Vec<Row<'i>>,
@@ -55,13 +65,12 @@ impl<'i> Model for Table<'i> {
     ghost invariant = { λ t. AreRows t.numbers.items t.rows.items };
 }
 
-// So many names are asked one after another; more are halved.
+// Up to this many names are searched one by one, more by bisection.
 const FEW_NAMES: usize = 8;
 
-// A name of so many bytes is compared byte by byte, a longer one by words.
+// A name of up to this many bytes is compared byte by byte, a longer one by words.
 const SHORT_NAME: usize = 7;
 
-// The numbers from an index up to another one.
 fn numbers_between(numbers: &[usize], from: usize, to: usize) -> &[usize]
     requires order { from ≤ to }
     requires end { to ≤ length numbers.now }
@@ -70,7 +79,6 @@ fn numbers_between(numbers: &[usize], from: usize, to: usize) -> &[usize]
     &numbers[from..to]
 }
 
-// The number of the item that the step leads to.
 fn child_of_items(numbers: &[usize], step: InstanceStep<'_>) -> Option<usize>
     ensures child { result ≡ led_by (step_of step.entry) (leads_to_items 0 numbers.now) }
 {
@@ -81,7 +89,6 @@ fn child_of_items(numbers: &[usize], step: InstanceStep<'_>) -> Option<usize>
     }
 }
 
-// The number of the name or the member that the step leads to.
 fn child_of_members(rows: &[Row<'_>], numbers: &[usize], step: InstanceStep<'_>) -> Option<usize>
     requires rising { Rising (named_by (text_at rows.now) numbers.now) }
     requires small { AllSmall numbers.now }
@@ -97,7 +104,7 @@ fn child_of_members(rows: &[Row<'_>], numbers: &[usize], step: InstanceStep<'_>)
     }
 }
 
-// The name in the row with a number; the empty one where no name is.
+// Returns the name in the row with a number, or an empty one if the row holds no name.
 fn name_in<'i>(rows: &[Row<'i>], number: usize) -> &'i str
     ensures name { result.now ≡ text_at rows.now number }
 {
@@ -110,14 +117,13 @@ fn name_in<'i>(rows: &[Row<'i>], number: usize) -> &'i str
     }
 }
 
-// Whether two short names are the same, byte by byte.
+// Compares two short names byte by byte.
 fn is_same(one: &str, other: &str) -> bool
     ensures same { result ≡ bytes_eq one.now other.now }
 {
     one.len() == other.len() && are_same_bytes(one.as_bytes(), other.as_bytes())
 }
 
-// Whether so many bytes are the same.
 fn are_same_bytes(one: &[u8], other: &[u8]) -> bool
     requires long { length one.now ≡ length other.now }
     ensures same { result ≡ bytes_eq one.now other.now }
@@ -130,7 +136,6 @@ fn are_same_bytes(one: &[u8], other: &[u8]) -> bool
     true
 }
 
-// The number of a name.
 #[inline(always)]
 fn number_of(rows: &[Row<'_>], numbers: &[usize], name: &str) -> Option<usize>
     requires rising { Rising (named_by (text_at rows.now) numbers.now) }
@@ -150,7 +155,8 @@ fn number_of(rows: &[Row<'_>], numbers: &[usize], name: &str) -> Option<usize>
     None
 }
 
-// The same of a name that is long. It stands apart, so that a short one takes no stack.
+// Like `number_of`, for a long name. Not inlined, so that a short one does not pay for its stack
+// frame.
 #[inline(never)]
 fn number_by_turns(rows: &[Row<'_>], numbers: &[usize], name: &str) -> Option<usize>
     ensures number { result ≡ number_of_name name.now (named_by (text_at rows.now) numbers.now) }
@@ -163,7 +169,7 @@ fn number_by_turns(rows: &[Row<'_>], numbers: &[usize], name: &str) -> Option<us
     None
 }
 
-// The same, found by halves.
+// Like `number_of`, by bisection.
 #[inline(never)]
 fn number_by_halves(rows: &[Row<'_>], numbers: &[usize], name: &str) -> Option<usize>
     requires rising { Rising (named_by (text_at rows.now) numbers.now) }
@@ -180,8 +186,8 @@ fn number_by_halves(rows: &[Row<'_>], numbers: &[usize], name: &str) -> Option<u
     }
 }
 
-// Adds the numbers of so many places that follow one another below a place, from the first one's on: of items, and with a gap of 1 of
-// names, since after each comes its member.
+// Adds the numbers of `count` places that follow one another below a place, beginning with `first`.
+// The gap is 0 for items. It is 1 for names, because each is followed by its member.
 fn push_numbers(
     rows: &[Row<'_>],
     numbers: &mut Vec<usize>,
@@ -204,7 +210,7 @@ fn push_numbers(
 }
 
 impl<'i> Table<'i> {
-    /// Returns no rows, with room for so many, and for so many numbers of items and names. Fails only if memory cannot be allocated.
+    /// Returns a table without rows, with room for this many rows and numbers.
     pub(crate) fn with_room(
         alloc: Global,
         rows: usize,
@@ -217,7 +223,7 @@ impl<'i> Table<'i> {
         Ok(Table { rows, numbers })
     }
 
-    /// Returns how many rows there are. It allocates nothing.
+    /// Returns the number of rows.
     pub(crate) fn len(&self) -> usize
         ensures count { result ≡ length self.now }
         ensures small { result < 9223372036854775808 }
@@ -225,7 +231,7 @@ impl<'i> Table<'i> {
         self.rows.len()
     }
 
-    /// Returns the number of the last place at or below the one with this number. It allocates nothing.
+    /// Returns the number of the last place at or below the one with this number.
     pub(crate) fn last(&self, place: usize) -> usize
         requires known { place < length self.now }
         ensures last { result ≡ (row_in self.now place).last }
@@ -233,7 +239,7 @@ impl<'i> Table<'i> {
         self.rows[place].last
     }
 
-    /// Returns the number of the place that the step leads to, if there is one. It allocates nothing.
+    /// Returns the number of the place that the step leads to, if it exists.
     #[inline(always)]
     pub(crate) fn child(&self, place: usize, step: InstanceStep<'_>) -> Option<usize>
         requires known { place < length self.now }
@@ -254,7 +260,7 @@ impl<'i> Table<'i> {
         }
     }
 
-    /// Makes room for so many rows more.
+    /// Makes room for this many more rows.
     pub(crate) fn reserve(&mut self, rows: usize) -> Result<(), OutOfMemory>
         ensures same { self.new ≡ self.old }
     {
@@ -286,7 +292,9 @@ impl<'i> Table<'i> {
         Ok(())
     }
 
-    /// Says in the row of a place that so many items are below it, and that all rows after it are below it.
+    /// Fills the row of an array with `count` items.
+    ///
+    /// All rows after it belong to places below it.
     pub(crate) fn put_items(&mut self, place: usize, count: usize) -> Result<(), OutOfMemory>
         requires known { place < length self.old }
         requires walk { Walks (last_in self.old) (length self.old) 0 (place + 1) count }
@@ -304,7 +312,9 @@ impl<'i> Table<'i> {
         Ok(())
     }
 
-    /// Says in the row of a place that so many names with their members are below it, and that all rows after it are below it.
+    /// Fills the row of an object with `count` members.
+    ///
+    /// All rows after it belong to places below it.
     pub(crate) fn put_members(&mut self, place: usize, count: usize) -> Result<(), OutOfMemory>
         requires known { place < length self.old }
         requires walk { Walks (last_in self.old) (length self.old) 1 (place + 1) count }
