@@ -1,27 +1,27 @@
--- The path that led to a node, as its text.
+-- The text of the evaluation path that led to a node.
 use Rattle.std.specs.Prelude.{◌++◌, ◌≡◌, Bool, IfOk, Result, false, true}
 use Rattle.theory_definitions.specs.Instance.{Text}
 use Rattle.theory_definitions.specs.Pointer.{joined}
 use Rattle.schema_run_context.specs.declared.evaluation_path.EvaluationPath.{EvaluationPath, Given, Across', UnderReference', Kept}
 
--- the path that was given, with what each edge adds to it
+-- the text of a path: the one that the caller supplied, with what each edge adds to it
 abbrev pub path_of : EvaluationPath → Text
 path_of (Given path) = path.now
 path_of (Across' pointer before added) = path_of before ++ added.now
 path_of (UnderReference' pointer before) = path_of before
 path_of (Kept texts) = texts.now.path
 
--- whether it goes on under a reference somewhere
+-- whether the path continues under a reference somewhere
 abbrev pub is_under_reference : EvaluationPath → Bool
 is_under_reference (Given path) = false
 is_under_reference (Across' pointer before added) = is_under_reference before
 is_under_reference (UnderReference' pointer before) = true
 is_under_reference (Kept texts) = texts.now.under_reference
 
--- a path is that of a keyword of this name after another one, and of what follows
+-- a text is the path of a keyword with this name after a path, followed by the rest
 abbrev pub IsPathTo : EvaluationPath → Text → Text → Text → Type 0
 IsPathTo path name rest l = l ≡ joined (path_of path) name ++ rest
 
--- so it is of the one that is given
+-- if a result is a text, then the text is such a path
 abbrev pub GivesPath : {E : Type 0} → EvaluationPath → Text → Text → Result Text E → Type 0
 GivesPath path name rest result = IfOk result (λ l. IsPathTo path name rest l)

@@ -1,4 +1,4 @@
--- What a context is once its numbered places are no longer lent.
+-- The value of a context once the borrow of its numbered places has ended.
 use Rattle.std.specs.Prelude.{[], ⊤, ◌≡◌}
 use Rattle.std.specs.Borrow.{Fml, MutBor, follows_so}
 use mathlib.Core.Option.{none}

@@ -1,4 +1,4 @@
--- The code's marks as data.
+-- The marks of the code, as the definitions have them.
 use Rattle.std.specs.List.{list_any}
 use Rattle.std.specs.Prelude.{Bool, List, Option, [], ◌∷◌, ◌++◌, map, option_map}
 use Rattle.theory_definitions.specs.Guarded.{Children, same_edge}
@@ -18,10 +18,10 @@ last_first (m ∷ ms) = last_first ms ++ marked_of m ∷ []
 abbrev pub edges_of : List (Option Edge) → Children
 edges_of children = map (option_map edge_of) children
 
--- by these edges, one of the marks is the same as this one
+-- judged by these edges, one of the marks is the same as this one
 abbrev pub is_marked : List (Option Edge) → Marked → List spec.Marked → Bool
 is_marked children m marks = list_any (same_edge (edges_of children) (marked_of m)) marks
 
--- the marks with this one, where none is the same
+-- the marks, with this one added unless one of them is the same
 abbrev pub marks_with : List (Option Edge) → Marked → List spec.Marked → List spec.Marked
 marks_with children m marks = with_mark (same_edge (edges_of children)) (marked_of m) marks

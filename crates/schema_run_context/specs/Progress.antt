@@ -1,4 +1,5 @@
--- The pairs of a node's number and a place that are in progress, the last entered last; and what a run holds.
+-- The pairs of a node's number and a place that are in progress, the last entered last; and the
+-- state of a run.
 use Rattle.std.specs.Prelude.{ℕ, ◌≤◌, ◌<◌, ◌≡◌, ◌↔◌, ◌+◌, ◌*◌, ◌/◌, ◌||◌, ◌==◌, Bool, IsTrue, List, [], ◌∷◌, ◌++◌, length, nat_eq, not, if◌then◌else◌, All, Contains}
 use Rattle.std.specs.List.{filter, list_any}
 use Rattle.serde_json.specs.View.{view}
@@ -17,35 +18,36 @@ abbrev pub busy_at : Place → Pairs → List ℕ
 busy_at p [] = []
 busy_at p (e ∷ es) = busy_at p es ++ (if same_place e.1 p then e.0 ∷ [] else [])
 
--- no pair lies deeper than a place
+-- no pair is at a deeper place than this one
 abbrev pub NoDeeper : Place → Pairs → Type 0
 NoDeeper p es = All (λ e. length e.1 ≤ length p) es
 
--- no pair twice
+-- no pair is listed twice
 abbrev pub Distinct : Pairs → Type 0
 Distinct [] = Unit {0}
 Distinct (e ∷ es) = (Contains es e → ⊥) × Distinct es
 
--- a pair is entered: it was there, and nothing changes, or it goes last
+-- a pair is entered: if it was there already, then nothing changes, or else it is added at the end
 abbrev pub Enters : ℕ → Place → Pairs → Bool → Pairs → Type 0
 Enters n p old b new = (IsTrue b ↔ Contains old (n, p)) × (new ≡ (if b then old else old ++ (n, p) ∷ []))
 
--- a pair is the last
+-- a pair is the last one
 abbrev pub EndsWith : ℕ → Place → Pairs → Type 0
 EndsWith n p es = (rest : Pairs) × (es ≡ rest ++ (n, p) ∷ [])
 
--- a pair goes last
+-- a pair is added at the end
 abbrev pub GoesLast : ℕ → Place → Pairs → Pairs → Type 0
 GoesLast n p old new = new ≡ old ++ (n, p) ∷ []
 
--- a verdict of each of some pairs, no pair twice
+-- verdicts of pairs
 abbrev pub Verdicts : Type 0
 Verdicts = List ((ℕ × Place) × Bool)
 
--- what a run holds: the instance whose places it speaks of, the pairs in progress, what it assumes of unfinished matches and remembers
--- of those that it met, the marks of the keyword's run that is at work, the last one first, the verdicts that it remembers, how many
--- guarded visits it counted, the node numbers that were entered, and those that a verdict is remembered for, how many words of 64
--- bits its rows take, and how many nodes it may still ask
+-- the state of a run: the instance whose places it refers to, the pairs in progress, what it
+-- assumes about unfinished matches and remembers of those that it met, the marks of the current run
+-- of a keyword, the last one first, the verdicts that it remembers, the number of guarded visits,
+-- the node numbers that were entered, and those that a verdict is remembered for, the number of
+-- 64-bit words in its rows, and the number of nodes that it may still evaluate
 pub record Context : Type 0 where
   pub root : Value
   pub in_progress : Pairs
@@ -65,7 +67,7 @@ root_places v = places (view v)
 abbrev pub places_in : Context → List Place
 places_in c = root_places c.root
 
--- the place of a number, and that there is one
+-- the place that has a number, and (below) that there is one
 abbrev pub place_in : Context → ℕ → Place
 place_in c k = place_at (places_in c) k
 
@@ -76,43 +78,46 @@ IsPlaceIn c k = k < length (places_in c)
 abbrev pub is_busy : ℕ → Place → Context → Bool
 is_busy n p c = list_any (λ i. i == n) (busy_at p c.in_progress)
 
--- a run that has begun on this instance, with what it remembers of matches; it may ask any number of nodes
+-- a run that has begun on this instance, with what it remembers of matches; it may evaluate any
+-- number of nodes
 abbrev pub begun : Value → Remembered → Context
 begun v r = record { root = v; in_progress = []; remembered = r; marking = []; verdicts = []; visits = 0; entered = []; kept = []; words = 0; work = unlimited }
 
--- a node's number is among some
+-- a node's number is among some numbers
 abbrev pub has_number : ℕ → List ℕ → Bool
 has_number n xs = list_any (nat_eq n) xs
 
--- a number comes to some
+-- a number is added to some numbers
 abbrev pub Adds : ℕ → List ℕ → List ℕ → Type 0
 Adds n old new = (m : ℕ) → has_number m new ≡ (has_number m old || (n == m))
 
--- the numbers that were entered or that a verdict is remembered for, each once
+-- the numbers that were entered or for which a verdict is remembered, each once
 abbrev pub numbers : Context → List ℕ
 numbers c = c.entered ++ filter (λ n. not (has_number n c.entered)) c.kept
 
--- how many rows there are: one for each number that was entered, two for each that a verdict is remembered for
+-- the number of rows: one for each number that was entered, two for each number for which a verdict
+-- is remembered
 abbrev pub rows : Context → ℕ
 rows c = length c.entered + 2 * length c.kept
 
--- at most three rows for each number
+-- there are at most three rows for each number
 abbrev pub FewRows : Context → Type 0
 FewRows c = rows c ≤ 3 * length (numbers c)
 
--- how many words of 64 bits a row takes that has a bit for each of so many places
+-- the number of 64-bit words in a row that has one bit for each of some places
 abbrev pub row_words : ℕ → ℕ
 row_words n = (n + 63) / 64
 
--- how many words the rows of the numbers that were entered take
+-- the number of words in the rows of the numbers that were entered
 abbrev pub guard_words : Context → ℕ
 guard_words c = length c.entered * row_words (length (places_in c))
 
--- each row has a bit for each place, and no word more than these take
+-- each row has one bit for each place, and no more words than that takes
 abbrev pub IsWide : Context → Type 0
 IsWide c = c.words ≡ rows c * row_words (length (places_in c))
 
--- nothing changes but the pairs in progress, the numbers that were entered, and how many words the rows take
+-- nothing changes but the pairs in progress, the numbers that were entered, and the number of words
+-- in the rows
 pub record OnlyPairs (old new : Context) : Type 0 where
   pub remembered : new.remembered ≡ old.remembered
   pub marking : new.marking ≡ old.marking

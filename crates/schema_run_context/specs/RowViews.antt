@@ -1,4 +1,4 @@
--- The rows that memory has, as lists of words.
+-- The rows of the code, as lists of words.
 use Rattle.std.specs.Prelude.{ℕ, List, map}
 use Rattle.std.specs.Vec.{vec_items}
 use Rattle.std.specs.declared.alloc.Global.{Global}

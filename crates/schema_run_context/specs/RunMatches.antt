@@ -1,4 +1,4 @@
--- How the matches of a run come out by what it assumes, and what it remembers of them.
+-- The outcomes of a run's matches under its assumptions, and what it remembers of them.
 use Rattle.std.specs.Prelude.{Bool}
 use Rattle.theory_definitions.specs.Instance.{Text}
 use Rattle.theory_definitions.specs.Matching.{Matcher, Pair, Reason, assumed}
@@ -11,18 +11,18 @@ use Rattle.schema_run_context.specs.Progress.{Context}
 abbrev pub a_pair : Text → Text → Pair
 a_pair pattern subject = record { pattern = pattern; subject = subject }
 
--- how an unfinished match comes out: as it is assumed to, or else as no
+-- the outcome of an unfinished match: the assumed one, or else no
 abbrev pub assumed_in : Context → Pair → Bool
 assumed_in c a = or_no (assumed c.remembered.assumptions a)
 
--- what is remembered once it is met at a site, unfinished for this reason
+-- what is remembered after a match was met at a site, unfinished for this reason
 abbrev pub met_in : Context → Pair → Site → Reason → Remembered
 met_in c a site reason = meet c.remembered (record { met = record { pair = a; site = site }; reason = reason })
 
--- how a match comes out by a matcher
+-- the outcome of a match with a matcher
 abbrev pub matches_in : Context → Matcher → Pair → Bool
 matches_in c m a = comes_out c.remembered.assumptions a (m.is_match a.pattern a.subject)
 
--- what is remembered once it was asked for at a site
+-- what is remembered after the match was requested at a site
 abbrev pub asked_in : Context → Matcher → Pair → Site → Remembered
 asked_in c m a site = after_match c.remembered (record { pair = a; site = site }) (m.is_match a.pattern a.subject)

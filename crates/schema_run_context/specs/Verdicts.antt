@@ -1,4 +1,5 @@
--- The verdicts that a run remembers of guarded questions, by the node's number and the place; when one is kept, and when it is read.
+-- The verdicts that a run remembers of guarded questions, by the node's number and the place; and
+-- when a verdict is stored and when it is read.
 use Rattle.std.specs.Prelude.{ℕ, ◌≡◌, ◌≤◌, ◌==◌, ◌+◌, ◌&&◌, Bool, true, false, [], ◌∷◌, Option, None, Some, if◌then◌else◌, min}
 use Rattle.std.specs.List.{list_all}
 use Rattle.serde_json.specs.Data.{array, object}
@@ -7,11 +8,11 @@ use Rattle.schema_reports.specs.InstanceViews.{subject_of}
 use Rattle.schema_reports.specs.declared.instance.Instance.{Instance}
 use Rattle.schema_run_context.specs.Progress.{Context, Pairs, Verdicts, busy_at, place_in}
 
--- the pair is this one
+-- a pair is the one of this node and this place
 abbrev pub is_pair : ℕ → Place → ℕ × Place → Bool
 is_pair i p e = (e.0 == i) && same_place e.1 p
 
--- the verdict of a pair, where one is remembered
+-- the verdict of a pair, if one is remembered
 abbrev pub verdict_of : ℕ → Place → Verdicts → Option Bool
 verdict_of i p [] = None
 verdict_of i p (e ∷ es) = if is_pair i p e.0 then Some e.1 else verdict_of i p es
@@ -21,7 +22,7 @@ pub record Remembers (i : ℕ) (p : Place) (v : Bool) (old new : Verdicts) : Typ
   pub its : verdict_of i p new ≡ Some v
   pub others : (j : ℕ) (q : Place) → is_pair i p (j, q) ≡ false → verdict_of j q new ≡ verdict_of j q old
 
--- arrays and objects
+-- a subject is an array or an object
 abbrev pub is_container : Subject → Bool
 is_container (a_value (array ds)) = true
 is_container (a_value (object ms)) = true
@@ -35,18 +36,18 @@ is_alone i p es = list_all (λ j. j == i) (busy_at p es)
 abbrev pub one_more : ℕ → ℕ
 one_more n = min (n + 1) 18446744073709551615
 
--- how many visits a verdict has to take
+-- the least number of visits that a verdict has to take, so that it is stored
 abbrev pub least_visits : ℕ
 least_visits = 16
 
--- a verdict is kept: of an array or an object, where no other node is in progress at the place, and where at least so many visits
--- were counted since the mark
+-- a verdict is stored if the subject is an array or an object, no other node is in progress at the
+-- place, and at least this many visits were counted since the mark
 pub record MayKeep (i : ℕ) (p : Place) (s : Subject) (mark : ℕ) (c : Context) : Type 0 where
   pub container : is_container s ≡ true
   pub alone : is_alone i p c.in_progress ≡ true
   pub enough : mark + least_visits ≤ c.visits
 
--- the same of a node at the place of a number
+-- the same, for a node at the place that has a number
 abbrev pub MayKeepAt : ℕ → ℕ → Instance → ℕ → Context → Type 0
 MayKeepAt n k instance mark c = MayKeep n (place_in c k) (subject_of instance) mark c
 
@@ -58,6 +59,7 @@ RemembersAt n k v old new = Remembers n (place_in old k) v old.verdicts new.verd
 abbrev pub OnlyVerdicts : Context → Context → Type 0
 OnlyVerdicts old new = new ≡ record old { verdicts = new.verdicts; kept = new.kept; words = new.words }
 
--- the verdict that is read of a pair
+-- the verdict that is read for a pair: the remembered one, if no other node is in progress at the
+-- place
 abbrev pub read_verdict : ℕ → Place → Context → Option Bool
 read_verdict i p c = if is_alone i p c.in_progress then verdict_of i p c.verdicts else None

@@ -1,35 +1,36 @@
--- How many nodes a call may still ask.
+-- The number of nodes that a call may still evaluate.
 use Rattle.std.specs.Prelude.{ℕ, ◌≡◌, ◌≤◌, ◌<◌, Bool, true, false, None, Option, Some, if◌then◌else◌}
 
--- how many may still be asked, where there is a limit; whether there is one; and whether one more was to be asked than these
+-- a budget: how many nodes may still be evaluated, whether there is a limit at all, and whether the
+-- call tried to exceed it
 pub record Budget : Type 0 where
   pub left : ℕ
   pub limited : Bool
   pub stopped : Bool
 
--- any number
+-- the budget without a limit
 abbrev pub unlimited : Budget
 unlimited = record { left = 18446744073709551615; limited = false; stopped = false }
 
--- as many as a limit says, or any number
+-- the budget of a limit, or the one without a limit
 abbrev pub allowed : Option ℕ → Budget
 allowed None = unlimited
 allowed (Some n) = record { left = n; limited = true; stopped = false }
 
--- how many, where there is a limit
+-- the number of nodes that are left, if there is a limit
 abbrev pub left_of : Budget → Option ℕ
 left_of w = if w.limited then Some w.left else None
 
--- none more
+-- there is a limit, and no nodes are left
 abbrev pub IsSpent : Budget → Type 0
 IsSpent w = (w.limited ≡ true) × (w.left ≡ 0)
 
--- later no more than before
+-- later no more nodes are left than before
 pub record Spends (w w' : Budget) : Type 0 where
   pub limited : w'.limited ≡ w.limited
   pub left : w'.left ≤ w.left
 
--- and one fewer at least, where there is a limit: a node was asked
+-- a node was evaluated: if there is a limit, then at least one node fewer is left
 pub record Asks (w w' : Budget) : Type 0 where
   pub limited : w'.limited ≡ w.limited
   pub left : w'.left ≤ w.left

@@ -1,4 +1,4 @@
-//! Rows of bits, each of a node's number.
+//! Rows of bits, one for each node number.
 ghost use Rattle.std.specs.Prelude.{◌≡◌, ◌<◌, ◌+◌, ◌*◌, ◌/◌, ◌==◌, [], ℕ, OnErr, OnOk, false, if◌then◌else◌, length, slice_index_or};
 ghost use Rattle.std.specs.Int.{bit_at};
 ghost use Rattle.std.specs.Vec.{vec_len};
@@ -10,8 +10,10 @@ use schema_reports::location::OutOfMemory;
 use std::alloc::Global;
 use std::marker::Model;
 
-/// Rows of bits by the numbers of nodes, in words of 64 bits. A number with no row has one of no words: below the greatest number that
-/// has a row, each such number takes the memory of three words. Contracts see the list of the rows.
+/// Rows of bits by the numbers of nodes, in words of 64 bits.
+///
+/// A number without a row is stored as a row of no words: below the greatest number that has a row,
+/// each such number takes the memory of three words. Contracts see the list of the rows.
 #[derive(Drop)]
 pub struct Rows {
     rows: Vec<Vec<u64>>,
@@ -26,14 +28,14 @@ impl Model for Rows {
     ghost view = { λ r. rows_of r.rows.items };
 }
 
-/// Returns how many words a row takes that has a bit for each of so many places.
+/// Returns the number of words in a row that has one bit for each of these places.
 pub fn row_words(places: usize) -> usize
     ensures words { result ≡ row_words places }
 {
     places.div_ceil(64)
 }
 
-// A bit of a row by its word; past the row's end there is none.
+// Returns a bit of the word at an index. Past the end of the row every bit is clear.
 fn bit_in(words: &[u64], at: usize, bit: usize) -> bool
     requires within { bit < 64 }
     ensures bit { result ≡ (bit_at (slice_index_or words.now at 0) bit == 1) }
@@ -44,7 +46,8 @@ fn bit_in(words: &[u64], at: usize, bit: usize) -> bool
     }
 }
 
-// The verdict at a place in a row whose first half says which places are known, and whose second half says the verdicts there.
+// Returns the verdict at a place. The first half of the row has the places whose verdict is known,
+// and the second half has the verdicts.
 fn verdict_of_row(words: &[u64], place: usize) -> Option<bool>
     ensures verdict { result ≡ verdict_in words.now place }
 {
@@ -55,7 +58,7 @@ fn verdict_of_row(words: &[u64], place: usize) -> Option<bool>
     }
 }
 
-// Makes room for the rows of all numbers up to one. Fails only if memory cannot be allocated, and then nothing has changed.
+// Adds empty rows, so that all numbers up to this one have one. On `Err` nothing has changed.
 fn make_room(alloc: Global, rows: &mut Vec<Vec<u64>>, node: usize) -> Result<(), OutOfMemory>
     ensures room { OnOk result (node < vec_len rows.new) }
     ensures same { OnOk result (SameRows (rows_of rows.old.items) (rows_of rows.new.items)) }
@@ -73,7 +76,6 @@ fn make_room(alloc: Global, rows: &mut Vec<Vec<u64>>, node: usize) -> Result<(),
     Ok(())
 }
 
-// The word with a bit set or cleared.
 fn with_bit(word: u64, bit: usize, on: bool) -> u64
     requires within { bit < 64 }
     ensures bits { (k : ℕ) → k < 64 → (bit_at result k == 1) ≡ (if bit == k then on else bit_at word k == 1) }
@@ -83,7 +85,7 @@ fn with_bit(word: u64, bit: usize, on: bool) -> u64
 }
 
 impl Rows {
-    /// Returns no rows. It allocates nothing.
+    /// Returns an empty list of rows. Allocates nothing.
     pub fn new(alloc: Global) -> Rows
         ensures empty { result ≡ [] }
     {
@@ -92,14 +94,16 @@ impl Rows {
         }
     }
 
-    /// Removes all rows. It allocates nothing.
+    /// Removes all rows. Allocates nothing.
     pub fn clear(&mut self)
         ensures empty { self.new ≡ [] }
     {
         self.rows.clear();
     }
 
-    /// Returns the bit of a place in the row of a number; a number with no row has no bit. It allocates nothing.
+    /// Returns the bit of a place in the row of a number. Allocates nothing.
+    ///
+    /// If the number has no row, the bit is clear.
     pub fn has_bit(&self, node: usize, place: usize) -> bool
         ensures bit { result ≡ has_bit (row_in self.now node) place }
     {
@@ -109,8 +113,10 @@ impl Rows {
         }
     }
 
-    /// Returns the verdict at a place in the row of a number, whose first half says which places are known, and whose second half says
-    /// the verdicts there. It allocates nothing.
+    /// Returns the verdict at a place in the row of a number, if it is known.
+    ///
+    /// The first half of the row has the places whose verdict is known, and the second half has the
+    /// verdicts. Allocates nothing.
     pub fn verdict_in(&self, node: usize, place: usize) -> Option<bool>
         ensures verdict { result ≡ verdict_in (row_in self.now node) place }
     {
@@ -120,7 +126,6 @@ impl Rows {
         }
     }
 
-    // Whether a number has a row.
     fn has_row(&self, node: usize) -> bool
         ensures row { result ≡ has_words (row_in self.now node) }
     {
@@ -130,7 +135,11 @@ impl Rows {
         }
     }
 
-    /// Makes a row of so many words for a number that has none. Fails only if memory cannot be allocated, and then nothing has changed.
+    /// Adds a row of this many words for a number, unless it has a row.
+    ///
+    /// # Errors
+    ///
+    /// Out of memory. Then nothing has changed.
     #[inline(always)]
     pub fn make_row(&mut self, alloc: Global, node: usize, words: usize) -> Result<(), OutOfMemory>
         requires some { 0 < words }
@@ -143,7 +152,8 @@ impl Rows {
         self.add_row(alloc, node, words)
     }
 
-    // Adds a row of so many words for a number that has none. It stands apart, so that a number that has one takes no call.
+    // Adds a row for a number that has none. Not inlined, so that a number that has a row costs no
+    // call.
     #[inline(never)]
     fn add_row(&mut self, alloc: Global, node: usize, words: usize) -> Result<(), OutOfMemory>
         requires some { 0 < words }
@@ -157,7 +167,9 @@ impl Rows {
         Ok(())
     }
 
-    /// Sets or clears the bit of a place in the row of a number, or in the part of it that begins at a word. It allocates nothing.
+    /// Sets or clears the bit of a place in the row of a number. Allocates nothing.
+    ///
+    /// The bits of the places begin at the word `from` of the row.
     pub fn put_bit(&mut self, node: usize, from: usize, place: usize, on: bool)
         requires there { from + place / 64 < length (row_in self.old node) }
         ensures put { PutsBit node (64 * from + place) on self.old self.new }

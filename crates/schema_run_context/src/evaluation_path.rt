@@ -1,4 +1,4 @@
-//! The path that led to a node, which allocates nothing until it is asked for.
+//! The evaluation path of a node, built only if its text is requested.
 ghost use Rattle.std.specs.Prelude.{◌≡◌, ◌++◌, IfSome, OnOk, true};
 ghost use Rattle.schema_traits.specs.Showing.{Yields};
 ghost use Rattle.theory_definitions.specs.Pointer.{joined};
@@ -8,8 +8,11 @@ use crate::unit_paths::UnitTexts;
 use schema_reports::location::{Location, LocationSegment, OutOfMemory};
 use std::alloc::Global;
 
-/// A path that was given, the path before an edge and what the edge adds to it, the same path where it goes on under a
-/// reference, or the path of a unit whose texts are made.
+/// The evaluation path that led to a node.
+///
+/// It is a path that the caller supplied, the path before an edge with what the edge adds to it,
+/// the same path as it continues under a reference, or the path of a unit whose texts exist
+/// already.
 #[derive(Clone, Copy)]
 pub enum EvaluationPath<'p> {
     Given(&'p Location),
@@ -18,7 +21,7 @@ pub enum EvaluationPath<'p> {
     Kept(&'p UnitTexts),
 }
 
-// Writes the path at the end of another one.
+// Appends the text of a path.
 fn push_path(whole: &mut Location, path: &EvaluationPath<'_>) -> Result<(), OutOfMemory>
     ensures pushed { OnOk result (whole.new ≡ whole.old ++ path_of path.now) }
 {
@@ -33,12 +36,13 @@ fn push_path(whole: &mut Location, path: &EvaluationPath<'_>) -> Result<(), OutO
     }
 }
 
-// How many bytes a keyword's name and what follows take at least, with the `/` before them.
+// Returns the least number of bytes that a keyword's name and the rest take, with the `/` before
+// them.
 fn room_for(name: &str, rest: &str) -> usize {
     name.len().saturating_add(rest.len()).saturating_add(1)
 }
 
-// Writes a keyword's name and what follows at the end of a path.
+// Appends a keyword's name and the rest to a path.
 fn push_keyword(whole: &mut Location, name: &str, rest: &str) -> Result<(), OutOfMemory>
     ensures pushed { OnOk result (whole.new ≡ joined whole.old name.now ++ rest.now) }
 {
@@ -47,14 +51,14 @@ fn push_keyword(whole: &mut Location, name: &str, rest: &str) -> Result<(), OutO
 }
 
 impl<'p> EvaluationPath<'p> {
-    /// The path that is given.
+    /// Returns the path that the caller supplies.
     pub fn given(path: &'p Location) -> EvaluationPath<'p>
         ensures same { path_of result ≡ path.now }
     {
         EvaluationPath::Given(path)
     }
 
-    /// The path after an edge that adds this to it.
+    /// Returns the path after an edge that adds this text to it.
     pub fn across(&'p self, added: &'p Location) -> EvaluationPath<'p>
         ensures appended { path_of result ≡ path_of self.now ++ added.now }
         ensures under { is_under_reference result ≡ is_under_reference self.now }
@@ -62,7 +66,7 @@ impl<'p> EvaluationPath<'p> {
         EvaluationPath::Across(self, added)
     }
 
-    /// The same path, where it goes on under a reference.
+    /// Returns the same path, as it continues under a reference.
     pub fn under_reference(&'p self) -> EvaluationPath<'p>
         ensures same { path_of result ≡ path_of self.now }
         ensures under { is_under_reference result ≡ true }
@@ -70,7 +74,7 @@ impl<'p> EvaluationPath<'p> {
         EvaluationPath::UnderReference(self)
     }
 
-    /// The path of a unit whose texts are made.
+    /// Returns the path of a unit whose texts exist already.
     pub fn kept(texts: &'p UnitTexts) -> EvaluationPath<'p>
         ensures same { path_of result ≡ texts.now.path }
         ensures under { is_under_reference result ≡ texts.now.under_reference }
@@ -78,7 +82,9 @@ impl<'p> EvaluationPath<'p> {
         EvaluationPath::Kept(texts)
     }
 
-    /// Returns the texts whose path this is, under a reference or not; none where it has none.
+    /// Returns the texts of the unit that this path belongs to, if they exist.
+    ///
+    /// The path may continue under a reference.
     pub fn kept_texts(&self) -> Option<&'p UnitTexts>
         ensures same { IfSome result (λ t. t.now.path ≡ path_of self.now) }
     {
@@ -89,7 +95,7 @@ impl<'p> EvaluationPath<'p> {
         }
     }
 
-    /// Returns `true` if the path, or one that it goes on from, is under a reference.
+    /// Returns whether the path, or one that it continues, is under a reference.
     pub fn is_under_reference(&self) -> bool
         ensures under { result ≡ is_under_reference self.now }
     {
@@ -101,7 +107,7 @@ impl<'p> EvaluationPath<'p> {
         }
     }
 
-    // How many bytes the path takes.
+    // Returns the number of bytes of the path.
     fn len(&self) -> usize {
         match self {
             EvaluationPath::Given(whole) => whole.as_str().len(),
@@ -113,7 +119,7 @@ impl<'p> EvaluationPath<'p> {
         }
     }
 
-    // The path, with room for so many bytes more.
+    // Returns the path as an owned location, with room for this many more bytes.
     fn with_room(&self, alloc: Global, more: usize) -> Result<Location, OutOfMemory>
         ensures same { Yields result (path_of self.now) }
     {
@@ -122,14 +128,22 @@ impl<'p> EvaluationPath<'p> {
         Ok(whole)
     }
 
-    /// Returns the path as an owned location. Fails only if memory cannot be allocated.
+    /// Returns the path as an owned location.
+    ///
+    /// # Errors
+    ///
+    /// Out of memory.
     pub fn made(&self, alloc: Global) -> Result<Location, OutOfMemory>
         ensures same { Yields result (path_of self.now) }
     {
         self.with_room(alloc, 0)
     }
 
-    /// Returns the path of a keyword of this name after the path, and of what follows. Fails only if memory cannot be allocated.
+    /// Returns the path of a keyword with this name after this path, and of the rest.
+    ///
+    /// # Errors
+    ///
+    /// Out of memory.
     pub fn of_keyword(&self, alloc: Global, name: &str, rest: &str) -> Result<Location, OutOfMemory>
         ensures path { GivesPath self.now name.now rest.now result }
     {
@@ -139,7 +153,11 @@ impl<'p> EvaluationPath<'p> {
     }
 }
 
-/// The path from a keyword of this name on.
+/// Returns the path of a keyword with this name after a location, and of the rest.
+///
+/// # Errors
+///
+/// Out of memory.
 pub fn path_from(
     alloc: Global,
     location: &Location,

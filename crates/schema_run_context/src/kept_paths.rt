@@ -1,4 +1,6 @@
-//! Evaluation paths under a reference, which are kept once many of them were asked for.
+//! A cache of evaluation paths under references.
+//!
+//! It is used once many of them were requested.
 ghost use Rattle.std.specs.Prelude.{◌≡◌, ◌≢◌, ◌<◌, ◌≤◌, ◌++◌, ℕ, [], List, false, length, take, true, OnSome};
 ghost use Rattle.std.specs.Prelude.{IfNone, IfOk, IfSome, OnErr, OnOk};
 ghost use Rattle.theory_definitions.specs.Pointer.{joined};
@@ -12,11 +14,13 @@ use std::collections::HashMap;
 use std::hash::{FoldHasher, Hasher};
 use std::marker::Model;
 
-/// From this call for a path under a reference on, the paths are kept.
+/// The request for a path under a reference from which on the paths are cached.
 const KEPT_FROM: u32 = 4096;
 
-/// A path, and what it was made of: its first bytes are the path before the keyword, and then come the keyword's name and the
-/// rest. Contracts see what it was made of; it is always the right path for that.
+/// A path and the parts that it was built from.
+///
+/// The first `before` bytes are the path before the keyword; the keyword's name and the rest
+/// follow. Contracts see the parts, and the path is always the right one for them.
 #[derive(Drop)]
 struct KeptPath {
     path: Location,
@@ -37,7 +41,7 @@ impl Model for KeptPath {
         ≡ right_path (record { before = take k.before k.path; name = string_bytes k.name; rest = string_bytes k.rest })) };
 }
 
-// What is left of a text after a path; none where it does not begin with it.
+// Returns what follows a path in a text, if the text begins with the path.
 fn left_after<'t>(text: &'t [u8], path: &EvaluationPath<'_>) -> Option<&'t [u8]>
     ensures left { IfSome result (λ left. text.now ≡ path_of path.now ++ left.now) }
     ensures none { IfNone result ((left : List ℕ) → text.now ≢ path_of path.now ++ left) }
@@ -53,7 +57,6 @@ fn left_after<'t>(text: &'t [u8], path: &EvaluationPath<'_>) -> Option<&'t [u8]>
     }
 }
 
-// Writes the pieces of a path into a hasher.
 fn write_path(hasher: &mut FoldHasher, path: &EvaluationPath<'_>)
     ensures written { hasher.new ≡ hashed hasher.old path.now }
 {
@@ -68,7 +71,7 @@ fn write_path(hasher: &mut FoldHasher, path: &EvaluationPath<'_>)
     }
 }
 
-// The hash at which a path is kept.
+// Returns the hash by which a path is cached.
 fn path_hash(path: &EvaluationPath<'_>, name: &str, rest: &str) -> u64
     ensures hash { result ≡ hash_for path.now name.now rest.now }
 {
@@ -80,7 +83,7 @@ fn path_hash(path: &EvaluationPath<'_>, name: &str, rest: &str) -> u64
 }
 
 impl KeptPath {
-    // A copy of a path that was made of a path before of this length, a name and a rest.
+    // Copies a path that was built from its first `before` bytes, a name and a rest.
     fn new(
         alloc: Global,
         path: &Location,
@@ -103,7 +106,7 @@ impl KeptPath {
         })
     }
 
-    // Whether it was made of this path, this name and this rest.
+    // Returns whether the path was built from these parts.
     fn is(&self, path: &EvaluationPath<'_>, name: &str, rest: &str) -> bool
         ensures same { result ≡ true → self.now ≡ key_for path.now name.now rest.now }
         ensures other { result ≡ false → self.now ≢ key_for path.now name.now rest.now }
@@ -118,7 +121,6 @@ impl KeptPath {
         }
     }
 
-    // The path.
     fn path(&self) -> &Location
         ensures right { result.now ≡ right_path self.now }
     {
@@ -126,8 +128,11 @@ impl KeptPath {
     }
 }
 
-/// How many paths under a reference were asked for, up to a threshold; and the paths that were made since it was reached, by
-/// the hash of what they were made of. Of two paths with one hash the last one made is kept.
+/// A cache of evaluation paths under references.
+///
+/// `calls` is the number of paths that were requested, up to a threshold. `paths` holds the paths
+/// that were built since the threshold was reached, by the hash of their parts. Of two paths with
+/// the same hash the later one is cached.
 #[derive(Drop)]
 pub struct KeptPaths {
     calls: u32,
@@ -146,7 +151,7 @@ impl Model for KeptPaths {
 }
 
 impl KeptPaths {
-    /// Nothing was asked for, and nothing is kept. It allocates nothing.
+    /// Returns an empty cache. Allocates nothing.
     pub fn new(alloc: Global) -> KeptPaths
         ensures none { result ≡ record { calls = 0; kept = [] } }
     {
@@ -156,14 +161,14 @@ impl KeptPaths {
         }
     }
 
-    /// Returns how many paths are kept.
+    /// Returns the number of cached paths.
     pub fn len(&self) -> usize
         ensures len { result ≡ length self.now.kept }
     {
         self.paths.len()
     }
 
-    // Counts a call for a path under a reference, and says whether paths are kept from it on.
+    // Counts a request for a path under a reference, and returns whether its path is to be cached.
     fn counts(&mut self) -> bool
         ensures calls { self.new.calls ≡ counted KEPT_FROM true self.old.calls }
         ensures keeps { result ≡ true → self.new.calls ≡ KEPT_FROM }
@@ -176,7 +181,7 @@ impl KeptPaths {
         self.calls == KEPT_FROM
     }
 
-    // The path that is kept at a hash, where it was made of this path, this name and this rest.
+    // Returns the path that is cached by a hash, if it was built from these parts.
     fn kept(
         &self,
         hash: u64,
@@ -196,7 +201,7 @@ impl KeptPaths {
         }
     }
 
-    // Makes a path, and keeps it at a hash.
+    // Builds a path, and caches it by a hash.
     fn keep(
         &mut self,
         alloc: Global,
@@ -217,10 +222,16 @@ impl KeptPaths {
         Ok(made)
     }
 
-    /// Returns the path of a keyword of this name after the path, and of what follows: the one that `EvaluationPath::of_keyword`
-    /// makes. A path that is not under a reference is made anew, and so are the first ones under a reference; after these a path
-    /// is kept when it is made, and read when it is asked for again. Fails only if memory cannot be allocated, for the path or to
-    /// keep it.
+    /// Returns the path of a keyword with this name after a path, and of the rest.
+    ///
+    /// The path is always the one that `EvaluationPath::of_keyword` returns. A path that is not
+    /// under a reference is built anew, and so are the first ones under references. From then on
+    /// each path under a reference is cached when it is built, and read from the cache when it is
+    /// requested again.
+    ///
+    /// # Errors
+    ///
+    /// Out of memory.
     pub fn evaluation_path(
         &mut self,
         alloc: Global,

@@ -1,4 +1,4 @@
-//! The context of a run: what is in progress, what is marked, and what is remembered and kept.
+//! The context of a run: what is in progress, marked, and remembered.
 #![tactic(auto)]
 
 pub mod bit_rows;

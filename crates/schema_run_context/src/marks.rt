@@ -1,4 +1,4 @@
-//! What a keyword's run has marked, and which marks are one.
+//! The marks of a keyword's run, and which marks count as the same.
 ghost use Rattle.std.specs.List.{list_any};
 ghost use Rattle.std.specs.Prelude.{◌≡◌, [], IfOk, OnOk, Some, option_map, OnErr};
 ghost use Rattle.theory_definitions.specs.Guarded.{node_child, same_edge, same_node};
@@ -13,7 +13,7 @@ use schema_traits::numbers::Edge;
 use std::alloc::Global;
 use std::marker::Model;
 
-/// The edge that a request got.
+/// Returns the edge that the maker of a keyword got for one of its requests.
 pub fn child_edge(children: &[Option<Edge>], child: usize) -> Option<&Edge>
     ensures edge { option_map (λ e. edge_of e.now) result ≡ node_child (edges_of children.now) child }
 {
@@ -23,7 +23,8 @@ pub fn child_edge(children: &[Option<Edge>], child: usize) -> Option<&Edge>
     }
 }
 
-// Whether two edges lead to one number and are guarded alike, so that they are answered alike.
+// Returns whether two edges lead to the same node and are guarded alike, so that they get the same
+// answer.
 fn are_alike(edge: &Edge, second: &Edge) -> bool
     ensures alike { result ≡ same_node (Some (edge_of edge.now)) (Some (edge_of second.now)) }
 {
@@ -37,7 +38,6 @@ fn are_alike(edge: &Edge, second: &Edge) -> bool
     }
 }
 
-// Whether two children have such edges.
 fn lead_to_one(children: &[Option<Edge>], child: usize, other: usize) -> bool
     ensures one { result ≡ same_node (node_child (edges_of children.now) child) (node_child (edges_of children.now) other) }
 {
@@ -50,7 +50,8 @@ fn lead_to_one(children: &[Option<Edge>], child: usize, other: usize) -> bool
     }
 }
 
-// Whether two marks are one: of one request, or of children that are answered alike.
+// Returns whether two marks count as the same: they are of the same request, or of children that
+// get the same answer.
 fn are_one(children: &[Option<Edge>], mark: Marked, other: Marked) -> bool
     ensures one { result ≡ same_edge (edges_of children.now) (marked_of mark) (marked_of other) }
 {
@@ -66,14 +67,15 @@ fn are_one(children: &[Option<Edge>], mark: Marked, other: Marked) -> bool
     }
 }
 
-// Whether one of these marks is the same as this one.
 fn is_among(children: &[Option<Edge>], mark: Marked, marks: &[Marked]) -> bool
     ensures found { result ≡ list_any (λ other. same_edge (edges_of children.now) (marked_of mark) (marked_of other)) marks.now }
 {
     marks.iter().any(|other| are_one(children, mark, *other))
 }
 
-/// The marks of a keyword's run, no two of them one. Contracts see the last one first.
+/// The marks of a keyword's run.
+///
+/// No two of them count as the same. Contracts see the last one first.
 #[derive(Drop)]
 pub struct Marks {
     marks: Vec<Marked>,
@@ -90,7 +92,7 @@ impl Model for Marks {
 }
 
 impl Marks {
-    /// Returns an empty list of marks. It allocates nothing.
+    /// Returns an empty list of marks. Allocates nothing.
     pub fn new(alloc: Global) -> Marks
         ensures none { result ≡ [] }
     {
@@ -99,8 +101,11 @@ impl Marks {
         }
     }
 
-    /// Returns `true` if the list holds a mark that is the same; otherwise adds this one and returns `false`. On `Err` nothing
-    /// has changed.
+    /// Returns whether the list holds the same mark, and adds this one if it does not.
+    ///
+    /// # Errors
+    ///
+    /// Out of memory. Then nothing has changed.
     pub fn enter(&mut self, children: &[Option<Edge>], mark: Marked) -> Result<bool, OutOfMemory>
         ensures held { IfOk result (λ b. b ≡ is_marked children.now mark self.old) }
         ensures marks { OnOk result (self.new ≡ marks_with children.now mark self.old) }
@@ -113,7 +118,7 @@ impl Marks {
         Ok(false)
     }
 
-    /// Takes the last mark away, where there is one. It allocates nothing.
+    /// Removes the last mark, if there is one. Allocates nothing.
     pub fn exit(&mut self)
         ensures left { self.new ≡ without_last self.old }
     {

@@ -1,4 +1,4 @@
-//! Pairs of a node and a place by the place's number, and a count for each place.
+//! Pairs of a node and the number of a place, and a count for each place.
 ghost use Rattle.std.specs.Prelude.{◌≡◌, ◌<◌, ◌++◌, ◌∷◌, ◌⊎◌, [], ℕ, OnErr, OnOk, length, slice_index_or};
 ghost use Rattle.std.specs.Vec.{vec_capacity, vec_len};
 
@@ -6,14 +6,14 @@ use schema_reports::location::OutOfMemory;
 use schema_traits::numbers::SchemaNode;
 use std::alloc::Global;
 
-/// A node that is asked about the instance at a place, by the place's number.
+/// A node that is evaluated at a place, and the place's number.
 #[derive(Drop)]
 pub struct NumberedPair {
     pub node: SchemaNode,
     pub place: usize,
 }
 
-/// Adds a pair where there is room. It allocates nothing.
+/// Adds a pair to a vector that has room for it. Allocates nothing.
 pub fn push_within(pairs: &mut Vec<NumberedPair>, pair: NumberedPair)
     requires room { vec_len pairs.old < vec_capacity pairs.old }
     ensures pushed { pairs.new.items ≡ pairs.old.items ++ pair ∷ [] }
@@ -24,7 +24,11 @@ pub fn push_within(pairs: &mut Vec<NumberedPair>, pair: NumberedPair)
     }
 }
 
-/// Makes a count for each place, where there is none yet. Fails only if memory cannot be allocated, and then nothing has changed.
+/// Adds a count of 0 for each place, unless the counts exist already.
+///
+/// # Errors
+///
+/// Out of memory. Then nothing has changed.
 pub fn make_counts(alloc: Global, counts: &mut Vec<usize>, places: usize) -> Result<(), OutOfMemory>
     requires sized { (length counts.old.items ≡ 0) ⊎ (length counts.old.items ≡ places) }
     ensures made { OnOk result (length counts.new.items ≡ places) }
@@ -38,7 +42,7 @@ pub fn make_counts(alloc: Global, counts: &mut Vec<usize>, places: usize) -> Res
     Ok(())
 }
 
-/// Returns the count of a place; it is 0 where none was made. It allocates nothing.
+/// Returns the count of a place, or 0 if there is none. Allocates nothing.
 pub fn count_at(counts: &[usize], place: usize) -> usize
     ensures count { result ≡ slice_index_or counts.now place 0 }
 {

@@ -1,4 +1,6 @@
-//! The texts of units, which are kept by the way that led to them: those that are asked for again soon are made once, and shared.
+//! The texts of units, stored by the path that led to each unit.
+//!
+//! A text that is requested again soon is built once, and shared.
 ghost use Rattle.std.specs.Prelude.{◌≡◌, [], IfOk, IfSome, true};
 ghost use Rattle.theory_definitions.specs.Pointer.{escaped, joined};
 ghost use Rattle.schema_run_context.specs.EvaluationPaths.{is_under_reference, path_of};
@@ -10,11 +12,12 @@ use schema_reports::shared_location::SharedLocation;
 use std::alloc::Global;
 use std::mem;
 
-/// How many of the units whose paths go on from a path are looked at, from the one that was asked for last on.
+/// The number of units that a search compares, the last requested one first.
 const LOOKS: usize = 8;
 
-/// The texts of a unit: its path and its place in the schema, and whether the path is under a reference; and the number at which
-/// they are kept.
+/// The texts of a unit: its evaluation path and its location in the schema.
+///
+/// `number` is the index at which they are stored.
 #[derive(Drop)]
 pub struct UnitTexts {
     pub path: SharedLocation,
@@ -23,8 +26,9 @@ pub struct UnitTexts {
     number: usize,
 }
 
-// The texts of a unit, kept at a number; the number of the unit that was asked for last of those whose paths go on from its path,
-// its own where there is none; and that of the next one whose path goes on from the same path, in a circle.
+// The texts of a unit that are stored at `number`. Of the units whose paths continue its path,
+// `last` is the one that was requested last, or the unit itself if there is none. The units whose
+// paths continue the same path form a circle, in which `next` comes after this one.
 #[derive(Drop)]
 struct KeptUnit {
     path: SharedLocation,
@@ -34,21 +38,22 @@ struct KeptUnit {
     next: usize,
 }
 
-/// The texts of the units that were asked for. A kept text is compared with the one that is asked for before it is taken, so numbers
-/// only say where to look.
+/// The texts of the units that were requested.
+///
+/// A stored text is used only if it equals the one that is requested, so the numbers only say where
+/// to look.
 #[derive(Drop)]
 pub struct UnitPaths {
     kept: Vec<KeptUnit>,
 }
 
-// What a text has after another one: an escaped text, with a `/` before it or alone.
+// What a text adds to another one: an escaped text, with or without a `/` before it.
 #[derive(Clone, Copy)]
 struct Added<'a> {
     slash: bool,
     text: &'a str,
 }
 
-// Nothing is added.
 fn nothing() -> Added<'static>
     ensures nothing { added_text result ≡ [] }
 {
@@ -58,7 +63,8 @@ fn nothing() -> Added<'static>
     }
 }
 
-// Whether a name stands for itself in a pointer. No byte ends the walk, so that many bytes are looked at in one step.
+// Returns whether a name needs no escapes in a pointer. The loop has no early exit, so that many
+// bytes are tested in one step.
 fn is_bare(name: &[u8]) -> bool
     ensures bare { result ≡ true → escaped name.now ≡ name.now }
 {
@@ -69,7 +75,6 @@ fn is_bare(name: &[u8]) -> bool
     bare
 }
 
-// Whether a text is what is added.
 #[inline(always)]
 fn is_added(text: &[u8], added: Added<'_>) -> bool
     ensures added { result ≡ true → text.now ≡ added_text added.entry }
@@ -84,7 +89,8 @@ fn is_added(text: &[u8], added: Added<'_>) -> bool
     }
 }
 
-// Whether a text is another one with what is added. What is added is looked at first, since most texts differ there.
+// Returns whether a text is another one with the addition. The addition is compared first, since
+// most texts differ there.
 #[inline(always)]
 fn is_after(text: &str, before: &str, added: Added<'_>) -> bool
     ensures after { result ≡ true → IsAfter before.now added.entry text.now }
@@ -98,7 +104,7 @@ fn is_after(text: &str, before: &str, added: Added<'_>) -> bool
     is_added(tail, added) && head == before
 }
 
-// The text of one with what is added.
+// Returns a text with the addition.
 fn made(alloc: Global, before: &str, added: Added<'_>) -> Result<SharedLocation, OutOfMemory>
     ensures made { GivesAfter before.now added.entry result }
 {
@@ -112,7 +118,8 @@ fn made(alloc: Global, before: &str, added: Added<'_>) -> Result<SharedLocation,
     SharedLocation::new(alloc, text)
 }
 
-// A place in the schema with what is added, which is the text of this path where that is the same.
+// Returns a location in the schema with the addition. Shares the text of the path if that is the
+// same.
 fn schema_of(
     alloc: Global,
     path: &SharedLocation,
@@ -128,7 +135,8 @@ fn schema_of(
 }
 
 impl KeptUnit {
-    // A place in the schema with what is added, which is the text that is kept where that is the same.
+    // Returns a location in the schema with the addition. Shares the stored text if that is the
+    // same.
     fn schema(
         &self,
         alloc: Global,
@@ -145,14 +153,15 @@ impl KeptUnit {
 }
 
 impl UnitPaths {
-    /// No text is kept. It allocates nothing.
+    /// Returns an empty store. Allocates nothing.
     pub fn new(alloc: Global) -> UnitPaths {
         UnitPaths {
             kept: Vec::new(alloc),
         }
     }
 
-    // The unit at the path before with what is added, where it is found soon among those that go on from this number.
+    // Returns the unit whose path is `before` with the addition, if it is among the first few whose
+    // paths continue the one at this number.
     fn find(&self, number: usize, before: &str, added: Added<'_>) -> Option<&KeptUnit>
         ensures found { IfSome result (λ k. IsAfter before.now added.entry k.now.path) }
     {
@@ -171,7 +180,7 @@ impl UnitPaths {
         None
     }
 
-    // The unit that was asked for last of those that go on from this number, where it is at the path before with what is added.
+    // Like `find`, but compares only the unit that was requested last.
     fn last(&self, number: usize, before: &str, added: Added<'_>) -> Option<&KeptUnit>
         ensures found { IfSome result (λ k. IsAfter before.now added.entry k.now.path) }
     {
@@ -185,14 +194,15 @@ impl UnitPaths {
         }
     }
 
-    // Notes which of the units that go on from a number was asked for last.
+    // Records which of the units whose paths continue the one at this number was requested last.
     fn note(&mut self, number: usize, last: usize) {
         if let Some(before) = self.kept.get_mut(number) {
             before.last = last;
         }
     }
 
-    // Puts the unit of a number into the circle of those that go on from another one, and returns the next one in it.
+    // Adds a unit to the circle of those whose paths continue the one at `before`, and returns the
+    // unit that comes after it.
     fn enter_circle(&mut self, before: usize, number: usize) -> usize {
         let last = match self.kept.get_mut(before) {
             Some(unit) => mem::replace(&mut unit.last, number),
@@ -207,7 +217,7 @@ impl UnitPaths {
         }
     }
 
-    // Keeps the texts of a unit, whose path goes on from the one of this number.
+    // Stores the texts of a unit, whose path continues the one at `before`.
     fn keep(
         &mut self,
         before: Option<usize>,
@@ -239,7 +249,8 @@ impl UnitPaths {
         })
     }
 
-    // The texts of a unit whose path is the one before with what is added; its place in the schema is one with what is added.
+    // Returns the texts of a unit: its path is `before` with `added`, and its location in the
+    // schema is `location` with `more`.
     fn texts_after(
         &mut self,
         alloc: Global,
@@ -272,7 +283,11 @@ impl UnitPaths {
         }
     }
 
-    /// Returns the texts of the unit of a node that a path has led to, at this location. Fails only if memory cannot be allocated.
+    /// Returns the texts of the unit of a node that has this path and this location.
+    ///
+    /// # Errors
+    ///
+    /// Out of memory.
     pub fn of_node(
         &mut self,
         alloc: Global,
@@ -298,8 +313,11 @@ impl UnitPaths {
         self.keep(None, path, schema, under_reference)
     }
 
-    /// Returns the texts of the unit of a keyword of this name, of a node at this location that a path has led to. Fails only if
-    /// memory cannot be allocated.
+    /// Returns the texts of the unit of a keyword, for its node's path and location.
+    ///
+    /// # Errors
+    ///
+    /// Out of memory.
     pub fn of_keyword(
         &mut self,
         alloc: Global,
@@ -325,7 +343,11 @@ impl UnitPaths {
         self.keep(None, path, schema, under_reference)
     }
 
-    /// Returns the path of a keyword of this name after a path. Fails only if memory cannot be allocated.
+    /// Returns the path of a keyword with this name after a path.
+    ///
+    /// # Errors
+    ///
+    /// Out of memory.
     pub fn path_of_keyword(
         &self,
         alloc: Global,

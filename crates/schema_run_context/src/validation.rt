@@ -1,4 +1,4 @@
-//! What a run has in progress, what it assumes and remembers of unfinished matches, and what it marks.
+//! The state of a run: pairs in progress, unfinished matches, marks and verdicts.
 ghost use Rattle.std.specs.Prelude.{◌≡◌, ◌≤◌, [], IfOk, IfSome, OnErr, OnOk, is_some, true, OnSome};
 ghost use Rattle.std.specs.Borrow.{sem};
 ghost use Rattle.schema_traits.specs.Showing.{Yields};
@@ -40,18 +40,25 @@ use std::mem;
 use unfinished_matches::assumptions::MatchAssumptions;
 use unfinished_matches::site::{Match, MatchSite, Reason};
 
-/// How many guarded visits a verdict has to take, its own included, so that it is remembered.
+/// A verdict that took this many guarded visits, its own included, is remembered.
 const MEMO_MIN_VISITS: u64 = 16;
 
-/// The pairs of a node and a place that are in progress, the last entered last, and no pair twice; what the run assumes of
-/// unfinished matches, and remembers of those that it met; the marks of the keyword's run that is at work; and the verdicts that
-/// the run remembers of guarded questions and of shared nodes, with how many of the guarded ones it visited; and how many nodes it
-/// may still ask. A context is one run's.
-/// Contracts do not see the paths and the texts of units that it keeps.
+/// The state of one run.
 ///
-/// Places go by their numbers, which are given when the first is asked for. What is in progress is a row of bits for each node that
-/// was entered, and a count for each place; the verdicts of a node are two rows, of the places that are known and of the verdicts
-/// there.
+/// It holds:
+/// - the pairs of a node and a place that are in progress, the last entered last, and no pair
+/// twice;
+/// - what the run assumes about unfinished matches, and those that it met;
+/// - the marks of the current run of a keyword;
+/// - the verdicts that the run remembers, of guarded questions and of shared nodes, and the number
+/// of guarded visits;
+/// - the number of nodes that the run may still evaluate;
+/// - cached evaluation paths and texts of units, which contracts do not see.
+///
+/// Places are known by their numbers, which are assigned when the first one is requested. The pairs
+/// in progress are also stored as a row of bits for each node that was entered, and as a count for
+/// each place. The verdicts of a node are stored as two rows: of the places whose verdict is known,
+/// and of the verdicts.
 #[derive(Drop)]
 pub struct ValidationContext<'i> {
     alloc: Global,
@@ -68,7 +75,6 @@ pub struct ValidationContext<'i> {
     unit_paths: UnitPaths,
 }
 
-// Whether the instance is an array or an object.
 fn is_container(instance: Instance<'_>) -> bool
     ensures container { result ≡ is_container (subject_of instance.entry) }
 {
@@ -110,16 +116,20 @@ impl<'i> Model for ValidationContext<'i> {
 impl<'i> ValidationContext<'i> {
     ghost use Rattle.schema_run_context.specs.Lending.{EndsAs};
 
-    /// Returns a context at these places, with nothing in progress, nothing assumed, nothing marked and no verdict remembered. It
-    /// allocates nothing.
+    /// Returns a context for an instance with these places, without any assumptions.
+    ///
+    /// Nothing is in progress, marked or remembered. Allocates nothing.
     pub fn new(alloc: Global, places: PlacesOnDemand<'i>) -> ValidationContext<'i>
         ensures empty { result ≡ begun places.entry (starting []) }
     {
         ValidationContext::assuming(alloc, places, MatchAssumptions::new(alloc))
     }
 
-    /// Returns a context at these places, with nothing in progress, nothing marked and no verdict remembered, with these assumptions
-    /// and what is remembered with them. It allocates nothing.
+    /// Returns a context for an instance with these places, with assumptions.
+    ///
+    /// Nothing is in progress or marked, and no verdict is remembered. The unfinished matches that
+    /// were met
+    /// under the assumptions stay remembered. Allocates nothing.
     pub fn assuming(
         alloc: Global,
         places: PlacesOnDemand<'i>,
@@ -143,21 +153,28 @@ impl<'i> ValidationContext<'i> {
         }
     }
 
-    /// Lets the run ask so many nodes from now on. It allocates nothing.
+    /// Sets the number of nodes that the run may evaluate from now on.
+    ///
+    /// Allocates nothing.
     pub fn allow(&mut self, work: Work)
         ensures allowed { self.new ≡ record self.old { work = work } }
     {
         self.work = work;
     }
 
-    /// Returns how many nodes the run may still ask. It allocates nothing.
+    /// Returns the number of nodes that the run may still evaluate. Allocates nothing.
     pub fn work(&self) -> Work
         ensures work { result ≡ self.now.work }
     {
         self.work
     }
 
-    /// Counts a node that is asked. Fails where no more nodes may be asked, and only there. It allocates nothing.
+    /// Counts the evaluation of a node. Allocates nothing.
+    ///
+    /// # Errors
+    ///
+    /// Returns an error exactly if there is a limit and no nodes are left. Then the budget is
+    /// stopped.
     #[inline(always)]
     pub fn step(&mut self) -> Result<(), OutOfMemory>
         ensures asks { OnOk result (Asks self.old.work self.new.work) }
@@ -168,15 +185,18 @@ impl<'i> ValidationContext<'i> {
         self.work.step()
     }
 
-    /// Returns what was assumed, and what is remembered of the unfinished matches that were met. It allocates nothing.
+    /// Returns the assumptions, with the unfinished matches that were met.
+    ///
+    /// Allocates nothing.
     pub fn into_matches(self) -> MatchAssumptions<'i>
         ensures remembered { result ≡ self.entry.remembered }
     {
         self.matches
     }
 
-    /// Returns the places, for the run that comes next, and what was assumed, with what is remembered of the unfinished matches that
-    /// were met. It allocates nothing.
+    /// Returns the places, for the next run, and what `into_matches` returns.
+    ///
+    /// Allocates nothing.
     pub fn into_parts(self) -> (PlacesOnDemand<'i>, MatchAssumptions<'i>)
         ensures root { result.0 ≡ self.entry.root }
         ensures remembered { result.1 ≡ self.entry.remembered }
@@ -189,8 +209,13 @@ impl<'i> ValidationContext<'i> {
         (places, matches)
     }
 
-    /// Returns the numbered places. They are numbered at the first call, or when the first pair is entered. Fails only if memory
-    /// cannot be allocated, and then nothing has changed.
+    /// Returns the numbered places.
+    ///
+    /// They are numbered at the first call, or when the first pair is entered.
+    ///
+    /// # Errors
+    ///
+    /// Out of memory. Then nothing has changed.
     pub fn places(&mut self) -> Result<&Places<'i>, OutOfMemory>
         ensures places { IfOk result (λ ps. ps.now ≡ places_in self.old) }
         ensures there { IfOk result (λ ps. NumbersAll (view self.old.root) ps.now) }
@@ -201,7 +226,7 @@ impl<'i> ValidationContext<'i> {
         places.numbered(alloc)
     }
 
-    /// Returns `true` if the pair is in progress. It allocates nothing.
+    /// Returns whether the pair is in progress. Allocates nothing.
     pub fn is_in_progress(&self, node: SchemaNode, place: usize) -> bool
         requires known { IsPlaceIn self.now place }
         ensures found { result ≡ is_busy node.0 (place_in self.now place) self.now }
@@ -210,7 +235,11 @@ impl<'i> ValidationContext<'i> {
         self.guard.has_bit(node.0, place)
     }
 
-    /// Returns `true` if the pair is already in progress; otherwise records it and returns `false`. On `Err` nothing has changed.
+    /// Returns whether the pair is in progress, and enters it if it is not.
+    ///
+    /// # Errors
+    ///
+    /// Out of memory. Then nothing has changed.
     pub fn enter(&mut self, node: SchemaNode, place: usize) -> Result<bool, OutOfMemory>
         requires known { IsPlaceIn self.old place }
         ensures enters { IfOk result (λ b. Enters node.0 (place_in self.old place) self.old.in_progress b self.new.in_progress) }
@@ -235,7 +264,7 @@ impl<'i> ValidationContext<'i> {
         Ok(false)
     }
 
-    /// Removes the pair, which must be the last one entered. It allocates nothing.
+    /// Removes the pair, which must be the last one entered. Allocates nothing.
     pub fn exit(&mut self, node: SchemaNode, place: usize)
         requires known { IsPlaceIn self.old place }
         requires last { EndsWith node.0 (place_in self.old place) self.old.in_progress }
@@ -250,9 +279,14 @@ impl<'i> ValidationContext<'i> {
         self.counts[place] = count - 1;
     }
 
-    /// Returns `true` if the keyword's run that is at work has marked this already: the same request, or a child that leads to the
-    /// same number and is guarded alike, by the edges that its children got. Otherwise marks it and returns `false`. On `Err`
-    /// nothing has changed.
+    /// Returns whether the keyword's run holds the same mark, and adds it if not.
+    ///
+    /// Two marks are the same if they are of the same request, or of children whose edges lead to
+    /// the same node and are guarded alike. If the mark is added, the result is `false`.
+    ///
+    /// # Errors
+    ///
+    /// Out of memory. Then nothing has changed.
     pub fn enter_marking(
         &mut self,
         children: &[Option<Edge>],
@@ -266,7 +300,9 @@ impl<'i> ValidationContext<'i> {
         self.marking.enter(children, marked)
     }
 
-    /// Takes away the last mark of the keyword's run that is at work, where it has marked anything. It allocates nothing.
+    /// Removes the last mark of the current run of a keyword, if it has any.
+    ///
+    /// Allocates nothing.
     pub fn exit_marking(&mut self)
         ensures left { self.new.marking ≡ without_last self.old.marking }
         ensures frame { OnlyMarks self.old self.new }
@@ -274,7 +310,9 @@ impl<'i> ValidationContext<'i> {
         self.marking.exit();
     }
 
-    /// Sets the marks aside, for a keyword's run that begins with none of its own, and returns them. It allocates nothing.
+    /// Removes and returns the marks, so that a keyword's run begins with none.
+    ///
+    /// Allocates nothing.
     pub fn set_aside(&mut self, alloc: Global) -> Marks
         ensures aside { result ≡ self.old.marking }
         ensures none { self.new.marking ≡ [] }
@@ -283,7 +321,9 @@ impl<'i> ValidationContext<'i> {
         mem::replace(&mut self.marking, Marks::new(alloc))
     }
 
-    /// Puts marks back that were set aside, in the place of those of the run that has ended. It allocates nothing.
+    /// Restores marks that were set aside, in place of those of the ended run.
+    ///
+    /// Allocates nothing.
     pub fn put_back(&mut self, aside: Marks)
         ensures back { self.new.marking ≡ aside }
         ensures frame { OnlyMarks self.old self.new }
@@ -291,8 +331,14 @@ impl<'i> ValidationContext<'i> {
         self.marking = aside;
     }
 
-    /// Returns `true` if the subject matches the pattern. A match that the matcher leaves unfinished comes out as it is assumed to, or
-    /// else as no, and is remembered with its site. On `Err` nothing has changed.
+    /// Returns whether the subject matches the pattern.
+    ///
+    /// If the matcher leaves the match unfinished, the result is the assumed one, or `false`
+    /// without an assumption, and the match is remembered with its site.
+    ///
+    /// # Errors
+    ///
+    /// Out of memory. Then nothing has changed.
     pub fn is_match<M: Matcher>(
         &mut self,
         alloc: Global,
@@ -313,8 +359,10 @@ impl<'i> ValidationContext<'i> {
         }
     }
 
-    /// How a match that the matcher left unfinished comes out, where nothing is left to remember of it; none where it has to be
-    /// resolved with its site. `has_place` says whether that site has an instance path.
+    /// Returns the outcome of an unfinished match that needs no more remembering.
+    ///
+    /// If the result is `None`, the match has to be resolved with its site. `has_place` says
+    /// whether that site has an instance path.
     pub fn known_outcome(&self, pattern: &str, subject: &str, has_place: bool) -> Option<bool>
         ensures answer { IfSome result (λ b. b ≡ assumed_in self.now (a_pair pattern.now subject.now)) }
         ensures nothing_new { OnSome result ((site : Site) (reason : matching.Reason) → is_some site.located ≡ has_place
@@ -323,8 +371,14 @@ impl<'i> ValidationContext<'i> {
         self.matches.known_outcome(pattern, subject, has_place)
     }
 
-    /// How a match that the matcher left unfinished comes out: as it is assumed to, or else as no. It is remembered with
-    /// its site. On `Err` nothing has changed.
+    /// Returns the outcome of an unfinished match, and remembers the match.
+    ///
+    /// The outcome is the assumed one, or `false` without an assumption. The match is remembered
+    /// with its site.
+    ///
+    /// # Errors
+    ///
+    /// Out of memory. Then nothing has changed.
     pub fn resolve(
         &mut self,
         pattern: &str,
@@ -340,7 +394,7 @@ impl<'i> ValidationContext<'i> {
         Ok(self.matches.resolve(pattern, subject, reason, site)?)
     }
 
-    // Whether no other node is in progress at the place.
+    // Returns whether no other node is in progress at the place.
     fn is_alone(&self, node: SchemaNode, place: usize) -> bool
         requires known { IsPlaceIn self.now place }
         ensures alone { result ≡ is_alone node.0 (place_in self.now place) self.now.in_progress }
@@ -355,7 +409,9 @@ impl<'i> ValidationContext<'i> {
         self.guard.has_bit(node.0, place)
     }
 
-    /// Returns the verdict that is remembered of the node at the place, whatever is in progress there. It allocates nothing.
+    /// Returns the remembered verdict of the node at the place.
+    ///
+    /// It does not depend on what is in progress there. Allocates nothing.
     pub fn remembered_verdict(&self, node: SchemaNode, place: usize) -> Option<bool>
         requires known { IsPlaceIn self.now place }
         ensures read { result ≡ verdict_of node.0 (place_in self.now place) self.now.verdicts }
@@ -363,8 +419,9 @@ impl<'i> ValidationContext<'i> {
         self.known.verdict_in(node.0, place)
     }
 
-    /// Returns the verdict that is remembered of the node at the place, unless another node is in progress at that place. It
-    /// allocates nothing.
+    /// Returns the remembered verdict unless another node is in progress at the place.
+    ///
+    /// Allocates nothing.
     pub fn get_cached_result(&self, node: SchemaNode, place: usize) -> Option<bool>
         requires known { IsPlaceIn self.now place }
         ensures read { result ≡ read_verdict node.0 (place_in self.now place) self.now }
@@ -377,8 +434,10 @@ impl<'i> ValidationContext<'i> {
         }
     }
 
-    /// Counts a visit to a guarded node, and returns the mark that goes to `cache_result`: how many visits there were before. The
-    /// count stays at the greatest `u64` once it is there. It allocates nothing.
+    /// Counts a visit to a guarded node, and returns the mark for `cache_result`.
+    ///
+    /// The mark is the number of earlier visits. The count saturates at `u64::MAX`. Allocates
+    /// nothing.
     pub fn start_ref_visit(&mut self) -> u64
         ensures mark { result ≡ self.old.visits }
         ensures counted { self.new ≡ record self.old { visits = one_more self.old.visits } }
@@ -389,19 +448,21 @@ impl<'i> ValidationContext<'i> {
         mark
     }
 
-    /// Returns how many guarded visits were counted. It allocates nothing.
+    /// Returns the number of guarded visits. Allocates nothing.
     pub fn visits(&self) -> u64
         ensures visits { result ≡ self.now.visits }
     {
         self.visits
     }
 
-    /// Remembers the verdict of the node on the instance at the place, if the instance is an array or an object, no other node is
-    /// in progress at the place, and at least 16 visits were counted since the mark. Otherwise nothing changes.
+    /// Remembers the verdict of the node at the place, if it was expensive.
+    ///
+    /// It is remembered if the instance is an array or an object, no other node is in progress at
+    /// the place, and at least 16 visits were counted since the mark. Otherwise nothing changes.
     ///
     /// # Errors
     ///
-    /// Fails only if memory cannot be allocated. Then nothing has changed.
+    /// Out of memory. Then nothing has changed.
     pub fn cache_result(
         &mut self,
         node: SchemaNode,
@@ -437,7 +498,7 @@ impl<'i> ValidationContext<'i> {
     ///
     /// # Errors
     ///
-    /// Fails only if memory cannot be allocated. Then nothing has changed.
+    /// Out of memory. Then nothing has changed.
     pub fn remember_verdict(
         &mut self,
         node: SchemaNode,
@@ -459,7 +520,7 @@ impl<'i> ValidationContext<'i> {
         Ok(())
     }
 
-    /// Forgets all verdicts and visits, for a run that begins. It allocates nothing.
+    /// Forgets all verdicts and visits, for a new run. Allocates nothing.
     pub fn forget_verdicts(&mut self)
         ensures forgotten { self.new ≡ record self.old { verdicts = []; visits = 0; kept = []; words = guard_words self.old } }
         ensures wide { IsWide self.new }
@@ -468,9 +529,14 @@ impl<'i> ValidationContext<'i> {
         self.visits = 0;
     }
 
-    /// Returns the path of a keyword of this name after the path, and of what follows: always the one that
-    /// `EvaluationPath::of_keyword` makes. Once many paths under a reference were asked for, those are kept when they are made, and
-    /// read when they are asked for again; what contracts see of the context stays. Fails only if memory cannot be allocated.
+    /// Returns the path of a keyword with this name after a path, and of the rest.
+    ///
+    /// The path is always the one that `EvaluationPath::of_keyword` returns. Once many paths under
+    /// references were requested, they are cached. The context stays the same as contracts see it.
+    ///
+    /// # Errors
+    ///
+    /// Out of memory.
     pub fn evaluation_path(
         &mut self,
         alloc: Global,
@@ -484,8 +550,13 @@ impl<'i> ValidationContext<'i> {
         self.kept_paths.evaluation_path(alloc, path, name, rest)
     }
 
-    /// Returns the texts of the unit of a node that a path has led to, at this location. What contracts see of the context stays.
-    /// Fails only if memory cannot be allocated.
+    /// Returns the texts of the unit of a node that has this path and this location.
+    ///
+    /// The context stays the same as contracts see it.
+    ///
+    /// # Errors
+    ///
+    /// Out of memory.
     pub fn node_texts(
         &mut self,
         alloc: Global,
@@ -500,8 +571,13 @@ impl<'i> ValidationContext<'i> {
         self.unit_paths.of_node(alloc, path, location)
     }
 
-    /// Returns the texts of the unit of a keyword of this name, of a node at this location that a path has led to. What contracts
-    /// see of the context stays. Fails only if memory cannot be allocated.
+    /// Returns the texts of the unit of a keyword, for its node's path and location.
+    ///
+    /// The context stays the same as contracts see it.
+    ///
+    /// # Errors
+    ///
+    /// Out of memory.
     pub fn keyword_texts(
         &mut self,
         alloc: Global,
@@ -516,8 +592,13 @@ impl<'i> ValidationContext<'i> {
         self.unit_paths.of_keyword(alloc, path, name, location)
     }
 
-    /// Returns the path of a keyword of this name after the path. What contracts see of the context stays. Fails only if memory
-    /// cannot be allocated.
+    /// Returns the path of a keyword with this name after a path.
+    ///
+    /// The context stays the same as contracts see it.
+    ///
+    /// # Errors
+    ///
+    /// Out of memory.
     pub fn keyword_path(
         &mut self,
         alloc: Global,
@@ -530,7 +611,11 @@ impl<'i> ValidationContext<'i> {
         self.unit_paths.path_of_keyword(alloc, path, name)
     }
 
-    /// Returns `true` if the string is a pattern of ECMA-262, as the matcher says.
+    /// Returns whether the string is a pattern of ECMA-262 according to the matcher.
+    ///
+    /// # Errors
+    ///
+    /// Out of memory.
     pub fn is_valid_ecma_regex<M: Matcher>(
         &self,
         alloc: Global,

@@ -1,4 +1,4 @@
-//! How many nodes a call may still ask.
+//! The number of nodes that a call may still evaluate.
 ghost use Rattle.std.specs.Prelude.{◌≡◌, ◌-◌, OnErr, OnOk, false, true};
 ghost use Rattle.schema_run_context.specs.Works.{Asks, IsSpent, allowed, left_of, unlimited};
 
@@ -6,7 +6,10 @@ use schema_reports::location::OutOfMemory;
 use std::alloc::AllocError;
 use std::marker::Model;
 
-/// How many nodes a call may still ask, where there is a limit, and whether it was to ask one more than these: only where none are left.
+/// The number of nodes that a call may still evaluate, if there is a limit.
+///
+/// It also records whether the call tried to exceed the limit. This happens only once no nodes are
+/// left.
 #[derive(Clone, Copy)]
 pub struct Work {
     left: u64,
@@ -28,7 +31,7 @@ impl Model for Work {
 }
 
 impl Work {
-    /// Lets a call ask any number of nodes.
+    /// Returns a budget without a limit.
     pub fn unlimited() -> Work
         ensures any { result ≡ unlimited }
     {
@@ -39,7 +42,7 @@ impl Work {
         }
     }
 
-    /// Lets a call ask so many nodes; any number where there is no limit.
+    /// Returns a budget of this many nodes, or one without a limit.
     pub fn within(limit: Option<u64>) -> Work
         ensures within { result ≡ allowed limit }
     {
@@ -53,7 +56,9 @@ impl Work {
         }
     }
 
-    /// Returns `true` if one more node was to be asked than the limit allows; then there is one, and no more may be asked.
+    /// Returns whether the call tried to evaluate more nodes than the limit allows.
+    ///
+    /// If so, there is a limit, and no nodes are left.
     pub fn is_stopped(&self) -> bool
         ensures stopped { result ≡ self.now.stopped }
         ensures spent { result ≡ true → IsSpent self.now }
@@ -61,14 +66,19 @@ impl Work {
         self.stopped
     }
 
-    /// Returns how many nodes may still be asked, where there is a limit.
+    /// Returns the number of nodes that may still be evaluated, if there is a limit.
     pub fn left(&self) -> Option<u64>
         ensures left { result ≡ left_of self.now }
     {
         if self.limited { Some(self.left) } else { None }
     }
 
-    /// Counts a node that is asked. Fails where no more may be asked, and only there.
+    /// Counts the evaluation of a node.
+    ///
+    /// # Errors
+    ///
+    /// Returns an error exactly if there is a limit and no nodes are left. Then the budget is
+    /// stopped.
     #[inline(always)]
     pub fn step(&mut self) -> Result<(), OutOfMemory>
         ensures asks { OnOk result (Asks self.old self.new) }
@@ -86,14 +96,16 @@ impl Work {
         Ok(())
     }
 
-    /// Counts so many nodes that were asked; all that may be asked, where these are fewer.
+    /// Deducts this many evaluated nodes, or all that are left if they are fewer.
     pub fn spend(&mut self, asked: u64)
         ensures fewer { self.new ≡ record self.old { left = self.old.left - asked } }
     {
         self.left = self.left.saturating_sub(asked);
     }
 
-    /// Says that one more node was to be asked than the limit allows. Where there is no limit, nothing changes.
+    /// Records that the call tried to exceed the limit.
+    ///
+    /// Does nothing if there is no limit.
     pub fn stop(&mut self)
         ensures stopped { self.old.limited ≡ true → self.new ≡ record self.old { left = 0; stopped = true } }
         ensures unlimited { self.old.limited ≡ false → self.new ≡ self.old }
