@@ -168,7 +168,7 @@ module _ (texts : Bool) (root : Data) (s : Subject) (absorbed : List Text) where
   faults_lie keywords m x answers units same for_first a h r k = each_lies (faults_in a) (subst (All (StandsInside s absorbed)) (sym r ∙ errors_of_faults texts a) (first_stand _ h)) k
   faults_lie keywords m x answers units same for_all a h r k = each_lies (faults_in a) (subst (All (StandsInside s absorbed)) (sym r ∙ errors_of_faults texts a) h) k
 
--- ---- readings in which no text is spoken of
+-- ---- readings in which no text is compared
 
 pub tells_nothing : (is_whole : Bool) (s : Subject) → Tells false is_whole s
 tells_nothing is_whole s = record { keyword = λ q. absurd (let f : ⊥ = cc in f); instance = λ q. absurd (let f : ⊥ = cc in f) }

@@ -69,7 +69,7 @@ module _ {K : Type 0} (nodes : Nodes K) (i : ℕ) where
   keyword_in m es (xs, is, y, in_xs, f) =
       subst (λ o. Contains (node_words o) m) (sym is) (in_flat_map (λ y. form_words y.form) xs y m in_xs (subst (λ o. Contains (form_words o) m) (sym f) (zero, omega arith, refl)))
 
--- ---- what holds no fraction holds none below
+-- ---- what contains no fraction contains none below
 
 or_left : (a b : Bool) → (a || b) ≡ false → a ≡ false
 or_left true b h = absurd (true≢false h)
@@ -138,14 +138,14 @@ place_plain (s ∷ p) x y e h = go (after_step s x) (λ z q. step_plain s x z q 
 pub plain_there : {K : Type 0} (is_whole : K → Bool) (nodes : Nodes K) (count : ℕ) (w : Settling) (p : Place) (s : Subject) (x : Reading) → Reads is_whole nodes count w p s x → x.texts ≡ true → subject_has_float s ≡ false
 plain_there is_whole nodes count w p s x reads t = place_plain p (a_value x.root) s reads.stands (reads.tells.instance t)
 
--- a reading in which texts are spoken of lets a keyword of the table speak of them
+-- if a reading compares texts, then the texts of a keyword of the table are compared
 pub tells_keyword : {K : Type 0} (is_whole : K → Bool) (nodes : Nodes K) (count : ℕ) (w : Settling) (p : Place) (s : Subject) (x : Reading) (i : ℕ) (m : K) (es : Children) → i < count → Reads is_whole nodes count w p s x → HasForm nodes i (node_keyword m es) → Tells x.texts (is_whole m) s
 tells_keyword is_whole nodes count w p s x i m es l reads form = record {
   keyword = λ t. All-contains (IsWholeWord is_whole) (node_words (nodes.entries i)) m (reads.tells.keywords t i l) (keyword_in nodes i m es form);
   instance = λ t. plain_there is_whole nodes count w p s x reads t;
 }
 
--- ---- where a node stands
+-- ---- the location of a node
 
 pub absolute_is : {K S : Type 0} (shape : K → S) (ns : List (NodeEntry K)) (i : ℕ) (n : NodeEntry K) (name : Text) → slice_get ns i ≡ Some n
     → (numbered shape ns).absolute i (joined ((numbered shape ns).location i) name) ≡ absolute_in n (joined n.location name)

@@ -24,7 +24,7 @@ use Rattle.schema_run_steps.specs.ReplyModes.{Joins, Stamps, accepts, refuses, r
 use Rattle.schema_run_steps.specs.NodeRuns.{Reading, Reads, Replies, NodeReplies, EdgeReplies, ChildReplies, FormReplies, child_says, deep, edge_needs, edge_says, form_says, node_says, parts_say}
 use Rattle.schema_traits.specs.declared.keyword.Reply as code
 
--- ---- where a table's number stands
+-- ---- the location of a number of a table
 
 pub where_is : {K S R : Type 0} (shape : K → S) (ns : List (NodeEntry K)) (keywords : Keywords S R) (matcher : Matcher) (subject_of : Place → Subject) (i : ℕ) (n : NodeEntry K) (path : Text) (p : Place)
     → slice_get ns i ≡ Some n → node_at keywords matcher (numbered shape ns) subject_of i path p ≡ entry_where n path p

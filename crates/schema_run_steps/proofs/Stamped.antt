@@ -1,4 +1,5 @@
--- Errors that are stamped where they are: element by element, and not at all where there is nothing to stamp.
+-- Errors that are stamped in place: element by element, and not at all if there is nothing to
+-- stamp.
 use Rattle.std.proofs.Common.{◌≡◌, ℕ, zero, suc, ◌+◌, ◌<◌, ◌≤◌, List, [], ◌∷◌, ◌++◌, length, get_or, map, take, drop, set, refl, sym, ◌∙◌, ap, subst, arith, add-one, option_map, false, true≢false}
 use Rattle.std.specs.Prelude.{Option, Some, None, is_some}
 use Rattle.theory_definitions.specs.Instance.{Text}
@@ -28,7 +29,7 @@ all_written e f [] (suc i) h = refl
 all_written e f (z ∷ zs) zero h = absurd (omega arith)
 all_written {C = C} e f (z ∷ zs) (suc i) h = ap (λ (cs : List C). e z ∷ cs) (all_written e f zs i (omega arith))
 
--- a list's elements once it is lent no more
+-- the elements of a list once its borrow has ended
 pub written_back : {A : Type 0} (n : ℕ) (new old : List A) → length new ≡ length old → length old ≤ n → take n (new ++ drop (length new) old) ≡ new
 written_back zero [] [] e l = refl
 written_back (suc n) [] [] e l = refl

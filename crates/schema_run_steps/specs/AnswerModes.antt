@@ -1,4 +1,4 @@
--- The mode that an answer is of.
+-- The mode of an answer.
 use Rattle.theory_definitions.specs.Keywords.{Mode, for_all, for_first, for_units, for_verdict}
 use Rattle.schema_traits.specs.declared.keyword.Answer.{Answer}
 use Rattle.schema_traits.specs.declared.keyword.Answer.TheVariants as answer

@@ -1,4 +1,4 @@
--- What is asked, as data, and where a node is at work on it.
+-- A question as data, and the location at which a node works on it.
 use Rattle.std.specs.Prelude.{◌≡◌, Some}
 use Rattle.serde_json.specs.Data.{Data}
 use Rattle.theory_definitions.specs.Instance.{Place, Subject, Text, subject_at}
@@ -13,7 +13,7 @@ use Rattle.schema_node_table.specs.declared.node.Node.{Node}
 use Rattle.schema_run_steps.specs.EvaluationPlaces.{steps_to}
 use Rattle.schema_run_steps.specs.declared.question.Question.{Question}
 
--- what is asked: what stands there, where, by what path, and in which mode
+-- a question: the subject that is validated, its place, the path that led there, and the mode
 pub record Asking : Type 0 where
   pub subject : Subject
   pub place : Place
@@ -23,18 +23,18 @@ pub record Asking : Type 0 where
 abbrev pub asking : Question → Asking
 asking q = record { subject = subject_of q.instance; place = steps_to q.place.now; path = path_of q.path.now; mode = mode_of q.mode }
 
--- where a node is at work
+-- the location at which a node works, by path and place
 abbrev pub entry_where : {K : Type 0} → NodeEntry K → Text → Place → Where
 entry_where n path p = record { place = p; path = path; location = n.location; absolute = absolute_in n }
 
--- where one is at work by what is asked
+-- the location at which a node works on a question
 abbrev pub where_asked : {C : Type 0} → NodeEntry C → Asking → Where
 where_asked n q = entry_where n q.path q.place
 
--- in a root value the subject stands at the place
+-- the root value has the question's subject at the question's place
 abbrev pub IsAskedOf : Data → Asking → Type 0
 IsAskedOf root q = subject_at root q.place ≡ Some q.subject
 
--- where a node of the code is at work on a question
+-- the location at which a node of the code works on a question
 abbrev pub at_work : {K : Type 0} → Node K → Question → Where
 at_work n q = where_asked (node_of n) (asking q)

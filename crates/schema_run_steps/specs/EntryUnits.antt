@@ -1,4 +1,4 @@
--- The code's units of an entry, and those that are placed, as the definitions have them.
+-- The units of an entry and the ordered units of the code, as the definitions have them.
 use Rattle.std.specs.Prelude.{Bool, drop, map, string_bytes, take}
 use Rattle.theory_definitions.specs.Instance.{Text}
 use Rattle.theory_definitions.specs.Reports.{Unit_}

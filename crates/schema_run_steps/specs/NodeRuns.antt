@@ -1,4 +1,4 @@
--- What the runs of nodes answer, said for every depth of questions that is enough.
+-- The answers of the runs of nodes, for every depth of questions that is sufficient.
 use Rattle.std.specs.Prelude.{◌≡◌, ◌<◌, ◌≤◌, ◌==◌, ℕ, suc, Bool, true, false, List, ◌∷◌, Some, All, Contains, map, option_map}
 use Rattle.std.specs.List.{list_any}
 use Rattle.serde_json.specs.Data.{Data}
@@ -20,7 +20,8 @@ use Rattle.schema_run_steps.specs.ReplyModes.{reply_by}
 use Rattle.schema_run_steps.specs.declared.question.NamedKeyword.{NamedKeyword}
 use Rattle.schema_traits.specs.declared.keyword.Reply as code
 
--- how a run is read: whether texts are spoken of, the root value, the matcher with a completion, and how deep questions go
+-- how a run is read: whether texts are compared, the root value, the matcher with the outcomes of
+-- unfinished matches, and how deep questions go
 pub record Reading : Type 0 where
   pub texts : Bool
   pub root : Data
@@ -28,21 +29,21 @@ pub record Reading : Type 0 where
   pub completion : Completion
   pub depth : ℕ
 
--- texts are spoken of only where neither the root value nor a keyword of the table holds a fraction
+-- texts are compared only if neither the root value nor a keyword of the table contains a fraction
 pub record TellsAll {K : Type 0} (texts : Bool) (root : Data) (is_whole : K → Bool) (nodes : Nodes K) (count : ℕ) : Type 0 where
   pub keywords : texts ≡ true → AreWhole is_whole nodes count
   pub instance : texts ≡ true → has_float root ≡ false
 
 module _ {K : Type 0} (nodes : Nodes K) where
-  -- these are parts of a node's plan
+  -- all of these parts are in the node's plan
   abbrev pub HasParts : ℕ → List (NodePart K) → Type 0
   HasParts i ys = (xs : List (NodePart K)) × (nodes.entries i ≡ node_these xs) × ((y : NodePart K) → Contains ys y → Contains xs y)
 
-  -- one of the parts has this form
+  -- one part of the node's plan has this form
   abbrev pub HasForm : ℕ → NodeForm K → Type 0
   HasForm i form = (xs : List (NodePart K)) × (nodes.entries i ≡ node_these xs) × (y : NodePart K) × Contains xs y × (y.form ≡ form)
 
-  -- these children have edges of the node's alone
+  -- these children have edges of the node only
   abbrev pub HasChildren : ℕ → Children → Type 0
   HasChildren i es = (q : ℕ) (e : NodeEdge) → node_child es q ≡ Some e → Contains (node_edges (nodes.entries i)) e
 
@@ -50,7 +51,7 @@ module _ {K : Type 0} (nodes : Nodes K) where
 abbrev pub form_at_work : {C K : Type 0} → (C → K) → NamedKeyword C → NodeForm K
 form_at_work shape k = node_keyword (shape k.keyword.now) (map (option_map edge_of) k.children.now)
 
--- what nodes say in a reading
+-- the outcomes of nodes, edges, children and parts in a reading
 module _ {K R : Type 0} (words : Bool → Keywords K R) (nodes : Nodes K) (x : Reading) where
   abbrev pub node_says : ℕ → Text → Place → (NodeEdge → Below → Outcome) → Outcome
   node_says = node_outcome (words x.texts) x.matcher nodes (subject_in x.root) x.completion
@@ -70,26 +71,27 @@ module _ {K R : Type 0} (words : Bool → Keywords K R) (nodes : Nodes K) (x : R
   abbrev pub parts_say : ℕ → Text → Place → List ℕ → List (NodePart K) → Outcome
   parts_say i path p busy = node_parts (words x.texts) x.matcher nodes (subject_in x.root) x.completion i path p (edge_says path p busy)
 
--- a reply is the one that an outcome gives in a mode, and its errors borrow their places
+-- a reply is the one that an outcome yields in a mode, and its errors borrow their places
 pub record Replies (x : Reading) (mode : Mode) (r : code.Reply) (o : Outcome) : Type 0 where
   pub same : reply_of x.texts r ≡ reply_by mode o
   pub borrows : All (BorrowsItsPlace x.root) (errors_in r)
 
--- how deep questions have to go for an edge
+-- the depth of questions that an edge requires
 abbrev pub edge_needs : {K : Type 0} → Nodes K → ℕ → NodeEdge → Subject → List ℕ → ℕ
 edge_needs nodes count e s busy = elim e.guarded [
   | false ↦ suc (left nodes count e.node s busy)
   | true ↦ elim (list_any (λ i. i == e.node) busy) [ true ↦ 0 | false ↦ suc (left nodes count e.node s (e.node ∷ busy)) ]
 ]
 
--- a reading in which the subject stands at the place, and matches come out as they are settled
+-- a reading in which the subject is at the place, and matches have the outcomes that the matcher
+-- and the assumptions decide
 pub record Reads {K : Type 0} (is_whole : K → Bool) (nodes : Nodes K) (count : ℕ) (w : Settling) (p : Place) (s : Subject) (x : Reading) : Type 0 where
   pub stands : subject_at x.root p ≡ Some s
   pub tells : TellsAll x.texts x.root is_whole nodes count
   pub matcher : x.matcher ≡ w.matcher
   pub completes : (a : Pair) → completed x.completion a ≡ or_no (assumed w.assumptions a)
 
--- ---- what a run answers of a subject at a place, in every reading in which it stands there
+-- ---- the replies of a run for a subject at a place, in every reading that has it there
 
 module _ {K R : Type 0} (words : Bool → Keywords K R) (is_whole : K → Bool) (nodes : Nodes K) (count : ℕ) (w : Settling) (mode : Mode) (path : Text) (p : Place) (busy : List ℕ) (s : Subject) where
   abbrev pub NodeReplies : ℕ → code.Reply → Type 0

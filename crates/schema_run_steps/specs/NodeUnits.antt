@@ -1,4 +1,4 @@
--- What a keyword's evaluation gives, under its name.
+-- The result of a keyword's evaluation, with the keyword's name.
 use Rattle.theory_definitions.specs.Instance.{Text}
 use Rattle.theory_definitions.specs.Keywords.{Gives, Named}
 

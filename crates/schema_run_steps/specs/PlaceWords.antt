@@ -1,4 +1,4 @@
--- Where a question stands, and what lies below it, by the code's steps.
+-- The place and the path of a question, and what is below it, by the steps of the code.
 use Rattle.std.specs.Prelude.{List, Option, String, map, option_map, string_bytes, unwrap_or, ◌++◌}
 use Rattle.std.specs.declared.alloc.Global.{Global}
 use Rattle.theory_definitions.specs.Instance.{Place, Subject, Text, after_step}
@@ -12,11 +12,11 @@ use Rattle.schema_run_steps.specs.EvaluationPlaces.{steps_to}
 use Rattle.schema_run_steps.specs.declared.evaluation_place.EvaluationPlace.{EvaluationPlace}
 use Rattle.schema_run_steps.specs.declared.question.Question.{Question}
 
--- what a step leads to inside an instance
+-- the subject that a step leads to inside an instance
 abbrev pub subject_after : InstanceStep → Instance → Option Subject
 subject_after step i = after_step (step_of step) (subject_of i)
 
--- steps lead to something there
+-- the steps lead to something inside an instance
 abbrev pub HasSteps : Instance → List InstanceStep → Type 0
 HasSteps i steps = IsPresent (subject_of i) (map step_of steps)
 
@@ -24,13 +24,14 @@ HasSteps i steps = IsPresent (subject_of i) (map step_of steps)
 abbrev pub place_under : EvaluationPlace → List InstanceStep → Place
 place_under p steps = steps_to p ++ map step_of steps
 
--- the path that led to a question, and the pointer to the place that it asks about
+-- the path that led to a question, and (below) the pointer to its place
 abbrev pub path_here : Question → Text
 path_here q = path_of q.path.now
 
 abbrev pub pointer_here : Question → Text
 pointer_here q = pointer_to (steps_to q.place.now)
 
--- the name that a path from a keyword on begins with: that of the one that it absorbs, or else its own
+-- the name with which the path of an error begins: that of the absorbed keyword, or else the
+-- keyword's own
 abbrev pub name_from : Option (String Global) → Text → Text
 name_from absorbed name = unwrap_or (option_map string_bytes absorbed) name

@@ -1,4 +1,5 @@
--- What replies say: of two replies, with stamped errors, and of the schema `false`; and what becomes of the places that they borrow.
+-- The replies of the code: joined, with stamped errors, and of the schema `false`; and the places
+-- that their errors borrow.
 use Rattle.std.specs.Prelude.{All, Bool, List, false, true, ◌≡◌}
 use Rattle.serde_json.specs.Data.{Data}
 use Rattle.theory_definitions.specs.Instance.{Subject, Text}
@@ -17,28 +18,29 @@ use Rattle.schema_run_steps.specs.Askings.{at_work}
 use Rattle.schema_run_steps.specs.ReplyModes.{Joins, Stamps}
 use Rattle.schema_run_steps.specs.declared.question.Question.{Question}
 
--- the third reply says both
+-- the third reply joins the first two
 abbrev pub SaysBoth : Reply → Reply → Reply → Type 0
 SaysBoth a b r = (texts : Bool) → Joins (reply_of texts a) (reply_of texts b) (reply_of texts r)
 
--- each of its errors borrows its place, where each of theirs does
+-- each error of the third reply borrows its place, if each error of the first two does
 abbrev pub BorrowsBoth : Reply → Reply → Reply → Type 0
 BorrowsBoth a b r = (root : Data) → All (BorrowsItsPlace root) (errors_in a) → All (BorrowsItsPlace root) (errors_in b) → All (BorrowsItsPlace root) (errors_in r)
 
--- each error after borrows its place, where each one before does
+-- each new error borrows its place, if each old one does
 abbrev pub StayBorrowed : List ValidationError → List ValidationError → Type 0
 StayBorrowed old new = (root : Data) → All (BorrowsItsPlace root) old → All (BorrowsItsPlace root) new
 
 module _ {K : Type 0} (n : Node K) (name : Text) where
-  -- an error is stamped by the node's keyword of this name
+  -- an error is stamped with the location of the node's keyword with this name
   abbrev pub StampsError : ValidationError → ValidationError → Type 0
   StampsError old new = (texts : Bool) → error_of texts new ≡ stamped (keyword_absolute (node_of n) name) (error_of texts old)
 
-  -- each error of a reply is
+  -- each error of a reply is stamped so
   abbrev pub StampsReply : Reply → Reply → Type 0
   StampsReply old new = (texts : Bool) → Stamps (keyword_absolute (node_of n) name) (reply_of texts old) (reply_of texts new)
 
--- a value says what the schema `false` says of the question; texts are spoken of only where the instance holds no fraction
+-- a value is what the schema `false` yields for the question; texts are compared only if the
+-- instance contains no fraction
 abbrev pub SaysFalse : {K A B : Type 0} → Node K → Question → (Bool → A → B) → (Bool → Where → Subject → B) → A → Type 0
 SaysFalse n q view_of says a = (texts : Bool) → (texts ≡ true → subject_has_float (subject_of q.instance) ≡ false)
     → view_of texts a ≡ says texts (at_work n q) (subject_of q.instance)

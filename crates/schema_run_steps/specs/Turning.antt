@@ -1,4 +1,4 @@
--- How a keyword's run stands between two turns.
+-- The state of a keyword's run between two turns.
 use Rattle.std.specs.Prelude.{Bool, List, [], None}
 use Rattle.theory_definitions.specs.Instance.{Subject}
 use Rattle.theory_definitions.specs.Reports.{Outcome, Unit_, no_units, unit}
@@ -12,7 +12,8 @@ use Rattle.schema_run_steps.specs.NodeRuns.{Reading}
 abbrev pub unit_with : Outcome → Unit_
 unit_with o = unit (record { valid = o.verdict; instance_location = []; evaluation_path = []; schema_path = []; absolute = None; annotations = None; errors = [] }) no_units
 
--- a run in a reading, with the units that its questions have, what says which marks are one, and the marks that it holds
+-- a run in a reading, with the units of its questions, a test of which marks are the same, and the
+-- marks that it holds
 abbrev pub stands_at : {R : Type 0} → Subject → Reading → Answers → (Question → Unit_) → (Marked → Marked → Bool) → List Marked → R → Reply → Standing R
 stands_at s x answers units same marks r reply = record {
   subject = s;
@@ -25,7 +26,8 @@ stands_at s x answers units same marks r reply = record {
   reply = reply;
 }
 
--- it stands well, in a state that a run can be in, and ends in what is right
+-- the run is in a state that a run can be in, it fits the reading, and it ends with the right
+-- answer
 pub record EvaluatesOn {K R : Type 0} (keywords : Keywords K R) (m : K) (can_be : Subject → R → Type 0) (end_of : Standing R → Answer) (Fits : Standing R → Type 0) (s : Subject) (x : Reading) (mode : Mode) (answers : Answers) (units : Question → Unit_) (same : Marked → Marked → Bool) (marks : List Marked) (r : R) (reply : Reply) : Type 0 where
   pub can : can_be s r
   pub fits : Fits (stands_at s x answers units same marks r reply)

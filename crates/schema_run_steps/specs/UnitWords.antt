@@ -1,4 +1,4 @@
--- What the units of a node say, and where they stand.
+-- The content and the locations of a node's units.
 use Rattle.std.specs.List.{list_all}
 use Rattle.std.specs.Prelude.{Bool, List, Option, [], map, option_map, string_bytes, ◌≡◌}
 use Rattle.serde_json.specs.View.{view}
@@ -15,11 +15,11 @@ use Rattle.schema_node_table.specs.declared.node.Node.{Node}
 use Rattle.schema_run_steps.specs.Askings.{Asking, where_asked}
 use Rattle.schema_run_steps.specs.declared.units.UnitPlaces.{UnitPlaces}
 
--- a unit is this one, where texts are spoken of or not
+-- a unit is this one, whether texts are compared or not
 abbrev pub IsUnit : (Bool → Unit_) → EvaluationNode → Type 0
 IsUnit says u = (texts : Bool) → unit_of texts u ≡ says texts
 
--- what a unit says that stands there, with these annotations and errors
+-- the report of a unit with these locations, annotations and errors
 abbrev pub report_at : Bool → UnitPlaces → Bool → Option Value → List ErrorDescription → Report
 report_at texts p valid annotations errors = record {
   valid = valid;
@@ -31,13 +31,15 @@ report_at texts p valid annotations errors = record {
   errors = map (described_of texts) errors;
 }
 
--- a unit stands at this pointer, path and place in the schema, and has the absolute location of that, as the node has it
+-- a unit has this pointer, this path and this schema location, and the absolute location that the
+-- node has for the latter
 pub record UnitStandsAt {K : Type 0} (n : Node K) (pointer way location : Text) (p : UnitPlaces) : Type 0 where
   pub instance : p.instance_location ≡ pointer
   pub path : p.evaluation_path ≡ way
   pub schema : p.schema_location ≡ location
   pub absolute : option_map string_bytes p.absolute_keyword_location ≡ absolute_in (node_of n) location
 
--- the unit of a node around these: valid exactly if each of them is, with the node's annotations
+-- the unit of a node around these units: valid exactly if each of them is, with the node's
+-- annotations
 abbrev pub unit_around : {K : Type 0} → Node K → Asking → List Unit_ → Unit_
 unit_around n q us = schema_unit (where_asked (node_of n) q) (list_all (λ child. (report_of child).valid) us) (option_map view n.annotations) [] us

@@ -1,5 +1,7 @@
-//! The units of a schema's entries, in their order: that of an absorbed `type` first, those of absorbed counts before the first
-//! entry that looks inside the instance.
+//! The order of the units of a schema's entries.
+//!
+//! The unit of an absorbed `type` comes first. Those of absorbed counts come before the first entry
+//! that looks inside the instance.
 ghost use Rattle.std.specs.Prelude.{◌≡◌, Bool, IfOk, map, OnOk};
 ghost use Rattle.schema_reports.specs.UnitViews.{unit_of};
 ghost use Rattle.theory_definitions.specs.UnitOrder.{all_placed, nothing_placed, placed, with_absorbed};
@@ -9,25 +11,28 @@ use schema_reports::evaluation::{ChildList, EvaluationNode};
 use schema_reports::location::OutOfMemory;
 use std::alloc::Global;
 
-/// The unit of a keyword that another one absorbs, by the absorbed one's name.
+/// The unit of a keyword that another one absorbs, with its name.
 #[derive(Drop)]
 pub struct AbsorbedUnit {
     pub keyword: String,
     pub unit: EvaluationNode,
 }
 
-/// The unit of an entry, and those of the keywords that it absorbs, in their order.
+/// The unit of an entry, and those of the keywords that it absorbs in their order.
 #[derive(Drop)]
 pub struct EntryUnits {
     pub own: EvaluationNode,
     pub absorbed: Vec<AbsorbedUnit>,
 }
 
-/// The least priority of the keywords that look inside an array or an object: absorbed counts stand before the first of them.
+/// The least priority of the keywords that look inside an array or an object.
+///
+/// Absorbed counts come before the first of them.
 const LEAST_INSIDE: u8 = 22;
 
-/// The units of a schema's entries so far: those of absorbed types; those of the entries, of which so many come before the absorbed
-/// counts; and these counts.
+/// The units of a schema's entries so far.
+///
+/// Of `entries`, the first `before` come before the absorbed `counts`.
 #[derive(Drop)]
 pub struct UnitsInOrder {
     types: Vec<EvaluationNode>,
@@ -37,7 +42,11 @@ pub struct UnitsInOrder {
 }
 
 impl UnitsInOrder {
-    /// Returns the units of no entry, with room for those of so many. Fails only if memory cannot be allocated.
+    /// Returns an empty list of units, with room for those of this many entries.
+    ///
+    /// # Errors
+    ///
+    /// Out of memory.
     pub fn new(alloc: Global, entries: usize) -> Result<UnitsInOrder, OutOfMemory>
         ensures empty { IfOk result (λ u. (texts : Bool) → placed_of texts u ≡ nothing_placed) }
     {
@@ -49,7 +58,6 @@ impl UnitsInOrder {
         })
     }
 
-    // Adds the units of absorbed keywords.
     fn place_absorbed(&mut self, absorbed: Vec<AbsorbedUnit>) -> Result<(), OutOfMemory>
         ensures placed { OnOk result ((texts : Bool) → placed_of texts self.new
             ≡ with_absorbed (placed_of texts self.old) (map (absorbed_of texts) absorbed.items)) }
@@ -64,7 +72,11 @@ impl UnitsInOrder {
         Ok(())
     }
 
-    /// Adds the units of the next entry, by its priority. Fails only if memory cannot be allocated.
+    /// Adds the units of the next entry, which has this priority.
+    ///
+    /// # Errors
+    ///
+    /// Out of memory.
     pub fn place(&mut self, priority: u8, units: EntryUnits) -> Result<(), OutOfMemory>
         ensures placed { OnOk result ((texts : Bool) → placed_of texts self.new
             ≡ placed (placed_of texts self.old) (record { priority = priority; units = entry_units_of texts units })) }
@@ -82,7 +94,11 @@ impl UnitsInOrder {
         Ok(())
     }
 
-    /// Returns the units in their order. Fails only if memory cannot be allocated.
+    /// Returns the units in their order.
+    ///
+    /// # Errors
+    ///
+    /// Out of memory.
     pub fn into_children(self) -> Result<ChildList, OutOfMemory>
         ensures children { IfOk result (λ l. (texts : Bool) → map (unit_of texts) l ≡ all_placed (placed_of texts self)) }
     {

@@ -1,4 +1,4 @@
-//! The place at which a node is asked, which allocates nothing until it is asked for.
+//! The place at which a node is evaluated, built only if it is requested.
 ghost use Rattle.std.specs.Prelude.{◌≡◌, ◌++◌, ◌∷◌, [], List, Some, OnOk};
 ghost use Rattle.schema_traits.specs.Showing.{Yields};
 ghost use Rattle.schema_reports.specs.InstanceViews.{step_of};
@@ -12,11 +12,14 @@ use schema_reports::instance::{InstanceStep, Place, push_step};
 use schema_reports::location::{Location, OutOfMemory};
 use std::alloc::Global;
 
-// How many bytes a pointer that is not empty gets room for at once. Most are no longer, and to reckon how long one is takes as long as
-// to make it.
+// The room in bytes of a new pointer that is not empty. Most pointers fit, and computing the exact
+// length would take as long as building the pointer.
 const ROOM_OF_POINTER: usize = 24;
 
-/// A place that was given, the place above a step and the step, or a place with its number in the instance.
+/// A place in an instance, as the steps that led to it.
+///
+/// It is a place that the caller supplied, one step below another place, or a place with its number
+/// in the instance.
 #[derive(Clone, Copy)]
 pub enum EvaluationPlace<'p, 'i> {
     Given(&'p Place<'i>),
@@ -25,7 +28,7 @@ pub enum EvaluationPlace<'p, 'i> {
 }
 
 impl<'p, 'i> EvaluationPlace<'p, 'i> {
-    /// The place that is given.
+    /// Returns the place that the caller supplies.
     pub fn given(place: &'p Place<'i>) -> EvaluationPlace<'p, 'i>
         ensures same { steps_to result ≡ place.now }
         ensures carries { (places : List instance.Place) → CarriesItsNumber places result }
@@ -33,7 +36,7 @@ impl<'p, 'i> EvaluationPlace<'p, 'i> {
         EvaluationPlace::Given(place)
     }
 
-    /// The place one step below.
+    /// Returns the place one step below.
     pub fn below(&'p self, step: InstanceStep<'i>) -> EvaluationPlace<'p, 'i>
         ensures below { steps_to result ≡ steps_to self.now ++ step_of step.entry ∷ [] }
         ensures carries { (places : List instance.Place) → CarriesItsNumber places self.now → CarriesItsNumber places result }
@@ -41,7 +44,7 @@ impl<'p, 'i> EvaluationPlace<'p, 'i> {
         EvaluationPlace::Below(self, step)
     }
 
-    /// The same place, with its number.
+    /// Returns the same place, with its number.
     pub fn numbered(&'p self, number: usize) -> EvaluationPlace<'p, 'i>
         ensures same { steps_to result ≡ steps_to self.now }
         ensures carries { (places : List instance.Place) → number_of (steps_to self.now) places ≡ Some number
@@ -50,15 +53,17 @@ impl<'p, 'i> EvaluationPlace<'p, 'i> {
         EvaluationPlace::Numbered(self, number)
     }
 
-    /// Returns the number of the place among the places of an instance, if there is such a place. It walks down from the last
-    /// place that carries its number, or else from the root, and allocates nothing.
+    /// Returns the number of the place among the places of an instance, if it exists.
+    ///
+    /// The search begins at the last place above that carries its number, or else at the root.
+    /// Allocates nothing.
     #[inline(always)]
     pub fn number(&self, places: &Places<'_>) -> Option<usize>
         requires carries { CarriesItsNumber places.now self.now }
         ensures number { result ≡ number_of (steps_to self.now) places.now }
     {
         match self {
-            // (many are one step below a place that carries its number, so this asks for it without a call)
+            // Many places are one step below one that carries its number. They need no call.
             EvaluationPlace::Below(above, step) => match above {
                 EvaluationPlace::Numbered(_, number) => places.child(*number, *step),
                 _ => self.walked_number(places),
@@ -68,7 +73,8 @@ impl<'p, 'i> EvaluationPlace<'p, 'i> {
         }
     }
 
-    // The same, by a walk down. Its room on the stack is its own.
+    // Like `number`, by a walk down. Not inlined, so that the fast path does not pay for its stack
+    // frame.
     #[inline(never)]
     fn walked_number(&self, places: &Places<'_>) -> Option<usize>
         requires carries { CarriesItsNumber places.now self.now }
@@ -76,7 +82,7 @@ impl<'p, 'i> EvaluationPlace<'p, 'i> {
     {
         match self {
             EvaluationPlace::Given(place) => places.find(place.as_steps()),
-            // (most are a few steps below a place that carries its number, so this asks for it without one more call)
+            // Most places are a few steps below one that carries its number. This saves a call.
             EvaluationPlace::Below(above, step) => match above {
                 EvaluationPlace::Numbered(_, number) => places.child(*number, *step),
                 _ => match above.walked_number(places) {
@@ -92,7 +98,11 @@ impl<'p, 'i> EvaluationPlace<'p, 'i> {
         }
     }
 
-    /// Returns the place as an owned one, with room for so many steps more. Fails only if memory cannot be allocated.
+    /// Returns the place as an owned one, with room for this many more steps.
+    ///
+    /// # Errors
+    ///
+    /// Out of memory.
     pub fn with_room(&self, more: usize) -> Result<Place<'i>, OutOfMemory>
         ensures same { Yields result (steps_to self.now) }
     {
@@ -107,7 +117,6 @@ impl<'p, 'i> EvaluationPlace<'p, 'i> {
         }
     }
 
-    // Appends the JSON Pointer of the place to a pointer.
     fn push_pointer(&self, pointer: &mut Location) -> Result<(), OutOfMemory>
         ensures pushed { OnOk result (pointer.new ≡ pointer.old ++ pointer_to (steps_to self.now)) }
     {
@@ -121,7 +130,8 @@ impl<'p, 'i> EvaluationPlace<'p, 'i> {
         }
     }
 
-    // How many bytes the pointer gets room for: none where it is empty, as the name of a member stands where its object does.
+    // Returns the room for the place's pointer: none if the pointer is empty. The name of a member
+    // has the pointer of its object.
     fn pointer_room(&self) -> usize {
         match self {
             EvaluationPlace::Given(place) if place.len() == 0 => 0,
@@ -132,7 +142,11 @@ impl<'p, 'i> EvaluationPlace<'p, 'i> {
         }
     }
 
-    /// Returns the JSON Pointer of the place. Fails only if memory cannot be allocated.
+    /// Returns the JSON Pointer of the place.
+    ///
+    /// # Errors
+    ///
+    /// Out of memory.
     pub fn pointer(&self, alloc: Global) -> Result<Location, OutOfMemory>
         ensures pointer { Yields result (pointer_to (steps_to self.now)) }
     {
@@ -141,7 +155,11 @@ impl<'p, 'i> EvaluationPlace<'p, 'i> {
         Ok(pointer)
     }
 
-    /// Returns the place as an owned one. Fails only if memory cannot be allocated.
+    /// Returns the place as an owned one.
+    ///
+    /// # Errors
+    ///
+    /// Out of memory.
     pub fn made(&self) -> Result<Place<'i>, OutOfMemory>
         ensures same { Yields result (steps_to self.now) }
     {

@@ -1,4 +1,4 @@
-//! What a keyword has found, as errors at its place.
+//! The faults that a keyword found, turned into errors at its place.
 ghost use Rattle.std.specs.Prelude.{◌≡◌, IfOk, Some, [], map, slice_get};
 ghost use Rattle.schema_traits.specs.Showing.{Shows};
 ghost use Rattle.theory_definitions.specs.Instance.{subject_from};
@@ -26,7 +26,13 @@ use schema_run_context::validation::ValidationContext;
 use schema_traits::keyword::{Answer, Fault, Found, Mode, OwnError, Reply};
 use std::alloc::Global;
 
-/// An answer that has found nothing yet. Only an evaluation's takes memory.
+/// Returns an answer that has found nothing yet.
+///
+/// Only the answer of an evaluation allocates.
+///
+/// # Errors
+///
+/// Out of memory.
 pub fn begun<'i>(alloc: Global, mode: Mode) -> Result<Answer<'i>, OutOfMemory>
     ensures fresh { GivesFresh (mode_of mode) result }
     ensures no_faults { Shows faults_in result [] }
@@ -40,7 +46,7 @@ pub fn begun<'i>(alloc: Global, mode: Mode) -> Result<Answer<'i>, OutOfMemory>
     }
 }
 
-// That of an evaluation. Its room on the stack is its own, so that a verdict pays nothing for it.
+// Not inlined, so that a verdict does not pay for its stack frame.
 #[inline(never)]
 fn begun_evaluation<'i>(alloc: Global) -> Result<Answer<'i>, OutOfMemory>
     ensures fresh { GivesFresh for_units result }
@@ -53,7 +59,7 @@ fn begun_evaluation<'i>(alloc: Global) -> Result<Answer<'i>, OutOfMemory>
     Ok(Answer::Evaluation(found))
 }
 
-// What stands some steps below, or the instance itself where the steps lead nowhere.
+// Returns what is some steps below, or the instance itself if the steps lead nowhere.
 fn instance_below<'i>(instance: Instance<'i>, steps: &[InstanceStep<'i>]) -> Instance<'i>
     ensures below { HasSteps instance.entry steps.now
         → subject_from (map step_of steps.now) (subject_of instance.entry) ≡ Some (subject_of result) }
@@ -68,7 +74,8 @@ fn instance_below<'i>(instance: Instance<'i>, steps: &[InstanceStep<'i>]) -> Ins
     found
 }
 
-// The name that a path from the keyword on begins with: the keyword's own, or that of the one that it absorbs.
+// Returns the name with which the path of an error begins: that of the absorbed keyword if the
+// error is the absorbed keyword's, or else the keyword's own.
 fn spot_name<'n>(absorbed: &'n Option<String>, name: &'n KeywordName) -> &'n str
     ensures name { result.now ≡ name_from absorbed.now name.now }
 {
@@ -78,7 +85,7 @@ fn spot_name<'n>(absorbed: &'n Option<String>, name: &'n KeywordName) -> &'n str
     }
 }
 
-// Where an error of the keyword's own stands.
+// The place and the locations of an error of the keyword's own.
 #[derive(Drop)]
 struct ErrorPlaces<'i> {
     place: Place<'i>,
@@ -87,7 +94,6 @@ struct ErrorPlaces<'i> {
     absolute_keyword_location: Option<String>,
 }
 
-// The paths and the place of an error of the keyword's own, or of the one that it absorbs.
 fn error_places<'i, K>(
     alloc: Global,
     node: &Node<K>,
@@ -113,7 +119,6 @@ fn error_places<'i, K>(
     })
 }
 
-// An error of the keyword's own.
 fn own_error<'i, K>(
     alloc: Global,
     node: &Node<K>,
@@ -139,7 +144,7 @@ fn own_error<'i, K>(
     })
 }
 
-// A fault as an error: its own, or one that passes.
+// Turns a fault into an error. It is the keyword's own, or one that it passes on.
 fn error_by<'i, K>(
     alloc: Global,
     node: &Node<K>,
@@ -158,7 +163,6 @@ fn error_by<'i, K>(
     }
 }
 
-// Each fault as an error, in order.
 fn errors_by<'i, K>(
     alloc: Global,
     node: &Node<K>,
@@ -178,7 +182,7 @@ fn errors_by<'i, K>(
     Ok(errors)
 }
 
-/// Whether an answer is a yes: its verdict.
+/// Returns the verdict of an answer.
 pub fn is_accepting(answer: Answer<'_>) -> bool
     ensures verdict { IsVerdictOf answer.entry result }
 {
@@ -190,7 +194,6 @@ pub fn is_accepting(answer: Answer<'_>) -> bool
     }
 }
 
-// The faults of an answer.
 fn all_faults<'i>(alloc: Global, answer: Answer<'i>) -> Result<Vec<Fault<'i>>, OutOfMemory>
     ensures faults { IfOk result (λ fs. fs.items ≡ faults_in answer.entry) }
 {
@@ -209,7 +212,6 @@ fn all_faults<'i>(alloc: Global, answer: Answer<'i>) -> Result<Vec<Fault<'i>>, O
     }
 }
 
-// The first fault of an answer.
 fn first_fault<'i>(answer: Answer<'i>) -> Option<Fault<'i>>
     ensures first { result ≡ slice_get (faults_in answer.entry) 0 }
 {
@@ -230,7 +232,8 @@ fn first_fault<'i>(answer: Answer<'i>) -> Option<Fault<'i>>
     }
 }
 
-// The first error of an answer, as a reply. Its room on the stack is its own, so that a verdict pays nothing for it.
+// Returns the first error of an answer, as a reply. Not inlined, so that a verdict does not pay for
+// its stack frame.
 #[inline(never)]
 fn first_finished<'i, K>(
     alloc: Global,
@@ -253,7 +256,7 @@ fn first_finished<'i, K>(
     }
 }
 
-// All errors of an answer, as a reply. Its room on the stack is its own, too.
+// Returns all errors of an answer, as a reply. Not inlined, for the same reason.
 #[inline(never)]
 fn all_finished<'i, K>(
     alloc: Global,
@@ -272,7 +275,11 @@ fn all_finished<'i, K>(
     Ok(Reply::All(errors))
 }
 
-/// What an answer says in a mode, as a reply.
+/// Returns the reply that an answer yields in the question's mode.
+///
+/// # Errors
+///
+/// Out of memory.
 pub fn finished<'i, K>(
     alloc: Global,
     node: &Node<K>,

@@ -1,4 +1,6 @@
-//! The pair of a guarded question, or of one that asks a shared node: the node that it asks, and the place, with the place's number.
+//! The pair of a node and a place that a guarded question asks about.
+//!
+//! Questions to shared nodes have such a pair too.
 ghost use Rattle.std.specs.Prelude.{◌≡◌, IfOk, OnErr, OnOk, Some, false, is_some, true};
 ghost use Rattle.serde_json.specs.View.{view};
 ghost use Rattle.theory_definitions.specs.Instance.{subject_at};
@@ -14,7 +16,7 @@ use schema_reports::location::OutOfMemory;
 use schema_run_context::validation::ValidationContext;
 use schema_traits::numbers::SchemaNode;
 
-/// A node that is asked at a place, and the place's number.
+/// A node that is evaluated at a place, and the place's number.
 #[derive(Clone, Copy)]
 pub struct GuardedPair<'q, 'i> {
     node: SchemaNode,
@@ -23,8 +25,13 @@ pub struct GuardedPair<'q, 'i> {
 }
 
 impl<'q, 'i> GuardedPair<'q, 'i> {
-    /// Returns the pair. Fails only if memory cannot be allocated, to number the places of the context's instance, and then nothing
-    /// has changed.
+    /// Returns the pair of a node and a place.
+    ///
+    /// The places of the context's instance are numbered, if they are not yet.
+    ///
+    /// # Errors
+    ///
+    /// Out of memory. Then nothing has changed.
     pub fn new(
         context: &mut ValidationContext<'i>,
         node: SchemaNode,
@@ -48,7 +55,7 @@ impl<'q, 'i> GuardedPair<'q, 'i> {
         }
     }
 
-    /// The place, which carries its number.
+    /// Returns the place, which carries its number.
     pub fn numbered_place(&self) -> EvaluationPlace<'q, 'i>
         ensures same { steps_to result ≡ place_of self.now }
         ensures carries { (context : Context) → HasNumberIn self.now context → CarriesItsNumber (places_in context) result }
@@ -56,7 +63,7 @@ impl<'q, 'i> GuardedPair<'q, 'i> {
         self.place.numbered(self.number)
     }
 
-    /// Returns `true` if the pair is in progress. It allocates nothing.
+    /// Returns whether the pair is in progress. Allocates nothing.
     pub fn is_in_progress(&self, context: &ValidationContext<'i>) -> bool
         requires numbered { HasNumberIn self.now context.now }
         ensures found { result ≡ is_busy_in self.now context.now }
@@ -64,7 +71,11 @@ impl<'q, 'i> GuardedPair<'q, 'i> {
         context.is_in_progress(self.node, self.number)
     }
 
-    /// Records a pair that is not in progress. Fails only if memory cannot be allocated, and then nothing has changed.
+    /// Enters a pair that is not in progress.
+    ///
+    /// # Errors
+    ///
+    /// Out of memory. Then nothing has changed.
     pub fn enter(&self, context: &mut ValidationContext<'i>) -> Result<(), OutOfMemory>
         requires numbered { HasNumberIn self.now context.old }
         requires is_new { is_busy_in self.now context.old ≡ false }
@@ -76,7 +87,7 @@ impl<'q, 'i> GuardedPair<'q, 'i> {
         Ok(())
     }
 
-    /// Removes the pair, which must be the last one entered. It allocates nothing.
+    /// Removes the pair, which must be the last one entered. Allocates nothing.
     pub fn exit(&self, context: &mut ValidationContext<'i>)
         requires numbered { HasNumberIn self.now context.old }
         requires last { IsLastIn self.now context.old }
@@ -86,8 +97,10 @@ impl<'q, 'i> GuardedPair<'q, 'i> {
         context.exit(self.node, self.number);
     }
 
-    /// Returns the verdict of the pair that is known before its node is asked: yes where the pair is in progress, and elsewhere the one
-    /// that is remembered, unless another node is in progress at its place. It allocates nothing.
+    /// Returns the verdict of the pair if it is known before its node is evaluated.
+    ///
+    /// It is `true` if the pair is in progress. Otherwise it is the remembered one, unless another
+    /// node is in progress at its place. Allocates nothing.
     pub fn known_verdict(&self, context: &ValidationContext<'i>) -> Option<bool>
         requires numbered { HasNumberIn self.now context.now }
         ensures busy { is_busy_in self.now context.now ≡ true → result ≡ Some true }
@@ -99,7 +112,7 @@ impl<'q, 'i> GuardedPair<'q, 'i> {
         self.remembered_verdict(context)
     }
 
-    // The verdict that is remembered of the pair, unless another node is in progress at its place.
+    // Returns the remembered verdict of the pair, unless another node is in progress at its place.
     fn remembered_verdict(&self, context: &ValidationContext<'i>) -> Option<bool>
         requires numbered { HasNumberIn self.now context.now }
         ensures read { result ≡ read_in self.now context.now }
@@ -107,7 +120,9 @@ impl<'q, 'i> GuardedPair<'q, 'i> {
         context.get_cached_result(self.node, self.number)
     }
 
-    /// Returns the verdict that is remembered of the pair, whatever is in progress at its place. It allocates nothing.
+    /// Returns the remembered verdict of the pair, whatever is in progress.
+    ///
+    /// Allocates nothing.
     pub fn lasting_verdict(&self, context: &ValidationContext<'i>) -> Option<bool>
         requires numbered { HasNumberIn self.now context.now }
         ensures read { result ≡ remembered_in self.now context.now }
@@ -115,7 +130,11 @@ impl<'q, 'i> GuardedPair<'q, 'i> {
         context.remembered_verdict(self.node, self.number)
     }
 
-    /// Remembers the verdict of the pair. Fails only if memory cannot be allocated, and then nothing has changed.
+    /// Remembers the verdict of the pair.
+    ///
+    /// # Errors
+    ///
+    /// Out of memory. Then nothing has changed.
     pub fn remember_verdict(
         &self,
         context: &mut ValidationContext<'i>,
@@ -129,9 +148,14 @@ impl<'q, 'i> GuardedPair<'q, 'i> {
         context.remember_verdict(self.node, self.number, verdict)
     }
 
-    /// Remembers the verdict of the pair, if the instance is an array or an object, no other node is in progress at the place, and
-    /// enough visits were counted since the mark. Otherwise nothing changes. Fails only if memory cannot be allocated, and then
-    /// nothing has changed.
+    /// Remembers the verdict of the pair, if it was expensive.
+    ///
+    /// It is remembered if the instance is an array or an object, no other node is in progress at
+    /// the place, and enough visits were counted since the mark. Otherwise nothing changes.
+    ///
+    /// # Errors
+    ///
+    /// Out of memory. Then nothing has changed.
     pub fn keep_verdict(
         &self,
         context: &mut ValidationContext<'i>,

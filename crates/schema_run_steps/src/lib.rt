@@ -1,4 +1,4 @@
-//! What an answer is made of: questions, places, guarded pairs, sites of matches, errors, replies and units.
+//! The parts of a run: questions, places, guarded pairs, errors and units.
 #![tactic(auto)]
 
 pub mod evaluation_order;

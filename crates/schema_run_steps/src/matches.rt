@@ -1,4 +1,4 @@
-//! A match that a keyword asks for.
+//! The matches that a keyword requests.
 ghost use Rattle.std.specs.Prelude.{◌≡◌, IfOk, OnOk};
 ghost use Rattle.theory_definitions.specs.Instance.{Text};
 ghost use Rattle.theory_definitions.specs.Matching.{finished};
@@ -19,8 +19,12 @@ use schema_traits::matcher::Matcher;
 use std::alloc::Global;
 use unfinished_matches::site::Match;
 
-/// How a match comes out, of a matcher that finishes each. Its room on the stack is its own, so that a keyword that asks for none pays
-/// nothing. Fails only if memory cannot be allocated.
+/// Returns the outcome of a match, from a matcher that finishes every match.
+///
+/// # Errors
+///
+/// Out of memory.
+// Not inlined, so that a keyword without a match does not pay for its stack frame.
 #[inline(never)]
 pub fn finished_match<M: Matcher>(
     alloc: Global,
@@ -37,7 +41,7 @@ pub fn finished_match<M: Matcher>(
     }
 }
 
-// Whether the site of a match that is asked for here has an instance path.
+// Returns whether the site of a match at this point has an instance path.
 fn has_place(point: MatchPoint<'_>) -> bool
     ensures located { (pattern : Text) → result ≡ (point_of pattern point.entry).located }
 {
@@ -47,8 +51,8 @@ fn has_place(point: MatchPoint<'_>) -> bool
     }
 }
 
-// How a match that a keyword of the node asks for comes out. Its site is made only where the matcher leaves it unfinished and
-// the run has something to remember of it.
+// Returns the outcome of a match that a keyword of the node requests. The site is built only if the
+// matcher leaves the match unfinished and the run has something to remember about it.
 #[tactic(auto, using(crate::proofs::MatchSites::shown))]
 fn asked_match<'i, K, M: Matcher>(
     engine: &Engine<'_, K, M>,
@@ -79,8 +83,14 @@ fn asked_match<'i, K, M: Matcher>(
     }
 }
 
-/// How the match comes out that a keyword of the node asks for by a step. A step that asks for none is answered no.
-/// Its room on the stack is its own, so that a turn that asks for none pays nothing.
+/// Returns the outcome of the match that a step of a keyword of the node requests.
+///
+/// If the step requests no match, the result is `false`.
+///
+/// # Errors
+///
+/// Out of memory.
+// Not inlined, so that a turn without a match does not pay for its stack frame.
 #[inline(never)]
 pub fn step_match<'i, K, M: Matcher>(
     engine: &Engine<'_, K, M>,

@@ -1,4 +1,4 @@
-//! What a run is made with, and what it is asked.
+//! The parts that a run is made with, and the questions that it answers.
 
 use crate::evaluation_place::EvaluationPlace;
 use schema_node_table::node::Nodes;
@@ -9,7 +9,7 @@ use schema_traits::keyword::Mode;
 use schema_traits::numbers::Edge;
 use std::alloc::Global;
 
-/// What a run is made with, and does not change.
+/// The parts that a run is made with, and that it does not change.
 #[derive_where(Clone, Copy)]
 pub struct Engine<'r, K, M> {
     pub nodes: &'r Nodes<K>,
@@ -17,7 +17,7 @@ pub struct Engine<'r, K, M> {
     pub matcher: &'r M,
 }
 
-/// What is asked, where, and how it was reached.
+/// An instance to validate, with its place, the path that led there, and the mode.
 #[derive(Clone, Copy)]
 pub struct Question<'q, 'i> {
     pub instance: Instance<'i>,
@@ -26,7 +26,7 @@ pub struct Question<'q, 'i> {
     pub mode: Mode,
 }
 
-/// A keyword, the name that it goes by, and the edges that the requests of its maker got.
+/// A keyword, its name, and the edges that its maker got for its requests.
 #[derive_where(Clone, Copy)]
 pub struct NamedKeyword<'k, K> {
     pub name: &'k KeywordName,

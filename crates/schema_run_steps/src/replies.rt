@@ -1,4 +1,4 @@
-//! Replies of runs, by the mode.
+//! The replies of runs, in each mode.
 ghost use Rattle.std.specs.Prelude.{◌≡◌, IfOk, Bool, [], map, option_map, string_bytes, OnOk};
 ghost use Rattle.theory_definitions.specs.Reports.{accepted};
 ghost use Rattle.theory_definitions.specs.Meaning.{false_outcome, false_error, stamped};
@@ -22,7 +22,7 @@ use schema_reports::reports::ValidationError;
 use schema_traits::keyword::{Mode, Reply};
 use std::alloc::Global;
 
-/// A yes without errors.
+/// Returns the reply "valid", without errors.
 pub fn accepted<'i>(alloc: Global, mode: Mode) -> Reply<'i>
     ensures accepts { (texts : Bool) → reply_of texts result ≡ reply_by (mode_of mode) accepted }
     ensures no_errors { errors_in result ≡ [] }
@@ -35,7 +35,9 @@ pub fn accepted<'i>(alloc: Global, mode: Mode) -> Reply<'i>
     }
 }
 
-/// Whether the reply is a no: no further reply of the same mode changes what it says, unless all errors are wanted.
+/// Returns whether the reply is final: no other one of its mode changes it.
+///
+/// A reply that says "invalid" is final, except in the mode for all errors.
 pub fn is_settled(reply: &Reply<'_>) -> bool
     ensures settled { (texts : Bool) → result ≡ refuses (reply_of texts reply.now) }
 {
@@ -48,7 +50,7 @@ pub fn is_settled(reply: &Reply<'_>) -> bool
     }
 }
 
-/// Whether the reply is a verdict that says yes.
+/// Returns whether the reply is the verdict "valid".
 pub fn is_yes(reply: Reply<'_>) -> bool
     ensures yes { (texts : Bool) → result ≡ accepts (reply_of texts reply.entry) }
 {
@@ -61,7 +63,6 @@ pub fn is_yes(reply: Reply<'_>) -> bool
     }
 }
 
-// The first error of a reply, or else of the other one.
 fn joined_first<'i>(found: Option<Box<ValidationError<'i>>>, more: Reply<'i>) -> Reply<'i>
     ensures both { SaysBoth (variant.First found.entry) more.entry result }
     ensures borrows { BorrowsBoth (variant.First found.entry) more.entry result }
@@ -72,7 +73,6 @@ fn joined_first<'i>(found: Option<Box<ValidationError<'i>>>, more: Reply<'i>) ->
     }
 }
 
-// All errors of a reply, then those of the other one.
 fn joined_all<'i>(
     mut errors: Vec<ValidationError<'i>>,
     more: Reply<'i>,
@@ -92,7 +92,11 @@ fn joined_all<'i>(
     }
 }
 
-/// Both replies, the first one first.
+/// Joins two replies of one mode, in their order.
+///
+/// # Errors
+///
+/// Out of memory.
 pub fn joined<'i>(found: Reply<'i>, more: Reply<'i>) -> Result<Reply<'i>, OutOfMemory>
     ensures both { IfOk result (λ r. SaysBoth found.entry more.entry r) }
     ensures borrows { IfOk result (λ r. BorrowsBoth found.entry more.entry r) }
@@ -109,7 +113,11 @@ pub fn joined<'i>(found: Reply<'i>, more: Reply<'i>) -> Result<Reply<'i>, OutOfM
     }
 }
 
-/// The absolute location of a keyword of the node.
+/// Returns the absolute location of a keyword of the node, if there is one.
+///
+/// # Errors
+///
+/// Out of memory.
 pub fn keyword_location<K>(
     alloc: Global,
     node: &Node<K>,
@@ -124,7 +132,7 @@ pub fn keyword_location<K>(
     absolute_location(alloc, node, location.as_str())
 }
 
-// Gives the error the absolute location of a keyword of the node, where it has none yet.
+// Sets the absolute location of an error to that of a keyword of the node, unless it has one.
 fn stamp<'i, K>(
     alloc: Global,
     node: &Node<K>,
@@ -142,7 +150,11 @@ fn stamp<'i, K>(
     Ok(())
 }
 
-/// The error with the absolute location of a keyword of the node, where it has none yet.
+/// Returns the error with the absolute location of a keyword, unless it has one.
+///
+/// # Errors
+///
+/// Out of memory.
 pub fn stamped_error<'i, K>(
     alloc: Global,
     node: &Node<K>,
@@ -157,7 +169,6 @@ pub fn stamped_error<'i, K>(
     Ok(error)
 }
 
-// Each error with the absolute location of a keyword of the node, where it has none yet.
 fn stamped_errors<'i, K>(
     alloc: Global,
     node: &Node<K>,
@@ -174,8 +185,8 @@ fn stamped_errors<'i, K>(
     Ok(errors)
 }
 
-// The reply with its errors stamped so, where there may be something to stamp. Its room on the stack is its own, so that a
-// verdict pays nothing for it.
+// Like `stamped_reply`, for a node that has a base URI. Not inlined, so that a verdict does not pay
+// for its stack frame.
 #[inline(never)]
 fn stamped_by_base<'i, K>(
     alloc: Global,
@@ -204,7 +215,11 @@ fn stamped_by_base<'i, K>(
     }
 }
 
-/// The reply with its errors stamped so.
+/// Returns the reply with each of its errors stamped as by `stamped_error`.
+///
+/// # Errors
+///
+/// Out of memory.
 pub fn stamped_reply<'i, K>(
     alloc: Global,
     node: &Node<K>,
@@ -220,7 +235,12 @@ pub fn stamped_reply<'i, K>(
     stamped_by_base(alloc, node, name, reply)
 }
 
-/// The reply of the schema `false`. Its room on the stack is its own, so that what asks for it pays nothing otherwise.
+/// Returns the reply of the schema `false`.
+///
+/// # Errors
+///
+/// Out of memory.
+// Not inlined, so that the caller does not pay for its stack frame otherwise.
 #[inline(never)]
 pub fn refused<'i, K>(
     alloc: Global,
@@ -246,7 +266,11 @@ pub fn refused<'i, K>(
     }
 }
 
-/// The error of the schema `false`.
+/// Returns the error of the schema `false`.
+///
+/// # Errors
+///
+/// Out of memory.
 pub fn false_error<'i, K>(
     alloc: Global,
     node: &Node<K>,

@@ -1,4 +1,4 @@
-//! Where a match is asked for.
+//! The sites of matches.
 ghost use Rattle.std.specs.Prelude.{◌≡◌, ◌++◌, IfOk, map};
 ghost use Rattle.schema_traits.specs.Showing.{Yields};
 ghost use Rattle.schema_reports.specs.InstanceViews.{step_of};
@@ -18,7 +18,8 @@ use schema_traits::keyword::{Below, MatchPoint, Spot};
 use std::alloc::Global;
 use unfinished_matches::site::MatchSite;
 
-// The evaluation path from a keyword of this name on, and the place some steps below its own.
+// Returns the evaluation path of a keyword with this name and what follows, and the place some
+// steps below the question's own.
 fn spot_place<'i>(
     alloc: Global,
     question: &Question<'_, 'i>,
@@ -34,7 +35,7 @@ fn spot_place<'i>(
     Ok((question.path.of_keyword(alloc, name, path)?, place))
 }
 
-// The place some steps below the question's own, by the instance's own names.
+// Returns the place some steps below the question's own, with names that the instance owns.
 fn place_inside<'i>(
     alloc: Global,
     question: &Question<'_, 'i>,
@@ -47,7 +48,8 @@ fn place_inside<'i>(
     place_below(question.place, own.as_slice())
 }
 
-// The site at a path from a keyword of this name on and steps below its place, without a pattern.
+// Returns a site without a pattern. `path` follows the keyword's name, and `below` leads on from
+// its place.
 fn bare_site<'i, K>(
     alloc: Global,
     node: &Node<K>,
@@ -68,7 +70,7 @@ fn bare_site<'i, K>(
     Ok(MatchSite::located(schema_path, evaluation_path, place))
 }
 
-// The steps of a spot's own, and the one below it.
+// Returns the steps of a spot, and the step below it.
 fn steps_at<'s>(
     alloc: Global,
     spot: &Spot<'s>,
@@ -83,7 +85,7 @@ fn steps_at<'s>(
     Ok(steps)
 }
 
-// The site of a match that is asked for at a spot, or one step below it.
+// Returns the site of a match that is requested at a spot, or one step below it.
 fn spot_site<'i, 's, K>(
     alloc: Global,
     node: &Node<K>,
@@ -110,7 +112,11 @@ fn spot_site<'i, 's, K>(
     }
 }
 
-/// The site of a match of this pattern that a keyword of the node asks for.
+/// Returns the site of a match that a keyword of the node requests.
+///
+/// # Errors
+///
+/// Out of memory.
 pub fn match_site<'i, K>(
     alloc: Global,
     node: &Node<K>,

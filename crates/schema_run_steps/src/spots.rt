@@ -1,4 +1,4 @@
-//! Where an error of a keyword, or a match that it asks for, stands: steps below the keyword's place, and a path from it on.
+//! Steps below the place of a keyword, to its children, errors and matches.
 ghost use Rattle.std.specs.Prelude.{◌≡◌, IfOk, IfSome, MatchOption, Some, is_some, map, option_map, true};
 ghost use Rattle.schema_reports.specs.InstanceViews.{step_of, subject_of};
 ghost use Rattle.theory_definitions.specs.Keywords.{down, here};
@@ -12,7 +12,7 @@ use schema_reports::location::OutOfMemory;
 use schema_traits::keyword::Below;
 use std::alloc::Global;
 
-/// The one step below, by the same name; none where it is here.
+/// Returns the step to a child's instance, or `None` if it is the keyword's own.
 pub fn step_below<'s>(below: Below<'s>) -> Option<InstanceStep<'s>>
     ensures step { MatchOption result (below_of below.entry ≡ here) (λ s. below_of below.entry ≡ down (step_of s)) }
 {
@@ -24,7 +24,9 @@ pub fn step_below<'s>(below: Below<'s>) -> Option<InstanceStep<'s>>
     }
 }
 
-/// What a step leads to, and the step by the instance's own name; none where it leads nowhere.
+/// Returns what a step leads to, if it leads anywhere.
+///
+/// The step is returned with a name that the instance owns.
 pub fn after<'i>(
     instance: Instance<'i>,
     step: InstanceStep<'_>,
@@ -39,7 +41,7 @@ pub fn after<'i>(
     }
 }
 
-/// What stands one step below, and the step; none where the question is asked here.
+/// Returns what is one step below and the step, or `None` for the instance itself.
 #[inline(always)]
 pub fn one_below<'i>(
     instance: Instance<'i>,
@@ -57,7 +59,7 @@ pub fn one_below<'i>(
     }
 }
 
-// What a step inside the instance leads to, and the step by the instance's own name.
+// Like `after`, for a step that leads somewhere.
 fn own_step<'i>(instance: Instance<'i>, step: InstanceStep<'_>) -> (Instance<'i>, InstanceStep<'i>)
     requires present { is_some (subject_after step instance) ≡ true }
     ensures after { subject_after step.entry instance.entry ≡ Some (subject_of result.0) }
@@ -69,7 +71,11 @@ fn own_step<'i>(instance: Instance<'i>, step: InstanceStep<'_>) -> (Instance<'i>
     }
 }
 
-/// The same steps inside the instance, by the instance's own names.
+/// Returns the same steps, with names that the instance owns.
+///
+/// # Errors
+///
+/// Out of memory.
 pub fn own_steps<'i>(
     alloc: Global,
     instance: Instance<'i>,
@@ -88,7 +94,11 @@ pub fn own_steps<'i>(
     Ok(own)
 }
 
-/// The place some steps below.
+/// Returns the place some steps below another one.
+///
+/// # Errors
+///
+/// Out of memory.
 pub fn place_below<'i>(
     place: &EvaluationPlace<'_, 'i>,
     steps: &[InstanceStep<'i>],

@@ -1,4 +1,7 @@
-//! The units of a node at a place: its own, that of each entry, and those of the keywords that an entry absorbs.
+//! The units of a node at a place.
+//!
+//! A node has a unit of its own, one for each entry, and one for each keyword that an entry
+//! absorbs.
 ghost use Rattle.std.specs.Prelude.{◌≡◌, Bool, IfOk, map};
 ghost use Rattle.theory_definitions.specs.Meaning.{Where};
 ghost use Rattle.theory_definitions.specs.Pointer.{joined, pointer_to};
@@ -31,7 +34,7 @@ use schema_run_context::validation::ValidationContext;
 use schema_traits::keyword::{Answer, Found};
 use std::alloc::Global;
 
-// Where a unit stands: the way that led to it, its URI, its place in the schema, and the instance's place.
+// The locations of a unit.
 #[derive(Drop)]
 struct UnitPlaces {
     evaluation_path: SharedLocation,
@@ -41,7 +44,7 @@ struct UnitPlaces {
 }
 
 impl UnitPlaces {
-    // The unit that stands there and says this.
+    // Returns the unit that has these locations and this content.
     #[inline(always)]
     fn unit(
         self,
@@ -68,7 +71,7 @@ impl UnitPlaces {
     }
 }
 
-// Where a unit of the node stands that has these texts.
+// Returns the locations of a unit of the node that has these texts.
 #[inline(always)]
 fn places_by<K>(
     alloc: Global,
@@ -87,7 +90,7 @@ fn places_by<K>(
     })
 }
 
-// Where the unit of the node itself stands.
+// Returns the locations of the node's own unit.
 fn node_places<K>(
     alloc: Global,
     node: &Node<K>,
@@ -102,7 +105,11 @@ fn node_places<K>(
     places_by(alloc, node, kept, pointer)
 }
 
-/// The unit of a node that accepts every instance: valid, with nothing in it.
+/// Returns the unit of a node that accepts every instance: valid and empty.
+///
+/// # Errors
+///
+/// Out of memory.
 pub fn accepting_unit<K>(
     alloc: Global,
     node: &Node<K>,
@@ -116,7 +123,13 @@ pub fn accepting_unit<K>(
     Ok(places.unit(true, None, Vec::new(alloc), ChildList::new(alloc)))
 }
 
-/// The unit that stands for a child that a keyword got none of: valid, at empty locations. Fails only if memory cannot be allocated.
+/// Returns the unit in place of a child that a keyword's request did not get.
+///
+/// It is valid, at empty locations.
+///
+/// # Errors
+///
+/// Out of memory.
 pub fn unasked_unit(alloc: Global) -> Result<EvaluationNode, OutOfMemory>
     ensures unit { IfOk result (λ u. IsUnit (λ _. no_unit) u) }
 {
@@ -135,7 +148,13 @@ pub fn unasked_unit(alloc: Global) -> Result<EvaluationNode, OutOfMemory>
     })
 }
 
-/// The unit of a node that refuses every instance: invalid, with the error of the schema `false`.
+/// Returns the unit of a node that refuses every instance.
+///
+/// It is invalid, with the error of the schema `false`.
+///
+/// # Errors
+///
+/// Out of memory.
 pub fn refusing_unit<K>(
     alloc: Global,
     node: &Node<K>,
@@ -155,8 +174,14 @@ pub fn refusing_unit<K>(
     Ok(places.unit(false, None, errors, ChildList::new(alloc)))
 }
 
-/// The unit of a node with the units of its entries: valid exactly if each of them is, with the node's annotations. It stands where
-/// these texts and this pointer say.
+/// Returns the unit of a node around the units of its entries.
+///
+/// It is valid exactly if each of them is, and has the node's annotations. Its locations are these
+/// texts and this pointer.
+///
+/// # Errors
+///
+/// Out of memory.
 #[inline(always)]
 pub fn entries_unit<K>(
     alloc: Global,
@@ -174,7 +199,7 @@ pub fn entries_unit<K>(
     Ok(places.unit(valid, annotations, Vec::new(alloc), children))
 }
 
-// Where the unit of a keyword of this name stands.
+// Returns the locations of the unit of a keyword with this name.
 #[inline(always)]
 fn keyword_places<K>(
     alloc: Global,
@@ -193,7 +218,7 @@ fn keyword_places<K>(
     places_by(alloc, node, kept, pointer.clone()?)
 }
 
-// The unit of a keyword of this name, which gives this.
+// Returns the unit of a keyword with this name and this result.
 fn unit_of_keyword<K>(
     alloc: Global,
     node: &Node<K>,
@@ -219,7 +244,6 @@ fn unit_of_keyword<K>(
     }
 }
 
-// The units of absorbed keywords, in their order.
 fn absorbed_units<K>(
     alloc: Global,
     node: &Node<K>,
@@ -250,7 +274,11 @@ fn absorbed_units<K>(
     Ok(units)
 }
 
-/// The units of a keyword by what it has found: its own, and those of the keywords that it absorbs.
+/// Returns the units of a keyword and of the keywords that it absorbs.
+///
+/// # Errors
+///
+/// Out of memory.
 pub fn units_of_keyword<K>(
     alloc: Global,
     node: &Node<K>,
@@ -271,7 +299,13 @@ pub fn units_of_keyword<K>(
     Ok(EntryUnits { own, absorbed })
 }
 
-/// The unit of a reference of this name: its target's, at the reference's own evaluation path. It absorbs none.
+/// Returns the unit of a reference: its target's, at its own evaluation path.
+///
+/// A reference absorbs no keywords.
+///
+/// # Errors
+///
+/// Out of memory.
 pub fn units_of_reference(
     alloc: Global,
     name: &KeywordName,

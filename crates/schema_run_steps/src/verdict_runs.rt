@@ -1,5 +1,7 @@
-//! A keyword's run for its verdict: what a turn is told, what the answer says, and how it is dropped. A run takes stack for each level of
-//! an instance, so what is rare stands in functions of its own.
+//! Helpers for a keyword's run for its verdict.
+//!
+//! A run takes stack space for each level of an instance, so rare steps are functions that are not
+//! inlined.
 ghost use Rattle.std.specs.Prelude.{◌≡◌, Bool};
 ghost use Rattle.schema_traits.specs.KeywordViews.{reply_of};
 ghost use Rattle.schema_run_steps.specs.FaultWords.{IsVerdictOf};
@@ -19,7 +21,8 @@ pub fn verdict_of(answer: Answer<'_>) -> bool
     }
 }
 
-// That of an answer of another mode. Its room on the stack is its own.
+// Returns the verdict of an answer in another mode. Not inlined, to keep the caller's stack frame
+// small.
 #[inline(never)]
 fn other_verdict(answer: Answer<'_>) -> bool
     ensures verdict { IsVerdictOf answer.entry result }
@@ -27,13 +30,14 @@ fn other_verdict(answer: Answer<'_>) -> bool
     is_accepting(answer)
 }
 
-/// Drops an answer. Its room on the stack is its own.
+/// Drops an answer.
+// Not inlined, to keep the caller's stack frame small.
 #[inline(never)]
 pub fn dropped(answer: Answer<'_>) {
     drop(answer);
 }
 
-/// Returns what a turn is told, as a reply.
+/// Returns the reply that a turn gets: nothing, or a verdict.
 #[inline(always)]
 pub fn reply_with<'i>(told: Option<bool>) -> Reply<'i>
     ensures told { (texts : Bool) → reply_of texts result ≡ told_reply told }
