@@ -126,9 +126,7 @@ impl<K: Validate> RunNodes<K> for Nodes<K> {
         question: &FirstQuestion<'_, 'i>,
         context: &mut ValidationContext<'i>,
     ) -> Result<Reply<'i>, OutOfMemory> {
-        // (the call says that the table is ordered)
-        let count = self.len();
-        let _ordered = count;
+        self.assert_ordered();
         let place = EvaluationPlace::given(question.place);
         let path = EvaluationPath::given(question.path);
         let engine = Engine {
@@ -155,9 +153,7 @@ impl<K: Validate> RunNodes<K> for Nodes<K> {
         path: &Location,
         context: &mut ValidationContext<'i>,
     ) -> Result<EvaluationNode, OutOfMemory> {
-        // (the call says that the table is ordered)
-        let count = self.len();
-        let _ordered = count;
+        self.assert_ordered();
         context.forget_verdicts();
         let place = EvaluationPlace::given(place);
         let path = EvaluationPath::given(path);

@@ -23,7 +23,7 @@ evaluate_node-requires g c =
     record {
       may = record {
         known = c.requires.known;
-        ranked = ranked_table g.K.Validate.shape c.args.self.now c.len-count.ensures.ordered.0 c.len-count.ensures.ordered.1;
+        ranked = ranked_table g.K.Validate.shape c.args.self.now c.assert_ordered.ensures.ordered.0 c.assert_ordered.ensures.ordered.1;
         above = rw c.given-place.ensures.same (subst (NoDeeper p) (sym (ap (λ (z : Context). z.in_progress) c.forget_verdicts.ensures.forgotten)) c.requires.above);
         wanted = refl;
         stands = rw c.given-place.ensures.same (stands_on c.args.context.now.root c1.root (evaluating s p c.args.path.now) (ap (λ (z : Context). z.root) c.forget_verdicts.ensures.forgotten) c.requires.stands);

@@ -17,7 +17,7 @@ pub node_reply-requires : goal.node_reply-requires
 node_reply-requires g c = record {
   may = record {
     known = c.requires.known;
-    ranked = ranked_table g.K.Validate.shape c.args.self.now c.len-count.ensures.ordered.0 c.len-count.ensures.ordered.1;
+    ranked = ranked_table g.K.Validate.shape c.args.self.now c.assert_ordered.ensures.ordered.0 c.assert_ordered.ensures.ordered.1;
     above = rw c.given-place.ensures.same c.requires.above;
     wanted = c.requires.wanted;
     stands = rw c.given-place.ensures.same c.requires.stands;
