@@ -1,4 +1,4 @@
--- What the functions of a run are called with, over the values of the program: each premise in a word.
+-- The premises of the functions of a run, over the values of the code: one word for each.
 use Rattle.std.specs.Prelude.{Bool, List, Option, map, option_map, ℕ, [], ◌≡◌}
 use Rattle.theory_definitions.specs.Instance.{Text}
 use Rattle.theory_definitions.specs.Keywords.{for_verdict}
@@ -30,19 +30,19 @@ use Rattle.theory_runs.specs.Answered.{IsAsked, Wanted, an_edge, setting_by, the
 use Rattle.theory_runs.specs.RunStates.{HasBegun, MayRun}
 use Rattle.theory_runs.specs.UnitStates.{MayAsk, MayEvaluate}
 
--- where the question's place, or one above it, carries a number, it is the number of that place
+-- if the question's place or one above it carries a number, then that is its number
 abbrev pub CarriesNumber : Question → Context → Type 0
 CarriesNumber q c = CarriesItsNumber (places_in c) q.place.now
 
--- more than the verdict is wanted
+-- the question is not for the verdict alone
 abbrev pub WantsMore : Question → Type 0
 WantsMore q = ¬ (mode_of q.mode ≡ for_verdict)
 
--- what stands below is there
+-- the instance that the question leads to below exists
 abbrev pub HasBelow : Question → Below → Type 0
 HasBelow q below = IsPresent (subject_of q.instance) (steps_below (below_of below))
 
--- the question is asked at the place of this pointer
+-- the question's place has this pointer
 abbrev pub PointsThere : Question → Text → Type 0
 PointsThere q pointer = pointer ≡ pointer_to (steps_to q.place.now)
 
@@ -50,27 +50,29 @@ PointsThere q pointer = pointer ≡ pointer_to (steps_to q.place.now)
 abbrev pub FinishesAll : {C M : Type 0} → (M → Matcher) → Engine C M → Type 0
 FinishesAll matching e = FinishesEach (matching e.matcher.now)
 
--- of the node with this number
+-- about the node with this number
 module _ {C K M : Type 0} (shape : C → K) (e : Engine C M) (i : ℕ) where
-  -- these entries are parts
+  -- these entries are parts of its plan
   abbrev pub HasEntries : List (Entry C) → Type 0
   HasEntries xs = HasParts (numbered shape e.nodes.now) i (map (shaped_part shape) (map entry_of xs))
 
-  -- one of the parts has the form of this entry
+  -- one part of its plan has the form of this entry
   abbrev pub HasEntry : Entry C → Type 0
   HasEntry x = HasForm (numbered shape e.nodes.now) i (shaped_form shape (form_of x.form))
 
-  -- or is this keyword with its children
+  -- one part of its plan is this keyword with its children
   abbrev pub HasKeyword : NamedKeyword C → Type 0
   HasKeyword w = HasForm (numbered shape e.nodes.now) i (form_at_work shape w)
 
-  -- these edges are its own alone
+  -- these edges are edges of the node only
   abbrev pub HasEdges : List (Option Edge) → Type 0
   HasEdges es = HasChildren (numbered shape e.nodes.now) i (map (option_map edge_of) es)
 
--- ---- a premise is that the setting, the question and the context may be asked with, and what is asked for is there
+-- ---- a premise says that the setting, the question and the context are fit for a call, and that
+-- what is requested exists
 
--- of a node; with the form of one of its entries; and with a child, and what stands below for it
+-- the premise for a node; with the form of one of its entries; and with a child and the instance
+-- for it
 pub record NodePremise (May : Type 0) (q : Question) (c : Context) : Type 0 where
   pub may : May
   pub carries : CarriesNumber q c
@@ -86,7 +88,7 @@ pub record ChildPremise (May : Type 0) (q : Question) (c : Context) (Children : 
   pub children : Children
   pub present : HasBelow q below
 
--- the same where more than the verdict is wanted; of entries, too; and where no match stays unfinished
+-- the same in a mode for errors; also for entries; and for a matcher that finishes every match
 pub record NodeErrorsPremise (May : Type 0) (q : Question) (c : Context) : Type 0 where
   pub may : May
   pub carries : CarriesNumber q c
@@ -117,7 +119,7 @@ pub record FinishedErrorsPremise (May : Type 0) (q : Question) (c : Context) (Fi
   pub more : WantsMore q
   pub finishes : Finishes
 
--- the same where units are wanted, at the place of a pointer
+-- the same in the mode for units, at the place of a pointer
 pub record PartsUnitsPremise (May : Type 0) (q : Question) (c : Context) (pointer : Text) (Parts : Type 0) : Type 0 where
   pub may : May
   pub carries : CarriesNumber q c
@@ -130,7 +132,7 @@ pub record FormUnitsPremise (May : Type 0) (q : Question) (c : Context) (pointer
   pub pointed : PointsThere q pointer
   pub form : Form
 
--- the same of a keyword whose run has begun, with no errors of its own and no marks
+-- the same for a keyword whose run has begun, with no errors of its own and no marks
 pub record TurnsPremise (May : Type 0) (q : Question) (c : Context) (Form Begun : Type 0) (a : code_answer.Answer) : Type 0 where
   pub may : May
   pub carries : CarriesNumber q c
@@ -140,7 +142,8 @@ pub record TurnsPremise (May : Type 0) (q : Question) (c : Context) (Form Begun 
   pub no_marks : c.marking ≡ []
 
 module _ {C R K M : Type 0} (k : keyword.Ghosts C R K) (m : matcher.Ghosts M) (e : Engine C M) (q : Question) where
-  -- a verdict may be asked for; that of an entry, of a keyword, and of what an edge leads to
+  -- a verdict may be requested; that of an entry, of a keyword, and of the node that an edge leads
+  -- to
   abbrev pub VerdictIsAsked : Wanted K → Context → Type 0
   VerdictIsAsked a c = IsAsked (setting_by k m e) q a c
 
@@ -158,12 +161,12 @@ module _ {C R K M : Type 0} (k : keyword.Ghosts C R K) (m : matcher.Ghosts M) (e
   KeywordHasBegun w run a = HasBegun (setting_by k m e) (asking q) (k.shape w.keyword.now) run a
 
   module _ (c : Context) (i : ℕ) where
-    -- a reply may be asked for of a node
+    -- a reply of a node may be requested
     abbrev pub NodeMayReply : Type 0
     NodeMayReply = NodePremise (MayRun (setting_by k m e) (asking q) c i) q c
 
-    -- errors may be: of a node, of its entries, of one of them, of a keyword, of its child, and of a node that is asked for its
-    -- verdict first
+    -- errors may be requested: of a node, of its entries, of one of them, of a keyword, of its
+    -- child, and of a node that is checked for its verdict first
     abbrev pub NodeMayRun : Type 0
     NodeMayRun = NodeErrorsPremise (MayRun (setting_by k m e) (asking q) c i) q c
 
@@ -182,7 +185,8 @@ module _ {C R K M : Type 0} (k : keyword.Ghosts C R K) (m : matcher.Ghosts M) (e
     abbrev pub NodeMayBeRefused : Type 0
     NodeMayBeRefused = FinishedErrorsPremise (MayRun (setting_by k m e) (asking q) c i) q c (FinishesAll m.matching e)
 
-    -- units may be: of a node, of its entries, of one of them, of a keyword, and of its child
+    -- units may be requested: of a node, of its entries, of one of them, of a keyword, and of its
+    -- child
     abbrev pub NodeMayEvaluate : Type 0
     NodeMayEvaluate = NodePremise (MayEvaluate (setting_by k m e) (asking q) c i) q c
 
@@ -198,7 +202,7 @@ module _ {C R K M : Type 0} (k : keyword.Ghosts C R K) (m : matcher.Ghosts M) (e
     abbrev pub ChildMayEvaluate : List (Option Edge) → Below → Type 0
     ChildMayEvaluate es below = ChildPremise (MayEvaluate (setting_by k m e) (asking q) c i) q c (HasEdges k.shape e i es) below
 
-    -- whatever a keyword asks for may be: of the keyword, in its turns, and of its child
+    -- an answer in any mode may be requested: of a keyword, in its turns, and of its child
     abbrev pub KeywordMayAsk : NamedKeyword C → Type 0
     KeywordMayAsk w = FormPremise (MayAsk (setting_by k m e) (asking q) c i) q c (HasKeyword k.shape e i w)
 
@@ -208,7 +212,8 @@ module _ {C R K M : Type 0} (k : keyword.Ghosts C R K) (m : matcher.Ghosts M) (e
     abbrev pub ChildMayAsk : List (Option Edge) → Below → Type 0
     ChildMayAsk es below = ChildPremise (MayAsk (setting_by k m e) (asking q) c i) q c (HasEdges k.shape e i es) below
 
--- a keyword's verdict may be asked for by questions that say it, all of them or one, where no match stays unfinished
+-- a keyword's verdict may be requested by questions that decide it, all of them or one, if no match
+-- stays unfinished
 pub record QuestionsPremise (Asked Finishes : Type 0) (q : Question) (left : QuestionsLeft) (Says : Type 0) : Type 0 where
   pub asked : Asked
   pub finishes : Finishes

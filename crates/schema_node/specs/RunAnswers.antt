@@ -1,4 +1,4 @@
--- What the functions of a run answer, over the values of the program: each answer in a word.
+-- The answers of the functions of a run, over the values of the code: one word for each.
 use Rattle.std.specs.Prelude.{Bool, IfOk, List, Option, Result, map, option_map, ℕ, ◌≡◌, ◌≤◌}
 use Rattle.schema_reports.specs.declared.evaluation.EvaluationNode.{EvaluationNode}
 use Rattle.schema_traits.specs.EdgeViews.{edge_of}
@@ -25,14 +25,14 @@ use Rattle.theory_runs.specs.RunStates.{Keeps, MeetsChild, MeetsForm, MeetsNode,
 use Rattle.theory_runs.specs.UnitStates.{ChildTells, FindsRightly}
 use Rattle.theory_runs.specs.Visits.{LeadsNowhere, NodeCounts}
 
--- ---- what is left of the context, where there is a result
+-- ---- what stays the same in the context, if there is a result
 
 module _ {T E : Type 0} (c c' : Context) (result : Result T E) where
-  -- the instance, the pairs in progress, what is assumed and the marks are as before
+  -- the instance, the pairs in progress, the assumptions and the marks are as before
   abbrev pub KeepsAll : Type 0
   KeepsAll = IfOk result (λ _. Keeps c c')
 
-  -- the pairs in progress are, or what is assumed, or the marks
+  -- the pairs in progress are as before; (below) the assumptions; the marks
   abbrev pub KeepsPairs : Type 0
   KeepsPairs = IfOk result (λ _. c'.in_progress ≡ c.in_progress)
 
@@ -42,14 +42,16 @@ module _ {T E : Type 0} (c c' : Context) (result : Result T E) where
   abbrev pub KeepsMarks : Type 0
   KeepsMarks = IfOk result (λ _. c'.marking ≡ c.marking)
 
-  -- visits never become fewer; and a keyword whose children lead nowhere makes none
+  -- the number of visits never decreases; and (below) a keyword whose children lead nowhere makes
+  -- no visits
   abbrev pub CountsOn : Type 0
   CountsOn = IfOk result (λ _. c.visits ≤ c'.visits)
 
   abbrev pub StaysQuiet : List (Option Edge) → Type 0
   StaysQuiet es = IfOk result (λ _. LeadsNowhere (map (option_map edge_of) es) → c'.visits ≡ c.visits)
 
-  -- no more nodes may be asked after it than before, or one fewer
+  -- no more nodes are left in the budget than before; or (below) at least one fewer, if there is a
+  -- limit
   abbrev pub SpendsWork : Type 0
   SpendsWork = IfOk result (λ _. Spends c.work c'.work)
 
@@ -57,7 +59,7 @@ module _ {T E : Type 0} (c c' : Context) (result : Result T E) where
   AsksNode = IfOk result (λ _. Asks c.work c'.work)
 
 module _ {C R K M E : Type 0} (k : keyword.Ghosts C R K) (m : matcher.Ghosts M) (e : Engine C M) (q : Question) where
-  -- ---- the verdict of what is asked, of an entry, of a keyword, and of what an edge leads to
+  -- ---- the verdict of a request, of an entry, of a keyword, and of the node that an edge leads to
 
   abbrev pub VerdictIsTold : Wanted K → Context → Context → Result Bool E → Type 0
   VerdictIsTold a c c' result = Answers (setting_by k m e) q a c c' result
@@ -71,7 +73,8 @@ module _ {C R K M E : Type 0} (k : keyword.Ghosts C R K) (m : matcher.Ghosts M) 
   abbrev pub EdgeIsTold : Edge → Context → Context → Result Bool E → Type 0
   EdgeIsTold edge c c' result = Answers (setting_by k m e) q (an_edge (edge_of edge)) c c' result
 
-  -- ---- the reply of a node in any mode but that for units, with what it counts and remembers for the verdict
+  -- ---- the reply of a node in any mode except that for units, with what it counts and remembers
+  -- in the mode for the verdict
 
   abbrev pub AnswerOfNode : ℕ → Context → Context → Result code.Reply E → Type 0
   AnswerOfNode i c c' result = Answered (setting_by k m e) (asking q) c c' result
@@ -79,7 +82,8 @@ module _ {C R K M E : Type 0} (k : keyword.Ghosts C R K) (m : matcher.Ghosts M) 
       (MeetsNode (setting_by k m e) (asking q) c c' i) (λ r. NodeRemembers (asking q) c c' (numbered k.shape e.nodes.now) i r)
       (Asks c.work c'.work)
 
-  -- ---- the reply of a node, of its plan, its entries, an entry, its form, a keyword, its child, and of what an edge leads to
+  -- ---- the reply of a node, of its plan, its entries, an entry, its form, a keyword, its child,
+  -- and of the node that an edge leads to
 
   abbrev pub ReplyOfNode : ℕ → Context → Context → Result code.Reply E → Type 0
   ReplyOfNode i c c' result = NodeReplied (setting_by k m e) q i c c' result
@@ -130,7 +134,8 @@ module _ {C R K M E : Type 0} (k : keyword.Ghosts C R K) (m : matcher.Ghosts M) 
 
 -- ---- a keyword's turns, and its children in them
 
--- what a keyword has found; its answer after its turns, which leave marks; and the reply of a child in them
+-- the result of a keyword; its answer after its turns, which leave marks; and the reply of a child
+-- in its turns
 pub record KeywordFound {K R T E : Type 0} (g : Setting K R) (q : Asking) (c c' : Context) (result : Result T E) (es : List (Option Edge)) (Right Passes : T → Type 0) (Meets : Type 0) : Type 0 where
   pub keeps : KeepsAll c c' result
   pub counts : CountsOn c c' result
@@ -164,7 +169,7 @@ pub record ChildTold {K R E : Type 0} (g : Setting K R) (q : Asking) (c c' : Con
   pub borrows : IfOk result (λ r. RunBorrows q r)
 
 module _ {C R K M E : Type 0} (k : keyword.Ghosts C R K) (m : matcher.Ghosts M) (e : Engine C M) (q : Question) (i : ℕ) where
-  -- a keyword's run has this answer at the end, in its run for the verdict and in any other
+  -- a keyword's run has this answer at its end, in the mode for the verdict and (below) in any mode
   abbrev pub VerdictTurnsOfKeyword : {T : Type 0} → NamedKeyword C → Context → Context → Result T E → code_answer.Answer → Type 0
   VerdictTurnsOfKeyword w c c' result a = Turns k.shape (setting_by k m e) q i w c c' result a
 
@@ -173,13 +178,13 @@ module _ {C R K M E : Type 0} (k : keyword.Ghosts C R K) (m : matcher.Ghosts M) 
       (FindsRightly (setting_by k m e) (asking q) c i (map (option_map edge_of) w.children.now) (k.shape w.keyword.now) a)
       (PassesItsOwn (asking q) a) (MeetsForm (setting_by k m e) (asking q) c c' i w.name.now (form_at_work k.shape w))
 
-  -- what it has found is told
+  -- the answer of a keyword is returned
   abbrev pub AnswerOfKeyword : NamedKeyword C → Context → Context → Result code_answer.Answer E → Type 0
   AnswerOfKeyword w c c' result = KeywordFound (setting_by k m e) (asking q) c c' result w.children.now
       (λ a. FindsRightly (setting_by k m e) (asking q) c i (map (option_map edge_of) w.children.now) (k.shape w.keyword.now) a)
       (λ a. PassesItsOwn (asking q) a) (MeetsForm (setting_by k m e) (asking q) c c' i w.name.now (form_at_work k.shape w))
 
-  -- a child is told in the mode that it is asked in
+  -- the reply of a child is in the mode of the request
   abbrev pub AnswerOfChild : List (Option Edge) → ℕ → Below → Context → Context → Result code.Reply E → Type 0
   AnswerOfChild es n below c c' result = ChildTold (setting_by k m e) (asking q) c c' result es
       (λ r. ChildTells (setting_by k m e) (asking q) c i (map (option_map edge_of) es) (record { child = n; below = below_of below }) r)

@@ -1,4 +1,5 @@
--- What a whole run of a node says, meets and leaves, over the table of nodes and the matcher: each answer in a word.
+-- The reply of a whole run of a node, the matches that it meets, and the context that it leaves,
+-- over the table of nodes and the matcher: one word for each.
 use Rattle.std.specs.Prelude.{Bool, IfOk, List, Result, ℕ}
 use Rattle.serde_json.specs.View.{view}
 use Rattle.theory_definitions.specs.Keywords.{Keywords}
@@ -13,11 +14,11 @@ use Rattle.theory_runs.specs.RunStates.{NodeRemembers, RunBorrows, RunMeets, Run
 use Rattle.theory_runs.specs.UnitStates.{RunGives}
 use Rattle.theory_runs.specs.Visits.{NodeCounts}
 
--- the subject stands at the place in the context's instance
+-- the context's instance has the subject at the place
 abbrev pub SubjectStandsIn : Context → Asking → Type 0
 SubjectStandsIn c q = IsAskedOf (view c.root) q
 
--- the reply is of the mode, and its errors borrow what stands at their places
+-- the reply is of the mode, and (below) each error borrows the instance at its place
 abbrev pub SpeaksInMode : {E : Type 0} → Asking → Result code.Reply E → Type 0
 SpeaksInMode q result = IfOk result (λ r. RunSpeaks q r)
 
@@ -25,35 +26,36 @@ abbrev pub BorrowsThere : {E : Type 0} → Asking → Result code.Reply E → Ty
 BorrowsThere q result = IfOk result (λ r. RunBorrows q r)
 
 module _ {C K : Type 0} (shape : C → K) (ns : List (NodeEntry C)) (q : Asking) (c c' : Context) where
-  -- as many visits are counted as the node takes, where it leads on across references alone
+  -- if the node leads on across references only, then as many visits are counted as it takes
   abbrev pub CountsNode : {T E : Type 0} → ℕ → Result T E → Type 0
   CountsNode i result = IfOk result (λ _. NodeCounts (numbered shape ns) q c c' i)
 
-  -- where the node's one entry is a guarded reference, its verdict is read, or kept
+  -- if the node's only entry is a guarded reference, then its verdict is read or remembered
   abbrev pub RemembersNode : {E : Type 0} → ℕ → Result code.Reply E → Type 0
   RemembersNode i result = IfOk result (λ r. NodeRemembers q c c' (numbered shape ns) i r)
 
 module _ {K R C M : Type 0} (words : Bool → Keywords K R) (is_whole : K → Bool) (shape : C → K) (matching : M → Matcher) (ns : List (NodeEntry C)) (matcher : M) (q : Asking) (c : Context) where
-  -- the reply is that of the node's run, and the unit
+  -- the reply is that of the node's run, and (below) so is the unit
   abbrev pub RepliesByRun : {E : Type 0} → ℕ → Result code.Reply E → Type 0
   RepliesByRun i result = IfOk result (λ r. RunReplies (setting_over words is_whole shape ns (matching matcher)) q c i r)
 
   abbrev pub GivesByRun : {E : Type 0} → ℕ → Result EvaluationNode E → Type 0
   GivesByRun i result = IfOk result (λ u. RunGives (setting_over words is_whole shape ns (matching matcher)) q c i u)
 
-  -- the matches that the node's run meets are remembered after it
+  -- the unfinished matches that the node's run meets are remembered after it
   abbrev pub MeetsByRun : {T E : Type 0} → ℕ → Context → Result T E → Type 0
   MeetsByRun i c' result = IfOk result (λ _. RunMeets (setting_over words is_whole shape ns (matching matcher)) q c c' i)
 
-  -- verdicts that were remembered stay right
+  -- the remembered verdicts stay right
   abbrev pub StaysRightInRun : {T E : Type 0} → Context → Result T E → Type 0
   StaysRightInRun c' result = IfOk result (λ _. StaysRight (setting_over words is_whole shape ns (matching matcher)) q c c')
 
-  -- those that this context remembers are right after a run
+  -- the verdicts that the context remembers after a run are right
   abbrev pub RightAfterRun : {T E : Type 0} → Result T E → Type 0
   RightAfterRun result = IfOk result (λ _. RunRemembers (setting_over words is_whole shape ns (matching matcher)) q c)
 
--- ---- what comes of a node that is run, with verdicts forgotten; that is run further; and that is evaluated
+-- ---- the result of a node's run with forgotten verdicts, of one as a part of a run, and of an
+-- evaluation
 
 pub record NodeIsRun {K R C M E : Type 0} (words : Bool → Keywords K R) (is_whole : K → Bool) (shape : C → K) (matching : M → Matcher) (ns : List (NodeEntry C)) (matcher : M) (q : Asking) (i : ℕ) (c c' : Context) (result : Result code.Reply E) : Type 0 where
   pub kept : KeepsPairs c c' result

@@ -1,4 +1,6 @@
-//! The runs of numbered nodes over an instance; the parts, the context and the table are handed on.
+//! Runs of numbered nodes over an instance.
+//!
+//! The traits of a run's parts, the context and the table of nodes are reexported.
 #![tactic(auto)]
 
 pub mod context;

@@ -1,4 +1,8 @@
 //! The runs of numbered nodes.
+//!
+//! Three walkers have the same shape: node, plan, entries, entry, keyword, child, edge. `verdict`
+//! returns one truth value, `run` returns errors, and `evaluate` returns units. The solver, in
+//! `schema_solver`, has a fourth one.
 
 mod evaluate;
 mod run;

@@ -1,4 +1,4 @@
-//! Evaluations of nodes over instances.
+//! Evaluates nodes over instances: builds their units.
 ghost use Rattle.schema_node.specs.Premises.{ChildMayEvaluate, EntriesMayEvaluate, EntryMayEvaluate, KeywordMayEvaluate, NodeMayEvaluate};
 ghost use Rattle.schema_node.specs.RunAnswers.{UnitOfChild, UnitOfEdge, UnitOfNode, UnitOfPlan, UnitsOfEntries, UnitsOfEntry};
 ghost use Rattle.schema_node.specs.RunAnswers.{UnitsOfKeyword};
@@ -22,7 +22,7 @@ use schema_traits::keyword::{Below, Validate};
 use schema_traits::matcher::Matcher;
 use schema_traits::numbers::{Edge, SchemaNode};
 
-// The unit of a node at a place. It is one more that is asked.
+// Returns the unit of a node at a place. Counts the node.
 #[cycle(run)]
 pub(crate) fn evaluate_node<'i, K: Validate, M: Matcher>(
     engine: &Engine<'_, K, M>,
@@ -37,7 +37,6 @@ pub(crate) fn evaluate_node<'i, K: Validate, M: Matcher>(
     evaluate_plan(engine, node, question, context)
 }
 
-// That of its plan, once the node is counted.
 #[cycle(run)]
 #[inline(always)]
 fn evaluate_plan<'i, K: Validate, M: Matcher>(
@@ -75,7 +74,8 @@ fn evaluate_plan<'i, K: Validate, M: Matcher>(
     }
 }
 
-// The units of the entries, in their order. Each entry is asked, and none for its verdict first.
+// Returns the units of the entries, in their order. Every entry is evaluated, and none is checked
+// for its verdict first.
 #[cycle(run)]
 fn evaluate_entries<'i, K: Validate, M: Matcher>(
     engine: &Engine<'_, K, M>,
@@ -96,7 +96,6 @@ fn evaluate_entries<'i, K: Validate, M: Matcher>(
     units.into_children()
 }
 
-// The units of an entry: those of its keyword, or of the node that its reference leads to.
 #[cycle(run)]
 fn evaluate_entry<'i, K: Validate, M: Matcher>(
     engine: &Engine<'_, K, M>,
@@ -130,7 +129,6 @@ fn evaluate_entry<'i, K: Validate, M: Matcher>(
     }
 }
 
-// The units of a keyword, by its answer.
 #[cycle(run)]
 fn evaluate_keyword<'i, K: Validate, M: Matcher>(
     engine: &Engine<'_, K, M>,
@@ -155,7 +153,8 @@ fn evaluate_keyword<'i, K: Validate, M: Matcher>(
     )
 }
 
-// The unit of a keyword's child, here or one step below; an empty one where its request got none.
+// Returns the unit of a keyword's child, at the same place or one step below. If the keyword's
+// request got no child, it is a valid unit at empty locations.
 #[cycle(run)]
 pub(crate) fn evaluate_child<'i, K: Validate, M: Matcher>(
     engine: &Engine<'_, K, M>,
@@ -187,7 +186,8 @@ pub(crate) fn evaluate_child<'i, K: Validate, M: Matcher>(
     }
 }
 
-// The unit of the node that an edge leads to; an empty one where the edge is guarded and the pair is in progress.
+// Returns the unit of the node that an edge leads to. If the edge is guarded and the pair is in
+// progress, it is the unit of a node that accepts every instance.
 #[cycle(run)]
 fn evaluate_edge<'i, K: Validate, M: Matcher>(
     engine: &Engine<'_, K, M>,

@@ -1,4 +1,4 @@
-//! Runs of nodes over instances, for the first error or for all of them.
+//! Runs nodes over instances, for the first error or for all errors.
 ghost use Rattle.std.specs.Prelude.{◌≡◌, true};
 ghost use Rattle.schema_node.specs.Premises.{ChildMayRun, EntriesMayRun, EntryMayRun, FinishesAll, KeywordMayRun, NodeMayBeRefused};
 ghost use Rattle.schema_node.specs.Premises.{NodeMayReply, NodeMayRun};
@@ -22,7 +22,7 @@ use schema_traits::keyword::{Below, Mode, Reply, Validate};
 use schema_traits::matcher::Matcher;
 use schema_traits::numbers::{Edge, SchemaNode};
 
-// The reply of a node at a place: its verdict where that is wanted, or else errors.
+// Returns the reply of a node at a place: its verdict or its errors, by the mode.
 pub(crate) fn node_reply<'i, K: Validate, M: Matcher>(
     engine: &Engine<'_, K, M>,
     node: SchemaNode,
@@ -41,7 +41,7 @@ pub(crate) fn node_reply<'i, K: Validate, M: Matcher>(
     }
 }
 
-// The reply of a node at a place, where errors are wanted. It is one more that is asked.
+// Returns the reply of a node at a place, in a mode for errors. Counts the node.
 #[cycle(run)]
 fn run_node<'i, K: Validate, M: Matcher>(
     engine: &Engine<'_, K, M>,
@@ -56,7 +56,6 @@ fn run_node<'i, K: Validate, M: Matcher>(
     run_plan(engine, node, question, context)
 }
 
-// That of its plan, once the node is counted.
 #[cycle(run)]
 #[inline(always)]
 fn run_plan<'i, K: Validate, M: Matcher>(
@@ -78,7 +77,7 @@ fn run_plan<'i, K: Validate, M: Matcher>(
     }
 }
 
-// The reply of the entries, in their order; no more of them are asked once a no is all that is wanted.
+// Returns the joined reply of the entries, in their order. Stops once the reply is final.
 #[cycle(run)]
 fn run_entries<'i, K: Validate, M: Matcher>(
     engine: &Engine<'_, K, M>,
@@ -101,7 +100,8 @@ fn run_entries<'i, K: Validate, M: Matcher>(
     Ok(found)
 }
 
-// The reply of an entry. A leaf is asked for its verdict first, and for errors only where that is a no.
+// Returns the reply of an entry. A leaf is checked for its verdict first, and for errors only if it
+// is invalid.
 #[cycle(run)]
 fn run_entry<'i, K: Validate, M: Matcher>(
     engine: &Engine<'_, K, M>,
@@ -126,7 +126,6 @@ fn run_entry<'i, K: Validate, M: Matcher>(
     run_form(engine, node, entry, question, context)
 }
 
-// The reply of an entry's keyword, or of the node that its reference leads to.
 #[cycle(run)]
 fn run_form<'i, K: Validate, M: Matcher>(
     engine: &Engine<'_, K, M>,
@@ -159,7 +158,6 @@ fn run_form<'i, K: Validate, M: Matcher>(
     }
 }
 
-// The reply of a keyword, by its answer.
 #[cycle(run)]
 fn run_keyword<'i, K: Validate, M: Matcher>(
     engine: &Engine<'_, K, M>,
@@ -182,8 +180,9 @@ fn run_keyword<'i, K: Validate, M: Matcher>(
     )
 }
 
-// The reply of a keyword's child, here or one step below; yes where its request got none. Its room on the stack is its own, so that
-// the turns of a verdict pay nothing for it.
+// Returns the reply of a keyword's child, at the same place or one step below. It is "valid" if the
+// keyword's request got no child. Not inlined, so that the turns of a verdict do not pay for its
+// stack frame.
 #[cycle(run)]
 #[inline(never)]
 pub(crate) fn run_child<'i, K: Validate, M: Matcher>(
@@ -220,7 +219,8 @@ pub(crate) fn run_child<'i, K: Validate, M: Matcher>(
     }
 }
 
-// How many items lie on the way to a place from the one that was given, and so many more.
+// Returns `more`, plus the number of array items on the way to a place from the one that the caller
+// supplied.
 fn items_above(place: &EvaluationPlace<'_, '_>, more: usize) -> usize {
     match place {
         EvaluationPlace::Given(_) => more,
@@ -232,9 +232,10 @@ fn items_above(place: &EvaluationPlace<'_, '_>, more: usize) -> usize {
     }
 }
 
-// Whether what stands below is asked for its verdict before it is asked for errors: an item to which as many items lie on the way as a
-// power of two, where those before it let hope that it is accepted, and no match can stay unfinished. What is asked at these places alone
-// is asked anew at few of the places above one another.
+// Returns whether a child is checked for its verdict before it is run for errors. This is so for an
+// item of an array if few of the earlier children had errors (`hopes`), no match can stay
+// unfinished, and the number of items on the way to it is a power of two. Other depths skip the
+// check, so that few of the places above one another are validated twice.
 fn is_asked_first<K, M: Matcher>(
     engine: &Engine<'_, K, M>,
     hopes: bool,
@@ -255,8 +256,9 @@ fn is_asked_first<K, M: Matcher>(
     }
 }
 
-// The reply of the node that an edge leads to, by a run for errors only where it refuses: it is asked for its verdict first, where no match
-// can stay unfinished, so that the verdict meets what errors do.
+// Returns the reply of the node that an edge leads to. The node is checked for its verdict first,
+// and run for errors only if it is invalid. No match can stay unfinished, so the verdict meets the
+// same matches as the errors.
 #[cycle(run)]
 fn run_refused<'i, K: Validate, M: Matcher>(
     engine: &Engine<'_, K, M>,
@@ -278,7 +280,8 @@ fn run_refused<'i, K: Validate, M: Matcher>(
     run_edge(engine, edge, question, context)
 }
 
-// The reply of the node that an edge leads to; yes where the edge is guarded and the pair is in progress.
+// Returns the reply of the node that an edge leads to. It is "valid" if the edge is guarded and the
+// pair is in progress.
 #[cycle(run)]
 fn run_edge<'i, K: Validate, M: Matcher>(
     engine: &Engine<'_, K, M>,

@@ -1,4 +1,4 @@
-//! The runs of a table of nodes: the calls that a validator makes.
+//! The runs of a table of nodes, which a validator calls.
 ghost use Rattle.std.specs.Prelude.{◌≡◌, ◌<◌, List, length};
 ghost use Rattle.theory_definitions.specs.Keywords.{for_units};
 ghost use Rattle.schema_traits.specs.KeywordViews.{mode_of};
@@ -23,7 +23,7 @@ use schema_traits::matcher::Matcher;
 use schema_traits::numbers::SchemaNode;
 use std::alloc::Global;
 
-/// What a run begins with: the instance at a place, the path that led there, and what is wanted.
+/// What a run begins with: an instance, its place, the path to it, and the mode.
 #[derive(Clone, Copy)]
 pub struct FirstQuestion<'q, 'i> {
     pub instance: Instance<'i>,
@@ -32,17 +32,30 @@ pub struct FirstQuestion<'q, 'i> {
     pub mode: Mode,
 }
 
-/// What can be run: a table of nodes. It is a trait since the table is of the crate below.
+/// A table of nodes that can be run.
+///
+/// It is a trait because the table belongs to the crate below.
 pub trait RunNodes<K: Validate> {
     // the nodes, in the order of their numbers
     ghost table: { Self → List (NodeEntry K) };
 
-    /// Runs a node over the instance at a place, for its verdict, its first error or all errors, with the path that led to
-    /// it. The reply is of the mode. A match that the matcher leaves unfinished comes out as the context assumes it to, or
-    /// else as no, and the context remembers it. The pairs in progress and the marks are as before, except on `Err`. Each error
-    /// borrows the instance at its place. Verdicts that the context remembers are forgotten first; each that it remembers after the
-    /// run is what the node says at the place with its own pair alone in progress there. For the verdict a node whose one entry is a
-    /// guarded reference, its target's pair not in progress, counts its visit and keeps its verdict, as `run_further` does.
+    /// Runs a node over an instance, for its verdict, its first error or all errors.
+    ///
+    /// The reply is of the question's mode, and each error borrows the instance at its place. If
+    /// the matcher leaves a match unfinished, its outcome is the one that the context assumes, or
+    /// else "no match", and the context remembers the match.
+    ///
+    /// The context forgets the verdicts that it remembers first. Each verdict that it remembers
+    /// after the run is the one that the node has at the place if only its own pair is in progress
+    /// there. The pairs in progress and the marks are as before, except on `Err`.
+    ///
+    /// In the mode for the verdict, if the node's only entry is a guarded reference and the
+    /// target's pair is not in progress, the visit is counted and the verdict is remembered as by
+    /// `run_further`.
+    ///
+    /// # Errors
+    ///
+    /// Returns an error if memory or the context's work budget runs out.
     fn run<'i, M: Matcher>(
         &self,
         alloc: Global,
@@ -58,12 +71,20 @@ pub trait RunNodes<K: Validate> {
         ensures { NodeIsRun K.words K.is_whole K.shape M.matching (table self.now) matcher.now
             (asking_first question.now) node.0 context.old context.new result };
 
-    /// Runs a node as a part of a run that has begun: as `run` does, but verdicts that the run remembers are read, and stay
-    /// remembered. For the verdict a node whose one entry is a guarded reference, its target's pair not in progress, gives the
-    /// verdict that `get_cached_result` reads, where it reads one, and leaves the context as it was, but for the node that is
-    /// counted; else the visit is counted,
-    /// and the verdict is remembered where it took enough visits, on an array or an object, with no other node in progress at
-    /// the place. Visits never become fewer.
+    /// Runs a node as a part of a run that has begun.
+    ///
+    /// It does what `run` does, but reads the verdicts that the context remembers, and keeps them.
+    /// The number of visits never decreases.
+    ///
+    /// In the mode for the verdict, if the node's only entry is a guarded reference and the
+    /// target's pair is not in progress, the verdict is the one that `get_cached_result` returns.
+    /// Then the context stays the same, except that the node is counted. If it returns none, the
+    /// visit is counted, and the verdict is remembered if it took enough visits, the instance is an
+    /// array or an object, and no other node is in progress at the place.
+    ///
+    /// # Errors
+    ///
+    /// Returns an error if memory or the context's work budget runs out.
     fn run_further<'i, M: Matcher>(
         &self,
         alloc: Global,
@@ -81,11 +102,19 @@ pub trait RunNodes<K: Validate> {
         ensures { NodeIsRunFurther K.words K.is_whole K.shape M.matching (table self.now) matcher.now
             (asking_first question.now) node.0 context.old context.new result };
 
-    /// Evaluates a node over the instance at a place, with the path that led to it: returns the node's unit, with one child for each
-    /// of its entries in their order. A match that the matcher leaves unfinished comes out as the context assumes it to, or else
-    /// as no, and the context remembers it. The pairs in progress and the marks are as before, except on `Err`. Verdicts that the
-    /// context remembers are forgotten first; each that it remembers afterwards is what the node says at the place with its own
-    /// pair alone in progress there. Fails only if memory cannot be allocated.
+    /// Evaluates a node over an instance, and returns the node's unit.
+    ///
+    /// The unit has one child for each of the node's entries, in their order. If the matcher leaves
+    /// a match unfinished, its outcome is the one that the context assumes, or else "no match", and
+    /// the context remembers the match.
+    ///
+    /// The context forgets the verdicts that it remembers first. Each verdict that it remembers
+    /// afterwards is the one that the node has at the place if only its own pair is in progress
+    /// there. The pairs in progress and the marks are as before, except on `Err`.
+    ///
+    /// # Errors
+    ///
+    /// Returns an error if memory or the context's work budget runs out.
     fn evaluate_instance<'i, M: Matcher>(
         &self,
         alloc: Global,

@@ -1,4 +1,6 @@
-//! The turns of a keyword's run, in any mode. Units that it asks for are asked of the evaluations, and all else of the runs.
+//! The turns of a keyword's run, in any mode.
+//!
+//! A child that is requested in the mode for units is evaluated, and any other child is run.
 ghost use Rattle.schema_node.specs.Premises.{ChildMayAsk, ChildMayEvaluate, KeywordMayAsk, TurnsMayAsk};
 ghost use Rattle.schema_node.specs.RunAnswers.{AnswerOfChild, AnswerOfKeyword, TurnsOfKeyword};
 
@@ -14,8 +16,8 @@ use schema_traits::keyword::{Answer, Below, Mode, Reply, Step, Validate};
 use schema_traits::matcher::Matcher;
 use schema_traits::numbers::{Edge, SchemaNode};
 
-// What a keyword has found once its run is done. The run begins with no marks; those of the run that asks are set aside until it
-// has ended.
+// Returns the answer of a keyword's run. The run begins without marks. Those of the enclosing run
+// are set aside until it has ended.
 #[cycle(run)]
 pub(crate) fn keyword_answer<'i, K: Validate, M: Matcher>(
     engine: &Engine<'_, K, M>,
@@ -45,7 +47,7 @@ pub(crate) fn keyword_answer<'i, K: Validate, M: Matcher>(
     Ok(answer)
 }
 
-// The turns of a keyword's run that has begun, and its answer once they are done.
+// Takes the turns of a keyword's run that has begun, which complete its answer.
 #[cycle(run)]
 fn run_turns<'i, K: Validate, M: Matcher>(
     engine: &Engine<'_, K, M>,
@@ -61,7 +63,8 @@ fn run_turns<'i, K: Validate, M: Matcher>(
 {
     let children = keyword.children;
     let mut reply = Reply::Nothing;
-    // (from 2 on no verdict is asked first, so of children that are refused one after the other the first alone is asked twice)
+    // From 2 on no child is checked for its verdict first. So if all children are invalid, only the
+    // first one is validated twice.
     let mut refusals = 1;
     'turns: loop {
         refusals = refusals_after(refusals, &reply);
@@ -99,8 +102,8 @@ fn run_turns<'i, K: Validate, M: Matcher>(
     }
 }
 
-// How much the errors of the children before speak against asking the next one for its verdict first, from 0 to 3: more after one that
-// has errors, and less after one that has none.
+// Returns how much the earlier children's errors speak against checking the next child for its
+// verdict first, from 0 to 3. It grows after a child with errors, and shrinks after one without.
 fn refusals_after(refusals: usize, reply: &Reply<'_>) -> usize {
     let refuses = match reply {
         Reply::First(found) => found.is_some(),
@@ -113,7 +116,7 @@ fn refusals_after(refusals: usize, reply: &Reply<'_>) -> usize {
     refusals.saturating_sub(1)
 }
 
-// The reply of a keyword's child in the mode that it is asked in: its unit, or what a run says.
+// Returns the reply of a keyword's child in the question's mode.
 #[cycle(run)]
 fn ask_child<'i, K: Validate, M: Matcher>(
     engine: &Engine<'_, K, M>,
@@ -144,7 +147,8 @@ fn ask_child<'i, K: Validate, M: Matcher>(
     }
 }
 
-// Its unit, as a reply. Its room on the stack is its own, so that the turns of a verdict pay nothing for it.
+// Returns the unit of a keyword's child as a reply. Not inlined, so that the turns of a verdict do
+// not pay for its stack frame.
 #[cycle(run)]
 #[inline(never)]
 fn ask_unit<'i, K: Validate, M: Matcher>(

@@ -1,4 +1,6 @@
-//! Runs of nodes for the verdict alone. A level of an instance takes little room on the stack: no reply is moved, only a yes or a no.
+//! Runs nodes over instances for the verdict alone.
+//!
+//! A level of an instance takes little stack space, because no reply is moved, only a truth value.
 ghost use Rattle.schema_traits.specs.KeywordViews.{below_of};
 ghost use Rattle.schema_traits.specs.EdgeViews.{edge_of};
 ghost use Rattle.theory_runs.specs.Answered.{a_guarded, a_node, a_plan, a_shared};
@@ -19,7 +21,7 @@ use schema_traits::keyword::{Below, Validate};
 use schema_traits::matcher::Matcher;
 use schema_traits::numbers::{Edge, SchemaNode};
 
-// The verdict of a node at a place. It is one more that is asked.
+// Returns the verdict of a node at a place. Counts the node.
 #[cycle(verdict)]
 pub(crate) fn verdict_node<'i, K: Validate, M: Matcher>(
     engine: &Engine<'_, K, M>,
@@ -34,7 +36,6 @@ pub(crate) fn verdict_node<'i, K: Validate, M: Matcher>(
     verdict_plan(engine, node, question, context)
 }
 
-// That of its plan, once the node is counted.
 #[cycle(verdict)]
 #[inline(always)]
 fn verdict_plan<'i, K: Validate, M: Matcher>(
@@ -55,7 +56,7 @@ fn verdict_plan<'i, K: Validate, M: Matcher>(
     }
 }
 
-// The verdict of the entries, in their order; no more of them are asked after a no.
+// Returns the verdict of the entries, in their order. Stops at the first one that is invalid.
 #[cycle(verdict)]
 fn verdict_entries<'i, K: Validate, M: Matcher>(
     engine: &Engine<'_, K, M>,
@@ -77,7 +78,8 @@ fn verdict_entries<'i, K: Validate, M: Matcher>(
     Ok(true)
 }
 
-// The verdict of an entry's keyword, or of the node that its reference leads to. A keyword that tells it at once takes no run.
+// Returns the verdict of an entry's keyword, or of the node that its reference leads to. A keyword
+// that reports its verdict at once needs no run.
 #[cycle(verdict)]
 pub(crate) fn verdict_form<'i, K: Validate, M: Matcher>(
     engine: &Engine<'_, K, M>,
@@ -108,9 +110,10 @@ pub(crate) fn verdict_form<'i, K: Validate, M: Matcher>(
     }
 }
 
-// The verdict of an entry by a run, or by what its keyword asks at once where no match can stay unfinished. Its room on the stack is its
-// own, so that a keyword that tells its verdict at once pays nothing for it, and the call is the last that the caller makes, so that the
-// caller's room is given back before.
+// Returns the verdict of an entry by the questions that its keyword asks up front, if no match can
+// stay unfinished, or else by a run. Not inlined, so that a keyword that reports its verdict at
+// once does not pay for its stack frame. It takes the whole entry and matches its form again, so
+// that the caller can make this call its last one and release its own frame first.
 #[cycle(verdict)]
 #[inline(never)]
 fn verdict_keyword<'i, K: Validate, M: Matcher>(
@@ -136,7 +139,7 @@ fn verdict_keyword<'i, K: Validate, M: Matcher>(
     }
 }
 
-// The verdict of the node that a reference leads to. Its room on the stack is its own, too.
+// Returns the verdict of the node that a reference leads to. Not inlined, for the same reason.
 #[cycle(verdict)]
 #[inline(never)]
 fn verdict_reference<'i, K: Validate, M: Matcher>(
@@ -156,7 +159,8 @@ fn verdict_reference<'i, K: Validate, M: Matcher>(
     verdict_edge(engine, edge, &asked, context)
 }
 
-// The verdict of a keyword's child, here or one step below; yes where its request got none.
+// Returns the verdict of a keyword's child, at the same place or one step below. It is `true` if
+// the keyword's request got no child.
 #[cycle(verdict)]
 #[inline(always)]
 pub(crate) fn verdict_child<'i, K: Validate, M: Matcher>(
@@ -190,8 +194,8 @@ pub(crate) fn verdict_child<'i, K: Validate, M: Matcher>(
     }
 }
 
-// The verdict of the node that an edge leads to; yes where the edge is guarded and the pair is in progress. A shared node is asked once a
-// place.
+// Returns the verdict of the node that an edge leads to. It is `true` if the edge is guarded and
+// the pair is in progress. A shared node is evaluated once for each place.
 #[cycle(verdict)]
 pub(crate) fn verdict_edge<'i, K: Validate, M: Matcher>(
     engine: &Engine<'_, K, M>,
@@ -216,8 +220,9 @@ pub(crate) fn verdict_edge<'i, K: Validate, M: Matcher>(
     verdict_node(engine, edge.node, &asked, context)
 }
 
-// That of a shared node: it is the same whatever is in progress at the place, so it is asked there once, and remembered. Its room on the
-// stack is its own, so that a node that is not shared pays nothing for it.
+// Returns the verdict of a shared node. It does not depend on what is in progress at the place, so
+// the node is evaluated there once and its verdict is remembered. Not inlined, so that other nodes
+// do not pay for its stack frame.
 #[cycle(verdict)]
 #[inline(never)]
 fn shared_verdict<'i, K: Validate, M: Matcher>(
@@ -243,8 +248,9 @@ fn shared_verdict<'i, K: Validate, M: Matcher>(
     Ok(valid)
 }
 
-// That of a guarded edge: yes where the pair is in progress. A verdict that the run remembers is the answer, and one that is computed
-// is remembered where it may be. Its room on the stack is its own, so that an edge that is not guarded pays nothing for it.
+// Returns the verdict of the node that a guarded edge leads to. It is `true` if the pair is in
+// progress, or else the remembered one, if there is one. A new verdict is remembered if it may be.
+// Not inlined, so that other edges do not pay for its stack frame.
 #[cycle(verdict)]
 #[inline(never)]
 fn guarded_verdict<'i, K: Validate, M: Matcher>(

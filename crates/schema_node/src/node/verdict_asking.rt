@@ -1,4 +1,6 @@
-//! The verdict of a keyword that tells at once what it asks, where the matcher finishes every match.
+//! The verdict of a keyword that asks its questions up front.
+//!
+//! The questions are used only if the matcher finishes every match.
 ghost use Rattle.std.specs.Prelude.{◌≡◌, Bool, true};
 ghost use Rattle.schema_reports.specs.InstanceViews.{subject_of};
 ghost use Rattle.schema_traits.specs.AskedAtOnce.{HoldsAsTold, tells_at_once};
@@ -25,7 +27,8 @@ use schema_traits::keyword::Validate;
 use schema_traits::matcher::Matcher;
 use schema_traits::numbers::{Edge, SchemaNode};
 
-// What a keyword tells at once that it asks, of a matcher that finishes each match; of another one its turns say it.
+// Returns the questions that a keyword asks up front, if the matcher finishes every match, or else
+// `ByTurns`.
 #[inline(always)]
 fn finished_asking<'s, 'i, K: Validate, M: Matcher>(
     engine: &Engine<'_, K, M>,
@@ -43,7 +46,8 @@ fn finished_asking<'s, 'i, K: Validate, M: Matcher>(
     }
 }
 
-// The verdict of a keyword by what it asks at once, where no match can stay unfinished, or else by its turns.
+// Returns the verdict of a keyword by the questions that it asks up front, if no match can stay
+// unfinished, or else by its turns.
 #[cycle(verdict)]
 #[inline(always)]
 pub(crate) fn asked_verdict<'i, K: Validate, M: Matcher>(
@@ -89,8 +93,9 @@ pub(crate) fn asked_verdict<'i, K: Validate, M: Matcher>(
     }
 }
 
-// The verdict of a keyword by questions of its children here, or of items: where each has to be accepted, no more of them are asked after a
-// no, and where one of them has to be, none after a yes.
+// Returns the verdict of a keyword by questions about the same instance or about items. If all
+// children have to be valid, the walk stops at the first invalid one. If one has to be, it stops at
+// the first valid one.
 #[cycle(verdict)]
 #[inline(always)]
 fn verdict_counted<'i, K: Validate, M: Matcher>(
@@ -115,7 +120,7 @@ fn verdict_counted<'i, K: Validate, M: Matcher>(
     Ok(all)
 }
 
-// The same by questions of its children at the members that have their names.
+// Returns the verdict of a keyword by questions about members, each for the child of its name.
 #[cycle(verdict)]
 #[inline(always)]
 fn verdict_members<'i, K: Validate, M: Matcher>(
@@ -139,7 +144,8 @@ fn verdict_members<'i, K: Validate, M: Matcher>(
     Ok(true)
 }
 
-// The same by questions of its first child at the names of members.
+// Returns the verdict of a keyword by questions about the names of members, all for its first
+// child.
 #[cycle(verdict)]
 #[inline(always)]
 fn verdict_names<'i, K: Validate, M: Matcher>(
@@ -163,7 +169,8 @@ fn verdict_names<'i, K: Validate, M: Matcher>(
     Ok(true)
 }
 
-// The verdict of a keyword's child, at what stands here or below; yes where its request got none.
+// Returns the verdict of a keyword's child for one question. It is `true` if the keyword's request
+// got no child.
 #[cycle(verdict)]
 #[inline(always)]
 fn verdict_there<'i, K: Validate, M: Matcher>(

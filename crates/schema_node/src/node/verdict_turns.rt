@@ -1,5 +1,7 @@
-//! The turns of a keyword's run for its verdict. A level of an instance takes little room on the stack: what the run begins with, and what
-//! its answer is dropped in, have room of their own, and a turn is told no more than a yes or a no.
+//! The turns of a keyword's run for its verdict.
+//!
+//! A level of an instance takes little stack space: the start of the run and the drop of its answer
+//! are not inlined, and a turn gets no more than a truth value.
 ghost use Rattle.std.specs.Prelude.{◌≡◌, [], Bool, IfOk};
 ghost use Rattle.schema_reports.specs.InstanceViews.{subject_of};
 ghost use Rattle.theory_definitions.specs.Keywords.{for_verdict};
@@ -20,7 +22,8 @@ use schema_traits::matcher::Matcher;
 use schema_traits::numbers::SchemaNode;
 use std::alloc::Global;
 
-// The verdict of a keyword by its run. The run begins with no marks; those of the run that asks are set aside until it has ended.
+// Returns the verdict of a keyword by its run. The run begins without marks. Those of the enclosing
+// run are set aside until it has ended.
 #[cycle(verdict)]
 #[inline(never)]
 pub(crate) fn keyword_verdict<'i, K: Validate, M: Matcher>(
@@ -55,7 +58,7 @@ pub(crate) fn keyword_verdict<'i, K: Validate, M: Matcher>(
     }
 }
 
-// A run for the verdict that has begun. Its room on the stack is its own.
+// Begins a run for the verdict. Not inlined, to keep the caller's stack frame small.
 #[inline(never)]
 fn begun_run<K: Validate>(
     alloc: Global,
@@ -68,7 +71,7 @@ fn begun_run<K: Validate>(
     keyword.begin(alloc, instance, Mode::Verdict)
 }
 
-// The turns of a run for the verdict that has begun, and its answer once they are done.
+// Takes the turns of a run for the verdict that has begun, which complete its answer.
 #[cycle(verdict)]
 fn take_turns<'i, K: Validate, M: Matcher>(
     engine: &Engine<'_, K, M>,

@@ -319,7 +319,7 @@ verdict::verdict_keyword-asked_verdict-requires g t c =
 pub verdict::verdict_keyword-returns-in-Keyword : goal.verdict::verdict_keyword-returns-in-Keyword
 verdict::verdict_keyword-returns-in-Keyword g t c = rw (c.in-Keyword.is, ← c.as_slice.ensures.value) c.asked_verdict.ensures
 
--- ---- what a keyword asks at once
+-- ---- the questions that a keyword asks up front
 
 pub verdict_asking::asked_verdict-returns-in_ok-matches-in-Match : goal.verdict_asking::asked_verdict-returns-in_ok-matches-in-Match
 verdict_asking::asked_verdict-returns-in_ok-matches-in-Match g t c =

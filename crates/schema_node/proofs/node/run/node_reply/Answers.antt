@@ -6,7 +6,7 @@ use Rattle.schema_traits.specs.declared.keyword.Mode as code
 use Rattle.schema_traits.proofs.Replies.{if_ok_always, if_ok_mono}
 use Rattle.schema_node.proofs.node.run.node_reply.Goals as goal
 
--- errors are wanted where no verdict is
+-- a mode that is not for the verdict is for more
 wants_more : (m : code.Mode) → ¬ (m ≡ code.TheVariants.Verdict) → ¬ (mode_of m ≡ for_verdict)
 wants_more code.TheVariants.Verdict h e = h refl
 wants_more code.TheVariants.First h e = cc e
