@@ -191,7 +191,7 @@ pub(crate) fn run_child<'i, K: Validate, M: Matcher>(
     children: &[Option<Edge>],
     child: usize,
     below: Below<'_>,
-    hopes: bool,
+    expects_valid: bool,
     question: &Question<'_, 'i>,
     context: &mut ValidationContext<'i>,
 ) -> Result<Reply<'i>, OutOfMemory>
@@ -210,7 +210,7 @@ pub(crate) fn run_child<'i, K: Validate, M: Matcher>(
                     place: &lower,
                     ..*question
                 };
-                if is_asked_first(engine, hopes, below, &lower) {
+                if is_asked_first(engine, expects_valid, below, &lower) {
                     return run_refused(engine, edge, &asked, context);
                 }
                 run_edge(engine, edge, &asked, context)
@@ -233,18 +233,18 @@ fn items_above(place: &EvaluationPlace<'_, '_>, more: usize) -> usize {
 }
 
 // Returns whether a child is checked for its verdict before it is run for errors. This is so for an
-// item of an array if few of the earlier children had errors (`hopes`), no match can stay
-// unfinished, and the number of items on the way to it is a power of two. Other depths skip the
-// check, so that few of the places above one another are validated twice.
+// item of an array if it is expected to be valid, no match can stay unfinished, and the number of
+// items on the way to it is a power of two. Other depths skip the check, so that few of the places
+// above one another are validated twice.
 fn is_asked_first<K, M: Matcher>(
     engine: &Engine<'_, K, M>,
-    hopes: bool,
+    expects_valid: bool,
     below: Below<'_>,
     place: &EvaluationPlace<'_, '_>,
 ) -> bool
     ensures finishes { result ≡ true → FinishesAll M.matching engine.now }
 {
-    if !hopes || !engine.matcher.finishes() {
+    if !expects_valid || !engine.matcher.finishes() {
         return false;
     }
     match below {

@@ -77,8 +77,17 @@ fn run_turns<'i, K: Validate, M: Matcher>(
                     mode: wanted,
                     ..*question
                 };
-                let hopes = refusals < 2;
-                reply = ask_child(engine, node, children, child, below, hopes, &asked, context)?;
+                let expects_valid = refusals < 2;
+                reply = ask_child(
+                    engine,
+                    node,
+                    children,
+                    child,
+                    below,
+                    expects_valid,
+                    &asked,
+                    context,
+                )?;
             }
             Step::Done => return Ok(()),
             Step::Match(_, _, _) | Step::MatchAt(_, _, _) => {
@@ -124,7 +133,7 @@ fn ask_child<'i, K: Validate, M: Matcher>(
     children: &[Option<Edge>],
     child: usize,
     below: Below<'_>,
-    hopes: bool,
+    expects_valid: bool,
     question: &Question<'_, 'i>,
     context: &mut ValidationContext<'i>,
 ) -> Result<Reply<'i>, OutOfMemory>
@@ -138,10 +147,24 @@ fn ask_child<'i, K: Validate, M: Matcher>(
             Ok(Reply::Truth(valid))
         }
         Mode::First => run_child(
-            engine, node, children, child, below, hopes, question, context,
+            engine,
+            node,
+            children,
+            child,
+            below,
+            expects_valid,
+            question,
+            context,
         ),
         Mode::All => run_child(
-            engine, node, children, child, below, hopes, question, context,
+            engine,
+            node,
+            children,
+            child,
+            below,
+            expects_valid,
+            question,
+            context,
         ),
         Mode::Evaluate => ask_unit(engine, node, children, child, below, question, context),
     }
