@@ -110,10 +110,10 @@ pub(crate) fn verdict_form<'i, K: Validate, M: Matcher>(
     }
 }
 
-// Returns the verdict of an entry by the questions that its keyword asks up front, if no match can
-// stay unfinished, or else by a run. Not inlined, so that a keyword that reports its verdict at
-// once does not pay for its stack frame. It takes the whole entry and matches its form again, so
-// that the caller can make this call its last one and release its own frame first.
+// Returns the verdict of an entry by the questions that its keyword asks up front, or by a run if
+// it asks none. Not inlined, so that a keyword that reports its verdict at once does not pay for its
+// stack frame. It takes the whole entry and matches its form again, so that the caller can make
+// this call its last one and release its own frame first.
 #[cycle(verdict)]
 #[inline(never)]
 fn verdict_keyword<'i, K: Validate, M: Matcher>(
