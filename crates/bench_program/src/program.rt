@@ -23,7 +23,7 @@ use schema_drafts::keywords::VocabularySet;
 use schema_engine::validator::Validator;
 use standard_basics::keyword::BasicKeyword;
 use standard_basics::table::BasicTable;
-use standard_resolver::resolver::DocumentResolver;
+use standard_resolver::DocumentResolver;
 use std::alloc::Global;
 use std::io;
 use std::io::Write;

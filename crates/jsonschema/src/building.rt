@@ -19,8 +19,7 @@ use schema_engine::options::ValidationOptions;
 use schema_engine::validator::Validator;
 use serde_json::Value;
 use standard_keywords::table::{StandardKeyword, StandardTable};
-use standard_resolver::resolver::StandardResolver;
-use standard_resolver::resolver::documents::Document;
+use standard_resolver::{Document, StandardResolver};
 use std::alloc::Global;
 
 /// A validator with the standard's keywords; it borrows its schema's patterns.

@@ -13,7 +13,7 @@ use schema_engine::keywords::Draft;
 use schema_engine::location::OutOfMemory;
 use serde_json::Value;
 use standard_meta::documents::MetaDocuments;
-use standard_resolver::resolver::documents::Document;
+use standard_resolver::Document;
 use std::alloc::Global;
 use std::marker::Model;
 

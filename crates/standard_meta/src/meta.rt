@@ -24,8 +24,7 @@ use schema_reports::location::OutOfMemory;
 use schema_reports::reports::ValidationError;
 use serde_json::Value;
 use standard_keywords::table::{StandardKeyword, StandardTable};
-use standard_resolver::resolver::DocumentResolver;
-use standard_resolver::resolver::documents::Document;
+use standard_resolver::{Document, DocumentResolver};
 use std::alloc::Global;
 
 type StandardChecker<'p> = Checker<StandardKeyword, RegexMatcher<'p>>;

@@ -21,10 +21,6 @@ pub data-of-values : {A : Type 0} (f : A → Data) (o : Option A) → data_of (o
 data-of-values f None = refl
 data-of-values f (Some a) = refl
 
-pub map_then : {A B C : Type 0} (f : A → B) (g : B → C) (o : Option A) → option_map (λ a. g (f a)) o ≡ option_map g (option_map f o)
-map_then f g None = refl
-map_then f g (Some a) = refl
-
 below_of : (o : Option Document) (outer : SchemaPlace) (q : Place) (whole : Data) → value_of o outer ≡ Some whole
     → value_of o (at_path outer q) ≡ data_of (subject_from q (a_value whole))
 below_of None outer q whole h = absurd (let no_data : ⊥ = cc in no_data)

@@ -1,15 +1,9 @@
-pub mod Unescaping
-pub mod PathsNamed
 pub mod OnWay
-pub mod Indexes
-pub mod PointerTexts
-pub mod PointersLead
 pub mod Insides
 pub mod DocumentRows
 pub mod StandardRows
 pub mod Arrivals
-pub mod Numbers
-pub mod Resources
+pub mod ResourceLists
 pub mod Walks
 pub mod DocumentLists
 pub mod Starts

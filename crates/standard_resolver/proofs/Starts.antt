@@ -24,9 +24,9 @@ use Rattle.standard_subschemas.specs.declared.rules.Rule.{Rule}
 use Rattle.standard_subschemas.specs.declared.rules.Rule.TheVariants.{Narrow, Standard}
 use Rattle.standard_subschemas.specs.SubschemaRules.{data_of, detected, fragment_of, identifier, without_fragment}
 use Rattle.standard_resolver.specs.ResolverDocuments.{HeldDocuments, Document, documents_of, value_in}
-use Rattle.standard_resolver.specs.DocumentKeys.{has_text, number_in}
-use Rattle.standard_resolver.specs.DocumentPointers.{path_named, path_of_pointer, step_named}
-use Rattle.standard_resolver.specs.DocumentUris.{own_uri, resolve_uri}
+use Rattle.standard_subschemas.specs.DocumentKeys.{has_text, number_in}
+use Rattle.standard_subschemas.specs.DocumentPointers.{path_named, path_of_pointer, step_named}
+use Rattle.standard_subschemas.specs.DocumentUris.{own_uri, resolve_uri}
 use Rattle.standard_resolver.specs.DocumentResources.{Resource, Table, Visited, base_in, document_resources, embedded, embedded_resources}
 use Rattle.standard_resolver.specs.DocumentResources.{identified as resources_at, number_of, place_of_resource, resource_if, resource_key}
 use Rattle.standard_resolver.specs.DocumentResources.{resources_of, uri_at, walked, with_resource, with_resources}

@@ -20,7 +20,7 @@ use Rattle.standard_subschemas.specs.declared.subschemas.FoundSchema.{FoundSchem
 use Rattle.standard_resolver.specs.DocumentResources.{Visited, goes_into, identified, name_if, names_at, resource_if, visited_at, visited_below}
 use Rattle.standard_resolver.specs.DocumentResources.{visited_if}
 use Rattle.standard_resolver.specs.ResourceSpeaking.{kept_if, speaking, speaks}
-use Rattle.standard_resolver.specs.DocumentUris.{base_inside, own_uri}
+use Rattle.standard_subschemas.specs.DocumentUris.{base_inside, own_uri}
 use Rattle.standard_resolver.specs.OnWay.{pairs_below, singles_below}
 use Rattle.standard_resolver.proofs.OnWay.{Long, long_pairs, long_singles}
 

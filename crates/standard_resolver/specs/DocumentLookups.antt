@@ -13,8 +13,8 @@ use Rattle.standard_subschemas.specs.declared.rules.Rule.{Rule}
 use Rattle.standard_subschemas.specs.declared.rules.Rule.TheVariants.{Narrow, Standard}
 use Rattle.standard_subschemas.specs.SubschemaRules.{data_of, detected, fragment_of, subschemas, without_fragment}
 use Rattle.standard_resolver.specs.ResolverDocuments.{Document, value_in}
-use Rattle.standard_resolver.specs.DocumentPointers.{path_of_pointer}
-use Rattle.standard_resolver.specs.DocumentUris.{resolve_uri}
+use Rattle.standard_subschemas.specs.DocumentPointers.{path_of_pointer}
+use Rattle.standard_subschemas.specs.DocumentUris.{resolve_uri}
 use Rattle.standard_resolver.specs.DocumentResources.{Name, Resource, Table, dynamic_number, name_number, number_of, place_of_resource}
 use Rattle.standard_resolver.specs.DocumentStates.{Point, enter, entered_below}
 

@@ -1,7 +1,7 @@
 -- The names that the resolver's code holds, as the definitions have them.
 use Rattle.std.specs.Prelude.{string_bytes}
 use Rattle.schema_drafts.specs.KeywordViews.{draft_of}
-use Rattle.standard_resolver.specs.declared.resolver.names as code
+use Rattle.standard_resolver.specs.declared.names as code
 use Rattle.standard_resolver.specs.DocumentResources.{Name}
 
 abbrev pub name_of : code.Name.Name → Name

@@ -1,7 +1,7 @@
 -- The resources that the resolver's code holds, as the definitions have them.
 use Rattle.std.specs.Prelude.{string_bytes}
 use Rattle.schema_drafts.specs.KeywordViews.{draft_of}
-use Rattle.standard_resolver.specs.declared.resolver.resources as code
+use Rattle.standard_resolver.specs.declared.resources as code
 use Rattle.standard_resolver.specs.DocumentResources.{Resource}
 
 abbrev pub resource_of : code.Resource.Resource → Resource

@@ -11,8 +11,8 @@ use Rattle.standard_subschemas.specs.declared.rules.Rule.{Rule}
 use Rattle.standard_subschemas.specs.declared.rules.Rule.TheVariants.{Narrow, Standard}
 use Rattle.standard_subschemas.specs.SubschemaRules.{data_of, detected, dynamic_name, identifier, plain_name, subschemas, without_fragment}
 use Rattle.standard_resolver.specs.ResolverDocuments.{Document}
-use Rattle.standard_resolver.specs.DocumentKeys.{number_in}
-use Rattle.standard_resolver.specs.DocumentUris.{base_inside, own_uri, root_base}
+use Rattle.standard_subschemas.specs.DocumentKeys.{number_in}
+use Rattle.standard_subschemas.specs.DocumentUris.{base_inside, own_uri, root_base}
 
 -- ---- the walk
 

@@ -9,7 +9,7 @@ use Rattle.standard_subschemas.specs.declared.rules.Rule.TheVariants.{Narrow}
 use Rattle.standard_resolver.specs.ResolverDocuments.{Document}
 use Rattle.standard_resolver.specs.DocumentResources.{Table, table_for}
 use Rattle.standard_resolver.specs.DocumentStates.{Point, no_identified, root_of}
-use Rattle.standard_resolver.specs.DocumentUris.{not_resolved, resolve_uri}
+use Rattle.standard_subschemas.specs.DocumentUris.{not_resolved, resolve_uri}
 use Rattle.standard_resolver.specs.DocumentLookups.{looked_up, looked_up_recursive, no_name, no_resource, nothing_there}
 
 -- ---- small documents

@@ -9,7 +9,7 @@ use Rattle.theory_definitions.specs.Drafts.{Draft, SchemaPlace, same_schema_plac
 use Rattle.standard_subschemas.specs.SubschemaRules.{identifier, root_place}
 use Rattle.standard_subschemas.specs.declared.rules.Rule.{Rule}
 use Rattle.standard_resolver.specs.ResolverDocuments.{Document}
-use Rattle.standard_resolver.specs.DocumentUris.{own_uri, root_base}
+use Rattle.standard_subschemas.specs.DocumentUris.{own_uri, root_base}
 use Rattle.standard_resolver.specs.DocumentResources.{Resource, Table, number_of, place_of_resource}
 
 -- a state: the base, and the numbers of the resources in the order of first entry

@@ -1,16 +1,15 @@
 -- What the resolver's code holds, as the definitions have it: states, documents and schemas.
-use Rattle.std.specs.Prelude.{List, Option, flat_map, map, option_map, string_bytes, ◌++◌}
+use Rattle.std.specs.Prelude.{List, flat_map, map, string_bytes, ◌++◌}
 use Rattle.std.specs.Rc.{rc_str_bytes}
-use Rattle.std.proofs.Common.{Bor}
 use Rattle.serde_json.specs.View.{view}
 use Rattle.serde_json.specs.declared.value.Value.{Value}
-use Rattle.theory_definitions.specs.Instance.{Place, Subject, Text, a_value}
+use Rattle.theory_definitions.specs.Instance.{Place, Text}
 use Rattle.schema_drafts.specs.KeywordViews.{draft_of}
 use Rattle.standard_subschemas.specs.FoundViews.{path_of}
 use Rattle.standard_subschemas.specs.declared.subschemas.FoundSchema.{FoundSchema}
 use Rattle.standard_resolver.specs.declared.resolver.DocumentState.{DocumentState}
-use Rattle.standard_resolver.specs.declared.resolver.documents as code
-use Rattle.standard_resolver.specs.declared.resolver.walk as walk
+use Rattle.standard_resolver.specs.declared.documents as code
+use Rattle.standard_resolver.specs.declared.walk as walk
 use Rattle.standard_resolver.specs.ResolverDocuments.{Document, GivenDocument, documents_from}
 use Rattle.standard_resolver.specs.DocumentResources.{Visited}
 use Rattle.standard_resolver.specs.DocumentStates.{Point}
@@ -26,10 +25,6 @@ held d = documents_from (string_bytes d.uri) d.root.now (map given_of d.others.i
 
 abbrev pub visited_of : walk.Visited.Visited → Visited
 visited_of v = record { path = v.path; base = string_bytes v.base; draft = draft_of v.draft; schema = view v.schema.now }
-
--- what was read, as what a schema is asked about
-abbrev pub subject_read : Option (Bor Value) → Option Subject
-subject_read o = option_map (λ v. a_value (view v.now)) o
 
 -- a document that is given under a URI
 abbrev pub document_under : Text → Value → Document

@@ -1,8 +1,4 @@
-pub mod DocumentPointers
-pub mod DocumentPointersLead
 pub mod ResolverDocuments
-pub mod DocumentKeys
-pub mod DocumentUris
 pub mod DocumentResources
 pub mod ResourceSpeaking
 pub mod DocumentStates

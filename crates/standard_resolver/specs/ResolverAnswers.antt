@@ -1,15 +1,13 @@
 -- What the resolver of some documents answers. (Core 2020-12, sections 8.2 and 9.1)
-use Rattle.std.specs.Prelude.{IsSome, List, None, Option, Some, [], map, slice_get, ℕ, ◌≡◌, ◌∷◌, string_bytes}
+use Rattle.std.specs.Prelude.{IsSome, List, None, Option, Some, [], map, slice_get, ℕ, ◌≡◌, ◌∷◌}
 use Rattle.serde_json.specs.View.{view}
 use Rattle.serde_json.specs.declared.value.Value.{Value}
 use Rattle.theory_definitions.specs.Instance.{Text}
 use Rattle.theory_definitions.specs.Drafts.{Draft, Vocabularies, at_path}
 use Rattle.theory_definitions.specs.Resolving.{Entrance, Resolver}
-use Rattle.schema_traits.specs.declared.resolver.LookupError.{LookupError}
-use Rattle.schema_traits.specs.declared.resolver.LookupError.TheVariants.{OutOfMemory, Refused}
 use Rattle.standard_subschemas.specs.SubschemaRules.{detected, identifier, is_known, root_draft, root_place, subschemas_of, without_fragment}
 use Rattle.standard_resolver.specs.ResolverDocuments.{HeldDocuments, Document, documents_of, value_in, vocabularies_in}
-use Rattle.standard_resolver.specs.DocumentUris.{resolve_uri}
+use Rattle.standard_subschemas.specs.DocumentUris.{resolve_uri}
 use Rattle.standard_resolver.specs.DocumentResources.{Resource, Table, number_of, place_of_resource, table_for}
 use Rattle.standard_resolver.specs.DocumentStates.{Point, entered, root_of, same_point}
 use Rattle.standard_resolver.specs.DocumentLookups.{looked_up, looked_up_recursive}
@@ -54,11 +52,6 @@ document_resolving r = resolving_of r.default_draft (λ d. vocabularies_in d r.v
 -- the root's URI without a fragment
 abbrev pub base_of : HeldDocuments → Text
 base_of r = without_fragment r.uri
-
--- a refusal with this text, or want of memory
-abbrev pub RefusesWith : Text → LookupError → Type 0
-RefusesWith t (Refused text) = string_bytes text ≡ t
-RefusesWith t OutOfMemory = Unit {0}
 
 -- the value at the root's place is this document
 abbrev pub HasRoot : Value → HeldDocuments → Type 0

@@ -9,7 +9,7 @@ use Rattle.theory_definitions.specs.Instance.{Place, Text, subject_at}
 use Rattle.theory_definitions.specs.Drafts.{Draft, SchemaPlace, Vocabularies, Vocabulary, at_path, draft_2019_09, draft_2020_12, draft_4, draft_6}
 use Rattle.theory_definitions.specs.Drafts.{draft_7, draft_unknown, has_vocabulary}
 use Rattle.theory_definitions.specs.VocabularySets.{custom_of}
-use Rattle.standard_resolver.specs.declared.resolver.vocabularies.DraftVocabularies.{DraftVocabularies}
+use Rattle.standard_resolver.specs.declared.vocabularies.DraftVocabularies.{DraftVocabularies}
 use Rattle.standard_subschemas.specs.declared.rules.Rule.{Rule}
 use Rattle.standard_subschemas.specs.SubschemaRules.{data_of, draft_vocabularies}
 

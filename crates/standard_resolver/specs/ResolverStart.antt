@@ -13,7 +13,7 @@ use Rattle.standard_subschemas.specs.declared.rules.Rule.{Rule}
 use Rattle.standard_subschemas.specs.declared.rules.Rule.TheVariants.{Narrow}
 use Rattle.standard_subschemas.specs.SubschemaRules.{data_of, detected, fragment_of, identifier, without_fragment}
 use Rattle.standard_resolver.specs.ResolverDocuments.{HeldDocuments, documents_of, value_in}
-use Rattle.standard_resolver.specs.DocumentPointers.{path_of_pointer}
+use Rattle.standard_subschemas.specs.DocumentPointers.{path_of_pointer}
 use Rattle.standard_resolver.specs.DocumentResources.{Resource, Table, number_of, place_of_resource}
 use Rattle.standard_resolver.specs.DocumentStates.{Point, enter, resource_under, root_of}
 use Rattle.standard_resolver.specs.DocumentLookups.{is_subschema}

@@ -1,8 +1,8 @@
 -- Resources as the resolver's code gathers them.
 use Rattle.std.specs.Prelude.{List, map, ◌≡◌}
 use Rattle.std.specs.HashMap.{get_by_text}
-use Rattle.standard_resolver.specs.declared.resolver.resources.Gathered.{Gathered}
-use Rattle.standard_resolver.specs.DocumentKeys.{IsNumbered}
+use Rattle.standard_resolver.specs.declared.resources.Gathered.{Gathered}
+use Rattle.standard_subschemas.specs.DocumentKeys.{IsNumbered}
 use Rattle.standard_resolver.specs.DocumentResources.{Resource, resource_key, with_resources}
 use Rattle.standard_resolver.specs.DocumentResourceViews.{resource_of}
 

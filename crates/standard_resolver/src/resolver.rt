@@ -9,27 +9,12 @@ ghost use Rattle.standard_resolver.specs.ResolverAnswers.{document_resolving, Ha
 ghost use Rattle.standard_resolver.specs.DocumentViews.{given_of};
 ghost use Rattle.standard_resolver.specs.ResolverHolds.{Customs, Defaults, Drafts, GoesBy, Holds, IsUnder, Others};
 
-pub mod documents;
-pub mod names;
-pub mod numbers;
-pub mod on_way;
-pub mod places;
-pub mod pointers;
-pub mod references;
-pub mod resources;
-pub mod rows;
-pub mod states;
-pub mod uris;
-pub mod vocabularies;
-pub mod walk;
-
-use crate::resolver::documents::{Document, Documents};
-use crate::resolver::places::{refusal, root_place, value_inside};
-use crate::resolver::references::{looked_up, looked_up_recursive};
-use crate::resolver::resources::{Resources, resources_of};
-use crate::resolver::states::entered;
-use crate::resolver::uris::resolve_uri;
-use crate::resolver::vocabularies::DraftVocabularies;
+use crate::documents::{Document, Documents};
+use crate::places::{root_place, value_inside};
+use crate::references::{looked_up, looked_up_recursive};
+use crate::resources::{Resources, resources_of};
+use crate::states::entered;
+use crate::vocabularies::DraftVocabularies;
 use schema_drafts::keywords::{Draft, VocabularySet};
 use schema_reports::location::OutOfMemory;
 use schema_traits::resolver::{LookupError, PlacedSchema, Resolver, Target};
@@ -39,9 +24,10 @@ use standard_subschemas::drafts::detected;
 use standard_subschemas::identifiers::{identifier, without_fragment};
 use standard_subschemas::known::is_known;
 use standard_subschemas::named_drafts::names_draft_inside;
+use standard_subschemas::refusals::refusal;
 use standard_subschemas::rules::Rule;
 use standard_subschemas::subschemas::{subschemas, subschemas_placed};
-pub use standard_subschemas::{drafts, identifiers, known, rules, subschemas};
+use standard_subschemas::uris::resolve_uri;
 use std::alloc::Global;
 use std::marker::Model;
 use std::rc::{Rc, RcStr};
@@ -52,8 +38,8 @@ pub type StandardResolver<'a> = DocumentResolver<'a>;
 /// Where a run of the resolver is: the base URI of its resource, and the numbers of the resources that it entered. Clones share both.
 #[derive(Clone, PartialEq, Eq, Hash, Drop)]
 pub struct DocumentState {
-    base: RcStr,
-    entered: Rc<Vec<usize>>,
+    pub(crate) base: RcStr,
+    pub(crate) entered: Rc<Vec<usize>>,
 }
 
 /// A state apart from its representation; it holds no value.

@@ -4,3 +4,10 @@ pub mod NoneNamed
 pub mod UnnamedInside
 pub mod PlaceLists
 pub mod PlainObjects
+pub mod Subjects
+pub mod Unescaping
+pub mod PathsNamed
+pub mod Indexes
+pub mod PointerTexts
+pub mod PointersLead
+pub mod Numbered

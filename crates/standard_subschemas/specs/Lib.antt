@@ -4,3 +4,9 @@ pub mod NamedDrafts
 pub mod FoundSchemas
 pub mod FoundViews
 pub mod PlainSchemas
+pub mod Subjects
+pub mod Refusals
+pub mod DocumentPointers
+pub mod DocumentPointersLead
+pub mod DocumentUris
+pub mod DocumentKeys

@@ -16,7 +16,7 @@ use schema_traits::table::KeywordTable;
 use serde_json::Value;
 use standard_basics::keyword::BasicKeyword;
 use standard_basics::table::BasicTable;
-use standard_resolver::resolver::DocumentResolver;
+use standard_resolver::DocumentResolver;
 use std::alloc::{AllocError, Global};
 use test_rows::tables::{column, list_at, number_at, push_all, texts_of};
 

@@ -17,7 +17,7 @@ use schema_traits::table::KeywordTable;
 use serde_json::Value;
 use standard_basics::keyword::BasicKeyword;
 use standard_basics::table::BasicTable;
-use standard_resolver::resolver::DocumentResolver;
+use standard_resolver::DocumentResolver;
 use std::alloc::Global;
 use std::cell::Cell;
 use test_parts::failing_matcher::FailingMatcher;

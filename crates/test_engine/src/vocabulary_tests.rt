@@ -16,7 +16,7 @@ use schema_traits::table::KeywordTable;
 use serde_json::Value;
 use standard_basics::keyword::BasicKeyword;
 use standard_basics::table::BasicTable;
-use standard_resolver::resolver::DocumentResolver;
+use standard_resolver::DocumentResolver;
 use std::alloc::Global;
 use test_parts::draft_vocabularies::requiring_in_2019_09;
 use test_rows::tables::{column, text_at};

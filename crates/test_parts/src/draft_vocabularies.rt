@@ -1,7 +1,7 @@
 //! Vocabularies, more of which are required by one draft alone.
 use schema_drafts::keywords::{Vocabulary, VocabularySet};
 use schema_reports::location::OutOfMemory;
-use standard_resolver::resolver::vocabularies::DraftVocabularies;
+use standard_resolver::DraftVocabularies;
 use std::alloc::Global;
 
 fn with_custom(alloc: Global, usual: VocabularySet) -> Result<VocabularySet, OutOfMemory> {

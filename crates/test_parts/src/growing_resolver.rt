@@ -10,8 +10,7 @@ use schema_reports::location::OutOfMemory;
 use schema_traits::resolver::{LookupError, Resolver, Target};
 use schema_traits::schema_place::SchemaPlace;
 use serde_json::Value;
-use standard_resolver::resolver::DocumentResolver;
-use standard_resolver::resolver::places::root_place;
+use standard_resolver::{DocumentResolver, root_place};
 use std::alloc::Global;
 
 /// A resolver of one document of draft 7, whose state is the number of lookups.

@@ -7,7 +7,7 @@ use schema_engine::location::OutOfMemory;
 use schema_keys::check::validate_schema;
 use schema_keys::error::BuildError;
 use serde_json::Value;
-use standard_resolver::resolver::places::root_place;
+use standard_resolver::root_place;
 use std::alloc::Global;
 use test_rows::case::Case;
 use test_rows::showing::text_or_null;

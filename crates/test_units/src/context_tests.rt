@@ -10,7 +10,7 @@ use schema_keys::options::CompileOptions;
 use schema_reports::location::{Location, OutOfMemory};
 use schema_traits::resolver::Resolver;
 use serde_json::Value;
-use standard_resolver::resolver::DocumentResolver;
+use standard_resolver::DocumentResolver;
 use std::alloc::Global;
 use test_rows::tables::{column, number_at, push_all, text_at};
 

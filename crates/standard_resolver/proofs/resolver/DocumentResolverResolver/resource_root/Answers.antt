@@ -7,7 +7,7 @@ use Rattle.standard_resolver.specs.DocumentResourceViews.{resource_of}
 use Rattle.standard_resolver.specs.DocumentResources.{Resource, Table, place_of_resource}
 use Rattle.standard_resolver.specs.DocumentStates.{Point, resource_under, root_of}
 use Rattle.standard_resolver.specs.DocumentViews.{point_of}
-use Rattle.standard_resolver.specs.declared.resolver.resources.Resource as code
+use Rattle.standard_resolver.specs.declared.resources.Resource as code
 use Rattle.standard_resolver.proofs.resolver.DocumentResolverResolver.resource_root.Goals as goal
 
 root_under : (table : Table) (s : Point) (x : Resource) → resource_under table s.base ≡ Some x → root_of table s ≡ place_of_resource x

@@ -1,5 +1,0 @@
-use Rattle.standard_resolver.proofs.PointersLead as lemmas
-use Rattle.standard_resolver.proofs.resolver.pointers.pointers_lead.Goals as goal
-
-pub returns : goal.returns
-returns c = record { lead = λ document path value indexes stands. lemmas.lead document path value indexes stands }

@@ -1,0 +1,10 @@
+use Rattle.std.proofs.Common.{suc, take}
+use Rattle.schema_drafts.specs.KeywordViews.{draft_of}
+use Rattle.standard_resolver.specs.DocumentResources.{embedded_resources}
+use Rattle.standard_resolver.specs.ResourcesGathered.{Adds}
+use Rattle.standard_resolver.specs.DocumentViews.{held}
+use Rattle.standard_resolver.proofs.resources.add_all_embedded.Given as goal
+
+-- those of the documents so far, the root's first
+abbrev pub invariant-loop-i : goal.invariant-loop-i
+invariant-loop-i l = Adds (embedded_resources l.rule (draft_of l.draft) 0 (take (suc l.i) (held l.documents))) l.fn.gathered l.gathered

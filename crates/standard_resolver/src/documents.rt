@@ -1,0 +1,63 @@
+//! The documents that the resolver holds.
+ghost use Rattle.std.specs.Prelude.{◌≡◌, option_map, slice_get};
+ghost use Rattle.schema_traits.specs.ResolverViews.{place_of};
+ghost use Rattle.standard_resolver.specs.ResolverDocuments.{value_in};
+ghost use Rattle.standard_resolver.specs.DocumentViews.{held};
+ghost use Rattle.schema_traits.specs.Readings.{text_read, value_read};
+
+use crate::places::value_after;
+use schema_traits::schema_place::SchemaPlace;
+use serde_json::Value;
+
+/// A document, and the URI that it is found under; a fragment of the URI is left aside.
+#[derive(Drop)]
+pub struct Document<'a> {
+    pub uri: String,
+    pub value: &'a Value,
+}
+
+/// Documents, by their numbers. The root's has the number 0.
+#[derive(Drop)]
+pub struct Documents<'a> {
+    pub uri: String,
+    pub root: &'a Value,
+    pub others: Vec<Document<'a>>,
+}
+
+impl<'a> Documents<'a> {
+    /// The document of a number.
+    fn document(&self, number: usize) -> Option<&'a Value>
+        ensures document { value_read result ≡ option_map (λ d. d.value) (slice_get (held self.now) number) }
+    {
+        if number == 0 {
+            return Some(self.root);
+        }
+        match self.others.get(number - 1) {
+            Some(document) => Some(document.value),
+            None => None,
+        }
+    }
+
+    /// The URI of the document of a number.
+    pub fn uri_of(&self, number: usize) -> Option<&str>
+        ensures uri { text_read result ≡ option_map (λ d. d.uri) (slice_get (held self.now) number) }
+    {
+        if number == 0 {
+            return Some(self.uri.as_str());
+        }
+        match self.others.get(number - 1) {
+            Some(document) => Some(document.uri.as_str()),
+            None => None,
+        }
+    }
+
+    /// The value at a place.
+    pub fn value_at(&self, place: &SchemaPlace) -> Option<&'a Value>
+        ensures value { value_read result ≡ value_in (held self.now) (place_of place.now) }
+    {
+        match self.document(place.document) {
+            Some(document) => value_after(document, place.path.steps()),
+            None => None,
+        }
+    }
+}

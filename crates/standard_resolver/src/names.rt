@@ -1,0 +1,157 @@
+//! The names in a resource.
+ghost use Rattle.std.specs.Prelude.{◌≡◌, IfOk, map, option_and_then, option_map, slice_get};
+ghost use Rattle.std.specs.HashMap.{get_by_text};
+ghost use Rattle.standard_subschemas.specs.DocumentKeys.{IsNumbered};
+ghost use Rattle.standard_resolver.specs.DocumentResources.{dynamic_key, dynamic_number, name_if, name_key, name_number, names_at, names_in};
+ghost use Rattle.standard_resolver.specs.DocumentNameViews.{name_of};
+ghost use Rattle.standard_resolver.specs.DocumentViews.{visited_of};
+ghost use Rattle.schema_traits.specs.Readings.{text_read};
+ghost use Rattle.schema_traits.specs.Showing.{Yields};
+ghost use Rattle.standard_resolver.specs.DocumentShowing.{Appends};
+
+use crate::walk::{Visited, walked};
+use schema_drafts::keywords::Draft;
+use schema_reports::location::OutOfMemory;
+use schema_traits::schema_place::SchemaPath;
+use standard_subschemas::identifiers::{dynamic_name, plain_name};
+use standard_subschemas::numbers::add_number;
+use standard_subschemas::rules::Rule;
+use std::alloc::Global;
+use std::collections::HashMap;
+use std::marker::Model;
+
+/// A name of a schema: where it stands, the draft there, and whether it is a `$dynamicAnchor`.
+#[derive(Drop)]
+pub struct Name {
+    pub name: String,
+    pub path: SchemaPath,
+    pub draft: Draft,
+    pub is_dynamic: bool,
+}
+
+/// The names in a resource, in the order of the walk. Contracts see the list.
+#[derive(Drop)]
+pub struct Names {
+    names: Vec<Name>,
+    // For each text the number of the first name, and of the first dynamic one.
+    numbers: HashMap<String, usize>,
+    dynamic_numbers: HashMap<String, usize>,
+}
+
+impl Model for Names {
+    ghost use Rattle.std.specs.Prelude.{List, map};
+    ghost use Rattle.std.specs.HashMap.{get_by_text};
+    ghost use Rattle.standard_subschemas.specs.DocumentKeys.{IsNumbered};
+    ghost use Rattle.standard_resolver.specs.DocumentResources.{Name as name, dynamic_key, name_key};
+    ghost use Rattle.standard_resolver.specs.DocumentNameViews.{name_of};
+
+    ghost Value = { List name };
+
+    ghost view = { λ n. map name_of n.names.items };
+
+    ghost invariant = { λ n. IsNumbered (map name_key (map name_of n.names.items)) (get_by_text n.numbers)
+        × IsNumbered (map dynamic_key (map name_of n.names.items)) (get_by_text n.dynamic_numbers) };
+}
+
+impl Names {
+    /// The first name with a text.
+    pub fn find(&self, text: &str) -> Option<&Name>
+        ensures first { option_map (λ x. name_of x.now) result ≡ option_and_then (slice_get self.now) (name_number text.now self.now) }
+    {
+        match self.numbers.get(text) {
+            Some(number) => self.names.get(*number),
+            None => None,
+        }
+    }
+
+    /// The first dynamic name with a text.
+    pub fn find_dynamic(&self, text: &str) -> Option<&Name>
+        ensures first { option_map (λ x. name_of x.now) result ≡ option_and_then (slice_get self.now) (dynamic_number text.now self.now) }
+    {
+        match self.dynamic_numbers.get(text) {
+            Some(number) => self.names.get(*number),
+            None => None,
+        }
+    }
+}
+
+/// Adds a name that a schema may have.
+fn push_name(
+    alloc: Global,
+    visited: &Visited<'_>,
+    name: Option<&str>,
+    is_dynamic: bool,
+    names: &mut Vec<Name>,
+) -> Result<(), OutOfMemory>
+    ensures pushed { IfOk result (λ _. Appends name_of names.old.items names.new.items
+        (name_if (text_read name.entry) is_dynamic (visited_of visited.now))) }
+{
+    if let Some(name) = name {
+        names.push(Name {
+            name: String::from_str(alloc, name)?,
+            path: visited.path.clone()?,
+            draft: visited.draft,
+            is_dynamic,
+        })?;
+    }
+    Ok(())
+}
+
+/// Adds the names of a schema.
+fn push_names(
+    alloc: Global,
+    rule: Rule,
+    visited: &Visited<'_>,
+    names: &mut Vec<Name>,
+) -> Result<(), OutOfMemory>
+    ensures pushed { IfOk result (λ _. Appends name_of names.old.items names.new.items (names_at rule (visited_of visited.now))) }
+{
+    let plain = plain_name(rule, visited.draft, visited.schema);
+    push_name(alloc, visited, plain, false, names)?;
+    let dynamic = dynamic_name(rule, visited.draft, visited.schema);
+    push_name(alloc, visited, dynamic, true, names)
+}
+
+/// The text of a dynamic name.
+fn dynamic_key(name: &Name) -> Option<&str>
+    ensures key { text_read result ≡ dynamic_key (name_of name.now) }
+{
+    if name.is_dynamic {
+        Some(name.name.as_str())
+    } else {
+        None
+    }
+}
+
+/// The names, found by their texts.
+fn numbered(alloc: Global, names: Vec<Name>) -> Result<Names, OutOfMemory>
+    ensures same { Yields result (map name_of names.items) }
+{
+    let mut numbers = HashMap::new(alloc);
+    let mut dynamic_numbers = HashMap::new(alloc);
+    for (number, name) in names.iter().enumerate() {
+        add_number(alloc, &mut numbers, Some(name.name.as_str()), number)?;
+        add_number(alloc, &mut dynamic_numbers, dynamic_key(name), number)?;
+    }
+    Ok(Names {
+        names,
+        numbers,
+        dynamic_numbers,
+    })
+}
+
+/// The names of the resource that begins with a schema.
+///
+/// # Errors
+///
+/// Fails only if memory cannot be allocated.
+pub fn names_in(alloc: Global, rule: Rule, root: &Visited<'_>) -> Result<Names, OutOfMemory>
+    ensures names { Yields result (names_in rule (visited_of root.now)) }
+{
+    let mut names = Vec::new(alloc);
+    push_names(alloc, rule, root, &mut names)?;
+    for visited in &walked(alloc, rule, false, &root.path, "", root.draft, root.schema)? {
+        push_names(alloc, rule, visited, &mut names)?;
+    }
+    numbered(alloc, names)
+}

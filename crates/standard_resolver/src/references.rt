@@ -1,0 +1,371 @@
+//! Where references lead.
+ghost use Rattle.std.specs.Prelude.{[], option_and_then, option_map, slice_get};
+ghost use Rattle.serde_json.specs.View.{view};
+ghost use Rattle.theory_definitions.specs.Parts.{Parts};
+ghost use Rattle.schema_traits.specs.ResolverViews.{found_of};
+ghost use Rattle.standard_subschemas.specs.Refusals.{RefusesWith};
+ghost use Rattle.standard_resolver.specs.ResolverDocuments.{value_in};
+ghost use Rattle.standard_resolver.specs.DocumentLookups.{arrived, dynamic_in, first_dynamic, first_recursive, looked_up, looked_up_recursive};
+ghost use Rattle.standard_resolver.specs.DocumentLookups.{no_base, not_at_hand, nothing_there, recursive_in, target_by_fragment, target_by_name};
+ghost use Rattle.standard_resolver.specs.DocumentLookups.{target_by_pointer, target_named, target_root};
+ghost use Rattle.standard_resolver.specs.DocumentResources.{name_number, place_of_resource};
+ghost use Rattle.standard_resolver.specs.ResolverStart.{NarrowBasesStand, StartsAtInnermost};
+ghost use Rattle.standard_resolver.specs.DocumentStates.{Point};
+ghost use Rattle.standard_resolver.specs.DocumentNameViews.{name_of};
+ghost use Rattle.standard_resolver.specs.DocumentResourceViews.{resource_of};
+ghost use Rattle.standard_resolver.specs.DocumentViews.{held, point_of};
+ghost use Rattle.schema_traits.specs.Showing.{Shows, Agrees};
+
+use crate::documents::Documents;
+use crate::names::Name;
+use crate::on_way::is_subschema;
+use crate::resolver::DocumentState;
+use crate::resources::{Resource, Resources};
+use crate::states::{enter, entered_below};
+use schema_reports::location::OutOfMemory;
+use schema_traits::resolver::{LookupError, Target};
+use schema_traits::schema_place::{SchemaPath, SchemaPlace};
+use serde_json::Value;
+use standard_subschemas::drafts::detected;
+use standard_subschemas::identifiers::{fragment_of, without_fragment};
+use standard_subschemas::pointers::{decoded, path_of_pointer};
+use standard_subschemas::refusals::refusal;
+use standard_subschemas::rules::Rule;
+use standard_subschemas::steps::value_below;
+use standard_subschemas::uris::resolve_uri;
+use std::alloc::Global;
+
+/// A reference that is followed, and whether it is a dynamic one.
+#[derive(Clone, Copy)]
+struct Followed<'r> {
+    reference: &'r str,
+    dynamic: bool,
+}
+
+/// The refusal of a reference that points to nothing.
+fn nothing_there(alloc: Global, reference: &str) -> LookupError
+    ensures refused { RefusesWith (nothing_there reference.now) result }
+{
+    let text = "nothing stands where this reference points: ";
+    refusal(alloc, text, reference)
+}
+
+/// The refusal of a reference to a resource that is not at hand.
+fn not_at_hand(alloc: Global, rule: Rule, reference: &str, uri: &str) -> LookupError
+    ensures refused { RefusesWith (not_at_hand rule reference.now uri.now) result }
+{
+    match rule {
+        Rule::Narrow => {
+            let text = "this resolver has no resource for the reference ";
+            refusal(alloc, text, reference)
+        }
+        Rule::Standard => {
+            let text = "this resolver has no resource under the URI ";
+            refusal(alloc, text, uri)
+        }
+    }
+}
+
+/// The target at the end of a path below a resource's root. Identifiers on the way are entered, and the draft is taken on each schema.
+fn arrived(
+    alloc: Global,
+    resources: &Resources,
+    reference: &str,
+    resource: &Resource,
+    root: &Value,
+    path: &SchemaPath,
+    state: DocumentState,
+) -> Result<Target<DocumentState>, LookupError>
+    ensures leads { let r = resource_of resource.now in
+        let schema = view root.now in
+        Agrees (found_of point_of) result
+        (arrived resources.now reference.now r.document r.draft schema [] schema r.path (point_of state) path.now) }
+{
+    let mut place = resource.place()?;
+    let mut state = state;
+    let mut draft = resource.draft;
+    let mut schema = root;
+    let mut since = SchemaPath::root(alloc);
+    let mut reached = root;
+    for step in path.steps() {
+        let Some(below) = value_below(reached, step) else {
+            return Err(nothing_there(alloc, reference));
+        };
+        since.push(step.clone()?)?;
+        place.path.push(step.clone()?)?;
+        reached = below;
+        if is_subschema(resources.rule(), draft, &since, schema) {
+            draft = detected(draft, below);
+            state = entered_below(alloc, resources, state, draft, &place, below)?;
+            schema = below;
+            since = SchemaPath::root(alloc);
+        }
+    }
+    Ok(Target {
+        place,
+        state,
+        draft: detected(draft, reached),
+    })
+}
+
+/// The target of a pointer below a resource's root.
+fn target_by_pointer(
+    alloc: Global,
+    documents: &Documents<'_>,
+    resources: &Resources,
+    reference: &str,
+    resource: &Resource,
+    state: DocumentState,
+    pointer: &str,
+) -> Result<Target<DocumentState>, LookupError>
+    ensures leads { let r = resource_of resource.now in
+        Agrees (found_of point_of) result (target_by_pointer resources.now reference.now r (point_of state) pointer.now
+        (value_in (held documents.now) (place_of_resource r))) }
+{
+    let place = resource.place()?;
+    let Some(root) = documents.value_at(&place) else {
+        return Err(nothing_there(alloc, reference));
+    };
+    let pointer = decoded(alloc, pointer)?;
+    let Some(path) = path_of_pointer(alloc, pointer.as_str(), root)? else {
+        return Err(nothing_there(alloc, reference));
+    };
+    arrived(alloc, resources, reference, resource, root, &path, state)
+}
+
+/// The target that has a name.
+fn target_named(
+    alloc: Global,
+    number: usize,
+    resource: &Resource,
+    state: &DocumentState,
+    name: &Name,
+) -> Result<Target<DocumentState>, OutOfMemory>
+    ensures target { Shows (found_of point_of) result
+        (target_named number (resource_of resource.now) (point_of state.now) (name_of name.now)) }
+{
+    Ok(Target {
+        place: SchemaPlace {
+            document: resource.document,
+            path: name.path.clone()?,
+        },
+        state: enter(alloc, state, number, resource.base.as_str())?,
+        draft: name.draft,
+    })
+}
+
+/// The target that has a dynamic name in the resource of a number.
+fn dynamic_in(
+    alloc: Global,
+    resources: &Resources,
+    state: &DocumentState,
+    name: &str,
+    number: usize,
+) -> Result<Option<Target<DocumentState>>, OutOfMemory>
+    ensures target { Shows (option_map (found_of point_of)) result (dynamic_in resources.now (point_of state.now) name.now number) }
+{
+    let Some(resource) = resources.get(number) else {
+        return Ok(None);
+    };
+    match resource.names.find_dynamic(name) {
+        Some(name) => Ok(Some(target_named(alloc, number, resource, state, name)?)),
+        None => Ok(None),
+    }
+}
+
+/// The target that has a dynamic name in the first resource that was entered and has it.
+fn first_dynamic(
+    alloc: Global,
+    resources: &Resources,
+    state: &DocumentState,
+    name: &str,
+) -> Result<Option<Target<DocumentState>>, OutOfMemory>
+    ensures target { Shows (option_map (found_of point_of)) result
+        (first_dynamic resources.now (point_of state.now) name.now (point_of state.now).entered) }
+{
+    for number in state.entered.as_ref() {
+        if let Some(target) = dynamic_in(alloc, resources, state, name, *number)? {
+            return Ok(Some(target));
+        }
+    }
+    Ok(None)
+}
+
+/// The target of a name in a resource. A dynamic reference to a dynamic name leads to the first resource entered that has the name.
+fn target_by_name(
+    alloc: Global,
+    resources: &Resources,
+    followed: Followed<'_>,
+    number: usize,
+    resource: &Resource,
+    state: &DocumentState,
+    text: &str,
+) -> Result<Target<DocumentState>, LookupError>
+    ensures leads { let r = resource_of resource.now in
+        let name = option_and_then (slice_get r.names) (name_number text.now r.names) in
+        Agrees (found_of point_of) result (target_by_name resources.now followed.entry.reference.now number r (point_of state.now)
+        followed.entry.dynamic text.now name) }
+{
+    let Some(name) = resource.names.find(text) else {
+        let refused = "nothing has the name of the reference ";
+        return Err(refusal(alloc, refused, followed.reference));
+    };
+    if followed.dynamic && name.is_dynamic {
+        if let Some(target) = first_dynamic(alloc, resources, state, text)? {
+            return Ok(target);
+        }
+    }
+    Ok(target_named(alloc, number, resource, state, name)?)
+}
+
+/// The target that is a resource's root.
+fn target_root(
+    alloc: Global,
+    number: usize,
+    resource: &Resource,
+    state: &DocumentState,
+) -> Result<Target<DocumentState>, OutOfMemory>
+    ensures target { Shows (found_of point_of) result (target_root number (resource_of resource.now) (point_of state.now)) }
+{
+    Ok(Target {
+        place: resource.place()?,
+        state: enter(alloc, state, number, resource.base.as_str())?,
+        draft: resource.draft,
+    })
+}
+
+/// The target of a fragment in a resource: its root, by a pointer, or by a name.
+fn target_by_fragment(
+    alloc: Global,
+    documents: &Documents<'_>,
+    resources: &Resources,
+    followed: Followed<'_>,
+    number: usize,
+    resource: &Resource,
+    state: &DocumentState,
+    fragment: &str,
+) -> Result<Target<DocumentState>, LookupError>
+    ensures leads { Agrees (found_of point_of) result (target_by_fragment resources.now (held documents.now)
+        followed.entry.reference.now number (resource_of resource.now) (point_of state.now) followed.entry.dynamic fragment.now) }
+{
+    if fragment.is_empty() {
+        return Ok(target_root(alloc, number, resource, state)?);
+    }
+    if fragment.as_bytes()[0] == b'/' {
+        let reference = followed.reference;
+        let inside = enter(alloc, state, number, resource.base.as_str())?;
+        return target_by_pointer(
+            alloc, documents, resources, reference, resource, inside, fragment,
+        );
+    }
+    target_by_name(
+        alloc, resources, followed, number, resource, state, fragment,
+    )
+}
+
+/// Where a reference leads: a place, the state there and its draft.
+///
+/// # Errors
+///
+/// A refusal, which names the reference, of one that cannot be resolved, that leads to no resource (the standard's rule names the URI), or
+/// in it to nothing; one of a subschema on the way whose identifier no resource at its place has; and `OutOfMemory`.
+pub fn looked_up(
+    alloc: Global,
+    documents: &Documents<'_>,
+    resources: &Resources,
+    state: &DocumentState,
+    reference: &str,
+    dynamic: bool,
+) -> Result<Target<DocumentState>, LookupError>
+    ensures leads { Agrees (found_of point_of) result
+        (looked_up resources.now (held documents.now) (point_of state.now) reference.now dynamic) }
+{
+    let rule = resources.rule();
+    let uri = resolve_uri(alloc, rule, state.base.as_str(), reference)?;
+    let Some(number) = resources.number_of(without_fragment(uri.as_str())) else {
+        return Err(not_at_hand(alloc, rule, reference, uri.as_str()));
+    };
+    let Some(resource) = resources.get(number) else {
+        return Err(not_at_hand(alloc, rule, reference, uri.as_str()));
+    };
+    let followed = Followed { reference, dynamic };
+    let fragment = fragment_of(uri.as_str());
+    target_by_fragment(
+        alloc, documents, resources, followed, number, resource, state, fragment,
+    )
+}
+
+/// The root of the resource of a number, where it is recursive.
+fn recursive_in(
+    alloc: Global,
+    resources: &Resources,
+    state: &DocumentState,
+    number: usize,
+) -> Result<Option<Target<DocumentState>>, OutOfMemory>
+    ensures target { Shows (option_map (found_of point_of)) result (recursive_in resources.now (point_of state.now) number) }
+{
+    match resources.get(number) {
+        Some(resource) if resource.is_recursive => {
+            Ok(Some(target_root(alloc, number, resource, state)?))
+        }
+        _ => Ok(None),
+    }
+}
+
+/// The root of the first resource that was entered and is recursive.
+fn first_recursive(
+    alloc: Global,
+    resources: &Resources,
+    state: &DocumentState,
+) -> Result<Option<Target<DocumentState>>, OutOfMemory>
+    ensures target { Shows (option_map (found_of point_of)) result
+        (first_recursive resources.now (point_of state.now) (point_of state.now).entered) }
+{
+    for number in state.entered.as_ref() {
+        if let Some(target) = recursive_in(alloc, resources, state, *number)? {
+            return Ok(Some(target));
+        }
+    }
+    Ok(None)
+}
+
+/// The refusal of a base that no resource has.
+fn no_base(alloc: Global, base: &str) -> LookupError
+    ensures refused { RefusesWith (no_base base.now) result }
+{
+    refusal(alloc, "this resolver has no resource under the base ", base)
+}
+
+/// Where a `$recursiveRef` leads: to the root of the resource, or, where that is recursive, to the first root entered that is.
+///
+/// # Errors
+///
+/// A refusal of a state whose base no resource has, and `OutOfMemory` if memory cannot be allocated.
+pub fn looked_up_recursive(
+    alloc: Global,
+    resources: &Resources,
+    state: &DocumentState,
+) -> Result<Target<DocumentState>, LookupError>
+    ensures leads { Agrees (found_of point_of) result (looked_up_recursive resources.now (point_of state.now)) }
+{
+    let Some(number) = resources.number_of(state.base.as_str()) else {
+        return Err(no_base(alloc, state.base.as_str()));
+    };
+    let Some(resource) = resources.get(number) else {
+        return Err(no_base(alloc, state.base.as_str()));
+    };
+    if resource.is_recursive {
+        if let Some(target) = first_recursive(alloc, resources, state)? {
+            return Ok(target);
+        }
+    }
+    Ok(target_root(alloc, number, resource, state)?)
+}
+
+/// What lies outside the resource of a pointer's target is the pointer's part up to the innermost subschema with an identifier
+/// that the pointer passes into or ends at, counted from the root of the resource that the reference's URI names, if bases lead back to
+/// their resources: by the narrow rule they always do. The function does nothing when it runs.
+pub fn starts_at_the_innermost_resource<K, R>()
+    ensures starts { (w : Parts Point K R) → StartsAtInnermost w }
+    ensures narrow { NarrowBasesStand }
+{}

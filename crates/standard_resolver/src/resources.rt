@@ -1,0 +1,373 @@
+//! The resources of documents.
+ghost use Rattle.std.specs.Prelude.{◌≡◌, ◌∷◌, [], IfOk, flat_map, map, option_map, slice_get, string_bytes};
+ghost use Rattle.serde_json.specs.View.{view};
+ghost use Rattle.schema_drafts.specs.KeywordViews.{draft_of};
+ghost use Rattle.schema_traits.specs.ResolverViews.{place_of};
+ghost use Rattle.standard_resolver.specs.DocumentResources as spec;
+ghost use Rattle.standard_resolver.specs.DocumentResources.{document_resource, document_resources, embedded, embedded_resources};
+ghost use Rattle.standard_resolver.specs.DocumentResources.{identified, identified_root, is_recursive, number_of, place_of_resource};
+ghost use Rattle.standard_resolver.specs.DocumentResources.{root_visited, table_for};
+ghost use Rattle.standard_resolver.specs.DocumentStates.{number_at, resource_under};
+ghost use Rattle.standard_resolver.specs.ResourcesGathered.{Adds};
+ghost use Rattle.standard_resolver.specs.DocumentResourceViews.{resource_of};
+ghost use Rattle.standard_resolver.specs.DocumentViews.{held, visited_of, document_under};
+ghost use Rattle.schema_traits.specs.Showing.{Yields, Shows};
+
+use crate::documents::Documents;
+use crate::names::{Names, names_in};
+use crate::walk::{Visited, walked};
+use schema_drafts::keywords::Draft;
+use schema_reports::location::OutOfMemory;
+use schema_traits::schema_place::{SchemaPath, SchemaPlace};
+use serde_json::Value;
+use standard_subschemas::drafts::detected;
+use standard_subschemas::identifiers::without_fragment;
+use standard_subschemas::numbers::add_number;
+use standard_subschemas::rules::Rule;
+use standard_subschemas::uris::{root_base, uri_of};
+use std::alloc::Global;
+use std::collections::HashMap;
+use std::marker::Model;
+
+/// A resource: its URI, the base inside it, where it begins, the draft there, whether its root has `$recursiveAnchor` true, its names.
+#[derive(Drop)]
+pub struct Resource {
+    pub uri: String,
+    pub base: String,
+    pub document: usize,
+    pub path: SchemaPath,
+    pub draft: Draft,
+    pub is_recursive: bool,
+    pub names: Names,
+}
+
+impl Resource {
+    /// Where the resource begins.
+    ///
+    /// # Errors
+    ///
+    /// Fails only if memory cannot be allocated.
+    pub fn place(&self) -> Result<SchemaPlace, OutOfMemory>
+        ensures place { Shows place_of result (place_of_resource (resource_of self.now)) }
+    {
+        Ok(SchemaPlace {
+            document: self.document,
+            path: self.path.clone()?,
+        })
+    }
+}
+
+/// The resources of documents, by their numbers, and the rule by which they were found. Contracts see the rule and the list.
+#[derive(Drop)]
+pub struct Resources {
+    rule: Rule,
+    resources: Vec<Resource>,
+    // For each URI the number of its resource.
+    numbers: HashMap<String, usize>,
+}
+
+impl Model for Resources {
+    ghost use Rattle.std.specs.Prelude.{map};
+    ghost use Rattle.std.specs.HashMap.{get_by_text};
+    ghost use Rattle.standard_subschemas.specs.DocumentKeys.{IsNumbered};
+    ghost use Rattle.standard_resolver.specs.DocumentResources.{Table, resource_key};
+    ghost use Rattle.standard_resolver.specs.DocumentResourceViews.{resource_of};
+
+    ghost Value = { Table };
+
+    ghost view = { λ r. record { rule = r.rule; resources = map resource_of r.resources.items } };
+
+    ghost invariant = { λ r. IsNumbered (map resource_key (map resource_of r.resources.items)) (get_by_text r.numbers) };
+}
+
+impl Resources {
+    /// The rule by which they were found.
+    pub fn rule(&self) -> Rule
+        ensures rule { result ≡ self.now.rule }
+    {
+        self.rule
+    }
+
+    /// The number of the resource with a URI.
+    pub fn number_of(&self, uri: &str) -> Option<usize>
+        ensures number { result ≡ number_of uri.now self.now.resources }
+    {
+        self.numbers.get(uri).copied()
+    }
+
+    /// The resource of a number.
+    pub fn get(&self, number: usize) -> Option<&Resource>
+        ensures resource { option_map (λ r. resource_of r.now) result ≡ slice_get self.now.resources number }
+    {
+        self.resources.get(number)
+    }
+
+    /// The resource under a URI.
+    pub fn under(&self, uri: &str) -> Option<&Resource>
+        ensures resource { option_map (λ r. resource_of r.now) result ≡ resource_under self.now uri.now }
+    {
+        self.get(self.number_of(uri)?)
+    }
+
+    /// The number of the resource with a URI, where it begins at a place.
+    pub fn number_at(&self, place: &SchemaPlace, uri: &str) -> Option<usize>
+        ensures number { result ≡ number_at self.now (place_of place.now) uri.now }
+    {
+        let number = self.number_of(uri)?;
+        let resource = self.get(number)?;
+        if resource.document == place.document && resource.path == place.path {
+            Some(number)
+        } else {
+            None
+        }
+    }
+}
+
+/// Whether `$recursiveAnchor` is true.
+fn is_recursive(schema: &Value) -> bool
+    ensures recursive { result ≡ is_recursive (view schema.now) }
+{
+    match schema.get("$recursiveAnchor") {
+        Some(value) => value.as_bool() == Some(true),
+        None => false,
+    }
+}
+
+/// The resource that begins with a schema.
+fn resource_of(
+    alloc: Global,
+    rule: Rule,
+    uri: String,
+    base: String,
+    document: usize,
+    root: &Visited<'_>,
+) -> Result<Resource, OutOfMemory>
+    ensures resource { Shows resource_of result (spec.resource_of rule (string_bytes uri) (string_bytes base) document
+        (visited_of root.now)) }
+{
+    Ok(Resource {
+        uri,
+        base,
+        document,
+        path: root.path.clone()?,
+        draft: root.draft,
+        is_recursive: is_recursive(root.schema),
+        names: names_in(alloc, rule, root)?,
+    })
+}
+
+/// Resources and their numbers by their URIs, as they are gathered.
+#[derive(Drop)]
+pub struct Gathered {
+    pub resources: Vec<Resource>,
+    pub numbers: HashMap<String, usize>,
+}
+
+/// Adds a resource, unless an earlier one has its URI.
+fn add_resource(
+    alloc: Global,
+    gathered: &mut Gathered,
+    resource: Resource,
+) -> Result<(), OutOfMemory>
+    ensures added { IfOk result (λ _. Adds (resource_of resource ∷ []) gathered.old gathered.new) }
+{
+    if gathered.numbers.get(resource.uri.as_str()).is_none() {
+        let number = gathered.resources.len();
+        add_number(
+            alloc,
+            &mut gathered.numbers,
+            Some(resource.uri.as_str()),
+            number,
+        )?;
+        gathered.resources.push(resource)?;
+    }
+    Ok(())
+}
+
+/// Adds the resource of a schema, where its identifier gives it a URI.
+fn add_identified(
+    alloc: Global,
+    rule: Rule,
+    document: usize,
+    visited: &Visited<'_>,
+    gathered: &mut Gathered,
+) -> Result<(), OutOfMemory>
+    ensures added { IfOk result (λ _. Adds (identified rule document (visited_of visited.now)) gathered.old gathered.new) }
+{
+    let own = uri_of(
+        alloc,
+        rule,
+        visited.base.as_str(),
+        visited.draft,
+        visited.schema,
+    )?;
+    if let Some(uri) = own {
+        let base = String::from_str(alloc, uri.as_str())?;
+        let resource = resource_of(alloc, rule, uri, base, document, visited)?;
+        add_resource(alloc, gathered, resource)?;
+    }
+    Ok(())
+}
+
+/// Adds the resource of a document's root under its identifier, by the standard's rule.
+fn add_identified_root(
+    alloc: Global,
+    rule: Rule,
+    document: usize,
+    root: &Visited<'_>,
+    gathered: &mut Gathered,
+) -> Result<(), OutOfMemory>
+    ensures added { IfOk result (λ _. Adds (identified_root rule document (visited_of root.now)) gathered.old gathered.new) }
+{
+    match rule {
+        Rule::Narrow => Ok(()),
+        Rule::Standard => add_identified(alloc, Rule::Standard, document, root, gathered),
+    }
+}
+
+/// A document's root, read in a draft.
+fn root_visited<'a>(
+    alloc: Global,
+    draft: Draft,
+    uri: &str,
+    value: &'a Value,
+) -> Result<Visited<'a>, OutOfMemory>
+    ensures root { Shows visited_of result (root_visited (draft_of draft) (document_under uri.now value.now)) }
+{
+    Ok(Visited {
+        path: SchemaPath::root(alloc),
+        base: String::from_str(alloc, without_fragment(uri))?,
+        draft: detected(draft, value),
+        schema: value,
+    })
+}
+
+/// Adds the resources of the schemas that the walk of a document has come to.
+fn add_all_identified(
+    alloc: Global,
+    rule: Rule,
+    document: usize,
+    all: &[Visited<'_>],
+    gathered: &mut Gathered,
+) -> Result<(), OutOfMemory>
+    ensures added { IfOk result (λ _. Adds (flat_map (identified rule document) (map visited_of all.now)) gathered.old gathered.new) }
+{
+    for visited in all {
+        add_identified(alloc, rule, document, visited, gathered)?;
+    }
+    Ok(())
+}
+
+/// Adds the resources that are embedded in a document.
+fn add_embedded(
+    alloc: Global,
+    rule: Rule,
+    draft: Draft,
+    document: usize,
+    uri: &str,
+    value: &Value,
+    gathered: &mut Gathered,
+) -> Result<(), OutOfMemory>
+    ensures added { IfOk result (λ _. Adds (embedded rule (draft_of draft) document
+        (document_under uri.now value.now)) gathered.old gathered.new) }
+{
+    let root = root_visited(alloc, draft, uri, value)?;
+    let base = root_base(alloc, rule, uri, root.draft, value)?;
+    let all = walked(
+        alloc,
+        rule,
+        true,
+        &root.path,
+        base.as_str(),
+        root.draft,
+        value,
+    )?;
+    add_identified_root(alloc, rule, document, &root, gathered)?;
+    add_all_identified(alloc, rule, document, all.as_slice(), gathered)?;
+    Ok(())
+}
+
+/// Adds the resource that is a whole document.
+fn add_document(
+    alloc: Global,
+    rule: Rule,
+    draft: Draft,
+    document: usize,
+    uri: &str,
+    value: &Value,
+    gathered: &mut Gathered,
+) -> Result<(), OutOfMemory>
+    ensures added { IfOk result (λ _. Adds (document_resource rule (draft_of draft) document
+        (document_under uri.now value.now) ∷ []) gathered.old gathered.new) }
+{
+    let root = root_visited(alloc, draft, uri, value)?;
+    let own = String::from_str(alloc, without_fragment(uri))?;
+    let base = root_base(alloc, rule, uri, root.draft, value)?;
+    let resource = resource_of(alloc, rule, own, base, document, &root)?;
+    add_resource(alloc, gathered, resource)?;
+    Ok(())
+}
+
+/// Adds the resources that are whole documents, the root's first.
+fn add_documents(
+    alloc: Global,
+    rule: Rule,
+    draft: Draft,
+    documents: &Documents<'_>,
+    gathered: &mut Gathered,
+) -> Result<(), OutOfMemory>
+    ensures added { IfOk result (λ _. Adds (document_resources rule (draft_of draft) 0 (held documents.now)) gathered.old gathered.new) }
+{
+    let uri = documents.uri.as_str();
+    add_document(alloc, rule, draft, 0, uri, documents.root, gathered)?;
+    for (i, other) in documents.others.iter().enumerate() {
+        let uri = other.uri.as_str();
+        add_document(alloc, rule, draft, i + 1, uri, other.value, gathered)?;
+    }
+    Ok(())
+}
+
+/// Adds the resources that are embedded in documents, the root's first.
+fn add_all_embedded(
+    alloc: Global,
+    rule: Rule,
+    draft: Draft,
+    documents: &Documents<'_>,
+    gathered: &mut Gathered,
+) -> Result<(), OutOfMemory>
+    ensures added { IfOk result (λ _. Adds (embedded_resources rule (draft_of draft) 0 (held documents.now)) gathered.old gathered.new) }
+{
+    let uri = documents.uri.as_str();
+    add_embedded(alloc, rule, draft, 0, uri, documents.root, gathered)?;
+    for (i, other) in documents.others.iter().enumerate() {
+        let uri = other.uri.as_str();
+        add_embedded(alloc, rule, draft, i + 1, uri, other.value, gathered)?;
+    }
+    Ok(())
+}
+
+/// The resources of documents, by a rule: the documents, each walked once, and what is embedded, each walked once more for its names.
+///
+/// # Errors
+///
+/// Fails only if memory cannot be allocated.
+pub fn resources_of(
+    alloc: Global,
+    rule: Rule,
+    draft: Draft,
+    documents: &Documents<'_>,
+) -> Result<Resources, OutOfMemory>
+    ensures resources { Yields result (table_for rule (draft_of draft) (held documents.now)) }
+{
+    let mut gathered = Gathered {
+        resources: Vec::new(alloc),
+        numbers: HashMap::new(alloc),
+    };
+    add_documents(alloc, rule, draft, documents, &mut gathered)?;
+    add_all_embedded(alloc, rule, draft, documents, &mut gathered)?;
+    Ok(Resources {
+        rule,
+        resources: gathered.resources,
+        numbers: gathered.numbers,
+    })
+}

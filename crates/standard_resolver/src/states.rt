@@ -1,0 +1,189 @@
+//! Where a run of the resolver is.
+ghost use Rattle.std.specs.Prelude.{◌≡◌, nat_eq, option_map, slice_get, string_bytes};
+ghost use Rattle.std.specs.List.{list_any};
+ghost use Rattle.serde_json.specs.View.{view};
+ghost use Rattle.schema_drafts.specs.KeywordViews.{draft_of};
+ghost use Rattle.schema_traits.specs.ResolverViews.{place_of};
+ghost use Rattle.standard_subschemas.specs.Refusals.{RefusesWith};
+ghost use Rattle.standard_resolver.specs.DocumentStates.{enter, entered, entered_below, entered_by, entered_root, no_identified};
+ghost use Rattle.standard_resolver.specs.DocumentStates.{uri_of_document};
+ghost use Rattle.standard_resolver.specs.DocumentViews.{held, point_of};
+ghost use Rattle.schema_traits.specs.Readings.{value_read};
+ghost use Rattle.schema_traits.specs.Showing.{Shows, Agrees};
+
+use crate::documents::Documents;
+use crate::resolver::DocumentState;
+use crate::resources::Resources;
+use schema_drafts::keywords::Draft;
+use schema_reports::location::OutOfMemory;
+use schema_traits::resolver::LookupError;
+use schema_traits::schema_place::SchemaPlace;
+use serde_json::Value;
+use standard_subschemas::identifiers::identifier;
+use standard_subschemas::refusals::refusal;
+use standard_subschemas::rules::Rule;
+use standard_subschemas::uris::{own_uri, root_base};
+use std::alloc::Global;
+use std::rc::{Rc, RcStr};
+
+/// Whether a number is one of these.
+fn has_number(numbers: &[usize], number: usize) -> bool
+    ensures has { result ≡ list_any (nat_eq number) numbers.now }
+{
+    for other in numbers {
+        if number == *other {
+            return true;
+        }
+    }
+    false
+}
+
+/// The state in a resource: one that was not entered before is added at the end. Where nothing changes, the state is shared.
+///
+/// # Errors
+///
+/// Fails only if memory cannot be allocated.
+pub fn enter(
+    alloc: Global,
+    state: &DocumentState,
+    number: usize,
+    uri: &str,
+) -> Result<DocumentState, OutOfMemory>
+    ensures entered { Shows point_of result (enter number uri.now (point_of state.now)) }
+{
+    if state.base.as_str() == uri && has_number(&state.entered, number) {
+        return state.clone();
+    }
+    let mut entered = state.entered.as_ref().clone()?;
+    if !has_number(&entered, number) {
+        entered.push(number)?;
+    }
+    let base = RcStr::from_str(alloc, uri)?;
+    let entered = Rc::new(alloc, entered)?;
+    Ok(DocumentState { base, entered })
+}
+
+/// The refusal of an identifier that no resource at its place has.
+fn no_identified(alloc: Global, id: &str) -> LookupError
+    ensures refused { RefusesWith (no_identified id.now) result }
+{
+    let text = "this resolver finds no resource of its own for the identifier ";
+    refusal(alloc, text, id)
+}
+
+/// The state in the resource with a URI, where it begins at a place with this identifier.
+fn entered_by(
+    alloc: Global,
+    resources: &Resources,
+    place: &SchemaPlace,
+    id: &str,
+    state: &DocumentState,
+    uri: Option<String>,
+) -> Result<DocumentState, LookupError>
+    ensures entered { Agrees point_of result (entered_by resources.now (place_of place.now) id.now
+        (point_of state.now) (option_map string_bytes uri)) }
+{
+    let Some(uri) = uri else {
+        return Err(no_identified(alloc, id));
+    };
+    match resources.number_at(place, uri.as_str()) {
+        Some(number) => Ok(enter(alloc, state, number, uri.as_str())?),
+        None => Err(no_identified(alloc, id)),
+    }
+}
+
+/// The state inside a schema below a document's root.
+///
+/// # Errors
+///
+/// A refusal of an identifier that no resource at this place has, and `OutOfMemory` if memory cannot be allocated.
+pub fn entered_below(
+    alloc: Global,
+    resources: &Resources,
+    state: DocumentState,
+    draft: Draft,
+    place: &SchemaPlace,
+    schema: &Value,
+) -> Result<DocumentState, LookupError>
+    ensures entered { Agrees point_of result (entered_below resources.now (point_of state) (draft_of draft)
+        (place_of place.now) (view schema.now)) }
+{
+    match identifier(draft, schema) {
+        Some(id) => {
+            let uri = own_uri(alloc, resources.rule(), state.base.as_str(), id)?;
+            entered_by(alloc, resources, place, id, &state, uri)
+        }
+        None => Ok(state),
+    }
+}
+
+/// The base inside the document of a number, whose root is this schema; none where there is no such document.
+fn uri_of_document(
+    alloc: Global,
+    rule: Rule,
+    documents: &Documents<'_>,
+    number: usize,
+    draft: Draft,
+    schema: &Value,
+) -> Result<Option<String>, OutOfMemory>
+    ensures uri { Shows (option_map string_bytes) result
+        (uri_of_document rule (draft_of draft) (view schema.now) (slice_get (held documents.now) number)) }
+{
+    match documents.uri_of(number) {
+        Some(uri) => Ok(Some(root_base(alloc, rule, uri, draft, schema)?)),
+        None => Ok(None),
+    }
+}
+
+/// The state inside a document's root.
+fn entered_root(
+    alloc: Global,
+    documents: &Documents<'_>,
+    resources: &Resources,
+    state: DocumentState,
+    draft: Draft,
+    place: &SchemaPlace,
+    schema: &Value,
+) -> Result<DocumentState, LookupError>
+    ensures entered { Agrees point_of result (entered_root resources.now (held documents.now) (point_of state)
+        (draft_of draft) (place_of place.now) (view schema.now)) }
+{
+    match identifier(draft, schema) {
+        Some(id) => {
+            let rule = resources.rule();
+            let uri = uri_of_document(alloc, rule, documents, place.document, draft, schema)?;
+            entered_by(alloc, resources, place, id, &state, uri)
+        }
+        None => Ok(state),
+    }
+}
+
+/// The state inside what stands at a place.
+///
+/// # Errors
+///
+/// A refusal of an identifier that no resource at this place has, and `OutOfMemory` if memory cannot be allocated.
+pub fn entered(
+    alloc: Global,
+    documents: &Documents<'_>,
+    resources: &Resources,
+    state: &DocumentState,
+    draft: Draft,
+    place: &SchemaPlace,
+    value: Option<&Value>,
+) -> Result<DocumentState, LookupError>
+    ensures entered { Agrees point_of result (entered resources.now (held documents.now) (point_of state.now)
+        (draft_of draft) (place_of place.now) (value_read value.entry)) }
+{
+    let state = state.clone()?;
+    match value {
+        None => Ok(state),
+        Some(schema) => {
+            if place.path.len() == 0 {
+                entered_root(alloc, documents, resources, state, draft, place, schema)
+            } else {
+                entered_below(alloc, resources, state, draft, place, schema)
+            }
+        }
+    }
+}

@@ -1,0 +1,169 @@
+//! The walk of a document, from schemas to their subschemas.
+ghost use Rattle.std.specs.Prelude.{◌≡◌, ◌<◌, ℕ, IfOk, map};
+ghost use Rattle.std.specs.List.{filter};
+ghost use Rattle.serde_json.specs.Data.{depth};
+ghost use Rattle.serde_json.specs.View.{view};
+ghost use Rattle.schema_drafts.specs.KeywordViews.{draft_of};
+ghost use Rattle.standard_resolver.specs.DocumentResources.{goes_into, visited_below, walked};
+ghost use Rattle.standard_resolver.specs.ResourceSpeaking.{speaking, speaks, kept};
+ghost use Rattle.standard_resolver.specs.DocumentViews.{visited_of, path_over};
+ghost use Rattle.schema_traits.specs.Showing.{Yields, Shows};
+ghost use Rattle.standard_resolver.specs.DocumentShowing.{Appends};
+
+use schema_drafts::keywords::Draft;
+use schema_reports::location::OutOfMemory;
+use schema_traits::schema_place::SchemaPath;
+use serde_json::Value;
+use standard_subschemas::drafts::detected;
+use standard_subschemas::identifiers::{dynamic_name, identifier, plain_name};
+use standard_subschemas::plain::is_plain;
+use standard_subschemas::rules::Rule;
+use standard_subschemas::subschemas::{FoundSchema, subschemas_found};
+use standard_subschemas::uris::{or_base, uri_of};
+use std::alloc::Global;
+
+/// A schema that the walk comes to: its path, the base around it, the draft that it is read in, and itself.
+#[derive(Drop)]
+pub struct Visited<'a> {
+    pub path: SchemaPath,
+    pub base: String,
+    pub draft: Draft,
+    pub schema: &'a Value,
+}
+
+/// Whether the walk goes into a schema: into all, or into those without an identifier alone.
+fn goes_into(everywhere: bool, draft: Draft, schema: &Value) -> bool
+    ensures goes { result ≡ goes_into everywhere (draft_of draft) (view schema.now) }
+{
+    everywhere || identifier(draft, schema).is_none()
+}
+
+/// Whether a schema has what the walk looks for: an identifier, if it goes into all schemas, and else a name.
+fn speaks(rule: Rule, everywhere: bool, draft: Draft, schema: &Value) -> bool
+    ensures speaks { result ≡ speaks rule everywhere (draft_of draft) (view schema.now) }
+{
+    if everywhere {
+        identifier(draft, schema).is_some()
+    } else {
+        plain_name(rule, draft, schema).is_some() || dynamic_name(rule, draft, schema).is_some()
+    }
+}
+
+/// What a walk looks for, and by which rule: identifiers, if it goes into all schemas, and else names.
+#[derive(Clone, Copy)]
+struct Aim {
+    rule: Rule,
+    everywhere: bool,
+}
+
+/// The path from a document's root over a schema's path and then from subschema to subschema.
+fn path_over(
+    alloc: Global,
+    path: &SchemaPath,
+    way: &[FoundSchema<'_>],
+) -> Result<SchemaPath, OutOfMemory>
+    ensures path { Yields result (path_over path.now way.now) }
+{
+    let mut over = path.clone()?;
+    for found in way {
+        found.add_steps(alloc, &mut over)?;
+    }
+    Ok(over)
+}
+
+/// Adds a schema that the walk has come to, where it has what the walk looks for.
+fn keep<'a>(
+    alloc: Global,
+    aim: Aim,
+    path: &SchemaPath,
+    way: &[FoundSchema<'a>],
+    base: &str,
+    draft: Draft,
+    schema: &'a Value,
+    visited: &mut Vec<Visited<'a>>,
+) -> Result<(), OutOfMemory>
+    ensures kept { IfOk result (λ _. Appends visited_of visited.old.items visited.new.items
+        (kept aim.rule aim.everywhere
+        (record { path = path_over path.now way.now; base = base.now; draft = draft_of draft; schema = view schema.now }))) }
+{
+    if speaks(aim.rule, aim.everywhere, draft, schema) {
+        visited.push(Visited {
+            path: path_over(alloc, path, way)?,
+            base: String::from_str(alloc, base)?,
+            draft,
+            schema,
+        })?;
+    }
+    Ok(())
+}
+
+/// Adds the schemas below a schema that have what the walk looks for. It lies at a path and then on the way; the base is that inside it.
+fn visit_below<'a>(
+    alloc: Global,
+    aim: Aim,
+    path: &SchemaPath,
+    way: &mut Vec<FoundSchema<'a>>,
+    base: &str,
+    draft: Draft,
+    schema: &'a Value,
+    visited: &mut Vec<Visited<'a>>,
+) -> Result<(), OutOfMemory>
+    ensures way { IfOk result (λ _. way.new.items ≡ way.old.items) }
+    ensures visited { IfOk result (λ _. (n : ℕ) → depth (view schema.now) < n →
+        Appends visited_of visited.old.items visited.new.items (filter (speaking aim.rule aim.everywhere)
+        (visited_below aim.rule aim.everywhere n (path_over path.now way.old.items) base.now (draft_of draft)
+        (view schema.now)))) }
+{
+    for found in &subschemas_found(alloc, aim.rule, draft, schema)? {
+        let below = found.schema;
+        if is_plain(aim.rule, below) {
+            continue;
+        }
+        let draft = detected(draft, below);
+        if !goes_into(aim.everywhere, draft, below) {
+            continue;
+        }
+        way.push(*found)?;
+        let on_way = way.as_slice();
+        keep(alloc, aim, path, on_way, base, draft, below, visited)?;
+        let own = uri_of(alloc, aim.rule, base, draft, below)?;
+        let inside = or_base(&own, base);
+        visit_below(alloc, aim, path, way, inside, draft, below, visited)?;
+        way.pop();
+    }
+    Ok(())
+}
+
+/// What a walk finds below a schema, in its order: the schemas that have an identifier, if it goes everywhere, and else those that
+/// have a name, where it goes into no schema with an identifier. The base is the one inside the schema.
+///
+/// # Errors
+///
+/// Fails only if memory cannot be allocated.
+pub fn walked<'a>(
+    alloc: Global,
+    rule: Rule,
+    everywhere: bool,
+    path: &SchemaPath,
+    base: &str,
+    draft: Draft,
+    schema: &'a Value,
+) -> Result<Vec<Visited<'a>>, OutOfMemory>
+    ensures walked { Shows (λ v. map visited_of v.items) result
+        (filter (speaking rule everywhere) (walked rule everywhere path.now base.now (draft_of draft) (view schema.now))) }
+{
+    let mut visited = Vec::new(alloc);
+    let mut way = Vec::new(alloc);
+    let aim = Aim { rule, everywhere };
+    visit_below(
+        alloc,
+        aim,
+        path,
+        &mut way,
+        base,
+        draft,
+        schema,
+        &mut visited,
+    )?;
+    Ok(visited)
+}

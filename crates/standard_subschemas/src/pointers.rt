@@ -1,0 +1,161 @@
+//! Pointers, and the paths that they name (sections 3 and 4 of RFC 6901).
+ghost use Rattle.std.specs.Prelude.{◌≡◌, option_map, string_bytes, ◌==◌};
+ghost use Rattle.std.specs.List.{slice_split};
+ghost use Rattle.std.specs.Str.{all_ascii_digits};
+ghost use Rattle.std.specs.Str.Lossy.{utf8_lossy};
+ghost use Rattle.percent_encoding.specs.Percent.{percent_decode};
+ghost use Rattle.serde_json.specs.Find.{unescape};
+ghost use Rattle.serde_json.specs.View.{view};
+ghost use Rattle.schema_traits.specs.SchemaViews.{schema_step_of};
+ghost use Rattle.standard_subschemas.specs.DocumentPointersLead.{PointersLead};
+ghost use Rattle.standard_subschemas.specs.DocumentPointers.{index_named, is_index, path_named, path_of_pointer, step_named};
+ghost use Rattle.schema_traits.specs.Showing.{Yields, Shows};
+
+use crate::steps::value_below;
+use percent_encoding::percent_decode;
+use schema_reports::location::OutOfMemory;
+use schema_traits::schema_place::{SchemaPath, SchemaStep};
+use serde_json::Value;
+use std::alloc::Global;
+use std::rc::RcStr;
+
+/// The text that a fragment stands for.
+///
+/// # Errors
+///
+/// Fails only if memory cannot be allocated.
+pub fn decoded(alloc: Global, fragment: &str) -> Result<String, OutOfMemory>
+    ensures decoded { Shows string_bytes result (utf8_lossy (percent_decode fragment.now)) }
+{
+    percent_decode(fragment.as_bytes())
+        .decode_utf8_lossy(alloc)?
+        .into_owned(alloc)
+}
+
+/// A segment with `~1` read as `/` and `~0` as `~`.
+fn unescaped(alloc: Global, segment: &str) -> Result<String, OutOfMemory>
+    ensures unescaped { Shows string_bytes result (unescape segment.now) }
+{
+    let mut text = String::new(alloc);
+    let mut rest = segment;
+    'escapes: while let Some((before, after)) = rest.split_once('~') {
+        text.push_str(before)?;
+        if let Some(more) = after.strip_prefix('1') {
+            text.push_str("/")?;
+            rest = more;
+        } else if let Some(more) = after.strip_prefix('0') {
+            text.push_str("~")?;
+            rest = more;
+        } else {
+            text.push_str("~")?;
+            rest = after;
+        }
+    }
+    text.push_str(rest)?;
+    Ok(text)
+}
+
+/// Whether all bytes are digits.
+fn all_digits(bytes: &[u8]) -> bool
+    ensures digits { result ≡ all_ascii_digits bytes.now }
+{
+    for byte in bytes {
+        if *byte < b'0' || *byte > b'9' {
+            return false;
+        }
+    }
+    true
+}
+
+/// Whether a segment is digits, with no 0 before another.
+fn is_index(segment: &[u8]) -> bool
+    ensures index { result ≡ is_index segment.now }
+{
+    if segment.is_empty() {
+        return false;
+    }
+    if segment.len() > 1 && segment[0] == b'0' {
+        return false;
+    }
+    all_digits(segment)
+}
+
+/// The index that a segment is.
+fn index_named(segment: &str) -> Option<usize>
+    ensures index { result ≡ index_named segment.now }
+{
+    if is_index(segment.as_bytes()) {
+        segment.parse().ok()
+    } else {
+        None
+    }
+}
+
+/// The step that a segment names from a value.
+fn step_named(
+    alloc: Global,
+    segment: &str,
+    value: &Value,
+) -> Result<Option<SchemaStep>, OutOfMemory>
+    ensures step { Shows (option_map schema_step_of) result (step_named segment.now (view value.now)) }
+{
+    match value {
+        Value::Object(_) => Ok(Some(SchemaStep::Member(RcStr::from_string(unescaped(
+            alloc, segment,
+        )?)?))),
+        Value::Array(_) => match index_named(segment) {
+            Some(index) => Ok(Some(SchemaStep::Item(index))),
+            None => Ok(None),
+        },
+        _ => Ok(None),
+    }
+}
+
+/// The path that the segments between slashes name.
+fn path_of_segments(
+    alloc: Global,
+    segments: &str,
+    document: &Value,
+) -> Result<Option<SchemaPath>, OutOfMemory>
+    ensures path { Yields result (path_named (slice_split (λ b. b == 47) segments.now) (view document.now)) }
+{
+    let mut path = SchemaPath::root(alloc);
+    let mut reached = document;
+    for segment in segments.split('/') {
+        let Some(step) = step_named(alloc, segment, reached)? else {
+            return Ok(None);
+        };
+        let Some(below) = value_below(reached, &step) else {
+            return Ok(None);
+        };
+        path.push(step)?;
+        reached = below;
+    }
+    Ok(Some(path))
+}
+
+/// The path that a pointer names in a document, where each step leads to something: a member's name, or an item's index from 0.
+///
+/// # Errors
+///
+/// Fails only if memory cannot be allocated.
+pub fn path_of_pointer(
+    alloc: Global,
+    pointer: &str,
+    document: &Value,
+) -> Result<Option<SchemaPath>, OutOfMemory>
+    ensures path { Yields result (path_of_pointer pointer.now (view document.now)) }
+{
+    if pointer.is_empty() {
+        return Ok(Some(SchemaPath::root(alloc)));
+    }
+    match pointer.strip_prefix('/') {
+        Some(segments) => path_of_segments(alloc, segments, document),
+        None => Ok(None),
+    }
+}
+
+/// The pointer of a place leads back to it, in every document that has something there: a law, which does nothing.
+pub fn pointers_lead()
+    ensures lead { PointersLead }
+{}

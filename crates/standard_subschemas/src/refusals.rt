@@ -1,0 +1,27 @@
+//! Refusals of a lookup.
+ghost use Rattle.std.specs.Prelude.{◌++◌, string_bytes};
+ghost use Rattle.schema_traits.specs.Showing.{Shows};
+ghost use Rattle.standard_subschemas.specs.Refusals.{RefusesWith};
+
+use schema_reports::location::OutOfMemory;
+use schema_traits::resolver::LookupError;
+use std::alloc::Global;
+
+/// Two texts, one after the other.
+fn joined(alloc: Global, first: &str, second: &str) -> Result<String, OutOfMemory>
+    ensures joined { Shows string_bytes result (first.now ++ second.now) }
+{
+    let mut text = String::from_str(alloc, first)?;
+    text.push_str(second)?;
+    Ok(text)
+}
+
+/// A refusal with a text, and what it is about.
+pub fn refusal(alloc: Global, text: &str, about: &str) -> LookupError
+    ensures refused { RefusesWith (text.now ++ about.now) result }
+{
+    match joined(alloc, text, about) {
+        Ok(text) => LookupError::Refused(text),
+        Err(_) => LookupError::OutOfMemory,
+    }
+}
