@@ -14,16 +14,16 @@ pub mod arguments;
 pub mod faults;
 pub mod requests;
 
+use crate::narrow::narrow_resolver;
 use crate::program::answers::{Answer, ask};
 use crate::program::faults::Fault;
 use crate::program::requests::{Request, request_in};
 use bench_parts::matcher::BenchMatcher;
 use bench_parts::meta::BenchMeta;
-use schema_drafts::keywords::VocabularySet;
+use schema_drafts::keywords::{Draft, VocabularySet};
 use schema_engine::validator::Validator;
 use standard_basics::keyword::BasicKeyword;
 use standard_basics::table::BasicTable;
-use standard_resolver::DocumentResolver;
 use std::alloc::Global;
 use std::io;
 use std::io::Write;
@@ -74,7 +74,12 @@ fn answer_to(alloc: Global, words: &[Vec<u8>]) -> Result<Answer, Fault>
         instance,
         unfinished,
     } = request_in(alloc, words)?;
-    let resolver = DocumentResolver::new(alloc, &schema, VocabularySet::new(alloc))?;
+    let resolver = narrow_resolver(
+        alloc,
+        Draft::Draft202012,
+        &schema,
+        VocabularySet::new(alloc),
+    )?;
     let matcher = BenchMatcher::new(unfinished);
     let validator = Validator::<BasicKeyword, BenchMatcher>::new(
         alloc,

@@ -19,7 +19,7 @@ use schema_engine::options::ValidationOptions;
 use schema_engine::validator::Validator;
 use serde_json::Value;
 use standard_keywords::table::{StandardKeyword, StandardTable};
-use standard_resolver::{Document, StandardResolver};
+use standard_resolver::{Document, DocumentResolver, Rule};
 use std::alloc::Global;
 
 /// A validator with the standard's keywords; it borrows its schema's patterns.
@@ -54,7 +54,8 @@ fn options_for(
     options.with_base_uri(alloc, uri_of(sources))
 }
 
-fn resolver_of<'a>(alloc: Global, sources: Sources<'a>) -> Result<StandardResolver<'a>, OutOfMemory>
+/// The resolver of the schema and the documents.
+fn resolver_of<'a>(alloc: Global, sources: Sources<'a>) -> Result<DocumentResolver<'a>, OutOfMemory>
     ensures rule { GoesBy result Standard }
     ensures uri { IsUnder result (uri_of sources.entry) }
     ensures document { Holds result sources.entry.schema }
@@ -68,8 +69,9 @@ fn resolver_of<'a>(alloc: Global, sources: Sources<'a>) -> Result<StandardResolv
         uri: String::from_str(alloc, uri_of(&sources))?,
         value: sources.schema,
     };
-    StandardResolver::of_documents(
+    DocumentResolver::new(
         alloc,
+        Rule::Standard,
         draft,
         root,
         sources.documents,
@@ -81,14 +83,14 @@ fn resolver_of<'a>(alloc: Global, sources: Sources<'a>) -> Result<StandardResolv
 fn build_by<'p, V: MetaValidators>(
     alloc: Global,
     schema: &Value,
-    resolver: &StandardResolver<'_>,
+    resolver: &DocumentResolver<'_>,
     patterns: &'p Patterns,
     metas: &V,
     options: &ValidationOptions,
 ) -> Result<StandardValidator<'p>, BuildError>
-    ensures built { IfOk result (λ p. IsBuilt ⟦<StandardResolver<'p> as Resolver>⟧ ⟦<StandardTable as KeywordTable<StandardKeyword>>⟧
+    ensures built { IfOk result (λ p. IsBuilt ⟦<DocumentResolver<'p> as Resolver>⟧ ⟦<StandardTable as KeywordTable<StandardKeyword>>⟧
         ⟦<StandardKeyword as Validate>⟧ resolver.now patterns.now (V.checked metas.now) options.now (view schema.now) p) }
-    ensures refused { IfErr result (λ e. (e ≡ OutOfMemory) ⊎ IsRefused ⟦<StandardResolver<'p> as Resolver>⟧
+    ensures refused { IfErr result (λ e. (e ≡ OutOfMemory) ⊎ IsRefused ⟦<DocumentResolver<'p> as Resolver>⟧
         ⟦<StandardTable as KeywordTable<StandardKeyword>>⟧ ⟦<StandardKeyword as Validate>⟧ resolver.now patterns.now (V.checked metas.now)
         options.now (view schema.now) e) }
 {
@@ -113,9 +115,9 @@ pub fn build<'p, V: MetaValidators>(
     metas: &V,
     options: ValidationOptions,
 ) -> Result<StandardValidator<'p>, BuildError>
-    ensures built { IfOk result (λ p. IsBuiltOf ⟦<StandardResolver<'p> as Resolver>⟧ ⟦<StandardTable as KeywordTable<StandardKeyword>>⟧
+    ensures built { IfOk result (λ p. IsBuiltOf ⟦<DocumentResolver<'p> as Resolver>⟧ ⟦<StandardTable as KeywordTable<StandardKeyword>>⟧
         ⟦<StandardKeyword as Validate>⟧ (V.checked metas.now) options sources.entry patterns.now p) }
-    ensures refused { IfErr result (λ e. (e ≡ OutOfMemory) ⊎ IsRefusedOf ⟦<StandardResolver<'p> as Resolver>⟧
+    ensures refused { IfErr result (λ e. (e ≡ OutOfMemory) ⊎ IsRefusedOf ⟦<DocumentResolver<'p> as Resolver>⟧
         ⟦<StandardTable as KeywordTable<StandardKeyword>>⟧ ⟦<StandardKeyword as Validate>⟧ (V.checked metas.now)
         options sources.entry patterns.now e) }
 {

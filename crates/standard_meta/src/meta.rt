@@ -24,7 +24,7 @@ use schema_reports::location::OutOfMemory;
 use schema_reports::reports::ValidationError;
 use serde_json::Value;
 use standard_keywords::table::{StandardKeyword, StandardTable};
-use standard_resolver::{Document, DocumentResolver};
+use standard_resolver::{Document, DocumentResolver, Rule};
 use std::alloc::Global;
 
 type StandardChecker<'p> = Checker<StandardKeyword, RegexMatcher<'p>>;
@@ -62,7 +62,8 @@ fn resolver_of<'p>(
         value: &root.value,
     };
     let others = others(alloc, documents, root.uri)?;
-    DocumentResolver::with_documents(alloc, draft, first, others, VocabularySet::new(alloc))
+    let vocabularies = VocabularySet::new(alloc);
+    DocumentResolver::new(alloc, Rule::Narrow, draft, first, others, vocabularies)
 }
 
 /// Compiles the meta-schema of a draft. What it says of matches is what the matcher says.

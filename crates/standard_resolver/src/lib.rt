@@ -18,6 +18,7 @@ mod walk;
 pub use crate::documents::Document;
 pub use crate::places::root_place;
 pub use crate::references::starts_at_the_innermost_resource;
-pub use crate::resolver::{DocumentResolver, DocumentState, StandardResolver, StatePoint};
+pub use crate::resolver::{DocumentResolver, DocumentState, StatePoint};
 pub use crate::rows::{standard_rows, worked_rows};
 pub use crate::vocabularies::DraftVocabularies;
+pub use standard_subschemas::rules::Rule;

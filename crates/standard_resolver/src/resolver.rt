@@ -1,10 +1,6 @@
 //! The resolver.
-ghost use Rattle.std.specs.Prelude.{◌≡◌, [], IfOk, codes, map, string_bytes};
-ghost use Rattle.serde_json.specs.View.{view};
-ghost use Rattle.theory_definitions.specs.Drafts.{draft_2020_12};
+ghost use Rattle.std.specs.Prelude.{◌≡◌, IfOk, map, string_bytes};
 ghost use Rattle.schema_drafts.specs.KeywordViews.{draft_of};
-ghost use Rattle.standard_subschemas.specs.declared.rules.Rule.TheVariants.{Narrow, Standard};
-ghost use Rattle.standard_subschemas.specs.SubschemaRules.{document_uri};
 ghost use Rattle.standard_resolver.specs.ResolverAnswers.{document_resolving, HasRoot, FindsRoot};
 ghost use Rattle.standard_resolver.specs.DocumentViews.{given_of};
 ghost use Rattle.standard_resolver.specs.ResolverHolds.{Customs, Defaults, Drafts, GoesBy, Holds, IsUnder, Others};
@@ -31,9 +27,6 @@ use standard_subschemas::uris::resolve_uri;
 use std::alloc::Global;
 use std::marker::Model;
 use std::rc::{Rc, RcStr};
-
-/// A resolver of documents by the standard's rule: it is made by `of_document` or `of_documents`.
-pub type StandardResolver<'a> = DocumentResolver<'a>;
 
 /// Where a run of the resolver is: the base URI of its resource, and the numbers of the resources that it entered. Clones share both.
 #[derive(Clone, PartialEq, Eq, Hash, Drop)]
@@ -92,146 +85,17 @@ impl<'a> Model for DocumentResolver<'a> {
 }
 
 impl<'a> DocumentResolver<'a> {
-    /// A resolver of this document in the draft 2020-12, by the narrow rule. The document is found under its root's identifier without a
-    /// fragment, or under `json-schema:///`. The vocabularies are required ones: they are in force in every draft, beside the draft's own.
+    /// Makes a resolver of a root document and others, by a rule.
+    ///
+    /// Build with the root's URI as the base. By the narrow rule a document is found under the URI that it is supplied under; by the
+    /// standard's also under its root's identifier. Of several documents with one URI the first is found. `draft` is the draft that a
+    /// document, and the path to a target, are read in if no `$schema` says otherwise. The vocabularies are required ones: they are in
+    /// force in every draft, beside the draft's own.
     ///
     /// # Errors
     ///
-    /// Fails only if memory cannot be allocated.
+    /// Out of memory.
     pub fn new(
-        alloc: Global,
-        document: &'a Value,
-        vocabularies: VocabularySet,
-    ) -> Result<DocumentResolver<'a>, OutOfMemory>
-        ensures rule { GoesBy result Narrow }
-        ensures document { Holds result document.now }
-        ensures uri { IsUnder result (document_uri draft_2020_12 (view document.now)) }
-        ensures alone { Others result [] }
-        ensures draft { Defaults result draft_2020_12 }
-        ensures drafts { Drafts result vocabularies }
-        ensures custom { Customs result vocabularies }
-        ensures root_value { IfOk result (HasRoot document.now) }
-        ensures root { IfOk result FindsRoot }
-    {
-        DocumentResolver::with_draft(alloc, Draft::Draft202012, document, vocabularies)
-    }
-
-    /// A resolver of this document by the narrow rule, as `new` makes it, in a default draft: the one that the document and the way to
-    /// a target are read by, where no `$schema` says otherwise. A build takes the root's draft from its own option, or else 2020-12.
-    ///
-    /// # Errors
-    ///
-    /// Fails only if memory cannot be allocated.
-    pub fn with_draft(
-        alloc: Global,
-        draft: Draft,
-        document: &'a Value,
-        vocabularies: VocabularySet,
-    ) -> Result<DocumentResolver<'a>, OutOfMemory>
-        ensures rule { GoesBy result Narrow }
-        ensures document { Holds result document.now }
-        ensures uri { IsUnder result (document_uri (draft_of draft) (view document.now)) }
-        ensures alone { Others result [] }
-        ensures draft { Defaults result (draft_of draft) }
-        ensures drafts { Drafts result vocabularies }
-        ensures custom { Customs result vocabularies }
-        ensures root_value { IfOk result (HasRoot document.now) }
-        ensures root { IfOk result FindsRoot }
-    {
-        let uri = match identifier(detected(draft, document), document) {
-            Some(uri) => String::from_str(alloc, without_fragment(uri))?,
-            None => String::from_str(alloc, "json-schema:///")?,
-        };
-        let root = Document {
-            uri,
-            value: document,
-        };
-        DocumentResolver::with_documents(alloc, draft, root, Vec::new(alloc), vocabularies)
-    }
-
-    /// A resolver of several documents by the narrow rule, each found under the URI that it is given with. The first is the root's.
-    ///
-    /// # Errors
-    ///
-    /// Fails only if memory cannot be allocated.
-    pub fn with_documents(
-        alloc: Global,
-        draft: Draft,
-        root: Document<'a>,
-        others: Vec<Document<'a>>,
-        vocabularies: VocabularySet,
-    ) -> Result<DocumentResolver<'a>, OutOfMemory>
-        ensures rule { GoesBy result Narrow }
-        ensures document { Holds result root.entry.value.now }
-        ensures uri { IsUnder result (string_bytes root.entry.uri) }
-        ensures others { Others result (map given_of others.entry.items) }
-        ensures draft { Defaults result (draft_of draft) }
-        ensures drafts { Drafts result vocabularies }
-        ensures custom { Customs result vocabularies }
-        ensures root_value { IfOk result (HasRoot root.entry.value.now) }
-        ensures root { IfOk result FindsRoot }
-    {
-        DocumentResolver::by_rule(alloc, Rule::Narrow, draft, root, others, vocabularies)
-    }
-
-    /// A resolver of this document by the standard's rule, in a default draft, which it and the way to a target are read by where no
-    /// `$schema` says otherwise. The document is handed in under `json-schema:///`, and found under its root's identifier too: build with
-    /// `json-schema:///` as the base. The vocabularies are in force in every draft, beside the draft's own.
-    ///
-    /// # Errors
-    ///
-    /// Fails only if memory cannot be allocated.
-    pub fn of_document(
-        alloc: Global,
-        draft: Draft,
-        document: &'a Value,
-        vocabularies: VocabularySet,
-    ) -> Result<DocumentResolver<'a>, OutOfMemory>
-        ensures rule { GoesBy result Standard }
-        ensures document { Holds result document.now }
-        ensures uri { IsUnder result (codes "json-schema:///") }
-        ensures alone { Others result [] }
-        ensures draft { Defaults result (draft_of draft) }
-        ensures drafts { Drafts result vocabularies }
-        ensures custom { Customs result vocabularies }
-        ensures root_value { IfOk result (HasRoot document.now) }
-        ensures root { IfOk result FindsRoot }
-    {
-        let root = Document {
-            uri: String::from_str(alloc, "json-schema:///")?,
-            value: document,
-        };
-        DocumentResolver::of_documents(alloc, draft, root, Vec::new(alloc), vocabularies)
-    }
-
-    /// A resolver of several documents by the standard's rule. Each is handed in under a URI, and found under it and under its root's
-    /// identifier. The first is the root's: build with its URI as the base. Of several with one URI the first is found.
-    ///
-    /// # Errors
-    ///
-    /// Fails only if memory cannot be allocated.
-    pub fn of_documents(
-        alloc: Global,
-        draft: Draft,
-        root: Document<'a>,
-        others: Vec<Document<'a>>,
-        vocabularies: VocabularySet,
-    ) -> Result<DocumentResolver<'a>, OutOfMemory>
-        ensures rule { GoesBy result Standard }
-        ensures document { Holds result root.entry.value.now }
-        ensures uri { IsUnder result (string_bytes root.entry.uri) }
-        ensures others { Others result (map given_of others.entry.items) }
-        ensures draft { Defaults result (draft_of draft) }
-        ensures drafts { Drafts result vocabularies }
-        ensures custom { Customs result vocabularies }
-        ensures root_value { IfOk result (HasRoot root.entry.value.now) }
-        ensures root { IfOk result FindsRoot }
-    {
-        DocumentResolver::by_rule(alloc, Rule::Standard, draft, root, others, vocabularies)
-    }
-
-    /// A resolver of several documents by a rule.
-    fn by_rule(
         alloc: Global,
         rule: Rule,
         draft: Draft,

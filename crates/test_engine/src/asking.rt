@@ -3,7 +3,8 @@
 //! Only the functions here build by `Validator::new` or by options, and call the validators.
 use bench_parts::matcher::BenchMatcher;
 use bench_parts::meta::BenchMeta;
-use schema_drafts::keywords::VocabularySet;
+use bench_program::narrow::narrow_resolver;
+use schema_drafts::keywords::{Draft, VocabularySet};
 use schema_engine::options::ValidationOptions;
 use schema_engine::validator::Validator;
 use schema_keys::error::BuildError;
@@ -34,7 +35,8 @@ pub(crate) struct Parts<'r> {
 /// Column 1 is the schema, and column 4 the list of the patterns.
 pub(crate) fn parts_of(alloc: Global, row: &Value) -> Result<Parts<'_>, OutOfMemory> {
     let matcher = BenchMatcher::new(texts_of(alloc, list_at(row, 4))?);
-    match DocumentResolver::new(alloc, column(row, 1), VocabularySet::new(alloc)) {
+    let vocabularies = VocabularySet::new(alloc);
+    match narrow_resolver(alloc, Draft::Draft202012, column(row, 1), vocabularies) {
         Ok(resolver) => Ok(Parts { resolver, matcher }),
         Err(failed) => {
             drop(matcher);

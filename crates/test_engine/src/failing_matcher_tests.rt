@@ -4,7 +4,8 @@
 //! neither.
 use crate::asking::{built, push_answers, push_refusal};
 use bench_parts::meta::BenchMeta;
-use schema_drafts::keywords::VocabularySet;
+use bench_program::narrow::narrow_resolver;
+use schema_drafts::keywords::{Draft, VocabularySet};
 use schema_engine::validate;
 use schema_engine::validator::Validator;
 use schema_keys::error::BuildError;
@@ -67,7 +68,8 @@ pub(crate) fn tell_failure(
     row: &Value,
     log: &mut String,
 ) -> Result<(), OutOfMemory> {
-    let resolver = DocumentResolver::new(alloc, column(row, 1), VocabularySet::new(alloc))?;
+    let vocabularies = VocabularySet::new(alloc);
+    let resolver = narrow_resolver(alloc, Draft::Draft202012, column(row, 1), vocabularies)?;
     let matcher = FailingMatcher { left: Cell::new(0) };
     let told = first_of::<BasicKeyword, BasicTable, DocumentResolver, FailingMatcher>(
         alloc,
@@ -143,7 +145,8 @@ pub(crate) fn tell_wanting(
     row: &Value,
     log: &mut String,
 ) -> Result<(), OutOfMemory> {
-    let resolver = DocumentResolver::new(alloc, column(row, 1), VocabularySet::new(alloc))?;
+    let vocabularies = VocabularySet::new(alloc);
+    let resolver = narrow_resolver(alloc, Draft::Draft202012, column(row, 1), vocabularies)?;
     let matcher = FailingMatcher {
         left: Cell::new(number_at(row, 4).unwrap_or(0)),
     };

@@ -4,7 +4,8 @@
 use crate::asking::push_refusal;
 use bench_parts::matcher::BenchMatcher;
 use bench_parts::meta::BenchMeta;
-use schema_engine::keywords::VocabularySet;
+use bench_program::narrow::narrow_resolver;
+use schema_engine::keywords::{Draft, VocabularySet};
 use schema_engine::map::ValidatorMap;
 use schema_engine::options::ValidationOptions;
 use schema_keys::error::BuildError;
@@ -64,7 +65,8 @@ fn tell_name<K: Validate, T: KeywordTable<K>, R: Resolver, M: Matcher>(
 /// Like `tell_name`, if 2019-09 alone requires the custom vocabulary.
 pub(crate) fn tell_names(alloc: Global, row: &Value, log: &mut String) -> Result<(), OutOfMemory> {
     let by_draft = requiring_in_2019_09(alloc)?;
-    match DocumentResolver::new(alloc, column(row, 1), VocabularySet::new(alloc)) {
+    let vocabularies = VocabularySet::new(alloc);
+    match narrow_resolver(alloc, Draft::Draft202012, column(row, 1), vocabularies) {
         Ok(plain) => {
             let resolver = plain.with_draft_vocabularies(by_draft);
             let matcher = BenchMatcher::new(Vec::new(alloc));

@@ -1,11 +1,12 @@
 //! The parts that the schema of a case is built with.
 
 use bench_parts::matcher::BenchMatcher;
+use bench_program::narrow::narrow_resolver;
 use schema_engine::keywords::{Draft, Vocabulary, VocabularySet};
 use schema_engine::location::OutOfMemory;
 use schema_engine::options::ValidationOptions;
 use serde_json::Value;
-use standard_resolver::{Document, DocumentResolver};
+use standard_resolver::{Document, DocumentResolver, Rule};
 use std::alloc::Global;
 use test_rows::case::Case;
 use test_rows::tables::texts_of;
@@ -137,11 +138,11 @@ pub(crate) fn resolver_of<'c>(
     let required = required_by(alloc, case)?;
     let draft = default_draft(case);
     let Some(uri) = case.text("uri") else {
-        return DocumentResolver::with_draft(alloc, draft, case.schema, required);
+        return narrow_resolver(alloc, draft, case.schema, required);
     };
     let root = document(alloc, uri, case.schema)?;
     let others = further_documents(alloc, case.list("documents"))?;
-    DocumentResolver::with_documents(alloc, draft, root, others, required)
+    DocumentResolver::new(alloc, Rule::Narrow, draft, root, others, required)
 }
 
 // Returns the matcher that leaves a case's patterns unfinished.

@@ -10,7 +10,7 @@ use schema_keys::options::CompileOptions;
 use schema_reports::location::{Location, OutOfMemory};
 use schema_traits::resolver::Resolver;
 use serde_json::Value;
-use standard_resolver::DocumentResolver;
+use standard_resolver::{Document, DocumentResolver, Rule};
 use std::alloc::Global;
 use test_rows::tables::{column, number_at, push_all, text_at};
 
@@ -167,7 +167,20 @@ pub(crate) fn tell_context(
     row: &Value,
     log: &mut String,
 ) -> Result<(), OutOfMemory> {
-    let resolver = DocumentResolver::new(alloc, column(row, 1), VocabularySet::new(alloc))?;
+    let root = Document {
+        uri: String::from_str(alloc, "json-schema:///")?,
+        value: column(row, 1),
+    };
+    let others = Vec::new(alloc);
+    let vocabularies = VocabularySet::new(alloc);
+    let resolver = DocumentResolver::new(
+        alloc,
+        Rule::Narrow,
+        Draft::Draft202012,
+        root,
+        others,
+        vocabularies,
+    )?;
     let told = tell_of(alloc, &resolver, row, log);
     drop(resolver);
     told

@@ -4,7 +4,7 @@ use Rattle.schema_drafts.specs.KeywordViews.{draft_of}
 use Rattle.standard_resolver.specs.ResolverDocuments.{Document, document_of}
 use Rattle.standard_resolver.specs.DocumentViews.{given_of}
 use Rattle.standard_resolver.proofs.ResourceLists.{root_found}
-use Rattle.standard_resolver.proofs.resolver.DocumentResolver.by_rule.Goals as goal
+use Rattle.standard_resolver.proofs.resolver.DocumentResolver.new.Goals as goal
 
 pub returns-clause-root : goal.returns-clause-root
 returns-clause-root c =
