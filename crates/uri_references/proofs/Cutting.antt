@@ -1,4 +1,4 @@
--- Where texts are cut.
+-- The positions at which texts are cut.
 use Rattle.std.proofs.Common.{◌≡◌, ◌≢◌, ◌<◌, ◌≤◌, ◌-◌, ◌==◌, ◌∙◌, List, [], ◌∷◌, None, Option, Some, ap, arith, Bor, get_or, length, not, option_map, refl, sym, take, true, ℕ, inl, inr, add-one, suc, zero}
 use Rattle.std.specs.Prelude.{IsCharBoundary, IsUtf8, MatchOption}
 use Rattle.std.specs.List.{position_or_len, slice_range, suffix_len}
@@ -24,7 +24,7 @@ end_is_boundary k t = (
   λ within large. absurd (let small = marks_are_ascii k _ (passes_at_first (ends k) t 0 within) in omega arith),
 )
 
--- what `strip_prefix` leaves is what follows the mark
+-- `strip_prefix` leaves the text after the mark
 pub marked : (r : Option (Bor Text)) (c : ℕ) (t : Text) → MatchOption r ((more : List ℕ) → t ≢ c ∷ more) (λ x. t ≡ c ∷ x.now)
     → option_map (λ x. x.now) r ≡ after_mark c t
 marked None c [] h = refl
@@ -34,7 +34,7 @@ marked None c (d ∷ ds) h = elim (cases_Bool (d == c)) [
 ]
 marked (Some x) c t h = let same : (c == c) ≡ true = (Decides-eqb c c).1 refl in rw h (rw same refl)
 
--- a text up to a slash after which there is none
+-- a text up to its last slash
 pub slashed : (s t : Text) (n : ℕ) → s ≡ t → n ≤ length s → ((k : ℕ) → n ≤ k → k < length s → not (get_or s k 0 == 47) ≡ true)
     → (0 < n → get_or s (n - 1) 0 ≡ 47) → take n t ≡ through_last_slash t
 slashed s t n same within none slash =

@@ -1,5 +1,6 @@
--- A reference has five components, each after a mark of its own: a scheme before `:`, an authority after `//`, a path, a query after
--- `?` and a fragment after `#`. Only the path is always there. (RFC 3986, 3 and appendix B)
+-- A reference has five components: a scheme before `:`, an authority after `//`, a path, a query
+-- after `?` and a fragment after `#`. Only the path is always present. (RFC 3986, section 3 and
+-- appendix B)
 use Rattle.std.specs.Prelude.{Bool, List, None, Option, Some, [], codes, drop, if◌then◌else◌, option_and_then, take, ℕ, ◌++◌, ◌==◌, ◌∷◌}
 use Rattle.std.specs.List.{list_any, position_or_len}
 use Rattle.uri_references.specs.declared.components.Component.{Component}
@@ -22,24 +23,25 @@ ends Authority c = list_any (λ m. m == c) (codes "/?#")
 ends Path c = list_any (λ m. m == c) (codes "?#")
 ends Query c = list_any (λ m. m == c) (codes "#")
 
--- a text up to the first mark that ends the component, and from there on
+-- a text up to the first mark that ends the component
 abbrev pub before : Component → Text → Text
 before k t = take (position_or_len (ends k) t) t
 
+-- a text from that mark on
 abbrev pub rest : Component → Text → Text
 rest k t = drop (position_or_len (ends k) t) t
 
--- what follows a mark with which the text begins
+-- the text after its first byte, if that is the mark
 abbrev pub after_mark : ℕ → Text → Option Text
 after_mark m [] = None
 after_mark m (c ∷ cs) = if c == m then Some cs else None
 
--- a component, if it is there, and what follows it
+-- a component, if there is one, and the text that follows it
 pub record Found : Type 0 where
   pub component : Option Text
   pub left : Text
 
--- `:` is 58: a scheme has a character at least
+-- a scheme has at least one character (`:` is 58)
 abbrev pub scheme_or : Text → Text → Option Text → Found
 scheme_or t s None = record { component = None; left = t }
 scheme_or t [] (Some u) = record { component = None; left = t }
@@ -48,16 +50,16 @@ scheme_or t (c ∷ cs) (Some u) = record { component = Some (c ∷ cs); left = u
 abbrev pub scheme_in : Text → Found
 scheme_in t = scheme_or t (before Scheme t) (after_mark 58 (rest Scheme t))
 
--- the component up to its end, where what stands before it was found
+-- the component up to its end, if the mark before it was found
 abbrev pub up_to_end : Component → Text → Option Text → Found
 up_to_end k t None = record { component = None; left = t }
 up_to_end k t (Some u) = record { component = Some (before k u); left = rest k u }
 
--- `/` is 47, and stands twice before an authority
+-- two slashes come before an authority (`/` is 47)
 abbrev pub authority_in : Text → Found
 authority_in t = up_to_end Authority t (option_and_then (after_mark 47) (after_mark 47 t))
 
--- `?` is 63, and `#` is 35
+-- a query follows `?` (63), and a fragment follows `#` (35)
 abbrev pub query_in : Text → Found
 query_in t = up_to_end Query t (after_mark 63 t)
 
@@ -79,12 +81,12 @@ with_scheme s = with_authority s (authority_in s.left)
 abbrev pub components : Text → Components
 components t = with_scheme (scheme_in t)
 
--- a component with a text before it and one after it; nothing, where it is not there
+-- a component between two texts, or nothing if there is no component
 abbrev pub around : Text → Option Text → Text → Text
 around front None back = []
 around front (Some t) back = front ++ t ++ back
 
--- the text of components (RFC 3986, 5.3)
+-- the text of components (RFC 3986, section 5.3)
 abbrev pub composed : Components → Text
 composed c = around [] c.scheme (codes ":") ++ around (codes "//") c.authority [] ++ c.path ++ around (codes "?") c.query []
     ++ around (codes "#") c.fragment []

@@ -1,5 +1,6 @@
--- A path is cut at its slashes into segments. `.` stands for the level where it is and `..` for the one above it. They are removed, `..`
--- with the segment before it; where such a segment comes last, a slash is left. (RFC 3986, 3.3, 5.2.3 and 5.2.4)
+-- The slashes of a path separate its segments. The segment `.` means the same level and `..` the
+-- level above. Both are removed, `..` together with the segment before it; if one of them comes
+-- last, a slash remains. (RFC 3986, sections 3.3, 5.2.3 and 5.2.4)
 use Rattle.std.specs.Prelude.{Bool, List, [], bytes_eq, codes, false, fold, if◌then◌else◌, length, not, take, true, ◌++◌, ◌-◌, ◌==◌, ◌∷◌}
 use Rattle.std.specs.List.{concat, slice_split, suffix_len}
 use Rattle.uri_references.specs.Components.{Text}
@@ -8,8 +9,8 @@ use Rattle.uri_references.specs.Components.{Text}
 abbrev pub segments : Text → List Text
 segments p = slice_split (λ c. c == 47) p
 
--- what is kept of the segments so far, from the first on: the pieces; whether there was a segment that is no dots; and whether the path
--- is left open, to end with a slash
+-- the output so far: the pieces that were kept, whether any segment was kept, and whether the path
+-- ends with a slash
 pub record Walk : Type 0 where
   pub pieces : List Text
   pub begun : Bool
@@ -21,12 +22,12 @@ start = record { pieces = []; begun = false; open_end = false }
 abbrev pub all_but_last : List Text → List Text
 all_but_last ps = take (length ps - 1) ps
 
--- the first piece has no slash before it
+-- a segment as it is kept: all but the first have a slash before them
 abbrev pub piece : Bool → Text → Text
 piece false s = s
 piece true s = 47 ∷ s
 
--- dots that no other segment comes before lead nowhere, and leave nothing
+-- after dots the path ends with a slash, unless no segment was kept before them
 abbrev pub left_with : List Text → Walk → Walk
 left_with ps w = record { pieces = ps; begun = w.begun; open_end = w.begun }
 
@@ -47,6 +48,6 @@ walk_text w = concat w.pieces ++ closing w.open_end
 abbrev pub without_dots : Text → Text
 without_dots p = walk_text (fold after_segment start (segments p))
 
--- a text up to its last slash, with it: without what stands after it
+-- a text up to and including its last slash
 abbrev pub through_last_slash : Text → Text
 through_last_slash t = take (length t - suffix_len (λ c. not (c == 47)) t) t

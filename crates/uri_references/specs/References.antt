@@ -1,4 +1,5 @@
--- A reference is resolved against a base: what it does not say itself, from its scheme on, is the base's. (RFC 3986, 5.2.2 and 5.2.3)
+-- A reference is resolved against a base: it takes from the base the leading components that it
+-- does not have. (RFC 3986, sections 5.2.2 and 5.2.3)
 use Rattle.std.specs.Prelude.{Bool, None, Option, Some, [], false, if◌then◌else◌, is_some, not, true, ◌&&◌, ◌++◌, ◌==◌, ◌||◌, ◌∷◌}
 use Rattle.uri_references.specs.Components.{Components, Text, components, composed}
 use Rattle.uri_references.specs.Paths.{through_last_slash, without_dots}
@@ -15,11 +16,11 @@ abbrev pub is_rooted : Text → Bool
 is_rooted [] = false
 is_rooted (c ∷ cs) = c == 47
 
--- it names its own scheme or authority
+-- the reference has a scheme or an authority of its own
 abbrev pub is_apart : Components → Bool
 is_apart r = is_some r.scheme || is_some r.authority
 
--- a relative path beside the last segment of the base's path (5.2.3)
+-- a relative path in place of the last segment of the base's path (section 5.2.3)
 abbrev pub merged : Components → Text → Text
 merged b p = if is_some b.authority && is_empty b.path then 47 ∷ p else through_last_slash b.path ++ p
 
@@ -33,7 +34,7 @@ target_path b r =
 abbrev pub target_query : Components → Components → Option Text
 target_query b r = if is_apart r || not (is_empty r.path) then r.query else first_of r.query b.query
 
--- what the reference stands for (5.2.2)
+-- the target of the reference (section 5.2.2)
 abbrev pub target : Components → Components → Components
 target b r = record {
   scheme = first_of r.scheme b.scheme;

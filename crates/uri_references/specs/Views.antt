@@ -1,4 +1,4 @@
--- The code's components and walks, as the definitions have them.
+-- The code's components and walks as values of the definitions.
 use Rattle.std.specs.Prelude.{map, option_map, string_bytes}
 use Rattle.uri_references.specs.Components as spec
 use Rattle.uri_references.specs.Paths as paths

@@ -1,4 +1,4 @@
--- The components of a text are all of it: composed, they give it back. (RFC 3986, 5.3 and appendix B)
+-- Composing the components of a text yields the text. (RFC 3986, section 5.3 and appendix B)
 use Rattle.std.proofs.Common.{◌≡◌, ◌++◌, ◌==◌, ◌∙◌, [], ◌∷◌, None, Option, Some, ap, append_assoc, append-nil, arith, codes, false, inl, inr, length, refl, sym, true, ℕ}
 use Rattle.std.specs.Prelude.{IfSome, option_and_then}
 use Rattle.std.specs.List.{position_or_len}
@@ -14,7 +14,7 @@ use Rattle.uri_references.specs.Components.{Text, after_mark, around, authority_
 parts : (k : Component) (t : Text) → before k t ++ rest k t ≡ t
 parts k t = take-append-drop (position_or_len (ends k) t) t
 
--- what follows a mark, with the mark
+-- the mark and the text after it are the whole text
 after_is : (m : ℕ) (t : Text) → IfSome (after_mark m t) (λ u. m ∷ u ≡ t)
 after_is m [] = tt
 after_is m (c ∷ cs) = elim (cases_Bool (c == m)) [
@@ -42,7 +42,7 @@ twice t (Some u) h = further (after_mark 47 u) (after_is 47 u)
     further None g = tt
     further (Some v) g = ap (λ w. 47 ∷ w) g ∙ h
 
--- a text that begins, if at all, with a mark that ends the component
+-- the text is empty, or begins with a mark that ends the component
 abbrev Begins : Component → Text → Type 0
 Begins k [] = Unit {0}
 Begins k (c ∷ cs) = ends k c ≡ true

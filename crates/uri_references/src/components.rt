@@ -1,4 +1,4 @@
-//! The five components of a reference (RFC 3986, 3 and appendix B).
+//! The five components of a reference (RFC 3986, section 3 and appendix B).
 ghost use Rattle.std.specs.Prelude.{◌≡◌, ◌++◌, ◌<◌, ◌≤◌, ◌==◌, IfOk, option_map, string_bytes};
 ghost use Rattle.std.specs.List.{position_or_len};
 ghost use Rattle.uri_references.specs.Components as spec;
@@ -7,7 +7,7 @@ ghost use Rattle.uri_references.specs.Views.{components_of, found_of};
 
 use std::alloc::{AllocError, Global};
 
-// A component that ends at certain marks.
+// A component that ends at one of its marks.
 #[derive(Clone, Copy)]
 enum Component {
     Scheme,
@@ -17,7 +17,6 @@ enum Component {
 }
 
 impl Component {
-    // Whether a byte is a mark that ends it.
     fn ends(self, byte: u8) -> bool
         ensures ends { result ≡ spec.ends self byte }
     {
@@ -29,7 +28,7 @@ impl Component {
         }
     }
 
-    // Where it ends in a text that begins with it.
+    // Returns where the component ends in a text that begins with it.
     fn end_in(self, text: &[u8]) -> usize
         ensures end { result ≡ position_or_len (spec.ends self) text.now }
     {
@@ -41,7 +40,7 @@ impl Component {
         text.len()
     }
 
-    // A text up to the end of the component, and from there on.
+    // Splits a text at the end of the component.
     fn split(self, text: &str) -> (&str, &str)
         ensures before { result.0.now ≡ spec.before self text.now }
         ensures rest { result.1.now ≡ spec.rest self text.now }
@@ -50,7 +49,8 @@ impl Component {
         (&text[..end], &text[end..])
     }
 
-    // The component up to its end, where what stands before it was found, and what is left of the text.
+    // Splits the component off `after`, which is the text after the component's mark, if the mark
+    // was found.
     fn found<'t>(self, text: &'t str, after: Option<&'t str>) -> Found<'t>
         ensures found { found_of result ≡ spec.up_to_end self text.now (option_map (λ t. t.now) after.entry) }
     {
@@ -70,14 +70,16 @@ impl Component {
     }
 }
 
-// A component, if it is there, and what follows it.
+// A component, if there is one, and the text that follows it.
 #[derive(Clone, Copy)]
 struct Found<'t> {
     component: Option<&'t str>,
     left: &'t str,
 }
 
-/// The components of a reference, each without its mark. Only the path is always there.
+/// The components of a reference, each without its mark.
+///
+/// Only the path is always present.
 #[derive(Clone, Copy)]
 pub struct Components<'t> {
     pub scheme: Option<&'t str>,
@@ -88,7 +90,7 @@ pub struct Components<'t> {
 }
 
 impl<'t> Components<'t> {
-    /// The components of a text. Each text has them.
+    /// Splits a text into its components. Every text has them.
     pub fn of(text: &'t str) -> Components<'t>
         ensures components { components_of result ≡ spec.components text.now }
     {
@@ -105,11 +107,11 @@ impl<'t> Components<'t> {
         }
     }
 
-    /// The text of the components, each with its mark.
+    /// Joins the components, each with its mark.
     ///
     /// # Errors
     ///
-    /// Fails only if memory cannot be allocated.
+    /// Out of memory.
     pub fn compose(&self, alloc: Global) -> Result<String, AllocError>
         ensures composed { IfOk result (λ s. string_bytes s ≡ spec.composed (components_of self.now)) }
     {
@@ -123,7 +125,7 @@ impl<'t> Components<'t> {
     }
 }
 
-// What follows a mark with which the text begins.
+// Returns the text after its first byte, if that is the mark.
 fn after_mark(text: &str, mark: char) -> Option<&str>
     requires { mark < 128 }
     ensures after { option_map (λ t. t.now) result ≡ spec.after_mark mark text.now }
@@ -131,7 +133,6 @@ fn after_mark(text: &str, mark: char) -> Option<&str>
     text.strip_prefix(mark)
 }
 
-// The scheme with which a text begins.
 fn scheme_in(text: &str) -> Found<'_>
     ensures found { found_of result ≡ spec.scheme_in text.now }
 {
@@ -148,7 +149,6 @@ fn scheme_in(text: &str) -> Found<'_>
     }
 }
 
-// The authority with which a text begins.
 fn authority_in(text: &str) -> Found<'_>
     ensures found { found_of result ≡ spec.authority_in text.now }
 {
@@ -159,7 +159,7 @@ fn authority_in(text: &str) -> Found<'_>
     Component::Authority.found(text, after)
 }
 
-// Adds a component with its marks, if it is there.
+// Appends a component between its marks, if there is one.
 fn push_around(
     text: &mut String,
     front: &str,

@@ -1,7 +1,8 @@
-//! References resolved against a base URI, by RFC 3986, section 5.2.
+//! Resolves references against a base URI (RFC 3986, section 5.2).
 //!
-//! The kit's `url` is not used: it reads URLs by the URL Standard, which changes what it is given (percent-encoding, default ports, the
-//! case of hosts, backslashes) and refuses bases such as `folder/`. RFC 3986 changes nothing but dots in paths, and takes any text.
+//! The kit's `url` does not fit: it reads URLs by the URL Standard, which normalizes its input
+//! (percent-encoding, default ports, the case of hosts, backslashes) and refuses bases such as
+//! `folder/`. RFC 3986 changes only the dots in paths, and accepts any text.
 #![tactic(auto)]
 
 pub mod components;

@@ -1,11 +1,11 @@
-//! Paths, and the dots in them (RFC 3986, 5.2.3 and 5.2.4).
+//! Paths, and the dots in them (RFC 3986, sections 5.2.3 and 5.2.4).
 ghost use Rattle.std.specs.Prelude.{◌≡◌, ◌++◌, IfOk, string_bytes};
 ghost use Rattle.uri_references.specs.Paths as spec;
 ghost use Rattle.uri_references.specs.Views.{walk_of};
 
 use std::alloc::{AllocError, Global};
 
-// What is kept of the segments of a path so far.
+// The output so far of a walk through the segments of a path.
 #[derive(Drop)]
 struct Walk {
     pieces: Vec<String>,
@@ -14,7 +14,7 @@ struct Walk {
 }
 
 impl Walk {
-    // Takes the next segment.
+    // Processes the next segment.
     fn take(&mut self, alloc: Global, segment: &str) -> Result<(), AllocError>
         ensures taken { IfOk result (λ _. walk_of self.new ≡ spec.after_segment (walk_of self.old) segment.now) }
     {
@@ -34,7 +34,7 @@ impl Walk {
         Ok(())
     }
 
-    // The path of the segments.
+    // Returns the path of the segments that were kept.
     fn text(&self, alloc: Global) -> Result<String, AllocError>
         ensures text { IfOk result (λ s. string_bytes s ≡ spec.walk_text (walk_of self.now)) }
     {
@@ -49,7 +49,7 @@ impl Walk {
     }
 }
 
-// A segment as it is kept: the first has no slash before it.
+// Returns a segment as it is kept: all but the first have a slash before them.
 fn piece(alloc: Global, begun: bool, segment: &str) -> Result<String, AllocError>
     ensures piece { IfOk result (λ s. string_bytes s ≡ spec.piece begun segment.now) }
 {
@@ -61,11 +61,11 @@ fn piece(alloc: Global, begun: bool, segment: &str) -> Result<String, AllocError
     Ok(text)
 }
 
-/// The path without dots.
+/// Removes the segments `.` and `..` from a path.
 ///
 /// # Errors
 ///
-/// Fails only if memory cannot be allocated.
+/// Out of memory.
 pub fn without_dots(alloc: Global, path: &str) -> Result<String, AllocError>
     ensures path { IfOk result (λ s. string_bytes s ≡ spec.without_dots path.now) }
 {
@@ -80,7 +80,7 @@ pub fn without_dots(alloc: Global, path: &str) -> Result<String, AllocError>
     walk.text(alloc)
 }
 
-/// A path up to its last slash, with it.
+/// Returns a path up to and including its last slash.
 pub fn through_last_slash(path: &str) -> &str
     ensures front { result.now ≡ spec.through_last_slash path.now }
 {

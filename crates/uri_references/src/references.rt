@@ -1,4 +1,4 @@
-//! A reference resolved against a base (RFC 3986, 5.2.2).
+//! Resolution of a reference against a base (RFC 3986, section 5.2.2).
 ghost use Rattle.std.specs.Prelude.{◌≡◌, IfOk, string_bytes};
 ghost use Rattle.uri_references.specs.References as spec;
 ghost use Rattle.uri_references.specs.Views.{components_of};
@@ -7,12 +7,14 @@ use crate::components::Components;
 use crate::paths::{through_last_slash, without_dots};
 use std::alloc::{AllocError, Global};
 
-/// Returns what a reference stands for, where it is read against a base: strictly, so that a reference with a scheme takes nothing from the
-/// base, also where the base has the same. Neither text is checked or changed beyond the dots in its path.
+/// Resolves a reference against a base.
+///
+/// Resolution is strict: a reference with a scheme takes nothing from the base, even if the base
+/// has the same scheme. Neither text is checked, and only the dots in a path are changed.
 ///
 /// # Errors
 ///
-/// Fails only if memory cannot be allocated.
+/// Out of memory.
 pub fn resolve(alloc: Global, base: &str, reference: &str) -> Result<String, AllocError>
     ensures resolved { IfOk result (λ s. string_bytes s ≡ spec.resolved base.now reference.now) }
 {
@@ -23,14 +25,14 @@ pub fn resolve(alloc: Global, base: &str, reference: &str) -> Result<String, All
     target.compose(alloc)
 }
 
-// Whether a reference names its own scheme or authority.
+// Returns whether a reference has a scheme or an authority of its own.
 fn is_apart(reference: &Components<'_>) -> bool
     ensures apart { result ≡ spec.is_apart (components_of reference.now) }
 {
     reference.scheme.is_some() || reference.authority.is_some()
 }
 
-// What the reference stands for, with this path.
+// Returns the components of the target, whose path is given.
 fn target<'t>(base: &Components<'t>, reference: &Components<'t>, path: &'t str) -> Components<'t>
     requires { path.now ≡ spec.target_path (components_of base.now) (components_of reference.now) }
     ensures target { components_of result ≡ spec.target (components_of base.now) (components_of reference.now) }
@@ -56,7 +58,6 @@ fn target<'t>(base: &Components<'t>, reference: &Components<'t>, path: &'t str) 
     }
 }
 
-// The path of what the reference stands for.
 fn target_path(
     alloc: Global,
     base: &Components<'_>,
@@ -74,7 +75,7 @@ fn target_path(
     without_dots(alloc, path.as_str())
 }
 
-// A relative path beside the last segment of the base's path.
+// Replaces the last segment of the base's path by a relative path.
 fn merged(alloc: Global, base: &Components<'_>, path: &str) -> Result<String, AllocError>
     ensures merged { IfOk result (λ s. string_bytes s ≡ spec.merged (components_of base.now) path.now) }
 {

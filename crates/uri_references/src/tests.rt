@@ -1,15 +1,15 @@
-//! The examples of RFC 3986, 5.4, and identifiers of schemas.
+//! The examples of RFC 3986, section 5.4, and identifiers of schemas.
 
 use crate::references::resolve;
 use std::alloc::AllocError;
 
-/// A base, a reference, and what it stands for.
+/// A base, a reference, and its target.
 type Example = (&'static str, &'static str, &'static str);
 
-/// The base of the examples of RFC 3986, 5.4.
+/// The base of the examples of RFC 3986, section 5.4.
 const BASE: &str = "http://a/b/c/d;p?q";
 
-/// The examples of 5.4.1 and 5.4.2, each reference and what it stands for; then other bases.
+/// The examples of sections 5.4.1 and 5.4.2, then other bases.
 const EXAMPLES: [Example; 57] = [
     (BASE, "g:h", "g:h"),
     (BASE, "g", "http://a/b/c/g"),
