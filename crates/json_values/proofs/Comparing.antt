@@ -1,4 +1,4 @@
--- Numbers compared with no rounding.
+-- Comparison of numbers without rounding.
 use Rattle.std.proofs.Common.{◌≡◌, ℕ, zero, suc, ◌*◌, ◌/◌, ◌%◌, ◌^◌, ◌<◌, ◌≤◌, ℤ, pos, negsuc, unsigned_abs, Bool, true, false, IsTrue, refl, sym, ap, ◌∙◌, arith, ltb, Less, Equal, Greater, nat_cmp, int_cmp, int_lt, true≢false, mul-le-mul_right, div-add-mod', mod-lt, mul-pos, div-lt_iff_lt-mul, div-le_self, inl, inr}
 use Rattle.std.specs.Ordering.{nan_last_cmp, ordering_reverse}
 use Rattle.std.specs.Float.{Float, nan, inf, fin, binary64, two_to}
@@ -45,7 +45,8 @@ natural_far n (fin false m e) f h =
     let fits : suc n ≤ 2 ^ 64 = omega arith in
     grind (arith, nat_tests, mul-le-mul_right (down e) fits, down_pos e)
 
--- k against the fraction a / d, by its whole part, where a whole part of k's size has no fraction beside it
+-- k against the fraction a / d, by its whole part, where a whole part of k's size has no fraction
+-- beside it
 by_whole_part : (k a d : ℕ) → 0 < d → (k ≡ a / d → a % d ≡ 0) → (ltb (k * d) a ≡ ltb k (a / d)) × (ltb a (k * d) ≡ ltb (a / d) k)
 by_whole_part k a d p whole =
     let parts = div-add-mod' a d in

@@ -47,7 +47,8 @@ even_divisor : (a b t : ℕ) → b * 2 ^ suc t ∣ a → a % 2 ≡ 0
 even_divisor a b t h =
     mod-eq-zero_of_dvd 2 (dvd_trans 2 (subst (λ x. 2 ∣ x) (mul_assoc b (2 ^ t) 2 ∙ ap (λ p. b * p) (sym (pow-suc 2 t))) (dvd-mul_left 2 (b * 2 ^ t))) h)
 
--- odd digits a and b: b times 2 ^ j divides a times 2 ^ i exactly where b divides a, and the power is no larger
+-- odd digits a and b: b times 2 ^ j divides a times 2 ^ i exactly where b divides a, and the power
+-- is no larger
 down_to_digits : (a i b j : ℕ) → a % 2 ≡ 1 → IsReduced b → b * 2 ^ j ∣ a * 2 ^ i → (j ≤ i) × (b ∣ a)
 down_to_digits a i b j odd reduced h =
     elim (cases_lt i j) [

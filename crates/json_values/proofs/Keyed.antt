@@ -1,4 +1,4 @@
--- Values are distinct where they are so behind keys that equal values share.
+-- Values are distinct if they are distinct together with keys that equal values share.
 use Rattle.std.proofs.Common.{◌≡◌, ◌∙◌, ◌&&◌, ◌||◌, ◌==◌, ◌↔◌, Bool, IsTrue, List, [], ◌∷◌, ℕ, ap, arith, false, inl, inr, length, map, not, refl, subst, suc, sym, take, take_all, true, true≢false, zero, ◌⊎◌}
 use Rattle.std.specs.List.{AllByRecursion, IsDistinct}
 use Rattle.std.proofs.lemmas.Bool.Decides.{nat_tests}
@@ -112,7 +112,7 @@ items_distinct (v ∷ vs) h =
     let parts = none_and (has_equal (view v) (items_view vs)) (all_distinct (items_view vs)) h in
     (apart_items v vs parts.0, items_distinct vs parts.1)
 
--- ---- what is said of the items behind their keys
+-- ---- the items with their keys
 
 one_answer : (b a : Bool) → (IsTrue b → a ≡ true) → (a ≡ true → IsTrue b) → b ≡ a
 one_answer true a there back = sym (there refl)
@@ -145,7 +145,7 @@ same_if : (a b : Bool) → a ≡ false → (b ≡ true → a ≡ true) → a ≡
 same_if a true is h = h refl
 same_if a false is h = is
 
--- where the first items are not distinct, all are not
+-- if the first items are not distinct, the whole list is not
 pub distinct_by_first : (n : ℕ) (vs : List Value) (b : Bool) → b ≡ all_distinct (items_view (take n vs)) → ((b ≡ true) × (n ≡ length vs)) ⊎ (b ≡ false)
     → b ≡ all_distinct (items_view vs)
 distinct_by_first n vs b is (inl all) = is ∙ ap (λ l. all_distinct (items_view l)) (take_all n vs (omega (arith, all.1)))

@@ -1,4 +1,4 @@
--- The keys of numbers: the same number, written as an integer or as a float, has one.
+-- The keys of numbers: a number has the same key as an integer and as a float.
 use Rattle.std.proofs.Common.{◌≡◌, ℕ, zero, suc, ◌+◌, ◌-◌, ◌*◌, ◌^◌, ◌<◌, ◌≤◌, ℤ, pos, negsuc, Bool, T, true, false, inl, inr, refl, sym, ap, subst, ◌∙◌, arith, is_eq, true≢false, Equal}
 use Rattle.std.specs.Ordering.{nan_last_cmp}
 use Rattle.std.specs.Float.{Float, nan, inf, fin, binary64, float_key, round_to_format}

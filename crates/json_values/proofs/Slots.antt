@@ -1,4 +1,5 @@
--- Items whose slots no other item has are equal to none, so those with shared slots tell whether all are distinct.
+-- An item whose slot no other item has equals none, so the items with shared slots decide whether
+-- all are distinct.
 use Rattle.std.proofs.Common.{◌≡◌, ◌∙◌, ◌+◌, ◌<◌, ◌≢◌, ◌&&◌, ◌==◌, ◌↔◌, Bool, IsTrue, List, [], ◌∷◌, ℕ, suc, ap, arith, cond, eq-eqb, false, get_or, get_or-set_other, get_or-set_same, inl, inr, length, length-set, map, refl, set, subst, sym, true, true≢false}
 use Rattle.std.specs.List.{AllByRecursion, IsDistinct, filter}
 use Rattle.std.proofs.lemmas.Bool.{cases_order}
@@ -110,7 +111,8 @@ module _ {K : Type 0} (e : K → K → Bool) (p : K → Bool) where
   kept_distinct [] pass h = tt
   kept_distinct (x ∷ xs) pass h = let parts = first_kept (p x) x xs refl pass.0 h in (parts.0, kept_distinct xs pass.1 parts.1)
 
--- items with equal keys have one slot, so where such items are equal, those with shared slots tell whether all are distinct
+-- items with equal keys share a slot, so the items with shared slots decide whether all are
+-- distinct, if equal items have equal keys
 module _ {X : Type 0} (e : ℕ × X → ℕ × X → Bool) (same_key : (k l : ℕ × X) → e k l ≡ true → k.0 ≡ l.0) (met : List ℕ) where
   equal_shared : (ks : List (ℕ × X)) → IsMarked met (map (λ k. k.0) ks) (length ks) → (i j : ℕ) (d : ℕ × X) → i < j → j < length ks
       → e (get_or ks i d) (get_or ks j d) ≡ true → (is_shared met (get_or ks i d).0 ≡ true) × (is_shared met (get_or ks j d).0 ≡ true)

@@ -1,4 +1,4 @@
--- Whether items are distinct is seen of neighbours, once they are sorted.
+-- Sorted items are distinct if no two neighbours are equal.
 use Rattle.std.proofs.Common.{◌≡◌, ◌∙◌, ◌+◌, ◌-◌, ◌<◌, ◌≤◌, Bool, IsPermutation, IsSorted, List, Ordering, Less, Equal, Greater, false, ℕ, ap, ap₂, arith, get_or, is_eq, is_lt, length, sym}
 use Rattle.std.specs.Cmp.{IsTotalOrder}
 use Rattle.std.specs.List.{IsDistinct}

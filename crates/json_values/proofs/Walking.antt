@@ -1,4 +1,5 @@
--- Two objects whose members stand in the order of their names are equal where a walk along both finds them so.
+-- Two objects whose members are in the order of their names are equal if a walk along both finds
+-- them equal.
 use Rattle.std.proofs.Common.{◌≡◌, ◌==◌, ◌&&◌, ℕ, suc, ◌≤◌, List, [], ◌∷◌, length, Bool, true, false, None, Some, Ordering, Less, Equal, Greater, String, Global, bytes_eq, string_bytes, Option, option_map, unwrap_or, string_cmp, is_eq, refl, sym, ap, ap₂, ◌∙◌, arith, true≢false}
 use Rattle.std.proofs.lemmas.Bool.Decides.{nat_tests}
 use Rattle.std.proofs.lemmas.Cmp.{nat_list_cmp_total}
@@ -55,7 +56,7 @@ walk_step e f es fs = refl
 abbrev within : List Entry → List Entry → Bool
 within es fs = members_within (members_view es) (members_view fs)
 
--- a member below all others is passed over
+-- a member below all others is skipped
 within_later : (es : List Entry) (f : Entry) (fs : List Entry) → Below f.0 es → within es (f ∷ fs) ≡ within es fs
 within_later [] f fs below = refl
 within_later (e ∷ es) f fs below =

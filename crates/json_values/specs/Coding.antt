@@ -1,5 +1,6 @@
--- A JSON value as a list of tokens, and back: so that a proof can tell two values apart where a model's value is one. The tokens build the
--- value on a stack. (RFC 8259, 2: a value is a literal name, a number, a string, an array or an object)
+-- A JSON value as a list of tokens, and back, so that a proof can distinguish two values if a
+-- model's value is a JSON value. The tokens build the value on a stack. (RFC 8259, section 2: a
+-- value is a literal name, a number, a string, an array or an object)
 use Rattle.std.specs.Prelude.{Bool, List, [], cond, false, pos, refl, true, ℕ, ℤ, ◌==◌, ◌≡◌, ◌∷◌}
 use Rattle.std.specs.Coded.{Coded, code_by, coded_list, coded_ℕ, coded_ℤ, coded×}
 use Rattle.std.specs.Float.{Float, nan}
@@ -7,7 +8,7 @@ use base.Stored.{coded_float}
 use mathlib.Core.Path.{ap, ◌∙◌}
 use Rattle.serde_json.specs.Data.{Data, Items, Members, array, boolean, float, item, member, negative, no_items, no_members, null, number, object, string, unsigned}
 
--- what is put on the stack, or made of what lies on top of it
+-- a token: puts a value on the stack, or combines the values on top of it
 pub data Token : Type 0 where
   a_null no_item an_item an_array no_member an_object : Token
   a_truth : Bool → Token
@@ -17,13 +18,13 @@ pub data Token : Type 0 where
   a_text : List ℕ → Token
   a_member : List ℕ → Token
 
--- what lies on the stack
+-- an entry of the stack
 pub data Built : Type 0 where
   built : Data → Built
   items : Items → Built
   members : Members → Built
 
--- ---- the tokens of a value, in front of a rest
+-- ---- the tokens of a value, before further tokens
 
 abbrev mutual
   pub put : Data → List Token → List Token
@@ -101,7 +102,7 @@ data_back d = ap top (back d [] [])
 
 -- ---- the code of a token
 
--- which token it is, and what it holds
+-- the number of the token's kind, and the values that it holds
 abbrev pub Parts : Type 0
 Parts = ℕ × (ℕ × (ℤ × (Float × List ℕ)))
 

@@ -1,5 +1,6 @@
--- Two JSON values are equal where both are null, the same truth value, the same number, the same text, arrays with equal items in one
--- order, or objects with equal members of the same names. (JSON Schema Core 2020-12, 4.2.2; Validation, 6.1.2, 6.1.3 and 6.4.3)
+-- Two JSON values are equal if both are null, the same truth value, the same number, the same text,
+-- arrays with equal items in the same order, or objects with equal members of the same names. (JSON
+-- Schema Core 2020-12, 4.2.2; Validation, 6.1.2, 6.1.3 and 6.4.3)
 use Rattle.std.specs.Prelude.{Bool, bytes_eq, false, not, option_map, true, unwrap_or, ◌&&◌, ◌||◌, ◌==◌}
 use Rattle.serde_json.specs.Data.{Data, Items, Members, array, boolean, item, member, no_items, no_members, null, number, object, string}
 use Rattle.serde_json.specs.Events.{members_len}
@@ -10,8 +11,9 @@ abbrev pub same_truth : Bool → Bool → Bool
 same_truth true b = b
 same_truth false b = not b
 
--- Numbers are the same where they are the same number, so 1 equals 1.0; arrays have equal items in one order; objects have as many
--- members, and the first's each have an equal one of their name in the second. An object has each name once.
+-- Numbers are compared by value, so 1 equals 1.0. Arrays are equal if their items are, in the same
+-- order. Objects are equal if they have the same number of members, and each member of the first
+-- equals the second's member of its name. An object has each name once.
 abbrev mutual
   pub equal : Data → Data → Bool
   equal null null = true
@@ -27,7 +29,7 @@ abbrev mutual
   equal_items (item d ds) (item e es) = equal d e && equal_items ds es
   equal_items _ _ = false
 
-  -- each member has an equal one of its name there
+  -- each member equals the other object's member of its name
   pub members_within : Members → Members → Bool
   members_within no_members ns = true
   members_within (member k d ms) ns = unwrap_or (option_map (equal d) (get_member k ns)) false && members_within ms ns
@@ -35,13 +37,13 @@ abbrev mutual
 abbrev pub equal_members : Members → Members → Bool
 equal_members ms ns = (members_len ms == members_len ns) && members_within ms ns
 
--- what equality of objects comes to where both have their members in the order of their names
+-- equality of objects whose members are in the order of their names, pair by pair
 abbrev pub members_walk : Members → Members → Bool
 members_walk no_members no_members = true
 members_walk (member k d ms) (member l e ns) = bytes_eq k l && (equal d e && members_walk ms ns)
 members_walk _ _ = false
 
--- an item equals d
+-- one of the items equals d
 abbrev pub has_equal : Data → Items → Bool
 has_equal d no_items = false
 has_equal d (item e es) = equal d e || has_equal d es

@@ -1,5 +1,5 @@
--- Numbers of JSON as mathematics has them, with no rounding: their order, which of them are integers, and which are multiples of another.
--- (JSON Schema Validation 2020-12, 6.1.1 and 6.2.1 to 6.2.5)
+-- JSON numbers as exact mathematical numbers: their order, which of them are integers, and which
+-- are multiples of others. (JSON Schema Validation 2020-12, 6.1.1 and 6.2.1 to 6.2.5)
 use Rattle.std.specs.Prelude.{Bool, IsTrue, None, Option, Some, false, int_lt, suc, true, ℕ, ℤ, negsuc, pos, ◌%◌, ◌*◌, ◌==◌, ◌&&◌, ◌||◌, if◌then◌else◌}
 use Rattle.std.specs.Float.{Float, fin, float_is_finite, float_to_unsigned}
 use Rattle.std.specs.Int.{w64}
@@ -12,18 +12,19 @@ use Rattle.serde_json.specs.Data.{Num, float, negative, unsigned}
 use Rattle.json_values.specs.declared.numbers.Kind.{Kind}
 use Rattle.json_values.specs.declared.numbers.Kind.TheVariants as kinds
 
--- An integer with no rounding: `fin s m e` is the number m * 2 ^ e, negative where s is true, of any size.
+-- An integer without rounding: `fin s m e` is the number m * 2 ^ e of any size, negative if s is
+-- true.
 abbrev pub value_of_integer : ℤ → Float
 value_of_integer (pos n) = fin false n (pos 0)
 value_of_integer (negsuc n) = fin true (suc n) (pos 0)
 
--- the number that a number of JSON is
+-- the exact value of a JSON number
 abbrev pub value_of : Num → Float
 value_of (unsigned n) = fin false n (pos 0)
 value_of (negative z) = value_of_integer z
 value_of (float x) = x
 
--- the order of the numbers, which are never NaN
+-- the order of numbers, which are never NaN
 abbrev pub order : Num → Num → Ordering
 order x y = nan_last_cmp (value_of x) (value_of y)
 
@@ -36,24 +37,27 @@ at_most x y = is_le (order x y)
 abbrev pub same_number : Num → Num → Bool
 same_number x y = is_eq (order x y)
 
--- the size of a number is the fraction `num` / `den`
+-- (the absolute value of a number is the fraction `num` / `den`)
 
--- 1.0 is an integer
+-- the number is an integer: 1.0 is one
 abbrev pub is_whole : Num → Bool
 is_whole x = num (value_of x) % den (value_of x) == 0
 
--- The natural number that a number is, so that 2.0 is 2. One past 2 ^ 64 - 1, which nothing that is counted here reaches, counts as that.
+-- The number as a natural number, if it is one: 2.0 is 2. A float above 2 ^ 64 - 1, which no length
+-- or count here reaches, counts as 2 ^ 64 - 1.
 abbrev pub natural_of : Num → Option ℕ
 natural_of (unsigned n) = Some n
 natural_of (negative z) = None
 natural_of (float x) = if is_whole (float x) && at_most (unsigned 0) (float x) then Some (float_to_unsigned w64 x) else None
 
--- x divided by a d above 0 is an integer: the fraction (num x * den d) / (den x * num d) is one
+-- x divided by a d above 0 is an integer: the fraction (num x * den d) / (den x * num d) is an
+-- integer
 abbrev pub is_multiple_of : Num → Num → Bool
 is_multiple_of x d = (num (value_of x) * den (value_of d)) % (num (value_of d) * den (value_of x)) == 0
 
--- Where a fraction is among the two, the quotient is rounded to a float before it is asked, as programs do: 0.0075 counts as a multiple
--- of 0.0001, though of the floats nearest to these neither is one of the other. An infinite quotient is not asked.
+-- If one of the two is a fraction, the quotient is rounded to a float before it is tested, as
+-- programs do: 0.0075 counts as a multiple of 0.0001, although the float nearest to it is not one
+-- of the other float. An infinite quotient is not tested.
 abbrev pub rounded_quotient : Num → Num → Float
 rounded_quotient x d = div binary64 (to_float x) (to_float d)
 
@@ -63,14 +67,14 @@ is_rounded_multiple_of x d =
     then num (rounded_quotient x d) % den (rounded_quotient x d) == 0
     else is_multiple_of x d
 
--- ---- what the code sees of a number
+-- ---- the code's representation of a number
 
 abbrev pub num_of : Kind → Num
 num_of (kinds.Natural n) = unsigned n
 num_of (kinds.Negative z) = negative z
 num_of (kinds.Fraction x) = float x
 
--- a negative one is below 0, and a fraction is finite
+-- a number of kind `Negative` is below 0, and a fraction is finite
 abbrev pub IsProper : Kind → Type 0
 IsProper (kinds.Natural n) = Unit {0}
 IsProper (kinds.Negative z) = IsTrue (int_lt z (pos 0))

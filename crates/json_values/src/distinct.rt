@@ -1,5 +1,7 @@
-//! Whether the items of a list are distinct (JSON Schema Validation 2020-12, 6.4.3). Where all are numbers or all are texts it
-//! takes n steps in the usual case, and n log n at worst.
+//! Distinctness of the items of a list (JSON Schema Validation 2020-12, 6.4.3).
+//!
+//! If all items are numbers or all are texts, the test takes n steps in the usual case and n log n
+//! at worst.
 ghost use Rattle.std.specs.Prelude.{◌≡◌, ◌<◌, ◌↔◌, IfOk, IfSome, IsTrue, length, map, take, vec_len};
 ghost use Rattle.std.specs.List.{IsDistinct};
 ghost use Rattle.serde_json.specs.View.{items_view, number_view};
@@ -16,25 +18,25 @@ use std::cmp::Ordering;
 use std::hash::{FoldHasher, Hasher};
 use std::marker::Model;
 
-/// Up to so many items are compared by pairs.
+/// Lists of at most this many items are compared by pairs.
 const FEW: usize = 8;
 
-/// An odd number, by which keys are multiplied to mix their bits.
+/// An odd factor that mixes the bits of keys.
 const MIXER: u64 = 0x9e37_79b9_7f4a_7c15;
 
-/// So many slots are kept for each item.
+/// The number of slots for each item.
 const SLOTS_AN_ITEM: usize = 8;
 
-/// A slot that no key has.
+/// The mark of a slot that no key has.
 const NONE: u8 = 0;
 
-/// A slot that one key has.
+/// The mark of a slot that one key has.
 const ONE: u8 = 1;
 
-/// A slot that more than one key has.
+/// The mark of a slot that more than one key has.
 const MORE: u8 = 2;
 
-/// A number that is ordered as the number that it is. Contracts see that number.
+/// A number, ordered by its exact value. Contracts see the number.
 #[derive(Drop)]
 struct OrderedNumber {
     number: Number,
@@ -103,7 +105,7 @@ impl Ord for OrderedNumber {
     }
 }
 
-/// Whether no two of the items are equal. It sorts them.
+/// Sorts the items to find out whether no two are equal.
 fn are_distinct_by_sorting<T: Ord>(items: &mut [T]) -> bool
     ensures distinct { IsTrue result ↔ IsDistinct T.eq items.old }
 {
@@ -116,7 +118,9 @@ fn are_distinct_by_sorting<T: Ord>(items: &mut [T]) -> bool
     true
 }
 
-/// The slot of a key in a table of so many slots. The key is mixed first, so that keys that are near have slots that are far.
+/// Returns the slot of a key.
+///
+/// The key is mixed first, so that the slots of nearby keys are far apart.
 #[tactic(auto, unfolding(crate::specs::Keys::slot_of))]
 fn slot_of(key: u64, slots: usize) -> usize
     ensures slot { result ≡ slot_of key slots }
@@ -126,7 +130,7 @@ fn slot_of(key: u64, slots: usize) -> usize
     ((mixed as u128 * slots as u128) >> 64) as usize
 }
 
-/// A table in which each slot says whether no key, one key or more than one has it.
+/// Marks each slot as that of no key, of one key, or of several keys.
 fn count_slots<T>(alloc: Global, keyed: &[(u64, T)]) -> Result<Vec<u8>, OutOfMemory>
     ensures marked { IfOk result (λ met. IsMarked met.items (map (λ k. k.0) keyed.now) (length keyed.now)) }
 {
@@ -139,7 +143,6 @@ fn count_slots<T>(alloc: Global, keyed: &[(u64, T)]) -> Result<Vec<u8>, OutOfMem
     Ok(met)
 }
 
-/// Whether more than one key has the slot of this one.
 fn is_shared(met: &[u8], key: u64) -> bool
     ensures { result ≡ is_shared met.now key }
 {
@@ -149,8 +152,10 @@ fn is_shared(met: &[u8], key: u64) -> bool
     }
 }
 
-/// Whether no two of the items, each behind a key, are equal. Items whose slot no other has are equal to none. The others are
-/// sorted: mostly few, but all of them at worst.
+/// Returns whether no two of the keyed items are equal.
+///
+/// An item whose slot no other item has equals none. The other items are sorted: usually few, at
+/// worst all of them.
 fn are_distinct_by_slots<T: Ord + Drop>(
     alloc: Global,
     mut keyed: Vec<(u64, T)>,
@@ -162,7 +167,7 @@ fn are_distinct_by_slots<T: Ord + Drop>(
     Ok(are_distinct_by_sorting(&mut keyed))
 }
 
-/// A key that equal texts share: a hash, by which most texts are told apart.
+/// Returns a hash: equal texts share it, and most other texts do not.
 #[tactic(auto, unfolding(crate::specs::Keys::key_of_text))]
 fn key_of_text(text: &str) -> u64
     ensures key { result ≡ key_of_text text.now }
@@ -172,7 +177,7 @@ fn key_of_text(text: &str) -> u64
     hasher.finish()
 }
 
-/// The texts before the first value of another kind, each behind its key.
+/// Returns the texts before the first other value, each with its key.
 fn keyed_texts<'a>(alloc: Global, values: &'a [Value]) -> Result<Vec<(u64, &'a str)>, OutOfMemory>
     ensures texts { IfOk result (λ keyed. map keyed_text keyed.items ≡ map keyed_value (take (vec_len keyed) values.now)) }
 {
@@ -186,7 +191,9 @@ fn keyed_texts<'a>(alloc: Global, values: &'a [Value]) -> Result<Vec<(u64, &'a s
     Ok(keyed)
 }
 
-/// Whether no two of the values are equal, if all are texts, or if two of the first texts are equal.
+/// Returns whether the values are distinct, if texts decide it.
+///
+/// They do if all values are texts, or if two texts at the front are equal.
 fn are_distinct_texts(alloc: Global, values: &[Value]) -> Result<Option<bool>, OutOfMemory>
     ensures distinct { IfOk result (λ answer. IfSome answer (λ distinct. distinct ≡ all_distinct (items_view values.now))) }
 {
@@ -199,7 +206,7 @@ fn are_distinct_texts(alloc: Global, values: &[Value]) -> Result<Option<bool>, O
     Ok(Some(distinct))
 }
 
-/// A key that equal floats share: the bits, which are those of 0.0 for -0.0.
+/// Returns a key that equal floats share: their bits, and those of 0.0 for -0.0.
 fn key_of_float(x: f64) -> u64
     ensures key { result ≡ key_of_float x }
 {
@@ -210,7 +217,7 @@ fn key_of_float(x: f64) -> u64
     if bits == 1 << 63 { 0 } else { bits }
 }
 
-/// A key that equal numbers share: that of the nearest float.
+/// Returns a key that equal numbers share: that of the nearest float.
 fn key_of_number(number: &Number) -> u64
     ensures key { result ≡ key_of_number (number_view number.now) }
 {
@@ -220,7 +227,7 @@ fn key_of_number(number: &Number) -> u64
     }
 }
 
-/// The numbers before the first value of another kind, each behind its key.
+/// Returns the numbers before the first other value, each with its key.
 fn keyed_numbers(alloc: Global, values: &[Value]) -> Result<Vec<(u64, OrderedNumber)>, OutOfMemory>
     ensures numbers { IfOk result (λ keyed. map keyed_number keyed.items ≡ map keyed_value (take (vec_len keyed) values.now)) }
 {
@@ -234,7 +241,9 @@ fn keyed_numbers(alloc: Global, values: &[Value]) -> Result<Vec<(u64, OrderedNum
     Ok(keyed)
 }
 
-/// Whether no two of the values are equal, if all are numbers, or if two of the first numbers are equal.
+/// Returns whether the values are distinct, if numbers decide it.
+///
+/// They do if all values are numbers, or if two numbers at the front are equal.
 fn are_distinct_numbers(alloc: Global, values: &[Value]) -> Result<Option<bool>, OutOfMemory>
     ensures distinct { IfOk result (λ answer. IfSome answer (λ distinct. distinct ≡ all_distinct (items_view values.now))) }
 {
@@ -247,13 +256,16 @@ fn are_distinct_numbers(alloc: Global, values: &[Value]) -> Result<Option<bool>,
     Ok(Some(distinct))
 }
 
-/// Whether no two of the values are equal, as `uniqueItems` wants. Where all are numbers or all are texts it takes n steps
-/// in the usual case, and n log n at worst, whoever chose the items; else up to n² of `is_equal`, unless two numbers or two
-/// texts at the front are equal; truth values and nulls are told apart in the first few.
+/// Returns whether no two of the values are equal, as `uniqueItems` requires.
+///
+/// If all values are numbers or all are texts, this takes n steps in the usual case, and n log n at
+/// worst, even for values that an attacker chose. Otherwise it takes up to n² calls of `is_equal`,
+/// unless two numbers or two texts at the front are equal. Lists of booleans and nulls end within
+/// the first few items.
 ///
 /// # Errors
 ///
-/// `OutOfMemory` if memory cannot be allocated. `are_all_distinct_by_pairs` needs none.
+/// Out of memory. `are_all_distinct_by_pairs` allocates nothing.
 pub fn are_all_distinct(alloc: Global, values: &[Value]) -> Result<bool, OutOfMemory>
     ensures distinct { IfOk result (λ distinct. distinct ≡ all_distinct (items_view values.now)) }
 {

@@ -1,4 +1,6 @@
-//! JSON equality (JSON Schema Core 2020-12, 4.2.2), by which `enum`, `const` and `uniqueItems` compare.
+//! Equality of JSON values, for `enum`, `const` and `uniqueItems`.
+//!
+//! JSON Schema Core 2020-12, 4.2.2, defines it.
 ghost use Rattle.std.specs.Prelude.{◌≡◌, ◌==◌};
 ghost use Rattle.serde_json.specs.Data.{string};
 ghost use Rattle.serde_json.specs.Events.{members_len};
@@ -11,8 +13,11 @@ ghost use Rattle.json_values.specs.Equality.{all_distinct, equal, equal_items, e
 use crate::numbers::is_same_number;
 use serde_json::{Map, Value};
 
-/// Whether both are equal: 1 and 1.0 are, arrays have equal items in one order, and the members of objects stand in no
-/// order. So `const` compares (JSON Schema Validation 2020-12, 6.1.3). Allocates nothing, and never fails.
+/// Returns whether two values are equal.
+///
+/// 1 equals 1.0, arrays are equal if their items are, in the same order, and the order of an
+/// object's members does not matter. `const` requires this equality (JSON Schema Validation
+/// 2020-12, 6.1.3). Allocates nothing.
 #[cycle(equal)]
 pub fn is_equal(left: &Value, right: &Value) -> bool
     ensures equal { result ≡ equal (view left.now) (view right.now) }
@@ -36,7 +41,6 @@ pub fn is_equal(left: &Value, right: &Value) -> bool
     }
 }
 
-// Whether both have equal items in one order.
 #[cycle(equal)]
 fn are_equal_items(left: &Vec<Value>, right: &Vec<Value>) -> bool
     ensures items { result ≡ equal_items (items_view left.now.items) (items_view right.now.items) }
@@ -55,7 +59,7 @@ fn are_equal_items(left: &Vec<Value>, right: &Vec<Value>) -> bool
     others.next().is_none()
 }
 
-// Whether both have equal members: a map has its members in the order of their names.
+// A map holds its members in the order of their names, so the members are compared pair by pair.
 #[cycle(equal)]
 fn are_equal_members(left: &Map<String, Value>, right: &Map<String, Value>) -> bool
     ensures members { result ≡ equal_members (members_view left.now.entries) (members_view right.now.entries) }
@@ -63,7 +67,6 @@ fn are_equal_members(left: &Map<String, Value>, right: &Map<String, Value>) -> b
     are_as_many(left, right) && are_equal_in_order(left, right)
 }
 
-// Whether both have equal members in one order.
 #[cycle(equal)]
 fn are_equal_in_order(left: &Map<String, Value>, right: &Map<String, Value>) -> bool
     ensures walk { result ≡ members_walk (members_view left.now.entries) (members_view right.now.entries) }
@@ -82,7 +85,6 @@ fn are_equal_in_order(left: &Map<String, Value>, right: &Map<String, Value>) -> 
     others.next().is_none()
 }
 
-// Whether both have as many members.
 #[tactic(auto, using(crate::proofs::Counts::member_count))]
 fn are_as_many(left: &Map<String, Value>, right: &Map<String, Value>) -> bool
     ensures left_ordered { IsStrictlySortedBy string_cmp (keys_of left.now.entries) }
@@ -92,8 +94,10 @@ fn are_as_many(left: &Map<String, Value>, right: &Map<String, Value>) -> bool
     left.len() == right.len()
 }
 
-/// Whether no two of the values are equal, as `uniqueItems` wants (JSON Schema Validation 2020-12, 6.4.3). Compares each
-/// pair until two are equal; `distinct::are_all_distinct` is faster for many. Allocates nothing, and never fails.
+/// Returns whether no two of the values are equal, by comparing pairs.
+///
+/// `uniqueItems` requires this (JSON Schema Validation 2020-12, 6.4.3).
+/// `distinct::are_all_distinct` is faster for many values, but allocates; this function does not.
 pub fn are_all_distinct_by_pairs(values: &[Value]) -> bool
     ensures distinct { result ≡ all_distinct (items_view values.now) }
 {
@@ -107,8 +111,9 @@ pub fn are_all_distinct_by_pairs(values: &[Value]) -> bool
     true
 }
 
-/// Whether one of the others equals this value, as `enum` wants (JSON Schema Validation 2020-12, 6.1.2). Allocates
-/// nothing, and never fails.
+/// Returns whether one of the others equals this value.
+///
+/// `enum` requires this (JSON Schema Validation 2020-12, 6.1.2). Allocates nothing.
 pub fn is_among(value: &Value, others: &[Value]) -> bool
     ensures among { result ≡ has_equal (view value.now) (items_view others.now) }
 {
@@ -123,7 +128,6 @@ pub fn is_among(value: &Value, others: &[Value]) -> bool
     false
 }
 
-// Whether one of the values is this text.
 fn is_text_among(text: &str, values: &[Value]) -> bool
     ensures among { result ≡ has_equal (string text.now) (items_view values.now) }
 {

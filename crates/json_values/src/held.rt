@@ -1,4 +1,6 @@
-//! A constant of a schema: the value of `const`, or one of those of `enum` (JSON Schema Validation 2020-12, 6.1.2, 6.1.3).
+//! The constants of `const` and `enum`.
+//!
+//! JSON Schema Validation 2020-12, 6.1.2 and 6.1.3, defines these keywords.
 ghost use Rattle.std.specs.Prelude.{◌≡◌, ◌≤◌, IfOk, Some, false, string_bytes};
 ghost use Rattle.serde_json.specs.Data.{Data, depth, string};
 ghost use Rattle.serde_json.specs.Read.{max_depth, read};
@@ -12,8 +14,9 @@ use serde_json::Value;
 use std::alloc::{AllocError, Global};
 use std::marker::Model;
 
-/// A JSON value that is kept, as a keyword keeps its constant. Contracts see the value alone, so that a keyword that holds
-/// one is its own shape.
+/// A JSON value that a keyword keeps as its constant.
+///
+/// Contracts see only the value, so a keyword that holds one is its own abstract value.
 #[derive(Drop)]
 pub struct HeldValue {
     value: Value,
@@ -32,11 +35,11 @@ impl Model for HeldValue {
 }
 
 impl HeldValue {
-    /// A copy of the value.
+    /// Keeps a copy of the value.
     ///
     /// # Errors
     ///
-    /// `OutOfMemory` if memory cannot be allocated.
+    /// Out of memory.
     pub fn of(_alloc: Global, value: &Value) -> Result<HeldValue, OutOfMemory>
         ensures held { IfOk result (λ held. held ≡ view value.now) }
     {
@@ -44,33 +47,34 @@ impl HeldValue {
         Ok(HeldValue { value })
     }
 
-    /// The value.
+    /// Returns the value.
     pub fn as_value(&self) -> &Value
         ensures value { view result.now ≡ self.now }
     {
         &self.value
     }
 
-    /// Whether an instance is equal to the value, as JSON has it: 1 and 1.0 are equal.
+    /// Returns whether an instance equals the value: 1 equals 1.0.
     pub fn equals(&self, instance: &Value) -> bool
         ensures equal { result ≡ equal self.now (view instance.now) }
     {
         is_equal(&self.value, instance)
     }
 
-    /// Whether the value is this text, as the name of a member.
+    /// Returns whether the value is this text, such as the name of a member.
     pub fn equals_text(&self, text: &str) -> bool
         ensures equal { result ≡ equal self.now (string text.now) }
     {
         self.value.as_str() == Some(text)
     }
 
-    /// The value as compact JSON, its members in the order of their names. Of the digits of a float the contract says that
-    /// they read back as it.
+    /// Returns the value as compact JSON, with members in the order of their names.
+    ///
+    /// The contract does not fix the digits of a float, only that reading them yields the float.
     ///
     /// # Errors
     ///
-    /// `OutOfMemory` if memory cannot be allocated.
+    /// Out of memory.
     pub fn text(&self, alloc: Global) -> Result<String, OutOfMemory>
         ensures text { IfOk result (λ s. has_float self.now ≡ false → string_bytes s ≡ compact_text self.now) }
         ensures order { IfOk result (λ s. IsInOrder (string_bytes s) self.now) }

@@ -1,8 +1,11 @@
-//! Numbers and equality of JSON values, as JSON Schema has them: numbers compared and divided with no rounding, whole
-//! numbers told from fractions, and the equality by which 1 is 1.0 and an object's members stand in no order.
+//! Numbers and equality of JSON values, as JSON Schema defines them.
 //!
-//! A `Number` of `serde_json` is an integer of 64 bits or a float; each function here takes it for exactly the number
-//! that it stands for. What the text of a number lost when it was read, as digits past 64 bits, is lost before.
+//! Numbers are compared and divided without rounding, 1.0 is an integer, 1 equals 1.0, and the
+//! members of an object have no order.
+//!
+//! A `Number` of `serde_json` is an integer of 64 bits or a float, and each function here takes it
+//! for exactly that number. Digits that were lost when the text of a number was read, such as those
+//! past 64 bits, do not come back.
 #![tactic(auto)]
 
 pub mod distinct;
@@ -13,5 +16,5 @@ pub mod numbers;
 
 use std::alloc::AllocError;
 
-/// Memory could not be allocated. A function answers it only where the allocator refused.
+/// The allocator refused memory.
 pub type OutOfMemory = AllocError;

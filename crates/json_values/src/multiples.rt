@@ -1,5 +1,6 @@
-//! Whether a number is an integer (JSON Schema Validation 2020-12, 6.1.1) or a multiple of another (6.2.1), by its odd
-//! digits and its power of two.
+//! Integers and multiples (JSON Schema Validation 2020-12, 6.1.1 and 6.2.1).
+//!
+//! A number is split into odd digits and a power of two.
 ghost use Rattle.std.specs.Prelude.{◌%◌, ◌==◌, ◌≡◌, ◌*◌, ◌^◌, ◌<◌, IsTrue, unwrap_or, option_map, false};
 ghost use Rattle.std.specs.Float.{float_is_finite};
 ghost use lib.Ieee.Positive.{den, num};
@@ -12,14 +13,16 @@ use crate::numbers::{Kind, held_as, is_at_most};
 use serde_json::{Number, Value};
 use std::num::saturating_f64_to_u64;
 
-/// `digits` times 2 to the `power`, in units of 2^-1074, the smallest float; the digits are odd or 0.
+/// `digits` times 2 to the `power`, in units of 2^-1074, the smallest float.
+///
+/// The digits are odd or 0.
 #[derive(Clone, Copy)]
 pub(crate) struct Size {
     digits: u64,
     power: u32,
 }
 
-/// With each factor of two in the power.
+/// Moves each factor of two from the digits to the power.
 fn reduced(digits: u64, power: u32) -> Size
     requires small { power < 4096 }
     ensures units { units result ≡ digits * 2 ^ power }
@@ -35,7 +38,6 @@ fn reduced(digits: u64, power: u32) -> Size
     }
 }
 
-/// A float's size.
 fn size_of_float(x: f64) -> Size
     requires finite { IsTrue (float_is_finite x) }
     ensures size { IsSizeOf x result }
@@ -51,7 +53,6 @@ fn size_of_float(x: f64) -> Size
     }
 }
 
-/// A number's size.
 fn size_of(number: &Number) -> Size
     ensures size { IsSizeOf (value_of (number_view number.now)) result }
 {
@@ -62,7 +63,6 @@ fn size_of(number: &Number) -> Size
     }
 }
 
-/// Whether a float is an integer.
 fn is_whole_float(x: f64) -> bool
     requires finite { IsTrue (float_is_finite x) }
     ensures whole { result ≡ (num x % den x == 0) }
@@ -71,7 +71,7 @@ fn is_whole_float(x: f64) -> bool
     size.digits == 0 || 1074 <= size.power
 }
 
-/// Whether the number is an integer, that is, has no fraction: 1.0 is one.
+/// Returns whether the number is an integer: 1.0 is one.
 pub fn is_whole(number: &Number) -> bool
     ensures whole { result ≡ is_whole (number_view number.now) }
 {
@@ -82,8 +82,9 @@ pub fn is_whole(number: &Number) -> bool
     }
 }
 
-/// The natural number that a number is, if it is one: 2.0 is 2. One past the largest `u64`, which no size and no length reaches, counts
-/// as that.
+/// Returns the number as a natural number, if it is one: 2.0 is 2.
+///
+/// A number above the largest `u64`, which no size or length reaches, counts as the largest `u64`.
 pub fn natural_of(number: &Number) -> Option<u64>
     ensures natural { result ≡ natural_of (number_view number.now) }
 {
@@ -101,7 +102,9 @@ pub fn natural_of(number: &Number) -> Option<u64>
     }
 }
 
-/// Whether the value is a number, and an integer: 1.0 is, and no text is. So `type` takes it for `integer`.
+/// Returns whether the value is an integer: 1.0 is one.
+///
+/// The `integer` of `type` requires this.
 pub fn is_integer_valued(value: &Value) -> bool
     ensures whole { result ≡ unwrap_or (option_map is_whole (as_number (view value.now))) false }
 {
@@ -111,8 +114,10 @@ pub fn is_integer_valued(value: &Value) -> bool
     }
 }
 
-/// Whether the number divided by the divisor is an integer, with no rounding: 0.0075 is no multiple of 0.0001, since the
-/// floats nearest to these are none. Only 0 is a multiple of 0, which `multipleOf` never has as its value.
+/// Returns whether the number is an exact multiple of the divisor.
+///
+/// 0.0075 is not a multiple of 0.0001, because the floats nearest to them are not. Only 0 is a
+/// multiple of 0, which is never the value of `multipleOf`.
 pub fn is_multiple_of(number: &Number, divisor: &Number) -> bool
     ensures multiple { result ≡ is_multiple_of (number_view number.now) (number_view divisor.now) }
 {
@@ -130,9 +135,10 @@ pub fn is_multiple_of(number: &Number, divisor: &Number) -> bool
     dividend.digits % divisor.digits == 0
 }
 
-/// Whether the number divided by the divisor is an integer, where a quotient of floats is rounded to a float first: 0.0075
-/// is a multiple of 0.0001, as people expect of decimal fractions. Where the quotient is infinite, `is_multiple_of`
-/// decides.
+/// Returns whether the rounded quotient is an integer.
+///
+/// A quotient of floats is rounded to a float first, so 0.0075 is a multiple of 0.0001, as people
+/// expect of decimal fractions. If the quotient is infinite, `is_multiple_of` decides.
 pub fn is_rounded_multiple_of(number: &Number, divisor: &Number) -> bool
     ensures multiple { result ≡ is_rounded_multiple_of (number_view number.now) (number_view divisor.now) }
 {

@@ -1,5 +1,7 @@
-//! The order of JSON's numbers, with no rounding: an integer and a float are compared as the numbers that they are. So
-//! `maximum`, `minimum` and their exclusive forms compare (JSON Schema Validation 2020-12, 6.2.2 to 6.2.5).
+//! The order of JSON numbers, without rounding.
+//!
+//! An integer and a float are compared by their exact values, as `maximum`, `minimum` and their
+//! exclusive forms require (JSON Schema Validation 2020-12, 6.2.2 to 6.2.5).
 ghost use Rattle.std.specs.Prelude.{◌≡◌, false, pos};
 ghost use Rattle.std.specs.Float.{fin};
 ghost use Rattle.std.specs.Ordering.{nan_last_cmp};
@@ -10,10 +12,10 @@ use serde_json::Number;
 use std::cmp::{OrderedFloat, Ordering};
 use std::num::{nearest_u64_to_f64, saturating_f64_to_u64};
 
-/// Up to 2^53 a float holds each natural number.
+/// 2^53: floats hold each natural number up to it exactly.
 const EXACT: u64 = 9007199254740992;
 
-/// What a number is held as.
+/// How a number is represented.
 #[derive(Clone, Copy)]
 pub(crate) enum Kind {
     Natural(u64),
@@ -21,7 +23,6 @@ pub(crate) enum Kind {
     Fraction(f64),
 }
 
-/// What the number is held as.
 pub(crate) fn held_as(number: &Number) -> Kind
     ensures view { num_of result ≡ number_view number.now }
     ensures proper { IsProper result }
@@ -38,21 +39,20 @@ pub(crate) fn held_as(number: &Number) -> Kind
     }
 }
 
-/// A natural number against a float.
+/// Compares a natural number with a float.
 fn compare_natural(n: u64, x: f64) -> Ordering
     ensures order { result ≡ nan_last_cmp (fin false n (pos 0)) x }
 {
     if n <= EXACT {
         OrderedFloat(nearest_u64_to_f64(n)).cmp(&OrderedFloat(x))
     } else if x < 18446744073709551616.0 {
-        // Where the two are within 1 of each other, x is too large to have a fraction.
+        // If they differ by less than 1, x is too large to have a fraction.
         n.cmp(&saturating_f64_to_u64(x))
     } else {
         Ordering::Less
     }
 }
 
-/// The order of two numbers.
 fn compare_kinds(left: Kind, right: Kind) -> Ordering
     requires left_proper { IsProper left }
     requires right_proper { IsProper right }
@@ -73,29 +73,38 @@ fn compare_kinds(left: Kind, right: Kind) -> Ordering
     }
 }
 
-/// The order of two numbers: `Equal` for 1 and 1.0, and 2^53 + 1 is above 2^53 where one of them is a float.
+/// Compares two numbers by their exact values.
+///
+/// 1 equals 1.0, and 2^53 + 1 is greater than 2^53 even if one of them is a float.
 pub fn compare(left: &Number, right: &Number) -> Ordering
     ensures order { result ≡ order (number_view left.now) (number_view right.now) }
 {
     compare_kinds(held_as(left), held_as(right))
 }
 
-/// Whether the left number is at most the right one, as `maximum` and, turned round, `minimum` ask (6.2.2, 6.2.4).
+/// Returns whether the left number is at most the right one.
+///
+/// `maximum` and, with its arguments swapped, `minimum` require this (JSON Schema Validation
+/// 2020-12, 6.2.2 and 6.2.4).
 pub fn is_at_most(left: &Number, right: &Number) -> bool
     ensures at_most { result ≡ at_most (number_view left.now) (number_view right.now) }
 {
     compare(left, right).is_le()
 }
 
-/// Whether the left number is less than the right one, as `exclusiveMaximum` and, turned round, `exclusiveMinimum` ask
-/// (6.2.3, 6.2.5).
+/// Returns whether the left number is less than the right one.
+///
+/// `exclusiveMaximum` and, with its arguments swapped, `exclusiveMinimum` require this (JSON Schema
+/// Validation 2020-12, 6.2.3 and 6.2.5).
 pub fn is_less(left: &Number, right: &Number) -> bool
     ensures less { result ≡ less (number_view left.now) (number_view right.now) }
 {
     compare(left, right).is_lt()
 }
 
-/// Whether both are the same number: 1 and 1.0 are (JSON Schema Core 2020-12, 4.2.2).
+/// Returns whether both are the same number.
+///
+/// 1 and 1.0 are (JSON Schema Core 2020-12, 4.2.2).
 pub fn is_same_number(left: &Number, right: &Number) -> bool
     ensures same { result ≡ same_number (number_view left.now) (number_view right.now) }
 {
