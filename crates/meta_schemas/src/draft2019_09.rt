@@ -1,7 +1,9 @@
-//! The meta-schema of draft 2019-09, and those of its vocabularies.
+//! The meta-schemas of draft 2019-09 and of its vocabularies.
 
-/// The text of the meta-schema. It has the keywords of all its vocabularies itself: where it led to their documents, each order in
-/// which dynamic references pass through these would be compiled by itself.
+/// The text of the meta-schema.
+///
+/// It contains the keywords of all its vocabularies. If it referred to the documents of the
+/// vocabularies, each order in which dynamic references enter them would be compiled separately.
 pub(crate) const SCHEMA: &str = r##"{
   "$schema": "https://json-schema.org/draft/2019-09/schema",
   "$id": "https://json-schema.org/draft/2019-09/schema",
@@ -111,7 +113,7 @@ pub(crate) const SCHEMA: &str = r##"{
   }
 }"##;
 
-/// That of the core vocabulary.
+/// The meta-schema of the core vocabulary.
 pub(crate) const CORE: &str = r##"{
   "$schema": "https://json-schema.org/draft/2019-09/schema",
   "$id": "https://json-schema.org/draft/2019-09/meta/core",
@@ -135,7 +137,7 @@ pub(crate) const CORE: &str = r##"{
   }
 }"##;
 
-/// That of the vocabulary of applicators.
+/// The meta-schema of the applicator vocabulary.
 pub(crate) const APPLICATOR: &str = r##"{
   "$schema": "https://json-schema.org/draft/2019-09/schema",
   "$id": "https://json-schema.org/draft/2019-09/meta/applicator",
@@ -169,7 +171,7 @@ pub(crate) const APPLICATOR: &str = r##"{
   }
 }"##;
 
-/// That of the vocabulary of assertions.
+/// The meta-schema of the validation vocabulary.
 pub(crate) const VALIDATION: &str = r##"{
   "$schema": "https://json-schema.org/draft/2019-09/schema",
   "$id": "https://json-schema.org/draft/2019-09/meta/validation",
@@ -213,7 +215,7 @@ pub(crate) const VALIDATION: &str = r##"{
   }
 }"##;
 
-/// That of the vocabulary of descriptions.
+/// The meta-schema of the meta-data vocabulary.
 pub(crate) const META_DATA: &str = r##"{
   "$schema": "https://json-schema.org/draft/2019-09/schema",
   "$id": "https://json-schema.org/draft/2019-09/meta/meta-data",
@@ -231,7 +233,7 @@ pub(crate) const META_DATA: &str = r##"{
   }
 }"##;
 
-/// That of the vocabulary of formats.
+/// The meta-schema of the format vocabulary.
 pub(crate) const FORMAT: &str = r##"{
   "$schema": "https://json-schema.org/draft/2019-09/schema",
   "$id": "https://json-schema.org/draft/2019-09/meta/format",
@@ -243,7 +245,7 @@ pub(crate) const FORMAT: &str = r##"{
   }
 }"##;
 
-/// That of the vocabulary of contents.
+/// The meta-schema of the content vocabulary.
 pub(crate) const CONTENT: &str = r##"{
   "$schema": "https://json-schema.org/draft/2019-09/schema",
   "$id": "https://json-schema.org/draft/2019-09/meta/content",

@@ -1,7 +1,9 @@
-//! The meta-schema of draft 2020-12, and those of its vocabularies.
+//! The meta-schemas of draft 2020-12 and of its vocabularies.
 
-/// The text of the meta-schema. It has the keywords of all its vocabularies itself: where it led to their documents, each order in
-/// which dynamic references pass through these would be compiled by itself.
+/// The text of the meta-schema.
+///
+/// It contains the keywords of all its vocabularies. If it referred to the documents of the
+/// vocabularies, each order in which dynamic references enter them would be compiled separately.
 pub(crate) const SCHEMA: &str = r##"{
   "$schema": "https://json-schema.org/draft/2020-12/schema",
   "$id": "https://json-schema.org/draft/2020-12/schema",
@@ -120,7 +122,7 @@ pub(crate) const SCHEMA: &str = r##"{
   }
 }"##;
 
-/// That of the core vocabulary.
+/// The meta-schema of the core vocabulary.
 pub(crate) const CORE: &str = r##"{
   "$schema": "https://json-schema.org/draft/2020-12/schema",
   "$id": "https://json-schema.org/draft/2020-12/meta/core",
@@ -149,7 +151,7 @@ pub(crate) const CORE: &str = r##"{
   }
 }"##;
 
-/// That of the vocabulary of applicators.
+/// The meta-schema of the applicator vocabulary.
 pub(crate) const APPLICATOR: &str = r##"{
   "$schema": "https://json-schema.org/draft/2020-12/schema",
   "$id": "https://json-schema.org/draft/2020-12/meta/applicator",
@@ -181,7 +183,7 @@ pub(crate) const APPLICATOR: &str = r##"{
   }
 }"##;
 
-/// That of the vocabulary of what is not evaluated.
+/// The meta-schema of the unevaluated vocabulary.
 pub(crate) const UNEVALUATED: &str = r##"{
   "$schema": "https://json-schema.org/draft/2020-12/schema",
   "$id": "https://json-schema.org/draft/2020-12/meta/unevaluated",
@@ -194,7 +196,7 @@ pub(crate) const UNEVALUATED: &str = r##"{
   }
 }"##;
 
-/// That of the vocabulary of assertions.
+/// The meta-schema of the validation vocabulary.
 pub(crate) const VALIDATION: &str = r##"{
   "$schema": "https://json-schema.org/draft/2020-12/schema",
   "$id": "https://json-schema.org/draft/2020-12/meta/validation",
@@ -238,7 +240,7 @@ pub(crate) const VALIDATION: &str = r##"{
   }
 }"##;
 
-/// That of the vocabulary of descriptions.
+/// The meta-schema of the meta-data vocabulary.
 pub(crate) const META_DATA: &str = r##"{
   "$schema": "https://json-schema.org/draft/2020-12/schema",
   "$id": "https://json-schema.org/draft/2020-12/meta/meta-data",
@@ -256,7 +258,7 @@ pub(crate) const META_DATA: &str = r##"{
   }
 }"##;
 
-/// That of the vocabulary of formats that annotate.
+/// The meta-schema of the format-annotation vocabulary.
 pub(crate) const FORMAT_ANNOTATION: &str = r##"{
   "$schema": "https://json-schema.org/draft/2020-12/schema",
   "$id": "https://json-schema.org/draft/2020-12/meta/format-annotation",
@@ -268,7 +270,7 @@ pub(crate) const FORMAT_ANNOTATION: &str = r##"{
   }
 }"##;
 
-/// That of the vocabulary of formats that assert.
+/// The meta-schema of the format-assertion vocabulary.
 pub(crate) const FORMAT_ASSERTION: &str = r##"{
   "$schema": "https://json-schema.org/draft/2020-12/schema",
   "$id": "https://json-schema.org/draft/2020-12/meta/format-assertion",
@@ -280,7 +282,7 @@ pub(crate) const FORMAT_ASSERTION: &str = r##"{
   }
 }"##;
 
-/// That of the vocabulary of contents.
+/// The meta-schema of the content vocabulary.
 pub(crate) const CONTENT: &str = r##"{
   "$schema": "https://json-schema.org/draft/2020-12/schema",
   "$id": "https://json-schema.org/draft/2020-12/meta/content",

@@ -1,6 +1,6 @@
 //! The meta-schema of draft 6.
 
-/// Its text.
+/// The text of the meta-schema.
 pub(crate) const TEXT: &str = r##"{
   "$schema": "http://json-schema.org/draft-06/schema#",
   "$id": "http://json-schema.org/draft-06/schema#",

@@ -1,6 +1,9 @@
-//! The meta-schemas of drafts 4, 6, 7, 2019-09 and 2020-12, as texts of JSON, each with the URI that schemas refer to it by. They are
-//! written from the standard's tables of keywords, and accept and refuse what the standard's own do (`tools/meta_schemas.py`). Their
-//! definitions that schemas are known to refer to go by the standard's names.
+//! The meta-schemas of drafts 4, 6, 7, 2019-09 and 2020-12, as JSON texts.
+//!
+//! Each has the URI by which schemas refer to it. They are written from the standard's tables of
+//! keywords, and accept and refuse the same schemas as the standard's own meta-schemas
+//! (`tools/meta_schemas.py` compares them). Definitions that schemas are known to refer to have the
+//! standard's names.
 #![tactic(auto)]
 
 ghost use Rattle.std.specs.Prelude.{◌≡◌, map};
@@ -19,13 +22,13 @@ use schema_drafts::keywords::Draft;
 /// A meta-schema, or the meta-schema of a vocabulary.
 #[derive(Clone, Copy)]
 pub struct MetaSchema {
-    /// The URI that it is found under, without a fragment.
+    /// The URI of the meta-schema, without a fragment.
     pub uri: &'static str,
-    /// Its text, which is JSON.
+    /// The JSON text of the meta-schema.
     pub text: &'static str,
 }
 
-/// The meta-schema of a draft. A draft that is not known has that of 2020-12.
+/// Returns the meta-schema of a draft. An unknown draft has that of 2020-12.
 pub fn meta_schema(draft: Draft) -> MetaSchema
     ensures uri { result.uri.now ≡ uri_of (draft_of draft) }
 {
@@ -53,7 +56,7 @@ pub fn meta_schema(draft: Draft) -> MetaSchema
     }
 }
 
-/// The meta-schemas of the vocabularies of 2019-09 and then of 2020-12.
+/// Returns the meta-schemas of the vocabularies of 2019-09, then of 2020-12.
 pub fn vocabulary_meta_schemas() -> [MetaSchema; 14]
     ensures uris { map (λ (m : MetaSchema). m.uri.now) result ≡ vocabulary_uris }
 {
