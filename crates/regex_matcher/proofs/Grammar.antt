@@ -1,4 +1,4 @@
--- From what `Regex::new` ensures to what the text is.
+-- Consequences of the contract of `Regex::new` for its text.
 use Rattle.std.proofs.Common.{◌≡◌, ◌≢◌, ◌⊎◌, ◌<◌, ◌≤◌, ◌∙◌, None, Option, Some, IsSomeAnd, IfSome, ap, arith, false, inl, inr, is_some, length, nat_le, refl, sym, true}
 use Rattle.std.specs.Prelude.{chars, option_and_then}
 use Rattle.std.proofs.lemmas.Bool.Decides.{nat_tests}
@@ -53,7 +53,7 @@ refused None k other (inr (inr deep)) = refl
 refused (Some found) k other (inr (inr deep)) =
     let large : nat_le found.0.depth 250 ≡ false = grind (arith, nat_tests, deep.1) in rw large refl
 
--- an error of syntax says that the text is no pattern
+-- a syntax error means that the text is not a pattern
 pub refused_none : (p : Text) (error : Error) (e : parser.Error) → error ≡ Syntax e → IsRightKind default_config p error →
     IsRefusal default_config p error → read_in p ≡ None
 unfolding Refuses read_in

@@ -1,4 +1,4 @@
--- What a table of patterns has.
+-- The texts in a table of patterns.
 use Rattle.std.proofs.Common.{Global, String, get_or, length, map, option_map, ◌<◌, ◌≡◌, ◌∙◌, ℕ, List, [], ◌∷◌, None, Option, Some, bytes_eq, false, is_some, not, true≢false, inl, inr, ap, refl, rules, string_bytes, sym, true}
 use Rattle.std.specs.Prelude.{IfSome, slice_get}
 use Rattle.std.proofs.Math.Bool.{or-false}
@@ -17,14 +17,14 @@ use Rattle.regex_matcher.specs.SchemaPatterns.{IsAdded, IsFaultOf, has}
 use Rattle.regex_matcher.specs.declared.error.PatternError.{PatternError}
 use Rattle.regex_matcher.specs.declared.error.PatternError.TheVariants.{OutOfMemory, TooBig}
 
--- what answers as a pattern is there where the pattern is
+-- a compiled pattern is present exactly if the pattern is
 pub read_alike : (o : Option Re) (r : Option Regex) → AnswersAs o (regex_finds r) → is_some r ≡ is_some o
 read_alike None None h = refl
 read_alike None (Some r) h = let e = h [] (search rules) in cc
 read_alike (Some re) None h = let e = h [] (search rules) in cc
 read_alike (Some re) (Some r) h = refl
 
--- a text that stands in a list is among its texts
+-- an element of a list is among its texts
 pub has_at : (ts : List Text) (i : ℕ) (p : Text) → slice_get ts i ≡ Some p → has p ts ≡ true
 has_at ts i p is =
     let same : bytes_eq p p ≡ true = (bytes_eq-Decides p p).1 refl in
@@ -34,28 +34,28 @@ has_at ts i p is =
 pub of_itself : (p : Text) → has p (p ∷ []) ≡ true
 of_itself p = has_at (p ∷ []) 0 p refl
 
--- so to add it adds nothing
+-- so adding it adds nothing
 pub added_at : (ts : List Text) (i : ℕ) (p : Text) → slice_get ts i ≡ Some p → IsAdded ts (p ∷ []) ts
 added_at ts i p is t = elim (cases_Bool (bytes_eq t p)) [
   | inl found ↦ let there = has_at ts i p is in let one = (bytes_eq-Decides t p).0 found in rw one (rw there refl)
   | inr other ↦ rw other (sym (or-false (has t ts)))
 ]
 
--- a fault of a text of a list is one of the list
+-- a fault of one text of a list is a fault of the list
 pub fault_of : (ts : List Text) (p : Text) (e : PatternError) → has p ts ≡ true → IsFaultOf (p ∷ []) e → IsFaultOf ts e
 fault_of ts p OutOfMemory is h = tt
 fault_of ts p (TooBig t) is h =
     let one = (bytes_eq-Decides (string_bytes t) p).0 (sym (or-false (bytes_eq (string_bytes t) p)) ∙ h.0) in
     (rw one is, h.1)
 
--- texts that do not differ are one
+-- texts that do not differ are equal
 pub same_text : (xs ys : Text) → false ≡ not (bytes_eq xs ys) → xs ≡ ys
 same_text xs ys h = elim (cases_Bool (bytes_eq xs ys)) [
   | inl same ↦ (bytes_eq-Decides xs ys).0 same
   | inr other ↦ absurd (true≢false (sym (h ∙ ap not other)))
 ]
 
--- where a place is found, the text is in the list
+-- if an index is found, the text is in the list
 pub added_where : (ts : List Text) (p : Text) (o : Option ℕ) → IfSome o (λ i. slice_get ts i ≡ Some p) → true ≡ is_some o → IsAdded ts (p ∷ []) ts
 added_where ts p None h some = absurd (true≢false some)
 added_where ts p (Some i) h some = added_at ts i p h
@@ -83,7 +83,7 @@ none_from : (o : Option Re) → is_some o ≡ false → o ≡ None
 none_from None h = refl
 none_from (Some re) h = absurd (true≢false h)
 
--- where unreadable patterns are left unfinished, if there are any, those of the list are
+-- if unreadable patterns are left unfinished, those of the list are
 pub careful_tells : (ts : List Text) (u : Unreadable) → u ≡ careful ts → TellsUnreadable ts (regex_matcher u)
 careful_tells ts u is p s among bad =
     let left : u ≡ LeftUnfinished = rw (unreadable_found ts p among bad) at is in

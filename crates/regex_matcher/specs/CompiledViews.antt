@@ -1,4 +1,4 @@
--- What a compiled pattern, and the search for it, find.
+-- The answers of a compiled pattern and of the search for it.
 use Rattle.std.specs.Prelude.{All, Bool, None, Option, Some, is_some, ◌<◌, ◌≡◌}
 use Rattle.regex.specs.Patterns.{Re, find_str}
 use Rattle.regex.specs.Strings.{matcher_pattern, regex_pattern}
@@ -15,6 +15,6 @@ abbrev pub searcher_finds : Option searcher.Matcher → Text → Option Bool
 searcher_finds None s = None
 searcher_finds (Some m) s = Some (is_some (find_str (matcher_pattern m) s 0))
 
--- on every subject of bytes these answers are the pattern's
+-- on every subject of bytes, the answers are those of the pattern
 abbrev pub AnswersAs : Option Re → (Text → Option Bool) → Type 0
 AnswersAs o finds = (s : Text) → All (λ x. x < 256) s → finds s ≡ found_in o s

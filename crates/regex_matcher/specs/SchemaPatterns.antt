@@ -1,5 +1,6 @@
--- The patterns of documents: each text under a member `pattern`, and each member's name under a member `patternProperties`, wherever
--- they stand. What stands there in a constant or an example counts too. (Validation 2020-12, 6.3.3; Core 2020-12, 10.3.2.2)
+-- The patterns in documents: each text under a member `pattern`, and each member's name under a
+-- member `patternProperties`, anywhere in the documents, even in a constant or an example.
+-- (Validation 2020-12, 6.3.3; Core 2020-12, 10.3.2.2)
 use Rattle.std.specs.Prelude.{Bool, List, [], bytes_eq, codes, if◌then◌else◌, string_bytes, true, ◌++◌, ◌∷◌, ◌≡◌, ◌||◌}
 use Rattle.std.specs.List.{flat_map, list_any}
 use Rattle.serde_json.specs.Data.{Data, Items, Members, array, boolean, item, member, no_items, no_members, null, number, object, string}
@@ -28,7 +29,7 @@ member_names_of (number n) = []
 member_names_of (string s) = []
 member_names_of (array ds) = []
 
--- the patterns that a member of this name and value gives by itself
+-- the patterns that a member of this name and value itself holds
 abbrev pub given_by : Text → Data → List Text
 given_by k d =
     if bytes_eq k (codes "pattern") then text_of d
@@ -55,15 +56,15 @@ abbrev mutual
 abbrev pub patterns_of : List Data → List Text
 patterns_of = flat_map patterns_in
 
--- the text is one of these
+-- the text is in the list
 abbrev pub has : Text → List Text → Bool
 has t ts = list_any (bytes_eq t) ts
 
--- a list with these texts added has what it had, and each of them
+-- the new list has exactly the texts of the old one and these
 abbrev pub IsAdded : List Text → List Text → List Text → Type 0
 IsAdded old more new = (t : Text) → has t new ≡ (has t old || has t more)
 
--- memory is wanting, or one of these texts can be read and is too big
+-- the error is out of memory, or one of these texts is readable and too big
 abbrev pub IsFaultOf : List Text → PatternError → Type 0
 IsFaultOf ts OutOfMemory = Unit {0}
 IsFaultOf ts (TooBig t) = (has (string_bytes t) ts ≡ true) × (is_readable (string_bytes t) ≡ true)

@@ -1,4 +1,4 @@
-//! One pattern, compiled, and what searches for it.
+//! A compiled pattern, and a search for it.
 ghost use Rattle.std.specs.Prelude.{◌≡◌, IfErr, IfOk, [], bytes_eq, is_some, ◌∷◌};
 ghost use Rattle.regex_matcher.specs.CompiledViews.{AnswersAs, regex_finds};
 ghost use Rattle.regex_matcher.specs.RegexMatching.{found_in, is_readable, pattern_in};
@@ -12,7 +12,7 @@ use schema_reports::location::OutOfMemory;
 use std::alloc::Global;
 use std::marker::Model;
 
-/// A text and the pattern that it was compiled to; none where it cannot be read.
+/// A text and its compiled pattern, or no pattern if the text is unreadable.
 #[derive(Drop)]
 pub struct Compiled {
     source: String,
@@ -33,11 +33,11 @@ impl Model for Compiled {
 }
 
 impl Compiled {
-    /// Compiles a text. One that cannot be read is no error.
+    /// Compiles a text. An unreadable text is no error.
     ///
     /// # Errors
     ///
-    /// Fails if memory cannot be allocated, or if the text can be read and is too big to compile.
+    /// Out of memory, or the text is readable but too big to compile.
     pub fn new(alloc: Global, source: &str) -> Result<Compiled, PatternError>
         ensures source { Yields result source.now }
         ensures fault { IfErr result (IsFaultOf (source.now ∷ [])) }
@@ -50,25 +50,25 @@ impl Compiled {
         })
     }
 
-    /// The text.
+    /// Returns the text.
     pub fn source(&self) -> &str
         ensures source { result.now ≡ self.now }
     {
         self.source.as_str()
     }
 
-    /// Whether the text can be read.
+    /// Returns whether the text is readable.
     pub fn is_readable(&self) -> bool
         ensures readable { result ≡ is_readable self.now }
     {
         self.regex.is_some()
     }
 
-    /// Returns what searches for it.
+    /// Makes a search for the pattern.
     ///
     /// # Errors
     ///
-    /// Fails only if memory cannot be allocated.
+    /// Out of memory.
     pub fn search(&self, alloc: Global) -> Result<Search<'_>, OutOfMemory>
         ensures source { Yields result self.now }
     {
@@ -81,7 +81,7 @@ impl Compiled {
     }
 }
 
-// Compiles a text, to none where it cannot be read.
+// Compiles a text; `None` if it is unreadable.
 fn compile_text(alloc: Global, source: &str) -> Result<Option<Regex>, PatternError>
     ensures answers { IfOk result (λ o. AnswersAs (pattern_in source.now) (regex_finds o)) }
     ensures fault { IfErr result (IsFaultOf (source.now ∷ [])) }
@@ -97,7 +97,7 @@ fn compile_text(alloc: Global, source: &str) -> Result<Option<Regex>, PatternErr
     }
 }
 
-/// What searches for a pattern, with the caches of its searches.
+/// A search for a pattern, with its caches.
 #[derive(Drop)]
 pub struct Search<'r> {
     source: &'r str,
@@ -117,14 +117,14 @@ impl<'r> Model for Search<'r> {
 }
 
 impl<'r> Search<'r> {
-    /// Whether it searches for the pattern of this text.
+    /// Returns whether this is the search for a pattern.
     pub fn is_for(&self, pattern: &str) -> bool
         ensures same { result ≡ bytes_eq pattern.now self.now }
     {
         pattern == self.source
     }
 
-    /// Whether the pattern is found in the subject; none where it cannot be read.
+    /// Returns whether the subject has a match, or `None` if the pattern is unreadable.
     pub fn find(&mut self, subject: &str) -> Option<bool>
         ensures found { result ≡ found_in (pattern_in self.old) subject.now }
         ensures same { self.new ≡ self.old }

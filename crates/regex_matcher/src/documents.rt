@@ -1,4 +1,4 @@
-//! The patterns that documents hold.
+//! The patterns in documents.
 ghost use Rattle.std.specs.Prelude.{◌∷◌, [], map};
 ghost use Rattle.serde_json.specs.View.{items_view, view};
 ghost use Rattle.regex_matcher.specs.SchemaPatterns.{given_by, member_names_of, names_of, patterns_in, patterns_in_items};
@@ -9,12 +9,14 @@ use schema_reports::location::OutOfMemory;
 use serde_json::{Map, Value};
 use std::alloc::Global;
 
-/// Each text under a member `pattern` and each member's name under a member `patternProperties`, wherever they stand in the
-/// documents, in order.
+/// Returns the patterns in documents, in order.
+///
+/// These are each text under a member `pattern`, and each member's name under a member
+/// `patternProperties`, anywhere in the documents.
 ///
 /// # Errors
 ///
-/// Fails only if memory cannot be allocated.
+/// Out of memory.
 pub fn patterns_of(alloc: Global, documents: &[&Value]) -> Result<Vec<String>, OutOfMemory>
     ensures patterns { ListsTexts result (patterns_of (map (λ d. view d.now) documents.now)) }
 {
@@ -25,7 +27,6 @@ pub fn patterns_of(alloc: Global, documents: &[&Value]) -> Result<Vec<String>, O
     Ok(texts)
 }
 
-// Adds the patterns of a value.
 #[cycle(walk)]
 fn push_patterns(alloc: Global, value: &Value, texts: &mut Vec<String>) -> Result<(), OutOfMemory>
     ensures pushed { AddsTexts texts.old.items texts.new.items (patterns_in (view value.now)) result }
@@ -40,7 +41,6 @@ fn push_patterns(alloc: Global, value: &Value, texts: &mut Vec<String>) -> Resul
     }
 }
 
-// Adds the patterns of items.
 #[cycle(walk)]
 fn push_patterns_of_items(
     alloc: Global,
@@ -55,7 +55,6 @@ fn push_patterns_of_items(
     Ok(())
 }
 
-// Adds the patterns of members.
 #[cycle(walk)]
 fn push_patterns_of_members(
     alloc: Global,
@@ -71,7 +70,7 @@ fn push_patterns_of_members(
     Ok(())
 }
 
-// Adds the patterns that a member gives by itself.
+// Adds the patterns that a member itself holds, not those of the values inside it.
 fn push_given(
     alloc: Global,
     name: &str,
@@ -89,7 +88,6 @@ fn push_given(
     Ok(())
 }
 
-// Adds the value, if it is a text.
 fn push_text_of(alloc: Global, value: &Value, texts: &mut Vec<String>) -> Result<(), OutOfMemory>
     ensures pushed { AddsTexts texts.old.items texts.new.items (text_of (view value.now)) result }
 {
@@ -99,7 +97,6 @@ fn push_text_of(alloc: Global, value: &Value, texts: &mut Vec<String>) -> Result
     Ok(())
 }
 
-// Adds the names of the value's members, if it is an object.
 fn push_member_names(
     alloc: Global,
     value: &Value,
@@ -113,7 +110,6 @@ fn push_member_names(
     }
 }
 
-// Adds the names of members.
 fn push_names(
     alloc: Global,
     members: &Map<String, Value>,

@@ -1,16 +1,16 @@
-//! Why patterns are not made ready.
+//! The error of compiling patterns.
 ghost use Rattle.std.specs.Prelude.{◌≡◌};
 
 use std::alloc::AllocError;
 use std::error::Error;
 use std::fmt;
 
-/// Why patterns are not made ready.
+/// The reason why patterns could not be compiled.
 #[derive(Debug, Drop)]
 pub enum PatternError {
-    /// Memory cannot be allocated.
+    /// Memory could not be allocated.
     OutOfMemory,
-    /// The pattern of this text can be read, but what it is compiled to would pass 10 MiB.
+    /// The pattern of this text is readable, but its compiled form would exceed 10 MiB.
     TooBig(String),
 }
 

@@ -1,7 +1,8 @@
-//! A matcher of regular expressions: patterns of ECMA-262, by the kit's `regex`.
+//! A matcher of ECMA-262 regular expressions, by the kit's `regex`.
 //!
-//! `Patterns::for_schemas` compiles the patterns of documents, and `RegexMatcher::new` makes the matcher that has them at hand. What it
-//! answers follows from the pattern's text alone: the table only spares it to compile a pattern again.
+//! `Patterns::for_schemas` compiles the patterns of documents, and `RegexMatcher::new` makes a
+//! matcher that uses them. An answer depends only on the pattern's text: the table only avoids
+//! compiling a pattern again.
 #![tactic(auto)]
 
 pub mod compiled;

@@ -1,4 +1,4 @@
-//! The matcher.
+//! The matcher of regular expressions.
 ghost use Rattle.std.specs.Prelude.{◌≡◌, ◌<◌, IfOk, IfSome, length};
 ghost use Rattle.unfinished_matches.specs.MatchViews.{match_of};
 ghost use Rattle.regex_matcher.specs.RegexMatching.{TellsUnreadable, careful, found_in, pattern_in, regex_matcher};
@@ -15,8 +15,10 @@ use std::cell::RefCell;
 use std::marker::Model;
 use unfinished_matches::site::Match;
 
-/// A matcher of regular expressions. It keeps a search for each pattern of its table, whose caches change behind a `&`; its
-/// answers do not.
+/// A matcher of regular expressions.
+///
+/// It keeps a search for each pattern of its table. The caches of the searches change behind a `&`,
+/// but its answers do not.
 #[derive(Drop)]
 pub struct RegexMatcher<'r> {
     patterns: &'r Patterns,
@@ -36,12 +38,14 @@ impl<'r> Model for RegexMatcher<'r> {
 }
 
 impl<'r> RegexMatcher<'r> {
-    /// Returns a matcher that has these patterns at hand. Where each of them can be read, it finishes every match; else it leaves
-    /// unfinished what cannot be read.
+    /// Makes a matcher that uses a table of patterns.
+    ///
+    /// If all patterns are readable, the matcher finishes every match; otherwise it leaves matches
+    /// of unreadable patterns unfinished.
     ///
     /// # Errors
     ///
-    /// Fails only if memory cannot be allocated.
+    /// Out of memory.
     pub fn new(alloc: Global, patterns: &'r Patterns) -> Result<RegexMatcher<'r>, OutOfMemory>
         ensures kept { Yields result (record { unreadable = careful patterns.now; patterns = patterns.now }) }
         ensures tells { IfOk result (λ m. TellsUnreadable patterns.now (regex_matcher m.unreadable)) }
@@ -49,11 +53,13 @@ impl<'r> RegexMatcher<'r> {
         RegexMatcher::with_unreadable(alloc, patterns, careful(patterns))
     }
 
-    /// Returns a matcher that has these patterns at hand, and answers so for those that cannot be read.
+    /// Makes a matcher that uses a table of patterns.
+    ///
+    /// Unreadable patterns, in the table or not, are treated as `unreadable` says.
     ///
     /// # Errors
     ///
-    /// Fails only if memory cannot be allocated.
+    /// Out of memory.
     pub fn with_unreadable(
         alloc: Global,
         patterns: &'r Patterns,
@@ -72,7 +78,7 @@ impl<'r> RegexMatcher<'r> {
         })
     }
 
-    // What the search that is kept for a pattern says, if there is one and it is not in use.
+    // Returns the answer of the kept search for a pattern, if there is one and it is not in use.
     fn kept_answer(&self, pattern: &str, subject: &str) -> Option<Match>
         ensures answer { IfSome result (λ m. match_of m ≡ (regex_matcher self.now.unreadable).is_match pattern.now subject.now) }
     {
@@ -82,7 +88,6 @@ impl<'r> RegexMatcher<'r> {
     }
 }
 
-// What is to become of the patterns of a table that cannot be read: they are left unfinished, if there are any.
 fn careful(patterns: &Patterns) -> Unreadable
     ensures careful { result ≡ careful patterns.now }
 {
@@ -92,7 +97,7 @@ fn careful(patterns: &Patterns) -> Unreadable
     }
 }
 
-// What a search finds, if it is not in use and is for this pattern.
+// Returns the answer of a search, if it is not in use and is for this pattern.
 fn found_by(search: &RefCell<Search<'_>>, pattern: &str, subject: &str) -> Option<Option<bool>>
     ensures found { IfSome result (λ found. found ≡ found_in (pattern_in pattern.now) subject.now) }
 {
@@ -124,7 +129,9 @@ impl<'r> Clone for RegexMatcher<'r> {
     }
 }
 
-/// A pattern that is not in the table is compiled for the call. If it can be read and is too big to compile, memory is wanting.
+/// A pattern that is not in the table is compiled for each call.
+///
+/// If it is readable but too big to compile, the call is out of memory.
 impl<'r> Matcher for RegexMatcher<'r> {
     ghost use Rattle.std.proofs.Common.{ap};
     ghost use Rattle.regex_matcher.specs.RegexMatching.{finishes_each, regex_matcher};

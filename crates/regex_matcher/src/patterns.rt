@@ -31,7 +31,7 @@ impl Model for Patterns {
 }
 
 impl Patterns {
-    /// A table of no patterns.
+    /// Makes an empty table.
     pub fn new(alloc: Global) -> Patterns
         ensures { result ≡ [] }
     {
@@ -41,12 +41,15 @@ impl Patterns {
         }
     }
 
-    /// Returns a table of the patterns of documents: each text under a member `pattern` and each member's name under a member
-    /// `patternProperties`, wherever they stand. One that cannot be read is no error: `first_unreadable` tells it.
+    /// Compiles the patterns in documents.
+    ///
+    /// These are each text under a member `pattern`, and each member's name under a member
+    /// `patternProperties`, anywhere in the documents. An unreadable pattern is no error:
+    /// `first_unreadable` reports it.
     ///
     /// # Errors
     ///
-    /// Fails if memory cannot be allocated, or if one of them can be read and is too big to compile.
+    /// Out of memory, or a pattern is readable but too big to compile.
     pub fn for_schemas(alloc: Global, documents: &[&Value]) -> Result<Patterns, PatternError>
         ensures patterns { IfOk result (IsAdded [] (patterns_of (map (λ d. view d.now) documents.now))) }
         ensures fault { IfErr result (IsFaultOf (patterns_of (map (λ d. view d.now) documents.now))) }
@@ -63,7 +66,8 @@ impl Patterns {
     ///
     /// # Errors
     ///
-    /// Fails if memory cannot be allocated, or if it can be read and is too big to compile. Then the table is as it was.
+    /// Out of memory, or the pattern is readable but too big to compile. The table is then
+    /// unchanged.
     pub fn add(&mut self, alloc: Global, pattern: &str) -> Result<(), PatternError>
         ensures added { IfOk result (λ _. IsAdded self.old (pattern.now ∷ []) self.new) }
         ensures fault { IfErr result (IsFaultOf (pattern.now ∷ [])) }
@@ -78,7 +82,6 @@ impl Patterns {
         Ok(())
     }
 
-    // Adds a compiled pattern, under this name.
     fn keep(&mut self, name: String, compiled: Compiled) -> Result<(), OutOfMemory>
         ensures added { IfOk result (λ _. self.new ≡ self.old ++ compiled ∷ []) }
         ensures kept { IfErr result (λ _. self.new ≡ self.old) }
@@ -88,12 +91,12 @@ impl Patterns {
         Ok(())
     }
 
-    // Where a pattern may stand in the table, by its hash: who asks compares.
+    // Returns the likely index of a pattern, by its hash. The caller has to compare the texts.
     pub(crate) fn likely_place(&self, pattern: &str) -> Option<usize> {
         self.places.get(pattern).copied()
     }
 
-    /// Where a pattern stands in the table, if it does.
+    /// Returns the index of a pattern, if it is in the table.
     pub fn place_of(&self, pattern: &str) -> Option<usize>
         ensures place { IfSome result (λ i. slice_get self.now i ≡ Some pattern.now) }
     {
@@ -105,7 +108,7 @@ impl Patterns {
         Some(place)
     }
 
-    /// The first pattern of the table that cannot be read, if there is one.
+    /// Returns the first unreadable pattern, if there is one.
     pub fn first_unreadable(&self) -> Option<&str>
         ensures first { text_read result ≡ first_unreadable self.now }
     {
@@ -117,7 +120,7 @@ impl Patterns {
         None
     }
 
-    /// The compiled patterns, each at its place.
+    /// Returns the compiled patterns, in the order of their indexes.
     pub fn compiled(&self) -> &[Compiled]
         ensures compiled { result.now ≡ self.now }
     {

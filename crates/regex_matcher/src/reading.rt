@@ -1,4 +1,4 @@
-//! Whether a text is a pattern, by reading it alone.
+//! Readability of patterns, without compiling them.
 ghost use Rattle.std.specs.Prelude.{is_some};
 ghost use Rattle.regex_matcher.specs.RegexMatching.{is_readable, read_in};
 ghost use Rattle.schema_traits.specs.Showing.{Yields};
@@ -8,12 +8,14 @@ use regex_syntax::{Config, ErrorKind};
 use schema_reports::location::OutOfMemory;
 use std::alloc::{AllocError, Global};
 
-/// Whether a text is a pattern that can be read. A table can refuse the others, with the place where they stand. One that is read
-/// may still be too big to compile: `Patterns::add` says so.
+/// Returns whether a text is a readable pattern.
+///
+/// A table can refuse unreadable patterns, and report their location. A readable pattern may still
+/// be too big to compile: `Patterns::add` reports that.
 ///
 /// # Errors
 ///
-/// Fails only if memory cannot be allocated.
+/// Out of memory.
 pub fn is_readable(alloc: Global, text: &str) -> Result<bool, OutOfMemory>
     ensures readable { Yields result (is_readable text.now) }
 {
@@ -23,7 +25,6 @@ pub fn is_readable(alloc: Global, text: &str) -> Result<bool, OutOfMemory>
     is_read(alloc, translated.as_str())
 }
 
-// Whether the parser of the kit's `regex` reads a text.
 fn is_read(alloc: Global, text: &str) -> Result<bool, OutOfMemory>
     ensures read { Yields result (is_some (read_in text.now)) }
 {

@@ -1,21 +1,29 @@
-//! What becomes of a pattern that cannot be read.
+//! The treatment of unreadable patterns.
 ghost use Rattle.std.specs.Prelude.{◌≡◌};
 ghost use Rattle.unfinished_matches.specs.MatchViews.{match_of};
 ghost use Rattle.regex_matcher.specs.RegexMatching.{answer_of};
 
 use unfinished_matches::site::{Match, Reason};
 
-/// What is answered for a pattern that cannot be read: one that looks around or refers back, or that is none.
+/// The answer for an unreadable pattern.
+///
+/// A pattern is unreadable if it looks around or refers back, or if it is invalid.
 #[derive(Clone, Copy)]
 pub enum Unreadable {
-    /// Each match of it is left unfinished, so the engine says that the pattern failed where it matters.
+    /// Leaves each match of the pattern unfinished.
+    ///
+    /// The engine then reports that the pattern failed, if the result depends on it.
     LeftUnfinished,
-    /// It matches nothing, so every match is finished. Take it where the schema's table refuses such patterns.
+    /// Lets the pattern match nothing, so every match is finished.
+    ///
+    /// Use this if the schema's table refuses unreadable patterns.
     MatchesNothing,
 }
 
 impl Unreadable {
-    /// The answer, given whether the pattern is found, if it can be read.
+    /// Returns the answer for a search with this result.
+    ///
+    /// The result is `None` for an unreadable pattern.
     pub fn answer(self, found: Option<bool>) -> Match
         ensures answer { match_of result ≡ answer_of self found }
     {
