@@ -1,4 +1,4 @@
--- What is found in a schema stands at the paths of its subschemas.
+-- The values that are found in a schema are those at the paths of its subschemas.
 use Rattle.std.proofs.Common.{◌≡◌, ◌∙◌, ◌<◌, ◌≤◌, ◌+◌, ◌++◌, ◌∷◌, [], ℕ, zero, suc, Bool, true, false, Bor, Greater, Less, List, Option}
 use Rattle.std.proofs.Common.{Some, ap, append-nil, append_assoc, arith, bytes_eq, cond, drop, get_or, length, map, nat_cmp}
 use Rattle.std.proofs.Common.{option_and_then, option_map, refl, string_bytes, string_cmp, subst, sym}
@@ -49,7 +49,7 @@ member_there (first ∷ done) e more h =
     ap (λ (b : Bool). cond b (Some (view first.1)) (member_of (string_bytes e.0) (members_view (done ++ e ∷ more)))) differs
     ∙ member_there done e more h.1
 
--- ---- what stands below a keyword
+-- ---- the value under a keyword
 
 module _ (schema : Data) (k : Text) where
   after_it : (p : Place) (v : Data) → get k schema ≡ Some v → subject_at schema (to_member k ∷ p) ≡ subject_from p (a_value v)
@@ -169,7 +169,7 @@ items_end schema k before now items i l so_far =
     sym (append-nil now) ∙ sym (so_far.0 ∙ ap (λ (xs : List Value). now ++ map (found_at schema) (items_below k i (items_view xs)))
     (drop_all i items l))
 
--- ---- what the code read
+-- ---- the values that the code read
 
 pub object_is : (d : Data) (ms : Members) → as_object d ≡ Some ms → d ≡ object ms
 object_is (object es) ms h = let e : es ≡ ms = cc in ap object e

@@ -1,4 +1,4 @@
--- The index that a segment is, read by `parse`.
+-- The index of a segment, as `parse` reads it.
 use Rattle.std.proofs.Common.{◌≡◌, ◌<◌, ℕ, [], ◌∷◌, Bool, true, false, not, Some, Result, Ok, Err, length, refl, ap, arith}
 use Rattle.std.specs.Prelude.{◌&&◌, ◌==◌, ◌^◌, nat_lt}
 use Rattle.std.specs.Char.{is_ascii_digit}

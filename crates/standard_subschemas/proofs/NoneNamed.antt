@@ -1,4 +1,4 @@
--- An object none of whose members has a name that subschemas lie under has no subschemas.
+-- An object has no subschemas if none of its members is a keyword that holds subschemas.
 use Rattle.std.proofs.Common.{◌≡◌, ◌∙◌, ◌&&◌, ◌++◌, ◌∷◌, [], List, Bool, true, false, Option, Some, None, cond, ap, refl, sym, bytes_eq}
 use Rattle.std.specs.Prelude.{◌||◌, flat_map}
 use Rattle.std.specs.List.{AllByRecursion, list_all}

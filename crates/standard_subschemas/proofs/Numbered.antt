@@ -1,4 +1,4 @@
--- Lists whose elements are found by a text: an element is added.
+-- Adding an element to a list whose elements are found by a text.
 use Rattle.std.proofs.Common.{◌≡◌, ℕ, zero, suc, Bool, true, false, cond, List, [], ◌∷◌, ◌++◌, length, bytes_eq, refl, ap, sym, ◌∙◌, subst}
 use Rattle.std.proofs.Common.{true≢false}
 use Rattle.std.specs.Prelude.{None, Option, Some, is_some, option_map}
@@ -36,7 +36,7 @@ number-append (y ∷ ks) k t = go (has_text t y) (has_text t k) (number_in t ks)
 pub numbered_none : (ks : List (Option Text)) (numbers : Text → Option ℕ) → IsNumbered ks numbers → IsNumbered (ks ++ None ∷ []) numbers
 numbered_none ks numbers is = λ t. is t ∙ or_none (number_in t ks) ∙ sym (number-append ks None t)
 
--- one whose text an earlier one has
+-- an element whose text an earlier one has
 pub numbered_again : (ks : List (Option Text)) (numbers : Text → Option ℕ) (x : Text) → IsNumbered ks numbers → is_some (numbers x) ≡ true
     → IsNumbered (ks ++ Some x ∷ []) numbers
 numbered_again ks numbers x is has = λ t. go t (bytes_eq t x) refl where
@@ -48,7 +48,7 @@ numbered_again ks numbers x is has = λ t. go t (bytes_eq t x) refl where
   go t false e = is t ∙ or_none (number_in t ks) ∙ ap (λ b. or_last (number_in t ks) (cond b (Some (length ks)) None)) (sym e)
       ∙ sym (number-append ks (Some x) t)
 
--- one with a new text
+-- an element with a new text
 turned : (a b : Text) (v : Bool) → bytes_eq a b ≡ v → bytes_eq b a ≡ v
 turned a b true e = let same : a ≡ b = (bytes_eq-Decides a b).0 e in (bytes_eq-Decides b a).1 (sym same)
 turned a b false e = go (bytes_eq b a) refl where

@@ -1,4 +1,4 @@
--- Lists that are put together one after the other.
+-- Lists that are concatenated.
 use Rattle.std.proofs.Common.{◌≡◌, ◌∙◌, ◌++◌, [], List, map, ap, sym}
 use Rattle.std.proofs.lemmas.List.{map-append}
 

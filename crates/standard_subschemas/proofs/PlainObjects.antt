@@ -1,4 +1,4 @@
--- An object none of whose members the resolver reads is plain.
+-- An object is plain if the resolver reads none of its members.
 use Rattle.std.proofs.Common.{◌≡◌, ◌∙◌, Bool, IsTrue, not, true, false, Option, Some, None, ap, codes, cond, option_and_then, refl}
 use Rattle.std.proofs.Common.{subst, sym, bytes_eq}
 use Rattle.std.specs.Prelude.{◌||◌, is_some}

@@ -12,7 +12,7 @@ pub no_path : (t : Text) (d : Data) → 0 < length t → ((rest : Text) → t �
 no_path [] d some h = absurd (omega arith)
 no_path (x ∷ xs) d some h = rw (ne_eqb x 47 (λ e. h xs (ap (λ y. y ∷ xs) e)))
 
--- what stands before the first `#`, by recursion
+-- the text before the first `#`, by recursion
 abbrev begin : Text → Text
 begin [] = []
 begin (x ∷ xs) = if x == 35 then [] else x ∷ begin xs
@@ -38,6 +38,6 @@ begin_again (x ∷ xs) =
     = elim [ true ↦ λ e. refl | false ↦ λ e. rw e (ap (λ ys. x ∷ ys) (begin_again xs)) ] in
     go (x == 35) refl
 
--- a text without its fragment has none
+-- a text without its fragment has no fragment
 pub no_fragment_left : (t : Text) → without_fragment (without_fragment t) ≡ without_fragment t
 no_fragment_left t = ap without_fragment (begins t) ∙ begins (begin t) ∙ begin_again t ∙ sym (begins t)

@@ -60,7 +60,7 @@ read_one x rest = elim (eqb_tells x 126) [
   ]
 ]
 
--- a name is read again as it was
+-- decoding an escaped name yields the name
 read_again : (k : Text) → unescape (escaped k) ≡ k
 read_again [] = unescape_empty
 read_again (x ∷ xs) = read_one x (escaped xs) ∙ ap (λ l. x ∷ l) (read_again xs)
@@ -137,7 +137,7 @@ named_by (to_item n) (array ds) below f e = ap (option_map to_item) (index_again
 named_by (to_name k) (object ms) below f e = absurd (no_name k (object ms) below e)
 named_by s d below f e = absurd (let no : ⊥ = cc in no)
 
--- its text is a slash and a segment without one
+-- the text of a step is a slash and a segment without slashes
 abbrev Plain : Step → Type 0
 Plain s = NoSlash (segment s) × (step_text s ≡ 47 ∷ segment s)
 

@@ -1,4 +1,4 @@
--- Values that the code reads, as the definitions have them.
+-- Values that the code reads, as subjects.
 use Rattle.std.proofs.Common.{◌≡◌, Option, Some, None, option_map, refl}
 
 pub map_then : {A B C : Type 0} (f : A → B) (g : B → C) (o : Option A) → option_map (λ a. g (f a)) o ≡ option_map g (option_map f o)

@@ -3,7 +3,7 @@ use Rattle.std.proofs.Common.{◌≡◌, ◌≢◌, ℕ, suc, List, [], ◌∷�
 use Rattle.serde_json.specs.Find.{unescape}
 use Rattle.serde_json.proofs.Paths.{Lacks}
 
--- what stands before the first `~` stays as it is
+-- the text before the first `~` is unchanged
 pub unescape_after : (xs ys : List ℕ) → Lacks 126 xs → unescape (xs ++ 126 ∷ ys) ≡ xs ++ unescape (126 ∷ ys)
 unfolding unescape
 unescape_after [] ys h = refl
@@ -19,14 +19,14 @@ pub unescape_tilde : (ys : List ℕ) → unescape (126 ∷ 48 ∷ ys) ≡ 126 �
 unfolding unescape
 unescape_tilde ys = refl
 
--- a `~` before anything else stays
+-- a `~` before any other byte is unchanged
 pub unescape_other : (ys : List ℕ) → ((rest : List ℕ) → ys ≢ 49 ∷ rest) → ((rest : List ℕ) → ys ≢ 48 ∷ rest) → unescape (126 ∷ ys) ≡ 126
     ∷ unescape ys
 unfolding unescape
 unescape_other [] h g = refl
 unescape_other (y ∷ ys) h g = rw (ne_eqb y 49 (λ e. h ys (ap (λ z. z ∷ ys) e)), ne_eqb y 48 (λ e. g ys (ap (λ z. z ∷ ys) e)))
 
--- one escape more is read
+-- one more escape is decoded
 pub one_more : (text before after rest whole more : List ℕ) (x : ℕ) → text ++ unescape rest ≡ whole → rest ≡ before ++ 126 ∷ after
     → Lacks 126 before → unescape (126 ∷ after) ≡ x ∷ unescape more
     → ((text ++ before) ++ x ∷ []) ++ unescape more ≡ whole

@@ -1,4 +1,4 @@
--- Where no draft is named inside a value, none is named in what stands inside it.
+-- If no draft is named inside a value, none is named inside the values in it.
 use Rattle.std.proofs.Common.{◌≡◌, ◌||◌, ◌∷◌, Bool, None, Option, Some, [], refl, subst, true, false, true≢false, zero, suc, ℕ}
 use Rattle.std.specs.Prelude.{bytes_eq, codes, if◌then◌else◌, is_some, option_and_then}
 use Rattle.std.proofs.lemmas.Option.{none-some, option_and_then_some, same_Some}
@@ -11,7 +11,7 @@ neither : (a b : Bool) → (a || b) ≡ false → (a ≡ false) × (b ≡ false)
 neither true b h = absurd (true≢false h)
 neither false b h = (refl, h)
 
--- it names no draft, and none is named inside it
+-- the value names no draft, and none is named inside it
 abbrev pub IsUnnamed : Data → Type 0
 IsUnnamed v = (is_some (text_member (codes "$schema") v) ≡ false) × (names_draft_inside v ≡ false)
 
@@ -62,7 +62,7 @@ along [] s t h is = subst IsUnnamedThere (same_Some s t is) h
 along (step ∷ path) (a_name k) t h is = absurd (none-some t is)
 along (step ∷ path) (a_value v) t h is = option_and_then_some (subject_from path) (after_step step (a_value v)) t is (λ s at rest. along path s t (step_unnamed v h.1 step s at) rest)
 
--- what stands below a value inside which no draft is named
+-- the values below a value inside which no draft is named
 pub unnamed_below : (v : Data) → names_draft_inside v ≡ false → (step : Step) (path : Place) (inner : Data) → subject_at v (step ∷ path) ≡ Some (a_value inner) → IsUnnamed inner
 unnamed_below v h step path inner is =
     option_and_then_some (subject_from path) (after_step step (a_value v)) (a_value inner) is (λ s at rest. along path s (a_value inner) (step_unnamed v h step s at) rest)

@@ -1,4 +1,4 @@
--- Pointers into a value: the path that one names. (sections 3, 4 and 6 of RFC 6901)
+-- Pointers into a value, and the paths that they name. (RFC 6901, sections 3, 4 and 6)
 use Rattle.std.specs.List.{slice_split}
 use Rattle.std.specs.Prelude.{Bool, List, None, Option, Some, [], false, if◌then◌else◌, nat_lt, not, option_and_then, option_map, ◌&&◌}
 use Rattle.std.specs.Prelude.{◌==◌, ◌^◌, ◌∷◌, ℕ}
@@ -10,18 +10,18 @@ use Rattle.serde_json.specs.Find.{unescape}
 use Rattle.theory_definitions.specs.Instance.{Place, Step, Text, a_value, after_step, to_item, to_member}
 use Rattle.standard_subschemas.specs.SubschemaRules.{data_of}
 
--- digits, with no 0 before another
+-- digits, without a leading 0 before others
 abbrev pub is_index : Text → Bool
 is_index [] = false
 is_index (x ∷ []) = is_ascii_digit x
 is_index (x ∷ y ∷ xs) = not (x == 48) && all_ascii_digits (x ∷ y ∷ xs)
 
--- the index that a segment is, where it fits 64 bits
+-- the segment as an index, if it is one and fits 64 bits
 abbrev pub index_named : Text → Option ℕ
 index_named t = if is_index t && nat_lt (digits_value 10 t) (2 ^ 64) then Some (digits_value 10 t) else None
 
--- the step that a segment names from a value: a member by its name, in which `~1` stands for `/` and `~0` for `~`, or an
--- item by its index
+-- the step that a segment names from a value: a member by its name, in which `~1` means `/` and
+-- `~0` means `~`, or an item by its index
 abbrev pub step_named : Text → Data → Option Step
 step_named t null = None
 step_named t (boolean b) = None
@@ -30,7 +30,7 @@ step_named t (string s) = None
 step_named t (array ds) = option_map to_item (index_named t)
 step_named t (object ms) = Some (to_member (unescape t))
 
--- the path that segments name from a value, where each step leads to something
+-- the path that segments name from a value, if each step leads to a value
 abbrev pub path_named : List Text → Data → Option Place
 path_named [] d = Some []
 path_named (t ∷ ts) d =

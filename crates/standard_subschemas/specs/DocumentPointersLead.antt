@@ -1,4 +1,5 @@
--- A pointer leads back to the place that it shows, in every document that has something there. (sections 3 to 5 of RFC 6901)
+-- The pointer of a path leads back to the path, in every document that has a value there. (RFC
+-- 6901, sections 3 to 5)
 use Rattle.std.specs.Prelude.{◌≡◌, ◌<◌, ◌^◌, [], ◌∷◌, Some}
 use Rattle.serde_json.specs.Data.{Data}
 use Rattle.theory_definitions.specs.Instance.{Place, Step, subject_at, to_item, to_member, to_name}
@@ -6,12 +7,13 @@ use Rattle.theory_definitions.specs.Pointer.{pointer_to}
 use Rattle.standard_subschemas.specs.SubschemaRules.{data_of}
 use Rattle.standard_subschemas.specs.DocumentPointers.{path_of_pointer}
 
--- the indexes on the way fit 64 bits
+-- the index of a step fits 64 bits
 abbrev pub FitsWord : Step → Type 0
 FitsWord (to_item n) = n < 2 ^ 64
 FitsWord (to_member k) = Unit {0}
 FitsWord (to_name k) = Unit {0}
 
+-- all indexes of a path fit 64 bits
 abbrev pub HasIndexes : Place → Type 0
 HasIndexes [] = Unit {0}
 HasIndexes (step ∷ path) = FitsWord step × HasIndexes path

@@ -3,7 +3,8 @@ use Rattle.std.specs.Prelude.{Bool, codes, false, is_some, ◌||◌}
 use Rattle.serde_json.specs.Data.{Data, Items, Members, array, boolean, item, member, no_items, no_members, null, number, object, string}
 use Rattle.standard_subschemas.specs.SubschemaRules.{text_member}
 
--- whether a value inside this one, or inside these items or members, names a draft; of items and members also they themselves
+-- whether a value inside this one names a draft; for items and members, whether one of them or a
+-- value inside one does
 abbrev mutual
   pub names_draft_inside : Data → Bool
   names_draft_inside null = false

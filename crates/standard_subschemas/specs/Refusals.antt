@@ -1,4 +1,4 @@
--- Refusals of a lookup.
+-- The errors of lookups that are refused.
 use Rattle.std.specs.Prelude.{◌≡◌, string_bytes}
 use Rattle.theory_definitions.specs.Instance.{Text}
 use Rattle.schema_traits.specs.declared.resolver.LookupError.{LookupError}

@@ -1,4 +1,4 @@
--- Values that the code reads, as the definitions have them.
+-- Values that the code reads, as subjects.
 use Rattle.std.specs.Prelude.{Option, option_map}
 use Rattle.std.proofs.Common.{Bor}
 use Rattle.serde_json.specs.View.{view}

@@ -1,5 +1,5 @@
--- What the resolver says of a document: places, drafts, identifiers, names, subschemas, vocabularies and known keywords. (Core 2020-12,
--- sections 8.1 and 8.2)
+-- The rules for reading a document: places, drafts, identifiers, names, subschemas, vocabularies
+-- and known keywords. (Core 2020-12, sections 8.1 and 8.2)
 use Rattle.std.specs.List.{after_first, before_first, list_any}
 use Rattle.std.specs.Prelude.{Bool, Err, List, None, Ok, Option, Result, Some, [], bytes_eq, codes, false, flat_map, if◌then◌else◌}
 use Rattle.std.specs.Prelude.{is_some, option_and_then, true, ℕ, ◌&&◌, ◌++◌, ◌+◌, ◌==◌, ◌||◌, ◌∷◌}
@@ -14,7 +14,7 @@ use Rattle.standard_subschemas.specs.declared.rules.Rule.{Rule}
 use Rattle.standard_subschemas.specs.declared.rules.Rule.TheVariants.{Narrow, Standard}
 use Rattle.standard_subschemas.specs.StandardNames as standard
 
--- the text that stands under a name
+-- the text under a name
 abbrev pub text_member : Text → Data → Option Text
 text_member k d = option_and_then as_str (get k d)
 
@@ -48,10 +48,11 @@ abbrev pub named_or : Draft → Option Text → Draft
 named_or d None = d
 named_or d (Some t) = draft_of_uri t
 
+-- the draft that a value's `$schema` names, or else the given one
 abbrev pub detected : Draft → Data → Draft
 detected d v = named_or d (text_member (codes "$schema") v)
 
--- a root that names another draft than these is refused
+-- an unknown draft is refused
 abbrev pub unless_unknown : Draft → Result Draft Text
 unless_unknown draft_unknown = Err (codes "this resolver does not know the draft of the schema")
 unless_unknown d = Ok d
@@ -61,7 +62,7 @@ root_draft v = unless_unknown (detected draft_2020_12 v)
 
 -- ---- identifiers
 
--- a text that is no fragment alone
+-- the text, unless it is only a fragment
 abbrev pub unless_fragment : Option Text → Option Text
 unless_fragment None = None
 unless_fragment (Some []) = Some []
@@ -71,18 +72,19 @@ abbrev pub identifier_name : Draft → Text
 identifier_name draft_4 = codes "id"
 identifier_name _ = codes "$id"
 
--- in drafts 4 to 7 there is none beside a reference
+-- the identifier of a schema; in drafts 4 to 7 a schema with a reference has none
 abbrev pub identifier : Draft → Data → Option Text
 identifier d v = if ref_stands_alone d && is_some (get (codes "$ref") v) then None else unless_fragment (text_member (identifier_name d) v)
 
 abbrev pub without_fragment : Text → Text
 without_fragment = before_first (λ x. x == 35)
 
--- what follows the first `#`
+-- the text after the first `#`
 abbrev pub fragment_of : Text → Text
 fragment_of = after_first (λ x. x == 35)
 
--- the root's identifier without its fragment, or a URI of the resolver's own, in a default draft
+-- the URI of a document in a default draft: the root's identifier without its fragment, or a
+-- default URI
 abbrev pub document_uri : Draft → Data → Text
 document_uri d v = elim (identifier (detected d v) v) [ None ↦ codes "json-schema:///" | Some t ↦ without_fragment t ]
 
@@ -93,26 +95,30 @@ abbrev pub plain_fragment : Text → Option Text
 plain_fragment [] = None
 plain_fragment (x ∷ xs) = if x == 47 then None else Some (x ∷ xs)
 
--- the name that the fragment of an identifier gives; there is none beside a reference (draft-07 Core, sections 8.2.3 and 8.3)
+-- the fragment of an identifier as a name; a schema with a reference has none (draft-07 Core,
+-- sections 8.2.3 and 8.3)
 abbrev pub name_in_identifier : Draft → Data → Option Text
 name_in_identifier d v = if is_some (get (codes "$ref") v) then None else option_and_then (λ t. plain_fragment (fragment_of t))
     (text_member (identifier_name d) v)
 
--- in drafts 4 to 7 it stands in the identifier, later under `$anchor` (Core 2019-09, section 8.2.3)
+-- the name of a schema: in drafts 4 to 7 in the identifier, later under `$anchor` (Core 2019-09,
+-- section 8.2.3)
 abbrev pub standard_name : Draft → Data → Option Text
 standard_name d v = if ref_stands_alone d then name_in_identifier d v else text_member (codes "$anchor") v
 
--- a dynamic name, from 2020-12 on; an unknown draft counts as 2020-12 (Core 2020-12, section 8.2.2)
+-- the dynamic name of a schema, from 2020-12 on; an unknown draft counts as 2020-12 (Core 2020-12,
+-- section 8.2.2)
 abbrev pub standard_dynamic_name : Draft → Data → Option Text
 standard_dynamic_name draft_2020_12 v = text_member (codes "$dynamicAnchor") v
 standard_dynamic_name draft_unknown v = text_member (codes "$dynamicAnchor") v
 standard_dynamic_name _ v = None
 
--- the name of a schema, and its dynamic name: by the narrow rule the same in all drafts
+-- the name of a schema by a rule; by the narrow one it is the same in all drafts
 abbrev pub plain_name : Rule → Draft → Data → Option Text
 plain_name Narrow d v = text_member (codes "$anchor") v
 plain_name Standard d v = standard_name d v
 
+-- the dynamic name of a schema by a rule; by the narrow one it is the same in all drafts
 abbrev pub dynamic_name : Rule → Draft → Data → Option Text
 dynamic_name Narrow d v = text_member (codes "$dynamicAnchor") v
 dynamic_name Standard d v = standard_dynamic_name d v
@@ -139,7 +145,8 @@ abbrev pub items_below : Text → ℕ → Items → List Place
 items_below k i no_items = []
 items_below k i (item d ds) = place_if (is_schema d) (to_member k ∷ to_item i ∷ []) (items_below k (i + 1) ds)
 
--- the members of an object's member, the items of a list, and a value
+-- the paths of the subschemas under a keyword: the members of an object, the items of a list, or
+-- the value itself
 abbrev pub below_object : Text → Option Data → List Place
 below_object k (Some (object ms)) = members_below k ms
 below_object k _ = []
@@ -176,7 +183,8 @@ subschemas_of rule draft (Some d) = subschemas rule draft d
 
 -- ---- vocabularies and known keywords
 
--- the standard's vocabularies that are in force in a draft where a schema asks for no others; older drafts have none
+-- the standard's vocabularies that are in force in a draft unless a schema requires others; older
+-- drafts have none
 abbrev pub draft_vocabularies : Draft → Vocabularies
 draft_vocabularies draft_4 = []
 draft_vocabularies draft_6 = []
@@ -188,7 +196,7 @@ draft_vocabularies draft_2020_12 = unevaluated_vocabulary ∷ format_annotation_
 draft_vocabularies draft_unknown = unevaluated_vocabulary ∷ format_annotation_vocabulary ∷ core_vocabulary ∷ applicator_vocabulary
     ∷ validation_vocabulary ∷ metadata_vocabulary ∷ content_vocabulary ∷ []
 
--- the built-in keywords, and the words of schemas that make none
+-- the built-in keywords, and the names in schemas that are not keywords themselves
 abbrev pub known_keywords : List Text
 known_keywords =
     codes "type" ∷ codes "const" ∷ codes "enum" ∷ codes "minimum" ∷ codes "maximum" ∷ codes "exclusiveMinimum" ∷ codes "exclusiveMaximum"
@@ -203,7 +211,7 @@ known_keywords =
     ∷ codes "$schema" ∷ codes "$id" ∷ codes "id" ∷ codes "$anchor" ∷ codes "$dynamicAnchor" ∷ codes "$recursiveAnchor" ∷ codes "$defs"
     ∷ codes "definitions" ∷ codes "$comment" ∷ codes "$vocabulary" ∷ codes "then" ∷ codes "else" ∷ []
 
--- whether a draft knows a name: by the narrow rule all drafts know the same
+-- whether a draft knows a name; by the narrow rule all drafts know the same names
 abbrev pub is_known : Rule → Draft → Text → Bool
 is_known Narrow d name = list_any (bytes_eq name) known_keywords
 is_known Standard d name = standard.is_known_in d name

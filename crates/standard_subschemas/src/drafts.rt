@@ -1,4 +1,4 @@
-//! The drafts that values name.
+//! The drafts that `$schema` names.
 ghost use Rattle.std.specs.Prelude.{◌≡◌};
 ghost use Rattle.serde_json.specs.View.{view};
 ghost use Rattle.schema_drafts.specs.KeywordViews.{draft_of};
@@ -8,14 +8,14 @@ ghost use Rattle.schema_traits.specs.Readings.{text_read};
 use schema_drafts::keywords::Draft;
 use serde_json::Value;
 
-/// The string under a name, where a value has one.
+/// Returns the string under a name, if the value has one.
 pub fn text_member<'v>(value: &'v Value, name: &str) -> Option<&'v str>
     ensures text { text_read result ≡ text_member name.now (view value.now) }
 {
     value.get(name)?.as_str()
 }
 
-/// The draft that a URI names, with or without a last `#`: an unknown one where it is no draft's.
+/// Returns the draft that a URI names, with or without a final `#`.
 fn draft_of_uri(uri: &str) -> Draft
     ensures draft { draft_of result ≡ draft_of_uri uri.now }
 {
@@ -35,7 +35,9 @@ fn draft_of_uri(uri: &str) -> Draft
     }
 }
 
-/// The draft of a value inside a schema of this draft: the one that its `$schema` names, or else this one.
+/// Returns the draft of a value inside a schema of the given draft.
+///
+/// It is the draft that the value's `$schema` names, or else the given one.
 pub fn detected(draft: Draft, value: &Value) -> Draft
     ensures draft { draft_of result ≡ detected (draft_of draft) (view value.now) }
 {

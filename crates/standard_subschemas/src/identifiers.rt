@@ -11,7 +11,6 @@ use crate::rules::Rule;
 use schema_drafts::keywords::Draft;
 use serde_json::Value;
 
-/// The name of the keyword that identifies a schema.
 fn identifier_name(draft: Draft) -> &'static str
     ensures name { result.now ≡ identifier_name (draft_of draft) }
 {
@@ -21,7 +20,7 @@ fn identifier_name(draft: Draft) -> &'static str
     }
 }
 
-/// A text, unless it is a fragment alone.
+/// Returns the text, unless it is only a fragment.
 fn unless_fragment<'v>(text: Option<&'v str>) -> Option<&'v str>
     ensures kept { text_read result ≡ unless_fragment (text_read text.entry) }
 {
@@ -38,8 +37,9 @@ fn unless_fragment<'v>(text: Option<&'v str>) -> Option<&'v str>
     }
 }
 
-/// The identifier of a schema: its `$id`, or `id` in draft 4. A fragment alone is none, and in drafts 4 to 7 a schema with a `$ref`
-/// has none.
+/// Returns the identifier of a schema: its `$id`, or `id` in draft 4.
+///
+/// A fragment alone is not an identifier, and in drafts 4 to 7 a schema with a `$ref` has none.
 pub fn identifier<'v>(draft: Draft, value: &'v Value) -> Option<&'v str>
     ensures identifier { text_read result ≡ identifier (draft_of draft) (view value.now) }
 {
@@ -49,7 +49,7 @@ pub fn identifier<'v>(draft: Draft, value: &'v Value) -> Option<&'v str>
     unless_fragment(text_member(value, identifier_name(draft)))
 }
 
-/// What stands before the first `#`; all of it where there is none.
+/// Returns the text before the first `#`, or all of it if there is none.
 pub fn without_fragment(uri: &str) -> &str
     ensures before { result.now ≡ without_fragment uri.now }
 {
@@ -59,7 +59,7 @@ pub fn without_fragment(uri: &str) -> &str
     }
 }
 
-/// What follows the first `#`; nothing where there is none.
+/// Returns the text after the first `#`, or nothing if there is none.
 pub fn fragment_of(uri: &str) -> &str
     ensures fragment { result.now ≡ fragment_of uri.now }
 {
@@ -69,7 +69,7 @@ pub fn fragment_of(uri: &str) -> &str
     }
 }
 
-/// A fragment that is neither empty nor a pointer.
+/// Returns the fragment, if it is neither empty nor a pointer.
 fn plain_fragment(fragment: &str) -> Option<&str>
     ensures plain { text_read result ≡ plain_fragment fragment.now }
 {
@@ -81,7 +81,9 @@ fn plain_fragment(fragment: &str) -> Option<&str>
     }
 }
 
-/// The name that the fragment of an identifier gives; a schema with a `$ref` has none.
+/// Returns the fragment of the identifier, if it is a name.
+///
+/// A schema with a `$ref` has none.
 fn name_in_identifier<'v>(draft: Draft, value: &'v Value) -> Option<&'v str>
     ensures name { text_read result ≡ name_in_identifier (draft_of draft) (view value.now) }
 {
@@ -94,7 +96,9 @@ fn name_in_identifier<'v>(draft: Draft, value: &'v Value) -> Option<&'v str>
     }
 }
 
-/// The name of a schema: its `$anchor`, and by the standard's rule in drafts 4 to 7 the fragment of its identifier.
+/// Returns the name of a schema: its `$anchor`.
+///
+/// By the standard's rule, drafts 4 to 7 use the fragment of the identifier instead.
 pub fn plain_name<'v>(rule: Rule, draft: Draft, value: &'v Value) -> Option<&'v str>
     ensures name { text_read result ≡ plain_name rule (draft_of draft) (view value.now) }
 {
@@ -104,7 +108,9 @@ pub fn plain_name<'v>(rule: Rule, draft: Draft, value: &'v Value) -> Option<&'v 
     }
 }
 
-/// The dynamic name of a schema: its `$dynamicAnchor`, by the standard's rule from 2020-12 on.
+/// Returns the dynamic name of a schema: its `$dynamicAnchor`.
+///
+/// By the standard's rule there is none before 2020-12.
 pub fn dynamic_name<'v>(rule: Rule, draft: Draft, value: &'v Value) -> Option<&'v str>
     ensures name { text_read result ≡ dynamic_name rule (draft_of draft) (view value.now) }
 {

@@ -1,4 +1,4 @@
-//! The names that schemas use.
+//! The keywords that a draft knows.
 ghost use Rattle.std.specs.Prelude.{◌≡◌, bytes_eq};
 ghost use Rattle.std.specs.List.{list_any};
 ghost use Rattle.schema_drafts.specs.KeywordViews.{draft_of};
@@ -9,15 +9,16 @@ ghost use Rattle.standard_subschemas.specs.StandardNames.{known_in_all, new_in_2
 use crate::rules::Rule;
 use schema_drafts::keywords::Draft;
 
-/// Whether the name is one of these.
 fn is_among(name: &str, names: &[&str]) -> bool
     ensures among { result ≡ list_any (λ k. bytes_eq name.now k.now) names.now }
 {
     names.contains(&name)
 }
 
-/// Whether a draft knows a keyword of this name, by one of the rules. By the narrow one all drafts know the same, and by the
-/// standard's an unknown draft counts as 2020-12.
+/// Returns whether a draft knows a keyword of this name.
+///
+/// By the narrow rule all drafts know the same names. By the standard's an unknown draft counts as
+/// 2020-12.
 pub fn is_known(rule: Rule, draft: Draft, name: &str) -> bool
     ensures known { result ≡ is_known rule (draft_of draft) name.now }
 {
@@ -27,7 +28,6 @@ pub fn is_known(rule: Rule, draft: Draft, name: &str) -> bool
     }
 }
 
-/// Whether a keyword of this name is known by the narrow rule, in all drafts.
 fn is_known_narrowly(name: &str) -> bool
     ensures known { result ≡ list_any (bytes_eq name.now) known_keywords }
 {
@@ -92,7 +92,6 @@ fn is_known_narrowly(name: &str) -> bool
     )
 }
 
-/// Whether all drafts of the standard have this name.
 fn is_known_in_all(name: &str) -> bool
     ensures known { result ≡ list_any (bytes_eq name.now) known_in_all }
 {
@@ -133,7 +132,7 @@ fn is_known_in_all(name: &str) -> bool
     )
 }
 
-/// Whether the drafts from 6 on have this name too.
+/// Returns whether drafts know this name from draft 6 on.
 fn is_new_in_6(name: &str) -> bool
     ensures known { result ≡ list_any (bytes_eq name.now) new_in_6 }
 {
@@ -150,14 +149,14 @@ fn is_new_in_6(name: &str) -> bool
     )
 }
 
-/// Whether the drafts from 7 on have this name too.
+/// Returns whether drafts know this name from draft 7 on.
 fn is_new_in_7(name: &str) -> bool
     ensures known { result ≡ list_any (bytes_eq name.now) new_in_7 }
 {
     is_among(name, &["$comment", "if", "then", "else"])
 }
 
-/// Whether the drafts from 2019-09 on have this name too.
+/// Returns whether drafts know this name from 2019-09 on.
 fn is_new_in_2019_09(name: &str) -> bool
     ensures known { result ≡ list_any (bytes_eq name.now) new_in_2019_09 }
 {
@@ -178,42 +177,38 @@ fn is_new_in_2019_09(name: &str) -> bool
     )
 }
 
-/// Whether the draft 2019-09 alone has this name.
 fn is_known_in_2019_09_alone(name: &str) -> bool
     ensures known { result ≡ list_any (bytes_eq name.now) known_in_2019_09_alone }
 {
     is_among(name, &["$recursiveRef", "$recursiveAnchor"])
 }
 
-/// Whether the draft 2020-12 alone has this name.
+/// Returns whether only 2020-12 knows this name.
 fn is_new_in_2020_12(name: &str) -> bool
     ensures known { result ≡ list_any (bytes_eq name.now) new_in_2020_12 }
 {
     is_among(name, &["$dynamicRef", "$dynamicAnchor", "prefixItems"])
 }
 
-/// Whether draft 6 knows a keyword of this name.
 fn is_known_in_6(name: &str) -> bool
     ensures known { result ≡ is_known_in_6 name.now }
 {
     is_known_in_all(name) || is_new_in_6(name)
 }
 
-/// Whether draft 7 knows a keyword of this name.
 fn is_known_in_7(name: &str) -> bool
     ensures known { result ≡ is_known_in_7 name.now }
 {
     is_known_in_6(name) || is_new_in_7(name)
 }
 
-/// Whether both 2019-09 and 2020-12 know a keyword of this name.
+/// Returns whether both 2019-09 and 2020-12 know this name.
 fn is_known_late(name: &str) -> bool
     ensures known { result ≡ is_known_late name.now }
 {
     is_known_in_7(name) || is_new_in_2019_09(name)
 }
 
-/// Whether a draft of the standard knows a keyword of this name.
 fn is_known_in(draft: Draft, name: &str) -> bool
     ensures known { result ≡ is_known_in (draft_of draft) name.now }
 {

@@ -1,7 +1,7 @@
-//! The rules of a resolver of documents, without a document table.
+//! The parts of a document resolver that need no table of documents.
 //!
-//! By one of two rules: the members of a schema that a resolver reads (its draft, its identifier, its names, its subschemas, and the
-//! keywords that are known), and the texts of references (JSON pointers and URIs).
+//! By one of two rules, they read the members of a schema (its draft, identifier, names and
+//! subschemas, and which keywords are known) and the texts of references (JSON pointers and URIs).
 #![tactic(auto)]
 
 pub mod drafts;

@@ -1,4 +1,6 @@
-//! Whether a schema has a draft named inside it. A schema that has none is read in one draft throughout.
+//! Schemas that name a draft somewhere inside.
+//!
+//! Any other schema is read in one draft throughout.
 ghost use Rattle.std.specs.Prelude.{◌≡◌, ◌&&◌, ◌||◌, codes, is_some};
 ghost use Rattle.serde_json.specs.Data.{object};
 ghost use Rattle.serde_json.specs.View.{items_view, view};
@@ -8,14 +10,16 @@ ghost use Rattle.schema_traits.specs.Readings.{fields};
 
 use serde_json::{Map, Value};
 
-/// Whether a value inside this one, at any depth, names a draft by its `$schema`. That of the value itself is not asked.
+/// Returns whether a value inside this one, at any depth, has a `$schema`.
+///
+/// The `$schema` of the value itself does not count.
 pub fn names_draft_inside(value: &Value) -> bool
     ensures names { result ≡ names_draft_inside (view value.now) }
 {
     names_draft(value, false)
 }
 
-// Whether a value names a draft, where that counts, or one inside it.
+// Like `names_draft_inside`, but the value's own `$schema` counts if `counts` is true.
 #[cycle(names)]
 fn names_draft(value: &Value, counts: bool) -> bool
     ensures names { result ≡ (counts && is_some (text_member (codes "$schema") (view value.now)) || names_draft_inside (view value.now)) }
@@ -27,7 +31,7 @@ fn names_draft(value: &Value, counts: bool) -> bool
     }
 }
 
-// Whether one of these items names a draft, or one inside them.
+// The items' own `$schema` counts.
 #[cycle(names)]
 fn items_name_draft(items: &Vec<Value>) -> bool
     ensures names { result ≡ items_name_draft (items_view items.now.items) }
@@ -40,7 +44,7 @@ fn items_name_draft(items: &Vec<Value>) -> bool
     false
 }
 
-// Whether an object of these members names a draft, where that counts, or one inside it.
+// Like `names_draft`, for an object with these members.
 #[cycle(names)]
 fn members_name_draft(members: &Map<String, Value>, counts: bool) -> bool
     ensures names { result ≡ (counts && is_some (text_member (codes "$schema") (object (fields members.now))) || members_name_draft

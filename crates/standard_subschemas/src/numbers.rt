@@ -1,4 +1,4 @@
-//! Elements of a list that are found by a text.
+//! Lists whose elements are found by a text.
 ghost use Rattle.std.specs.Prelude.{IfOk};
 ghost use Rattle.std.specs.HashMap.{get_by_text};
 ghost use Rattle.schema_traits.specs.Readings.{text_read};
@@ -8,7 +8,13 @@ use schema_reports::location::OutOfMemory;
 use std::alloc::Global;
 use std::collections::HashMap;
 
-/// Notes the number of the next element under its text, unless an earlier one has it.
+/// Records the number of the next element under its text.
+///
+/// An earlier element with the same text keeps its entry.
+///
+/// # Errors
+///
+/// Out of memory.
 pub fn add_number(
     alloc: Global,
     numbers: &mut HashMap<String, usize>,

@@ -1,4 +1,6 @@
-//! Schemas that have nothing for the resolver: no subschemas, no identifier and no name.
+//! Schemas that do not concern a resolver.
+//!
+//! They have no subschemas, no identifier and no name.
 ghost use Rattle.std.specs.Prelude.{◌≡◌, IsTrue};
 ghost use Rattle.serde_json.specs.View.{view};
 ghost use Rattle.standard_subschemas.specs.declared.rules.Rule.TheVariants.{Narrow, Standard};
@@ -9,7 +11,7 @@ ghost use Rattle.schema_traits.specs.Readings.{fields};
 use crate::rules::Rule;
 use serde_json::{Map, Value};
 
-/// Whether subschemas may lie under this name in any draft.
+/// Returns whether subschemas may lie under this name in any draft.
 fn names_schemas(rule: Rule, name: &str) -> bool
     ensures names { result ≡ names_schemas rule name.now }
 {
@@ -19,8 +21,7 @@ fn names_schemas(rule: Rule, name: &str) -> bool
     }
 }
 
-/// Whether subschemas may lie under this name in any draft, by the standard's rule. The commonest name, under which none lies, is
-/// tried first.
+/// Tries the most common name first, which holds no subschemas.
 fn names_schemas_of_the_standard(name: &str) -> bool
     ensures names { result ≡ names_schemas Standard name.now }
 {
@@ -36,7 +37,6 @@ fn names_schemas_of_the_standard(name: &str) -> bool
     }
 }
 
-/// Whether subschemas may lie under this name, by the narrow rule.
 fn names_schemas_narrowly(name: &str) -> bool
     ensures names { result ≡ names_schemas Narrow name.now }
 {
@@ -49,7 +49,6 @@ fn names_schemas_narrowly(name: &str) -> bool
     }
 }
 
-/// Whether subschemas may lie under the name of one of these members.
 pub(crate) fn any_names_schemas(rule: Rule, members: &Map<String, Value>) -> bool
     ensures any { result ≡ any_names_schemas rule (fields members.now) }
 {
@@ -61,7 +60,9 @@ pub(crate) fn any_names_schemas(rule: Rule, members: &Map<String, Value>) -> boo
     false
 }
 
-/// Whether the resolver reads what stands under this name: subschemas, or the schema's identifier, reference or name.
+/// Returns whether the resolver reads the member of this name.
+///
+/// It reads subschemas, and the schema's identifier, reference and name.
 fn speaks(rule: Rule, name: &str) -> bool
     ensures speaks { result ≡ speaks rule name.now }
 {
@@ -72,7 +73,6 @@ fn speaks(rule: Rule, name: &str) -> bool
     }
 }
 
-/// Whether the resolver reads what stands under the name of one of these members.
 fn any_speaks(rule: Rule, members: &Map<String, Value>) -> bool
     ensures any { result ≡ any_speaks rule (fields members.now) }
 {
@@ -84,8 +84,9 @@ fn any_speaks(rule: Rule, members: &Map<String, Value>) -> bool
     false
 }
 
-/// Whether a schema has no member that names a subschema, an identifier or a name in any draft. A schema that has none may still be told
-/// to have some.
+/// Returns whether no member of a schema concerns the resolver, in any draft.
+///
+/// `false` may be wrong: the schema may still have no subschemas, no identifier and no name.
 pub fn is_plain(rule: Rule, schema: &Value) -> bool
     ensures plain { IsTrue result → IsPlain rule (view schema.now) }
 {

@@ -1,4 +1,4 @@
-//! Pointers, and the paths that they name (sections 3 and 4 of RFC 6901).
+//! JSON pointers, and the paths that they name (RFC 6901, sections 3 and 4).
 ghost use Rattle.std.specs.Prelude.{◌≡◌, option_map, string_bytes, ◌==◌};
 ghost use Rattle.std.specs.List.{slice_split};
 ghost use Rattle.std.specs.Str.{all_ascii_digits};
@@ -19,11 +19,11 @@ use serde_json::Value;
 use std::alloc::Global;
 use std::rc::RcStr;
 
-/// The text that a fragment stands for.
+/// Decodes the percent-encoding of a fragment.
 ///
 /// # Errors
 ///
-/// Fails only if memory cannot be allocated.
+/// Out of memory.
 pub fn decoded(alloc: Global, fragment: &str) -> Result<String, OutOfMemory>
     ensures decoded { Shows string_bytes result (utf8_lossy (percent_decode fragment.now)) }
 {
@@ -32,7 +32,7 @@ pub fn decoded(alloc: Global, fragment: &str) -> Result<String, OutOfMemory>
         .into_owned(alloc)
 }
 
-/// A segment with `~1` read as `/` and `~0` as `~`.
+/// Decodes `~1` as `/` and `~0` as `~`.
 fn unescaped(alloc: Global, segment: &str) -> Result<String, OutOfMemory>
     ensures unescaped { Shows string_bytes result (unescape segment.now) }
 {
@@ -55,7 +55,6 @@ fn unescaped(alloc: Global, segment: &str) -> Result<String, OutOfMemory>
     Ok(text)
 }
 
-/// Whether all bytes are digits.
 fn all_digits(bytes: &[u8]) -> bool
     ensures digits { result ≡ all_ascii_digits bytes.now }
 {
@@ -67,7 +66,7 @@ fn all_digits(bytes: &[u8]) -> bool
     true
 }
 
-/// Whether a segment is digits, with no 0 before another.
+/// Returns whether a segment is digits, without a leading 0 before others.
 fn is_index(segment: &[u8]) -> bool
     ensures index { result ≡ is_index segment.now }
 {
@@ -80,7 +79,7 @@ fn is_index(segment: &[u8]) -> bool
     all_digits(segment)
 }
 
-/// The index that a segment is.
+/// Returns a segment as an index, if it is one.
 fn index_named(segment: &str) -> Option<usize>
     ensures index { result ≡ index_named segment.now }
 {
@@ -91,7 +90,6 @@ fn index_named(segment: &str) -> Option<usize>
     }
 }
 
-/// The step that a segment names from a value.
 fn step_named(
     alloc: Global,
     segment: &str,
@@ -111,7 +109,6 @@ fn step_named(
     }
 }
 
-/// The path that the segments between slashes name.
 fn path_of_segments(
     alloc: Global,
     segments: &str,
@@ -134,11 +131,14 @@ fn path_of_segments(
     Ok(Some(path))
 }
 
-/// The path that a pointer names in a document, where each step leads to something: a member's name, or an item's index from 0.
+/// Returns the path that a pointer names in a document.
+///
+/// Each step is the name of a member or the index of an item. If a step leads nowhere, there is no
+/// path.
 ///
 /// # Errors
 ///
-/// Fails only if memory cannot be allocated.
+/// Out of memory.
 pub fn path_of_pointer(
     alloc: Global,
     pointer: &str,
@@ -155,7 +155,9 @@ pub fn path_of_pointer(
     }
 }
 
-/// The pointer of a place leads back to it, in every document that has something there: a law, which does nothing.
+/// A law: the pointer of a path leads back to the path.
+///
+/// It holds in every document that has a value there. The function does nothing.
 pub fn pointers_lead()
     ensures lead { PointersLead }
 {}

@@ -1,4 +1,4 @@
-//! Refusals of a lookup.
+//! The errors of lookups that are refused.
 ghost use Rattle.std.specs.Prelude.{◌++◌, string_bytes};
 ghost use Rattle.schema_traits.specs.Showing.{Shows};
 ghost use Rattle.standard_subschemas.specs.Refusals.{RefusesWith};
@@ -7,7 +7,6 @@ use schema_reports::location::OutOfMemory;
 use schema_traits::resolver::LookupError;
 use std::alloc::Global;
 
-/// Two texts, one after the other.
 fn joined(alloc: Global, first: &str, second: &str) -> Result<String, OutOfMemory>
     ensures joined { Shows string_bytes result (first.now ++ second.now) }
 {
@@ -16,7 +15,7 @@ fn joined(alloc: Global, first: &str, second: &str) -> Result<String, OutOfMemor
     Ok(text)
 }
 
-/// A refusal with a text, and what it is about.
+/// Makes the error of a refused lookup, from a text and the name of its subject.
 pub fn refusal(alloc: Global, text: &str, about: &str) -> LookupError
     ensures refused { RefusesWith (text.now ++ about.now) result }
 {

@@ -1,11 +1,16 @@
-//! The rules by which documents are read.
+//! The rules for reading documents.
 
-/// By which rule documents are read.
+/// A rule for reading documents.
 #[derive(Clone, Copy)]
 pub enum Rule {
-    /// A rule with few keywords: identifiers are URIs with their scheme, a reference is one too or a fragment, and all drafts have
-    /// the same names and subschemas.
+    /// A rule with few keywords.
+    ///
+    /// Identifiers are URIs with a scheme, references are such URIs or fragments, and all drafts
+    /// have the same names and subschemas.
     Narrow,
-    /// The standard's own: identifiers and references are resolved against the base, and each draft has its own keywords.
+    /// The standard's own rule.
+    ///
+    /// Identifiers and references are resolved against the base, and each draft has its own
+    /// keywords.
     Standard,
 }

@@ -1,4 +1,4 @@
-//! The names of the keywords that subschemas lie under.
+//! The names of the keywords that hold subschemas.
 ghost use Rattle.std.specs.Prelude.{◌≡◌, map};
 ghost use Rattle.schema_drafts.specs.KeywordViews.{draft_of};
 ghost use Rattle.standard_subschemas.specs.SubschemaRules.{names_of_lists, names_of_objects, names_of_values};
@@ -7,7 +7,7 @@ ghost use Rattle.standard_subschemas.specs.StandardNames as standard;
 use crate::rules::Rule;
 use schema_drafts::keywords::Draft;
 
-/// The names under which subschemas lie among the members of an object.
+/// Returns the keywords whose subschemas are the members of an object.
 pub fn names_of_objects(rule: Rule, draft: Draft) -> &'static [&'static str]
     ensures names { map (λ k. k.now) result.now ≡ names_of_objects rule (draft_of draft) }
 {
@@ -32,7 +32,7 @@ pub fn names_of_objects(rule: Rule, draft: Draft) -> &'static [&'static str]
     }
 }
 
-/// The names under which subschemas lie among the items of a list.
+/// Returns the keywords whose subschemas are the items of a list.
 pub fn names_of_lists(rule: Rule, draft: Draft) -> &'static [&'static str]
     ensures names { map (λ k. k.now) result.now ≡ names_of_lists rule (draft_of draft) }
 {
@@ -45,7 +45,7 @@ pub fn names_of_lists(rule: Rule, draft: Draft) -> &'static [&'static str]
     }
 }
 
-/// The names under which a subschema lies as the value itself.
+/// Returns the keywords whose value is itself a subschema.
 pub fn names_of_values(rule: Rule, draft: Draft) -> &'static [&'static str]
     ensures names { map (λ k. k.now) result.now ≡ names_of_values rule (draft_of draft) }
 {
@@ -55,7 +55,6 @@ pub fn names_of_values(rule: Rule, draft: Draft) -> &'static [&'static str]
     }
 }
 
-/// The names under which a subschema lies as the value itself, by the standard's rule.
 fn standard_values(draft: Draft) -> &'static [&'static str]
     ensures names { map (λ k. k.now) result.now ≡ standard.names_of_values (draft_of draft) }
 {

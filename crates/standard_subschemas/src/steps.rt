@@ -1,4 +1,4 @@
-//! Steps from a value to one inside it.
+//! Steps from a value to a value inside it.
 ghost use Rattle.std.specs.Prelude.{◌≡◌};
 ghost use Rattle.serde_json.specs.View.{view};
 ghost use Rattle.theory_definitions.specs.Instance.{after_step, a_value};
@@ -8,7 +8,7 @@ ghost use Rattle.standard_subschemas.specs.Subjects.{subject_read};
 use schema_traits::schema_place::SchemaStep;
 use serde_json::Value;
 
-/// The value one step below.
+/// Returns the value one step below.
 pub fn value_below<'v>(value: &'v Value, step: &SchemaStep) -> Option<&'v Value>
     ensures below { subject_read result ≡ after_step (schema_step_of step.now) (a_value (view value.now)) }
 {

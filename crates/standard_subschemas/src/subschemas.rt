@@ -25,22 +25,22 @@ use serde_json::{Map, Value};
 use std::alloc::Global;
 use std::rc::RcStr;
 
-/// Whether a value may be a schema: an object or a boolean.
+/// Returns whether a value may be a schema: an object or a boolean.
 pub fn is_schema(value: &Value) -> bool
     ensures schema { result ≡ is_schema (view value.now) }
 {
     value.is_object() || value.is_boolean()
 }
 
-/// The value under a name.
 fn member<'v>(members: &'v Map<String, Value>, name: &str) -> Option<&'v Value>
     ensures member { value_read result ≡ get name.now (object (fields members.now)) }
 {
     members.get(name)
 }
 
-/// What leads from the value under a keyword to a subschema: nothing, where that value is the subschema, a member's name, or an
-/// item's index.
+/// The step from a keyword's value to a subschema.
+///
+/// It is `Nothing` if the value itself is the subschema.
 #[derive(Clone, Copy)]
 pub enum Inside<'v> {
     Nothing,
@@ -48,7 +48,7 @@ pub enum Inside<'v> {
     Item(usize),
 }
 
-/// A subschema as it is found: the keyword that it lies under, what leads from there to it, and itself.
+/// A subschema, with its keyword and the step from the keyword's value to it.
 #[derive(Clone, Copy)]
 pub struct FoundSchema<'v> {
     pub keyword: &'v str,
@@ -57,11 +57,11 @@ pub struct FoundSchema<'v> {
 }
 
 impl<'v> FoundSchema<'v> {
-    /// Adds the steps that lead to the subschema to a path.
+    /// Appends the steps to the subschema to a path.
     ///
     /// # Errors
     ///
-    /// Fails only if memory cannot be allocated.
+    /// Out of memory.
     pub fn add_steps(&self, alloc: Global, path: &mut SchemaPath) -> Result<(), OutOfMemory>
         ensures added { IfOk result (λ _. path.new ≡ path.old ++ path_of self.now) }
     {
@@ -69,7 +69,7 @@ impl<'v> FoundSchema<'v> {
         self.add_inside(alloc, path)
     }
 
-    /// Adds the steps that lead from the keyword's value to the subschema to a path. Fails only if memory cannot be allocated.
+    /// Appends the step from the keyword's value to the subschema to a path.
     fn add_inside(&self, alloc: Global, path: &mut SchemaPath) -> Result<(), OutOfMemory>
         ensures added { IfOk result (λ _. path.new ≡ path.old ++ steps_inside self.now.inside) }
     {
@@ -81,7 +81,7 @@ impl<'v> FoundSchema<'v> {
     }
 }
 
-/// Adds a value that was found, where it is a schema.
+/// Adds a value, if it is a schema.
 fn add_schema<'v>(one: FoundSchema<'v>, found: &mut Vec<FoundSchema<'v>>) -> Result<(), OutOfMemory>
     ensures added { IfOk result (λ _. map found_of found.new.items ≡ map found_of found.old.items ++ schema_if (found_of one.entry)) }
 {
@@ -91,7 +91,7 @@ fn add_schema<'v>(one: FoundSchema<'v>, found: &mut Vec<FoundSchema<'v>>) -> Res
     Ok(())
 }
 
-/// Adds the schemas among the members of the object under a name.
+/// Adds the schemas among the members of the object under a keyword.
 fn find_in_object<'v>(
     members: &'v Map<String, Value>,
     keyword: &'v str,
@@ -116,7 +116,7 @@ fn find_in_object<'v>(
     Ok(())
 }
 
-/// Adds the schemas among the items of the list under a name.
+/// Adds the schemas among the items of the list under a keyword.
 fn find_in_list<'v>(
     members: &'v Map<String, Value>,
     keyword: &'v str,
@@ -141,7 +141,7 @@ fn find_in_list<'v>(
     Ok(())
 }
 
-/// Adds the schema under a name.
+/// Adds the value under a keyword, if it is a schema.
 fn find_value<'v>(
     members: &'v Map<String, Value>,
     keyword: &'v str,
@@ -160,7 +160,9 @@ fn find_value<'v>(
     add_schema(one, found)
 }
 
-/// How subschemas lie under a keyword: among the members of an object, among the items of a list, or as the value itself.
+/// The position of subschemas under a keyword.
+///
+/// They are the members of an object, the items of a list, or the value itself.
 #[derive(Clone, Copy)]
 pub enum Lying {
     InObject,
@@ -168,7 +170,6 @@ pub enum Lying {
     AsValue,
 }
 
-/// Adds the schemas that lie so under a name.
 fn find_under<'v>(
     lying: Lying,
     members: &'v Map<String, Value>,
@@ -184,7 +185,6 @@ fn find_under<'v>(
     }
 }
 
-/// Adds the schemas that lie so under some names.
 fn find_under_each<'v>(
     lying: Lying,
     members: &'v Map<String, Value>,
@@ -200,7 +200,6 @@ fn find_under_each<'v>(
     Ok(())
 }
 
-/// The subschemas of an object with these members, in order.
 #[tactic(auto, using(crate::proofs::PlaceLists::parts))]
 fn found_in<'v>(
     alloc: Global,
@@ -221,11 +220,11 @@ fn found_in<'v>(
     Ok(found)
 }
 
-/// The subschemas of a schema, in order, each with the path that leads to it.
+/// Returns the subschemas of a schema, in order, each with its path.
 ///
 /// # Errors
 ///
-/// Fails only if memory cannot be allocated.
+/// Out of memory.
 pub fn subschemas_found<'v>(
     alloc: Global,
     rule: Rule,
@@ -251,7 +250,7 @@ pub fn subschemas_found<'v>(
     }
 }
 
-/// The last keyword again, where it is this one. A clone costs no memory.
+/// Returns the last keyword, if it is this one. A clone allocates nothing.
 fn keyword_again(last: &Option<RcStr>, keyword: &str) -> Result<Option<RcStr>, OutOfMemory>
     ensures same { IfOk result (λ again. IfSome again (λ k. rc_str_bytes k ≡ keyword.now)) }
 {
@@ -267,8 +266,9 @@ fn keyword_again(last: &Option<RcStr>, keyword: &str) -> Result<Option<RcStr>, O
     }
 }
 
-/// A keyword as a step has it: the last one where that is the same, so that the subschemas under one share it. It is the last one
-/// from then on.
+/// Returns a keyword as shared text: a clone of `last` if it is the same keyword.
+///
+/// So the subschemas under one keyword share its text. The keyword becomes the last one.
 fn keyword_of(alloc: Global, last: &mut Option<RcStr>, keyword: &str) -> Result<RcStr, OutOfMemory>
     ensures keyword { Shows rc_str_bytes result keyword.now }
 {
@@ -280,7 +280,9 @@ fn keyword_of(alloc: Global, last: &mut Option<RcStr>, keyword: &str) -> Result<
     Ok(first)
 }
 
-/// The place of a subschema of the schema at a place, where the last one that was found has this keyword.
+/// Returns the place of a subschema of the schema at a place.
+///
+/// `last` is the keyword of the subschema before it.
 fn place_found(
     alloc: Global,
     place: &SchemaPlace,
@@ -299,7 +301,6 @@ fn place_found(
     })
 }
 
-/// The places of subschemas of the schema at a place.
 fn places_found(
     alloc: Global,
     place: &SchemaPlace,
@@ -315,7 +316,6 @@ fn places_found(
     Ok(places)
 }
 
-/// Subschemas of the schema at a place, each with its own place.
 fn placed_found<'v>(
     alloc: Global,
     place: &SchemaPlace,
@@ -335,11 +335,11 @@ fn placed_found<'v>(
     Ok(placed)
 }
 
-/// The subschemas of the schema at a place, in order, each with its own place.
+/// Returns the subschemas of the schema at a place, in order, with their places.
 ///
 /// # Errors
 ///
-/// Fails only if memory cannot be allocated.
+/// Out of memory.
 pub fn subschemas_placed<'v>(
     alloc: Global,
     rule: Rule,
@@ -354,11 +354,11 @@ pub fn subschemas_placed<'v>(
     placed_found(alloc, place, found.as_slice())
 }
 
-/// The places of the subschemas of a schema, in order.
+/// Returns the places of the subschemas of the schema at a place, in order.
 ///
 /// # Errors
 ///
-/// Fails only if memory cannot be allocated.
+/// Out of memory.
 pub fn subschemas(
     alloc: Global,
     rule: Rule,

@@ -16,7 +16,7 @@ use serde_json::Value;
 use std::alloc::Global;
 use uri_references::references::resolve;
 
-/// Whether a `:` stands before any `/`, `?` or `#`.
+/// Returns whether the URI has a scheme: a `:` comes before any `/`, `?` or `#`.
 fn is_absolute(uri: &str) -> bool
     ensures absolute { result ≡ is_absolute uri.now }
 {
@@ -31,11 +31,11 @@ fn is_absolute(uri: &str) -> bool
     false
 }
 
-/// The URI that an identifier gives its schema, where this is the base around it.
+/// Returns the URI that an identifier, read against a base, means for its schema.
 ///
 /// # Errors
 ///
-/// Fails only if memory cannot be allocated.
+/// Out of memory.
 pub fn own_uri(
     alloc: Global,
     rule: Rule,
@@ -59,11 +59,11 @@ pub fn own_uri(
     }
 }
 
-/// The URI that the identifier of a schema gives it, where this is the base around it.
+/// Returns the URI of a schema, whose identifier is read against a base.
 ///
 /// # Errors
 ///
-/// Fails only if memory cannot be allocated.
+/// Out of memory.
 pub fn uri_of(
     alloc: Global,
     rule: Rule,
@@ -80,7 +80,7 @@ pub fn uri_of(
     }
 }
 
-/// A URI of its own, or the base.
+/// Returns the schema's own URI, or else the base.
 pub fn or_base<'t>(own: &'t Option<String>, base: &'t str) -> &'t str
     ensures base { result.now ≡ unwrap_or (option_map string_bytes own.now) base.now }
 {
@@ -90,11 +90,11 @@ pub fn or_base<'t>(own: &'t Option<String>, base: &'t str) -> &'t str
     }
 }
 
-/// The base inside a document that is handed in under a URI.
+/// Returns the base inside a document that is supplied under a URI.
 ///
 /// # Errors
 ///
-/// Fails only if memory cannot be allocated.
+/// Out of memory.
 pub fn root_base(
     alloc: Global,
     rule: Rule,
@@ -114,7 +114,9 @@ pub fn root_base(
     }
 }
 
-/// What a reference stands for by the narrow rule: the base without its fragment, this followed by a fragment, or a URI with its scheme.
+/// Resolves a reference by the narrow rule.
+///
+/// An empty reference or a fragment refers to the base, and a URI with a scheme to itself.
 fn resolve_narrowly(alloc: Global, base: &str, reference: &str) -> Result<String, LookupError>
     ensures resolved { Agrees string_bytes result (resolve_narrowly base.now reference.now) }
 {
@@ -133,11 +135,12 @@ fn resolve_narrowly(alloc: Global, base: &str, reference: &str) -> Result<String
     Err(refusal(alloc, text, reference))
 }
 
-/// What a reference stands for from a base: by the standard's rule as RFC 3986 has it in section 5.2.
+/// Resolves a reference against a base: by the standard's rule as in RFC 3986, 5.2.
 ///
 /// # Errors
 ///
-/// By the narrow rule a refusal of a reference that is not empty, a fragment or a URI with its scheme; and `OutOfMemory`.
+/// Out of memory. By the narrow rule, a reference is refused unless it is empty, a fragment, or a
+/// URI with a scheme.
 pub fn resolve_uri(
     alloc: Global,
     rule: Rule,
