@@ -1,4 +1,4 @@
--- Where a path leads, step by step.
+-- The target of a path, step by step.
 use Rattle.std.proofs.Common.{◌≡◌, ℕ, true, false, [], ◌∷◌, ◌++◌, Some, None, Result, Ok, Err, refl}
 use Rattle.serde_json.specs.Data.{Data}
 use Rattle.theory_definitions.specs.Instance.{Place, Step, Text, a_value, after_step}
@@ -14,12 +14,12 @@ module _ (table : Table) (reference : Text) (document : ℕ) (draft : Draft) (sc
   abbrev arrives : Place → Result (Found Point) Text
   arrives p = arrived table reference document draft schema since reached gone s p
 
-  -- nothing stands there
+  -- there is no value
   pub arrives_nowhere : data_of (after_step step (a_value reached)) ≡ None → arrives (step ∷ path) ≡ Err (nothing_there reference)
   arrives_nowhere e = rw (e, arrived) refl
 
   module _ (below : Data) (stands : data_of (after_step step (a_value reached)) ≡ Some below) where
-    -- a value that is no subschema
+    -- a value that is not a subschema
     pub arrives_past : is_subschema table.rule draft (since ++ step ∷ []) schema ≡ false
         → arrives (step ∷ path) ≡ arrived table reference document draft schema (since ++ step ∷ []) below (gone ++ step ∷ []) s path
     arrives_past e = rw (stands, e, arrived) refl

@@ -15,13 +15,13 @@ pub other_document : {A B C : Type 0} (f : A → B) (g : B → C) (first : C) (x
 other_document f g first xs n m e = ap (slice_get (first ∷ map g (map f xs))) e ∙ get_map g (map f xs) m
     ∙ ap (option_map g) (get_map f xs m)
 
--- what a list gives at a number
+-- the element of a list with a number
 pub read_at : {A : Type 0} (xs : List A) (n : ℕ) (o : Option (Bor A)) → IsGetResult xs n n o → option_map (λ (x : Bor A). x.now) o
     ≡ slice_get xs n
 read_at xs n None h = sym (slice_get_past xs n h.3)
 read_at xs n (Some x) h = sym (slice_get_read xs (length xs) n x.now refl h.3.0 h.1)
 
--- what a call reads from the others
+-- the value that the code reads from the other documents
 pub read_other : {A B C : Type 0} (f : A → B) (g : B → C) (first : C) (xs : List A) (n m : ℕ) (o : Option (Bor A)) → n ≡ suc m
     → IsGetResult xs m m o
     → slice_get (first ∷ map g (map f xs)) n ≡ option_map g (option_map f (option_map (λ (x : Bor A). x.now) o))

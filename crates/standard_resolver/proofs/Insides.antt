@@ -1,4 +1,4 @@
--- The value at a place that lies at a path below an object whose members are at hand, and at one step.
+-- The value at a place below an object whose members are available, and the value at one step.
 use Rattle.std.proofs.Common.{◌≡◌, ◌<◌, ◌∙◌, ◌∷◌, [], List, None, Option, Some, ap, drop, get_or, length, map, option_and_then, option_map}
 use Rattle.std.proofs.Common.{refl, sym, arith}
 use Rattle.std.specs.Prelude.{slice_get}
@@ -28,7 +28,7 @@ below_of (Some d) outer q whole h =
     ap data_of (from_append outer.path q (a_value d.value)
     ∙ ap (λ (o : Option Subject). option_and_then (subject_from q) o) (data-is (subject_at d.value outer.path) whole h))
 
--- from the object's place on the walk is the object's own
+-- from the object's place on, the walk is that from the object itself
 pub inside_value : (documents : List Document) (outer place : SchemaPlace) (q : Place) (whole : Data) → place ≡ at_path outer q
     → value_in documents outer ≡ Some whole
     → value_in documents place ≡ data_of (subject_from q (a_value whole))

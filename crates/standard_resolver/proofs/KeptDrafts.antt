@@ -1,4 +1,4 @@
--- Where no draft is named inside a value, no subschema below it is read in another draft.
+-- If no draft is named inside a value, no subschema below it is read in another draft.
 use Rattle.std.proofs.Common.{◌≡◌, ◌∙◌, ◌∷◌, List, None, Option, Some, [], ap, false, refl, subst, sym, true≢false, zero, suc, ℕ}
 use Rattle.std.specs.List.{AllByRecursion}
 use Rattle.std.specs.Prelude.{codes, is_some, unwrap_or}

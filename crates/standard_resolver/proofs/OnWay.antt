@@ -1,4 +1,4 @@
--- One or two steps, and the subschemas of a schema that they lead to.
+-- One or two steps, and the subschemas that they lead to.
 use Rattle.std.proofs.Common.{◌≡◌, ◌∙◌, ℕ, zero, suc, ◌+◌, ◌<◌, ◌≤◌, ◌==◌, ◌&&◌, Bool, true, false, List, [], ◌∷◌, ◌++◌, Option, Some}
 use Rattle.std.proofs.Common.{None, Ordering, Less, Equal, Greater, String, Global, drop, get_or, length, take, map, refl, sym, ap, subst}
 use Rattle.std.proofs.Common.{string_bytes, string_cmp, nat_cmp, is_eq, bytes_eq, arith}
@@ -41,7 +41,7 @@ combined true true x y e = refl
 combined true false x y e = e
 combined false b x y e = e
 
--- a test of what belongs to each element of a list, one element after the other
+-- a test of the lists that belong to the elements of a list, one element after the other
 module _ {X A B : Type 0} (key : X → A) (f : A → List B) (p : B → Bool) (xs : List X) (i : ℕ) (x : X) where
   abbrev left : ℕ → Bool
   left n = list_any p (flat_map f (map key (drop n xs)))
@@ -87,7 +87,7 @@ module _ (k : Text) (s t : Step) where
       go true h = combined (same_step s (to_member k)) (same_step t (to_item i)) _ _ h
       go false h = h
 
--- what a test says of what may stand there
+-- a test of a value that may be missing
 abbrev pub holds_of : (Data → Bool) → Option Data → Bool
 holds_of f None = false
 holds_of f (Some d) = f d
@@ -189,7 +189,7 @@ from_index (suc n) i (item d ds) =
 pub the_item : (n : ℕ) (ds : Items) → item_among (to_item n) 0 ds ≡ schema_found (get_item n ds)
 the_item n ds = let e : 0 + n ≡ n = omega arith in ap (λ m. item_among (to_item m) 0 ds) (sym e) ∙ from_index n 0 ds
 
--- ---- what a step leads to in a value
+-- ---- the target of a step in a value
 
 pub leads_to_the_member : (name : Text) (d : Data) (es : List Entry) → d ≡ object (members_view es)
     → IsStrictlySortedBy string_cmp (keys_of es) → schema_found (get name d) ≡ leads_to_member (to_member name) d
@@ -277,7 +277,7 @@ module _ (rule : Rule) (draft : Draft) where
   pub long_singles : (d : Data) → Long 1 (singles_below rule draft d)
   long_singles d = long-flat 1 (λ k. below_value k (get k d)) (λ k. long_value k (get k d)) (names_of_values rule draft)
 
--- a path of another length is none of them
+-- a path of another length is not among them
 none_of_length : (path : Place) (n : ℕ) (ps : List Place) → Long n ps → (length path ≡ n → ⊥) → list_any (same_place path) ps ≡ false
 none_of_length path n [] l h = refl
 none_of_length path n (p ∷ ps) l h = rw (differ_in_length path p (λ e. h (e ∙ l.0)), none_of_length path n ps l.1 h) refl
@@ -318,7 +318,7 @@ module _ {A B : Type 0} (f : A → B) where
   first_steps (x ∷ []) a b l h g = absurd (omega arith)
   first_steps (x ∷ y ∷ xs) a b l h g = ap (λ z. f z ∷ f y ∷ []) (sym h) ∙ ap (λ z. f a ∷ f z ∷ []) (sym g)
 
-  -- where there are no more
+  -- if there are no more steps
   pub whole : (n : ℕ) (xs : List A) → length xs ≡ n → take n (map f xs) ≡ map f xs
   whole n [] h = rw (sym h) refl
   whole zero (x ∷ xs) h = absurd (omega arith)

@@ -23,7 +23,7 @@ pub with_resources-append : (xs ys listed : List Resource) → with_resources (w
 with_resources-append [] ys listed = refl
 with_resources-append (x ∷ xs) ys listed = with_resources-append xs ys (with_resource listed x)
 
--- ---- what is gathered
+-- ---- the gathered resources
 
 pub adds_both : (xs ys : List Resource) (a b c : Gathered) → Adds xs a b → Adds ys b c → Adds (xs ++ ys) a c
 adds_both xs ys a b c first second = λ found.
@@ -31,7 +31,7 @@ adds_both xs ys a b c first second = λ found.
     let k = second h.1 in
     (k.0 ∙ ap (λ l. with_resources l ys) h.0 ∙ with_resources-append xs ys (list_of a), k.1)
 
--- ---- resources of documents, one more
+-- ---- the resources in documents, with one document more
 
 pub documents-append : (rule : Rule) (draft : Draft) (n : ℕ) (ds : List Document) (d : Document)
     → document_resources rule draft n (ds ++ d ∷ []) ≡ document_resources rule draft n ds ++ document_resource rule draft (n + length ds) d
@@ -50,7 +50,7 @@ embedded-append rule draft n (x ∷ ds) d = let e : n + 1 + length ds ≡ n + su
     ∙ ap (λ m. embedded_resources rule draft (n + 1) ds ++ embedded rule draft m d) e)
     ∙ sym (append_assoc (embedded rule draft n x) (embedded_resources rule draft (n + 1) ds) (embedded rule draft (n + suc (length ds)) d))
 
--- ---- a resource that is found stays where it is
+-- ---- a resource that is found keeps its number
 
 pub record Stays (uri : Text) (n : ℕ) (r : Resource) (listed : List Resource) : Type 0 where
   pub number : number_of uri listed ≡ Some n
@@ -98,13 +98,13 @@ root_found rule draft d ds =
 
 -- ---- turns of the code
 
--- what one schema more adds
+-- the resources that one more schema adds
 pub one_more : {A B C : Type 0} (f : B → List C) (g : A → B) (xs : List A) (i : ℕ) (x : A) → i < length xs → x ≡ get_or xs i x
     → flat_map f (map g (take i xs)) ++ f (g x) ≡ flat_map f (map g (take (i + 1) xs))
 one_more f g xs i x less at = flat_map_more f [] (map g (take i xs)) (g x)
     ∙ ap (λ y. flat_map f (map g (take i xs) ++ g y ∷ [])) at ∙ sym (ap (flat_map f) (map_more g xs i x less))
 
--- one document more
+-- the resources that one more document adds
 pub other_taken : {A B C : Type 0} (f : A → B) (g : B → C) (xs : List A) (i : ℕ) (x : A) → i < length xs → x ≡ get_or xs i x
     → take (i + 1) (map g (map f xs)) ≡ take i (map g (map f xs)) ++ g (f x) ∷ []
 other_taken f g xs i x less at =
@@ -121,7 +121,7 @@ all_taken f g xs i l = take_all i (map g (map f xs)) (omega (arith, length-map x
 
 module _ {A B : Type 0} (rule : Rule) (draft : Draft) (first : Document) (f : A → B) (g : B → Document) (xs : List A) (i : ℕ)
     (old new : Gathered) where
-  -- the first so many after the root's
+  -- the first documents after the root
   abbrev some_of : ℕ → List Document
   some_of n = first ∷ take n (map g (map f xs))
 
@@ -156,6 +156,6 @@ module _ {A B : Type 0} (rule : Rule) (draft : Draft) (first : Document) (f : A 
       → Adds (embedded_resources rule draft 0 (first ∷ map g (map f xs))) old new
   all_embedded l = subst (λ ds. Adds (embedded_resources rule draft 0 (first ∷ ds)) old new) (all_taken f g xs i l)
 
--- those of the root's document alone
+-- the resources of the root document only
 pub only_embedded : (rs : List Resource) (old new : Gathered) → Adds rs old new → Adds (rs ++ []) old new
 only_embedded rs old new = subst (λ qs. Adds qs old new) (sym (append-nil rs))

@@ -1,4 +1,4 @@
--- A target lies in the resource of the innermost subschema with an identifier on its way.
+-- A target lies in the resource of the innermost subschema with an identifier on its path.
 use Rattle.std.proofs.Common.{◌≡◌, ◌∙◌, ◌+◌, ◌-◌, ◌==◌, ◌&&◌, ◌++◌, ◌∷◌, [], ℕ, zero, suc, List, Bool, true, false, cond, Option, Some}
 use Rattle.std.proofs.Common.{None, Result, Ok, Err, length, map, option_map, refl, sym, ap, subst, take, append-nil, append_assoc, arith}
 use Rattle.std.proofs.Common.{eq-eqb, true≢false}
@@ -38,7 +38,7 @@ use Rattle.standard_resolver.specs.ResolverStart.{BasesStand, NarrowBasesStand, 
 use Rattle.standard_resolver.specs.ResolverStart.{innermost_under}
 use Rattle.standard_resolver.proofs.Arrivals.{arrives_inside, arrives_nowhere, arrives_past, arrives_refused}
 
--- ---- the element that a number names
+-- ---- the element with a number
 
 is_text : (t : Text) (k : Option Text) → has_text t k ≡ true → k ≡ Some t
 is_text t None h = absurd (true≢false (sym h))
@@ -68,7 +68,7 @@ module _ (table : Table) where
       ≡ Some x → root_of table (enter n uri s) ≡ place_of_resource x
   found_root uri n x s number there = rw (number, there, root_of) refl
 
-  -- ---- what is entered begins at the place
+  -- ---- the entered resource begins at the place
 
   same_schema : (a b : SchemaPlace) → same_schema_place a b ≡ true → a ≡ b
   same_schema a b e = go (a.document == b.document) refl e where
@@ -180,7 +180,7 @@ module _ (table : Table) (reference : Text) (document : ℕ) (root : Place) wher
         abbrev identified : Bool
         identified = is_some (identifier (detected draft below) below)
 
-        -- the last with an identifier, and what leads on from there
+        -- the last subschema with an identifier, and the path from there
         inside : (state : Point) → entered_below table s (detected draft below) here below ≡ Ok state → (b : Bool) → identified ≡ b → Goal
         inside state entered b was =
             let inner : innermost_along table.rule draft schema since reached gone last (step ∷ path)
@@ -229,7 +229,7 @@ module _ (table : Table) (reference : Text) (document : ℕ) (root : Place) wher
       one_step step path (along path) draft schema since reached gone last rest gone_in s f within same begins h
       (data_of (after_step step (a_value reached))) refl
 
-  -- ---- how deep the resource begins
+  -- ---- the depth of the resource's root
 
   taken : (xs ys : Place) → take (length xs) (xs ++ ys) ≡ xs
   taken xs ys = take-append-le (length xs) xs ys (omega arith) ∙ take_all (length xs) xs (omega arith)

@@ -1,4 +1,4 @@
--- The walk of a document goes down, and keeps what it looks for.
+-- The walk through a document goes down, and keeps the schemas that it looks for.
 use Rattle.std.proofs.Common.{◌≡◌, ◌∙◌, ◌<◌, ◌≤◌, ◌+◌, ◌-◌, ℕ, zero, suc, Bool, true, false, List, [], ◌∷◌, ◌++◌, Option, cond, drop}
 use Rattle.std.proofs.Common.{length, length-append, map, get_or, refl, sym, ap, subst, arith, append-nil, append_assoc, option_and_then}
 use Rattle.std.proofs.Common.{take}
@@ -46,9 +46,9 @@ lower schema below [] l h = absurd (omega arith)
 lower schema below (s ∷ p) l h = let e : suc (depth below) < suc (depth schema) = path_falls s p (a_value schema) (a_value below) h in
     omega arith
 
--- ---- what the walk keeps
+-- ---- the schemas that the walk keeps
 
--- what is kept below what was found in a schema; the base is the one inside it
+-- the schemas that are kept below the subschemas of a schema; the base is the one inside it
 abbrev pub from : Rule → Bool → ℕ → Place → Text → Draft → Found → List Visited
 from rule everywhere n path base draft f =
     filter (speaking rule everywhere) (visited_at rule (visited_below rule everywhere n) everywhere (path ++ f.path) base draft f.schema)
@@ -66,7 +66,7 @@ kept_below rule everywhere n path base draft schema [] = refl
 kept_below rule everywhere n path base draft schema (p ∷ ps) =
     ap (λ ys. from rule everywhere n path base draft (found_at schema p) ++ ys) (kept_below rule everywhere n path base draft schema ps)
 
--- ---- what was found lies deeper
+-- ---- subschemas lie deeper
 
 data_is : (o : Option Subject) (d : Data) → Some d ≡ data_of o → o ≡ Some (a_value d)
 data_is None d e = absurd (let none : ⊥ = cc in none)
@@ -106,7 +106,7 @@ kept_first rule everywhere true v rest e =
 kept_first rule everywhere false v rest e =
     ap (λ b. cond b (v ∷ filter (speaking rule everywhere) rest) (filter (speaking rule everywhere) rest)) (sym e)
 
--- the way, one step longer
+-- the path, one step longer
 pub way_more : (path : Place) (way : List FoundSchema) (f : FoundSchema) → path ++ flat_map path_of (way ++ f ∷ [])
     ≡ (path ++ flat_map path_of way) ++ path_of f
 way_more path way f = sym (flat_map_more path_of path way f)
@@ -152,7 +152,7 @@ module _ (rule : Rule) (everywhere : Bool) (n : ℕ) (path : Place) (base : Text
       (visited_if rule (visited_below rule everywhere n) (path ++ q) base d' below (goes_into everywhere d' below))) is
       )
 
--- a schema that has nothing for the resolver adds nothing
+-- a schema that does not concern the resolver adds nothing
 module _ (rule : Rule) (everywhere : Bool) (path : Place) (base : Text) (draft : Draft) (below : Data) (plain : IsPlain rule below) where
   quiet : (b : Bool) → speaks rule b draft below ≡ false
   quiet true = ap is_some (plain.no_identifier draft)
@@ -202,7 +202,7 @@ finished rule everywhere path base draft schema items k old new paths l so_far (
     (subschemas rule draft schema))
     )
 
--- ---- what the walk leaves aside adds nothing
+-- ---- the schemas that the walk skips add nothing
 
 skips : {A B : Type 0} (p : A → Bool) (f : A → List B) → ((x : A) → p x ≡ false → f x ≡ []) → (xs : List A) → flat_map f (filter p xs)
     ≡ flat_map f xs
@@ -219,7 +219,7 @@ no_names v None None e = refl
 no_names v None (Some y) e = absurd (let none : ⊥ = cc in none)
 no_names v (Some x) b e = absurd (let none : ⊥ = cc in none)
 
--- names stand in the schemas that are kept
+-- names are in the schemas that are kept
 pub names_kept : (rule : Rule) (vs kept : List Visited) → kept ≡ filter (speaking rule false) vs → flat_map (names_at rule) vs
     ≡ flat_map (names_at rule) kept
 names_kept rule vs kept e =
@@ -231,7 +231,7 @@ no_uri : (rule : Rule) (document : ℕ) (v : Visited) (o : Option Text) → is_s
 no_uri rule document v None e = refl
 no_uri rule document v (Some t) e = absurd (let none : ⊥ = cc in none)
 
--- and resources begin with them
+-- resources begin with the schemas that are kept
 pub resources_kept : (rule : Rule) (document : ℕ) (vs kept : List Visited) → kept ≡ filter (speaking rule true) vs
     → flat_map (identified rule document) vs ≡ flat_map (identified rule document) kept
 resources_kept rule document vs kept e =

@@ -1,5 +1,6 @@
--- Where references lead: to a resource under a URI, and in it by a pointer or a name. (Core 2020-12, sections 8.2.1 to 8.2.3; Core
--- 2019-09, section 8.2.4.2; section 3.5 of RFC 3986; section 6 of RFC 6901)
+-- The targets of references: a resource under a URI, and in it the target of a pointer or a name.
+-- (Core 2020-12, sections 8.2.1 to 8.2.3; Core 2019-09, section 8.2.4.2; RFC 3986, section 3.5; RFC
+-- 6901, section 6)
 use Rattle.std.specs.List.{list_any}
 use Rattle.std.specs.Prelude.{Bool, Err, List, None, Ok, Option, Result, Some, [], codes, false, if◌then◌else◌, option_and_then}
 use Rattle.std.specs.Prelude.{option_map, slice_get, true, ℕ, ◌&&◌, ◌++◌, ◌==◌, ◌∷◌}
@@ -22,7 +23,7 @@ use Rattle.standard_resolver.specs.DocumentStates.{Point, enter, entered_below}
 abbrev pub no_resource : Text → Text
 no_resource reference = codes "this resolver has no resource for the reference " ++ reference
 
--- by the standard's rule with the URI that is not at hand
+-- the standard's rule names the URI of the missing resource instead
 abbrev pub not_at_hand : Rule → Text → Text → Text
 not_at_hand Narrow reference uri = no_resource reference
 not_at_hand Standard reference uri = codes "this resolver has no resource under the URI " ++ uri
@@ -40,7 +41,7 @@ no_base base = codes "this resolver has no resource under the base " ++ base
 abbrev pub is_subschema : Rule → Draft → Place → Data → Bool
 is_subschema rule draft path schema = list_any (same_place path) (subschemas rule draft schema)
 
--- a target that has a name
+-- the target with a name
 abbrev pub target_named : ℕ → Resource → Point → Name → Found Point
 target_named n r s x = record { place = record { document = r.document; path = x.path }; state = enter n r.base s; draft = x.draft }
 
@@ -49,9 +50,10 @@ abbrev pub target_root : ℕ → Resource → Point → Found Point
 target_root n r s = record { place = place_of_resource r; state = enter n r.base s; draft = r.draft }
 
 module _ (table : Table) where
-  -- Where a path leads. Subschemas are walked through from a resource's root on; `since` leads from the last of them to the value
-  -- reached so far, and `gone` from the document's root. The draft is taken on each subschema on the way and on the target, and each
-  -- that has an identifier is entered.
+  -- The target at the end of a path. The walk goes from a resource's root through subschemas:
+  -- `since` leads from the last of them to the value reached so far, and `gone` leads there from
+  -- the document's root. The draft is detected at each subschema on the path and at the target, and
+  -- each subschema with an identifier is entered.
   abbrev pub arrived : Text → ℕ → Draft → Data → Place → Data → Place → Point → Place → Result (Found Point) Text
   arrived reference document draft schema since reached gone s [] =
       Ok (record { place = record { document = document; path = gone }; state = s; draft = detected draft reached })
@@ -73,7 +75,7 @@ module _ (table : Table) where
   target_by_path reference r s schema None = Err (nothing_there reference)
   target_by_path reference r s schema (Some path) = arrived reference r.document r.draft schema [] schema r.path s path
 
-  -- a pointer is percent-decoded, and read from the resource's root on
+  -- the target of a pointer, which is percent-decoded and read from the resource's root
   abbrev pub target_by_pointer : Text → Resource → Point → Text → Option Data → Result (Found Point) Text
   target_by_pointer reference r s pointer None = Err (nothing_there reference)
   target_by_pointer reference r s pointer (Some schema) =
@@ -81,7 +83,7 @@ module _ (table : Table) where
 
   -- ---- names
 
-  -- the first of the resources that has a dynamic name
+  -- the first of these resources that has a dynamic name
   abbrev pub dynamic_in : Point → Text → ℕ → Option (Found Point)
   dynamic_in s name n = elim (slice_get table.resources n) [
     | None ↦ None
@@ -92,8 +94,8 @@ module _ (table : Table) where
   first_dynamic s name [] = None
   first_dynamic s name (n ∷ ns) = elim (dynamic_in s name n) [ None ↦ first_dynamic s name ns | Some f ↦ Some f ]
 
-  -- A dynamic reference to a dynamic name leads into the first resource that was entered and has that dynamic name; where none has
-  -- it, the one that was found has it.
+  -- A dynamic reference to a dynamic name leads into the first entered resource that has this
+  -- dynamic name. If none has it, the target that was found stays.
   abbrev pub outermost : Point → Text → Found Point → Found Point
   outermost s name f = elim (first_dynamic s name s.entered) [ None ↦ f | Some g ↦ g ]
 
@@ -104,7 +106,7 @@ module _ (table : Table) where
 
   -- ---- references
 
-  -- no fragment, a pointer, or a name
+  -- the target of a fragment: nothing, a pointer, or a name
   abbrev pub target_by_fragment : List Document → Text → ℕ → Resource → Point → Bool → Text → Result (Found Point) Text
   target_by_fragment documents reference n r s dynamic [] = Ok (target_root n r s)
   target_by_fragment documents reference n r s dynamic (x ∷ xs) = if x == 47 then target_by_pointer reference r (enter n r.base s) (x ∷ xs)
@@ -125,13 +127,13 @@ module _ (table : Table) where
   target_of_uri documents reference s dynamic (Ok uri) = target_under documents reference uri s dynamic (fragment_of uri)
       (number_of (without_fragment uri) table.resources)
 
-  -- where a reference leads
+  -- the target of a reference
   abbrev pub looked_up : List Document → Point → Text → Bool → Result (Found Point) Text
   looked_up documents s reference dynamic = target_of_uri documents reference s dynamic (resolve_uri table.rule s.base reference)
 
   -- ---- recursive references
 
-  -- the first of the resources whose root has `$recursiveAnchor` true
+  -- the first of these resources whose root has `$recursiveAnchor: true`
   abbrev pub recursive_in : Point → ℕ → Option (Found Point)
   recursive_in s n = elim (slice_get table.resources n) [ None ↦ None | Some r ↦ if r.recursive then Some (target_root n r s) else None ]
 
@@ -147,6 +149,7 @@ module _ (table : Table) where
   recursive_under s None = Err (no_base s.base)
   recursive_under s (Some n) = elim (slice_get table.resources n) [ None ↦ Err (no_base s.base) | Some r ↦ Ok (recursive_from n r s) ]
 
-  -- where a `$recursiveRef` leads: to the root of the resource, or, where that is recursive, to the first root entered that is
+  -- the target of a `$recursiveRef`: the root of the resource, or the first entered root that is
+  -- recursive if the resource's is
   abbrev pub looked_up_recursive : Point → Result (Found Point) Text
   looked_up_recursive s = recursive_under s (number_of s.base table.resources)

@@ -1,4 +1,4 @@
--- The names that the resolver's code holds, as the definitions have them.
+-- The names of the code, as values of the definitions.
 use Rattle.std.specs.Prelude.{string_bytes}
 use Rattle.schema_drafts.specs.KeywordViews.{draft_of}
 use Rattle.standard_resolver.specs.declared.names as code

@@ -1,5 +1,5 @@
--- Worked rows of the narrow rule: where references lead in small documents, by computation. (Core 2020-12, section 8.2;
--- section 6 of RFC 6901)
+-- Worked rows of the narrow rule: the targets of references in small documents, by computation.
+-- (Core 2020-12, section 8.2; RFC 6901, section 6)
 use Rattle.std.specs.Prelude.{Bool, Err, List, Ok, Result, [], codes, false, true, ℕ, ◌≡◌, ◌++◌, ◌∷◌}
 use Rattle.serde_json.specs.Data.{Data, array, boolean, item, member, no_items, no_members, object, string}
 use Rattle.theory_definitions.specs.Instance.{Place, Text, to_member}
@@ -34,7 +34,7 @@ under uri d = record { uri = uri; value = d } ∷ []
 
 -- ---- references
 
--- a state, in the resource under a URI
+-- a state in the resource under a URI
 abbrev pub in_these : Text → List ℕ → Point
 in_these uri ns = record { base = uri; entered = ns }
 
@@ -45,7 +45,7 @@ table_in documents = table_for Narrow draft_2020_12 documents
 abbrev pub leads : List Document → Point → Text → Bool → Result (Found Point) Text
 leads documents s reference dynamic = looked_up (table_in documents) documents s reference dynamic
 
--- where a reference leads from the root of a document that is alone
+-- the target of a reference from the root of a single document
 abbrev pub leads_alone : Data → Text → Result (Found Point) Text
 leads_alone d reference = leads (alone d) (in_these uri_of_root (0 ∷ [])) reference false
 
@@ -73,7 +73,7 @@ NameLeads = leads_alone named (codes "#s") ≡ found_at (below_defs (codes "a"))
 abbrev pub twice_named : Data
 twice_named = defs (two (codes "a") (one (codes "$anchor") (string (codes "s"))) (codes "b") (one (codes "$anchor") (string (codes "s"))))
 
--- of two with one name the first is found
+-- if two schemas have the same name, the first is found
 abbrev pub FirstNameLeads : Type 0
 FirstNameLeads = leads_alone twice_named (codes "#s") ≡ found_at (below_defs (codes "a"))
 
@@ -87,24 +87,24 @@ embedding = defs (one (codes "e") (two (codes "$defs") (one (codes "t") (one (co
 abbrev pub embedded_path : Place
 embedded_path = below_defs (codes "e") ++ below_defs (codes "t")
 
--- a pointer that passes through a schema with an identifier enters its resource
+-- a pointer through a schema with an identifier enters its resource
 abbrev pub PointerEnters : Type 0
 PointerEnters = leads_alone embedding (codes "#/$defs/e/$defs/t")
     ≡ found_in draft_2020_12 0 embedded_path (codes "http://x/e") (0 ∷ 1 ∷ [])
 
--- which begins at that schema
+-- the entered resource begins at that schema
 abbrev pub EnteredBegins : Type 0
 EnteredBegins = root_of (table_in (alone embedding)) (in_these (codes "http://x/e") (0 ∷ 1 ∷ []))
     ≡ record { document = 0; path = below_defs (codes "e") }
 
--- and is found under its URI, with pointers and names of its own
+-- the resource is found under its URI, with its own pointers and names
 abbrev pub UriLeads : Type 0
 UriLeads = leads_alone embedding (codes "http://x/e#/$defs/t") ≡ found_in draft_2020_12 0 embedded_path (codes "http://x/e") (0 ∷ 1 ∷ [])
 
 abbrev pub UriNameLeads : Type 0
 UriNameLeads = leads_alone embedding (codes "http://x/e#s") ≡ found_in draft_2020_12 0 embedded_path (codes "http://x/e") (0 ∷ 1 ∷ [])
 
--- a name of the resource is none of the root's
+-- a name in the resource is not a name in the root
 abbrev pub NameStaysInside : Type 0
 NameStaysInside = leads_alone embedding (codes "#s") ≡ Err (no_name (codes "#s"))
 
@@ -112,7 +112,7 @@ NameStaysInside = leads_alone embedding (codes "#s") ≡ Err (no_name (codes "#s
 abbrev pub relative : Data
 relative = defs (one (codes "e") (one (codes "$id") (string (codes "e"))))
 
--- a schema whose identifier is no URI with its scheme is not entered
+-- a schema is not entered if its identifier has no scheme
 abbrev pub RelativeIsRefused : Type 0
 RelativeIsRefused = leads_alone relative (codes "#/$defs/e") ≡ Err (no_identified (codes "e"))
 
@@ -121,16 +121,17 @@ abbrev pub twice_identified : Data
 twice_identified = defs
     (two (codes "e") (one (codes "$id") (string (codes "http://x/e"))) (codes "f") (one (codes "$id") (string (codes "http://x/e"))))
 
--- and neither is one whose URI is another's
+-- a schema is not entered if its URI belongs to another schema
 abbrev pub SecondIsRefused : Type 0
 SecondIsRefused = leads_alone twice_identified (codes "#/$defs/f") ≡ Err (no_identified (codes "http://x/e"))
 
--- {"$defs": {"a": {"$schema": "http://json-schema.org/draft-07/schema#", "$defs": {"b": {"$anchor": "s"}}}}}
+-- {"$defs": {"a": {"$schema": "http://json-schema.org/draft-07/schema#", "$defs": {"b": {"$anchor":
+-- "s"}}}}}
 abbrev pub older : Data
 older = defs (one (codes "a") (two (codes "$defs") (one (codes "b") (one (codes "$anchor") (string (codes "s")))) (codes "$schema")
     (string (codes "http://json-schema.org/draft-07/schema#"))))
 
--- a target's draft is that of the schemas on the way
+-- the draft of a target is that of the schemas on the path
 abbrev pub DraftOnTheWay : Type 0
 DraftOnTheWay = leads_alone older (codes "#/$defs/a/$defs/b")
     ≡ found_in draft_7 0 (below_defs (codes "a") ++ below_defs (codes "b")) uri_of_root (0 ∷ [])
@@ -140,8 +141,8 @@ DraftOfAName = leads_alone older (codes "#s") ≡ found_in draft_7 0 (below_defs
 
 -- ---- dynamic references
 
--- {"$id": "http://x/root",
--- "$defs": {"list": {"$id": "http://x/list", "$defs": {"d": {"$dynamicAnchor": "n"}}}, "s": {"$dynamicAnchor": "n"}}}
+-- {"$id": "http://x/root", "$defs": {"list": {"$id": "http://x/list", "$defs": {"d":
+-- {"$dynamicAnchor": "n"}}}, "s": {"$dynamicAnchor": "n"}}}
 abbrev pub lists : Data
 lists = two (codes "$defs")
     (two (codes "list") (two (codes "$defs") (one (codes "d") (one (codes "$dynamicAnchor") (string (codes "n")))) (codes "$id")
@@ -151,25 +152,25 @@ lists = two (codes "$defs")
 abbrev pub in_list : Point
 in_list = in_these (codes "http://x/list") (0 ∷ 1 ∷ [])
 
--- a dynamic reference leads into the first resource entered that has the name
+-- a dynamic reference leads into the first entered resource that has the name
 abbrev pub DynamicLeadsOut : Type 0
 DynamicLeadsOut = leads (under (codes "http://x/root") lists) in_list (codes "#n") true
     ≡ found_in draft_2020_12 0 (below_defs (codes "s")) (codes "http://x/root") (0 ∷ 1 ∷ [])
 
--- a plain reference stays inside
+-- a plain reference stays inside its resource
 abbrev pub PlainStaysInside : Type 0
 PlainStaysInside = leads (under (codes "http://x/root") lists) in_list (codes "#n") false
     ≡ found_in draft_2020_12 0 (below_defs (codes "list") ++ below_defs (codes "d")) (codes "http://x/list") (0 ∷ 1 ∷ [])
 
--- and so does a dynamic one, where no other resource was entered
+-- a dynamic reference does too, if no other resource was entered
 abbrev pub DynamicStaysAlone : Type 0
 DynamicStaysAlone = leads (under (codes "http://x/root") lists) (in_these (codes "http://x/list") (1 ∷ [])) (codes "#n") true
     ≡ found_in draft_2020_12 0 (below_defs (codes "list") ++ below_defs (codes "d")) (codes "http://x/list") (1 ∷ [])
 
 -- ---- recursive references
 
--- {"$defs": {"n": {"$id": "http://x/n", "$recursiveAnchor": true}}, "$id": "http://x/r", "$recursiveAnchor": true,
--- "$schema": "https://json-schema.org/draft/2019-09/schema"}
+-- {"$defs": {"n": {"$id": "http://x/n", "$recursiveAnchor": true}}, "$id": "http://x/r",
+-- "$recursiveAnchor": true, "$schema": "https://json-schema.org/draft/2019-09/schema"}
 abbrev pub recursing : Bool → Data
 recursing outer = object
     (member (codes "$defs") (one (codes "n") (two (codes "$id") (string (codes "http://x/n")) (codes "$recursiveAnchor") (boolean true)))
@@ -189,7 +190,7 @@ RecursiveStaysInside = recurs false ≡ found_in draft_2019_09 0 (below_defs (co
 
 -- ---- several documents
 
--- the second document stands under a URI that has a fragment, which is left aside
+-- the second document is supplied under a URI with a fragment, which is ignored
 abbrev pub both : List Document
 both = record { uri = codes "http://x/a"; value = one (codes "$ref") (string (codes "b#/$defs/c")) }
     ∷ record { uri = codes "http://x/b#z"; value = named } ∷ []
@@ -218,33 +219,33 @@ EmptyLeadsToTheRoot = from_first [] ≡ found_in draft_2020_12 0 [] (codes "http
 abbrev pub HashLeadsToTheRoot : Type 0
 HashLeadsToTheRoot = from_first (codes "#") ≡ found_in draft_2020_12 0 [] (codes "http://x/a") (0 ∷ [])
 
--- what a fragment stands for is the base without its own
+-- a fragment is resolved against the base without the base's own fragment
 abbrev pub BaseLosesItsFragment : Type 0
 BaseLosesItsFragment = resolve_uri Narrow (codes "http://x/b#z") (codes "#s") ≡ Ok (codes "http://x/b#s")
 
--- a `:` after a `/` makes no scheme
+-- a `:` after a `/` does not end a scheme
 abbrev pub LateColonIsRefused : Type 0
 LateColonIsRefused = resolve_uri Narrow (codes "http://x/b") (codes "a/b:c") ≡ Err (not_resolved (codes "a/b:c"))
 
--- ---- pointers and names that are written oddly
+-- ---- unusual pointers and names
 
 -- {"$defs": {"01": {"$anchor": ""}, "a~2b": true, "l": [true]}}
 abbrev pub odd : Data
 odd = defs (object (member (codes "01") (one (codes "$anchor") (string []))
     (member (codes "a~2b") (boolean true) (member (codes "l") (array (item (boolean true) no_items)) no_members))))
 
--- a `~` before neither 0 nor 1 stands for itself
+-- a `~` before a character other than 0 and 1 means itself
 abbrev pub OddEscapeStands : Type 0
 OddEscapeStands = leads_alone odd (codes "#/$defs/a~2b") ≡ found_at (below_defs (codes "a~2b"))
 
--- digits with a 0 before another name a member, and no item
+-- digits with a leading 0 name a member, not an item
 abbrev pub LeadingZeroIsAName : Type 0
 LeadingZeroIsAName = leads_alone odd (codes "#/$defs/01") ≡ found_at (below_defs (codes "01"))
 
 abbrev pub LeadingZeroIsNoIndex : Type 0
 LeadingZeroIsNoIndex = leads_alone odd (codes "#/$defs/l/00") ≡ Err (nothing_there (codes "#/$defs/l/00"))
 
--- a lone `%` is a name that no schema has; what is no UTF-8 leads to no member here
+-- a lone `%` is a name that no schema has; bytes that are not UTF-8 lead to no member here
 abbrev pub LonePercentIsAName : Type 0
 LonePercentIsAName = leads_alone odd (codes "#%") ≡ Err (no_name (codes "#%"))
 

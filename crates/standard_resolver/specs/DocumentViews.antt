@@ -1,4 +1,4 @@
--- What the resolver's code holds, as the definitions have it: states, documents and schemas.
+-- The states, documents and schemas of the code, as values of the definitions.
 use Rattle.std.specs.Prelude.{List, flat_map, map, string_bytes, ◌++◌}
 use Rattle.std.specs.Rc.{rc_str_bytes}
 use Rattle.serde_json.specs.View.{view}
@@ -26,10 +26,10 @@ held d = documents_from (string_bytes d.uri) d.root.now (map given_of d.others.i
 abbrev pub visited_of : walk.Visited.Visited → Visited
 visited_of v = record { path = v.path; base = string_bytes v.base; draft = draft_of v.draft; schema = view v.schema.now }
 
--- a document that is given under a URI
+-- a document that is supplied under a URI
 abbrev pub document_under : Text → Value → Document
 document_under uri value = record { uri = uri; value = view value }
 
--- a path, and then from subschema to subschema
+-- a path, continued from subschema to subschema
 abbrev pub path_over : Place → List FoundSchema → Place
 path_over path way = path ++ flat_map path_of way

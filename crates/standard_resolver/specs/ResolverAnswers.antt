@@ -1,4 +1,4 @@
--- What the resolver of some documents answers. (Core 2020-12, sections 8.2 and 9.1)
+-- The answers of a resolver of documents. (Core 2020-12, sections 8.2 and 9.1)
 use Rattle.std.specs.Prelude.{IsSome, List, None, Option, Some, [], map, slice_get, ℕ, ◌≡◌, ◌∷◌}
 use Rattle.serde_json.specs.View.{view}
 use Rattle.serde_json.specs.declared.value.Value.{Value}
@@ -12,7 +12,7 @@ use Rattle.standard_resolver.specs.DocumentResources.{Resource, Table, number_of
 use Rattle.standard_resolver.specs.DocumentStates.{Point, entered, root_of, same_point}
 use Rattle.standard_resolver.specs.DocumentLookups.{looked_up, looked_up_recursive}
 
--- where a run begins: with one resource entered
+-- the start of a run: one resource is entered
 abbrev pub entrance_in : ℕ → Resource → Entrance Point
 entrance_in n r = record { place = place_of_resource r; state = record { base = r.base; entered = n ∷ [] } }
 
@@ -49,7 +49,7 @@ table_of r = table_for r.rule r.default_draft (documents_of r)
 abbrev pub document_resolving : HeldDocuments → Resolver Point
 document_resolving r = resolving_of r.default_draft (λ d. vocabularies_in d r.vocabularies) (documents_of r) (table_of r)
 
--- the root's URI without a fragment
+-- the root's URI, without a fragment
 abbrev pub base_of : HeldDocuments → Text
 base_of r = without_fragment r.uri
 
@@ -57,6 +57,6 @@ base_of r = without_fragment r.uri
 abbrev pub HasRoot : Value → HeldDocuments → Type 0
 HasRoot document r = (document_resolving r).value root_place ≡ Some (view document)
 
--- the root's document is found under its URI
+-- the root document is found under its URI
 abbrev pub FindsRoot : HeldDocuments → Type 0
 FindsRoot r = IsSome ((document_resolving r).root (base_of r))

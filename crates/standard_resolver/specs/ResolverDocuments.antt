@@ -1,5 +1,6 @@
--- What the resolver holds: documents, each under a URI, the rule by which they are read, their default draft, and the vocabularies of
--- each draft. The first document is the root's. (Core 2020-12, sections 8.2.1 and 9.1.1)
+-- The contents of a resolver: documents, each under a URI, the rule for reading them, their default
+-- draft, and the vocabularies of each draft. The first document is the root. (Core 2020-12,
+-- sections 8.2.1 and 9.1.1)
 use Rattle.std.specs.Prelude.{List, None, Option, Some, String, map, slice_get, ◌≡◌, ◌++◌, ◌∷◌}
 use Rattle.std.specs.declared.alloc.Global.{Global}
 use Rattle.serde_json.specs.Data.{Data, object}
@@ -13,7 +14,7 @@ use Rattle.standard_resolver.specs.declared.vocabularies.DraftVocabularies.{Draf
 use Rattle.standard_subschemas.specs.declared.rules.Rule.{Rule}
 use Rattle.standard_subschemas.specs.SubschemaRules.{data_of, draft_vocabularies}
 
--- an unknown draft counts as 2020-12
+-- the vocabularies in force in a draft; an unknown draft counts as 2020-12
 abbrev pub vocabularies_in : Draft → DraftVocabularies → Vocabularies
 vocabularies_in draft_4 sets = sets.early
 vocabularies_in draft_6 sets = sets.early
@@ -27,20 +28,21 @@ abbrev pub HasDrafts : Vocabularies → DraftVocabularies → Type 0
 HasDrafts required sets = (d : Draft) (v : Vocabulary) → has_vocabulary (vocabularies_in d sets) v
     ≡ has_vocabulary (draft_vocabularies d ++ required) v
 
--- and those that are not the standard's in the order of the required ones
+-- each draft has the custom vocabularies in the order of the required ones
 abbrev pub HasCustom : Vocabularies → DraftVocabularies → Type 0
 HasCustom required sets = (d : Draft) → custom_of (vocabularies_in d sets) ≡ custom_of required
 
--- a document, and the URI that it is found under
+-- a document and its URI, as data
 pub record Document : Type 0 where
   pub uri : Text
   pub value : Data
 
--- the same as it is given
+-- a document and its URI, as the caller supplies them
 pub record GivenDocument : Type 0 where
   pub uri : Text
   pub value : Value
 
+-- the contents of a resolver
 pub record HeldDocuments : Type 0 where
   pub rule : Rule
   pub uri : Text
@@ -52,23 +54,23 @@ pub record HeldDocuments : Type 0 where
 abbrev pub document_of : GivenDocument → Document
 document_of d = record { uri = d.uri; value = view d.value }
 
--- the documents, the root's first
+-- the documents, the root first
 abbrev pub documents_from : Text → Value → List GivenDocument → List Document
 documents_from uri root others = record { uri = uri; value = view root } ∷ map document_of others
 
 abbrev pub documents_of : HeldDocuments → List Document
 documents_of r = documents_from r.uri r.document r.others
 
--- what stands at a path of a document that may be there
+-- the value at a path of a document, if there is one
 abbrev pub value_of : Option Document → SchemaPlace → Option Data
 value_of None p = None
 value_of (Some d) p = data_of (subject_at d.value p.path)
 
--- what stands at a place: documents are numbered from 0
+-- the value at a place; documents are numbered from 0
 abbrev pub value_in : List Document → SchemaPlace → Option Data
 value_in documents p = value_of (slice_get documents p.document) p
 
--- a value is what stands at a place, where that lies at a path below an object with these members
+-- if a place lies at a path below an object with these members, the value is the one at that place
 abbrev pub StandsInside : List Document → List (String Global × Value) → Place → SchemaPlace → Option Data → Type 0
 StandsInside documents members path place value = (outer : SchemaPlace) → place ≡ at_path outer path
     → value_in documents outer ≡ Some (object (members_view members)) → value ≡ value_in documents place

@@ -1,4 +1,4 @@
--- What a resolver holds that is answered.
+-- The contents of a resolver that a call returns, if it returns one.
 use Rattle.std.specs.Prelude.{IfOk, List, Result, ◌≡◌}
 use Rattle.serde_json.specs.declared.value.Value.{Value}
 use Rattle.theory_definitions.specs.Instance.{Text}
@@ -6,11 +6,11 @@ use Rattle.theory_definitions.specs.Drafts.{Draft, Vocabularies}
 use Rattle.standard_subschemas.specs.declared.rules.Rule.{Rule}
 use Rattle.standard_resolver.specs.ResolverDocuments.{HeldDocuments, GivenDocument, HasCustom, HasDrafts}
 
--- it goes by this rule
+-- it reads documents by this rule
 abbrev pub GoesBy : {E : Type 0} → Result HeldDocuments E → Rule → Type 0
 GoesBy result rule = IfOk result (λ r. r.rule ≡ rule)
 
--- its root is this document
+-- its root document is this one
 abbrev pub Holds : {E : Type 0} → Result HeldDocuments E → Value → Type 0
 Holds result document = IfOk result (λ r. r.document ≡ document)
 
@@ -22,7 +22,7 @@ IsUnder result uri = IfOk result (λ r. r.uri ≡ uri)
 abbrev pub Others : {E : Type 0} → Result HeldDocuments E → List GivenDocument → Type 0
 Others result others = IfOk result (λ r. r.others ≡ others)
 
--- what says no draft has this one
+-- values that name no draft are read in this one
 abbrev pub Defaults : {E : Type 0} → Result HeldDocuments E → Draft → Type 0
 Defaults result draft = IfOk result (λ r. r.default_draft ≡ draft)
 
@@ -30,6 +30,6 @@ Defaults result draft = IfOk result (λ r. r.default_draft ≡ draft)
 abbrev pub Drafts : {E : Type 0} → Result HeldDocuments E → Vocabularies → Type 0
 Drafts result required = IfOk result (λ r. HasDrafts required r.vocabularies)
 
--- and those that are not the standard's in the order of the required ones
+-- each draft has the custom vocabularies in the order of the required ones
 abbrev pub Customs : {E : Type 0} → Result HeldDocuments E → Vocabularies → Type 0
 Customs result required = IfOk result (λ r. HasCustom required r.vocabularies)

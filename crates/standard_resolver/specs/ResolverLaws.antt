@@ -1,4 +1,4 @@
--- The resolver keeps its laws.
+-- The resolver keeps the laws of `Resolver`.
 use Rattle.std.proofs.Common.{ℕ, ◌≡◌, ◌&&◌, ◌∙◌, ◌++◌, ◌∷◌, [], List, Bool, true, false, Option, Some, None, option_and_then, refl, ap}
 use Rattle.std.proofs.Common.{subst}
 use Rattle.std.specs.Str.{bytes_eq}
@@ -21,7 +21,8 @@ data-is None d h = cc
 data-is (Some (a_value e)) d h = let same : e ≡ d = cc in ap (λ x. Some (a_value x)) same
 data-is (Some (a_name k)) d h = cc
 
--- what stands at the end of two paths stands at the end of the second, inside what stands at the end of the first
+-- the value at the end of two paths is the value at the end of the second, inside the value at the
+-- end of the first
 inside_here : (q : Place) (x : Subject) (inner : Data) → data_of (subject_from q x) ≡ Some inner
     → (outer : Data) × (data_of (Some x) ≡ Some outer) × (subject_from q (a_value outer) ≡ Some (a_value inner))
 inside_here q (a_value d) inner h = (d, refl, data-is (subject_from q (a_value d)) inner h)

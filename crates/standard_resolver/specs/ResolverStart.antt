@@ -1,5 +1,5 @@
--- How much of a pointer lies outside the resource of its target. (Core 2020-12, section 8.2; section 3
--- of RFC 6901)
+-- The part of a pointer outside the resource of its target. (Core 2020-12, section 8.2; RFC 6901,
+-- section 3)
 use Rattle.std.specs.Prelude.{Bool, false, true, None, Ok, Option, Some, [], if◌then◌else◌, is_some, length, slice_get, ℕ, ◌++◌, ◌≡◌, ◌∷◌}
 use Rattle.std.specs.Str.Lossy.{utf8_lossy}
 use Rattle.percent_encoding.specs.Percent.{percent_decode}
@@ -19,9 +19,10 @@ use Rattle.standard_resolver.specs.DocumentStates.{Point, enter, resource_under,
 use Rattle.standard_resolver.specs.DocumentLookups.{is_subschema}
 use Rattle.standard_resolver.specs.ResolverAnswers.{document_resolving, table_of}
 
--- The path of the innermost subschema with an identifier that a path passes into or ends at. Subschemas are walked through from a
--- schema on; `since` leads from the last of them to the value reached so far, `gone` from that schema, and `last` to the last of
--- them that has an identifier.
+-- The path of the innermost subschema with an identifier that a path enters or ends at. The walk
+-- goes from a schema through subschemas: `since` leads from the last of them to the value reached
+-- so far, `gone` leads there from that schema, and `last` leads to the last subschema with an
+-- identifier.
 abbrev pub innermost_along : Rule → Draft → Data → Place → Data → Place → Place → Place → Place
 innermost_along rule draft schema since reached gone last [] = last
 innermost_along rule draft schema since reached gone last (step ∷ path) = elim (data_of (after_step step (a_value reached))) [
@@ -33,7 +34,7 @@ innermost_along rule draft schema since reached gone last (step ∷ path) = elim
   ]
 ]
 
--- counted from the root of a resource; the root itself where there is none
+-- the same, counted from the root of a resource; the root itself if there is no such subschema
 abbrev pub innermost : Rule → Draft → Data → Option Place → Place
 innermost rule draft schema None = []
 innermost rule draft schema (Some path) = innermost_along rule draft schema [] schema [] [] path
@@ -42,21 +43,23 @@ abbrev pub innermost_in : HeldDocuments → Text → Resource → Place
 innermost_in r pointer x = elim (value_in (documents_of r) (place_of_resource x))
     [ None ↦ [] | Some schema ↦ innermost r.rule x.draft schema (path_of_pointer pointer schema) ]
 
--- of a pointer into the resource that a URI names
+-- the same, for a pointer into the resource that a URI names
 abbrev pub innermost_under : HeldDocuments → Text → Text → Place
 innermost_under r uri pointer = elim (resource_under (table_of r) (without_fragment uri)) [ None ↦ [] | Some x ↦ innermost_in r pointer x ]
 
--- The base inside a resource that is found leads back to where the resource begins: by the narrow rule always, by the standard's where
--- no two documents claim one URI.
+-- The base inside a resource leads back to the place where the resource begins. By the narrow rule
+-- this always holds, and by the standard's it holds if no two documents claim the same URI.
 abbrev pub BasesStand : Table → Type 0
 BasesStand table = (uri : Text) (n : ℕ) (x : Resource) (s : Point)
     → number_of uri table.resources ≡ Some n → slice_get table.resources n ≡ Some x
     → root_of table (enter n x.base s) ≡ place_of_resource x
 
+-- by the narrow rule, bases always lead back to their resources
 abbrev pub NarrowBasesStand : Type 0
 NarrowBasesStand = (r : HeldDocuments) → r.rule ≡ Narrow → BasesStand (table_of r)
 
--- what lies outside is the pointer's part up to there
+-- the part of a pointer outside the resource is the part up to the innermost subschema with an
+-- identifier
 abbrev pub StartsAtInnermost : {K R : Type 0} → Parts Point K R → Type 0
 StartsAtInnermost w = (r : HeldDocuments) → BasesStand (table_of r) → w.resolver ≡ document_resolving r
     → (s : Point) (reference uri rest : Text) (dynamic : Bool) (f : Found Point)

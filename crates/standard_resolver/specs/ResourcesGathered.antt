@@ -1,4 +1,4 @@
--- Resources as the resolver's code gathers them.
+-- The resources that the code has gathered.
 use Rattle.std.specs.Prelude.{List, map, ◌≡◌}
 use Rattle.std.specs.HashMap.{get_by_text}
 use Rattle.standard_resolver.specs.declared.resources.Gathered.{Gathered}
@@ -9,10 +9,10 @@ use Rattle.standard_resolver.specs.DocumentResourceViews.{resource_of}
 abbrev pub list_of : Gathered → List Resource
 list_of g = map resource_of g.resources.items
 
--- each is found by its URI
+-- each resource is found by its URI
 abbrev pub IsFound : Gathered → Type 0
 IsFound g = IsNumbered (map resource_key (list_of g)) (get_by_text g.numbers)
 
--- some more are listed, and found, those aside whose URI an earlier one has
+-- the new list also has these resources, except those whose URI an earlier one has
 abbrev pub Adds : List Resource → Gathered → Gathered → Type 0
 Adds added old new = IsFound old → (list_of new ≡ with_resources (list_of old) added) × IsFound new

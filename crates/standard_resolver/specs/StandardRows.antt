@@ -1,6 +1,8 @@
--- Worked rows of the standard's rule, by computation. Documents and what is wanted of them come from the official test suite's files on
--- references and on remote references (drafts 4, 6 and 7); those on names and identifiers, and the last ones, come from the standard.
--- (RFC 3986, section 5.2; draft-07 Core, section 8.2; Core 2019-09, section 8.2; Core 2020-12, sections 8.2 and 10.3 and appendix B)
+-- Worked rows of the standard's rule, by computation. The documents and the expected targets come
+-- from the official test suite's files on references and remote references (drafts 4, 6 and 7). The
+-- rows on names and identifiers, and the last rows, come from the standard. (RFC 3986, section 5.2;
+-- draft-07 Core, section 8.2; Core 2019-09, section 8.2; Core 2020-12, sections 8.2 and 10.3 and
+-- appendix B)
 use Rattle.std.specs.List.{list_all}
 use Rattle.std.specs.Prelude.{Bool, Err, List, Ok, Result, Some, [], codes, false, is_some, map, not, true, ℕ, ◌++◌, ◌||◌, ◌≡◌, ◌∷◌}
 use Rattle.serde_json.specs.Data.{array, boolean, item, member, no_items, no_members, object, string}
@@ -23,11 +25,11 @@ in_these uri ns = record { base = uri; entered = ns }
 abbrev pub table_in : Draft → List Document → Table
 table_in draft documents = table_for Standard draft documents
 
--- where a reference leads from a state
+-- the target of a reference from a state
 abbrev pub leads : Draft → List Document → Point → Text → Bool → Result (Found Point) Text
 leads draft documents s reference dynamic = looked_up (table_in draft documents) documents s reference dynamic
 
--- the state inside what stands at a place
+-- the state inside the value at a place
 abbrev pub inside : Draft → List Document → Point → SchemaPlace → Result Point Text
 inside draft documents s p = entered (table_in draft documents) documents s draft p (value_in documents p)
 
@@ -37,14 +39,16 @@ found_in draft document path uri ns =
 
 -- ---- identifiers and references are resolved against the base
 
--- {"$id": "http://localhost:1234/", "items": {"$id": "folder/", "items": {"$ref": "folderInteger.json"}}}, and {"type": "integer"} under
+-- {"$id": "http://localhost:1234/", "items": {"$id": "folder/", "items": {"$ref":
+-- "folderInteger.json"}}}, and {"type": "integer"} under
 -- http://localhost:1234/folder/folderInteger.json
 abbrev pub folders : List Document
 folders = alone (two (codes "$id") (string (codes "http://localhost:1234/")) (codes "items")
     (two (codes "$id") (string (codes "folder/")) (codes "items") (one (codes "$ref") (string (codes "folderInteger.json")))))
     ++ under (codes "http://localhost:1234/folder/folderInteger.json") (one (codes "type") (string (codes "integer")))
 
--- a document is entered under the URI that it is handed in under, and its root's identifier is the base inside
+-- a document is entered under the URI that it is supplied under, and its root's identifier is the
+-- base inside it
 abbrev pub EntranceHasTheIdentifier : Type 0
 EntranceHasTheIdentifier = entrance (table_in draft_7 folders).resources (codes "json-schema:///")
     ≡ Some (record { place = record { document = 0; path = [] }; state = in_these (codes "http://localhost:1234/") (0 ∷ []) })
@@ -55,7 +59,7 @@ NestedIdentifier = inside draft_7 folders (in_these (codes "http://localhost:123
     (record { document = 0; path = (to_member (codes "items") ∷ []) })
     ≡ Ok (in_these (codes "http://localhost:1234/folder/") (0 ∷ 3 ∷ []))
 
--- and a reference against the base of the resource around it
+-- a reference is resolved against the base of the resource around it
 abbrev pub BaseChanges : Type 0
 BaseChanges = leads draft_7 folders (in_these (codes "http://localhost:1234/folder/") (0 ∷ 3 ∷ [])) (codes "folderInteger.json") false
     ≡ found_in draft_7 1 ([]) (codes "http://localhost:1234/folder/folderInteger.json") (0 ∷ 3 ∷ 1 ∷ [])
@@ -65,55 +69,56 @@ abbrev pub RootIsFoundByIdentifier : Type 0
 RootIsFoundByIdentifier = leads draft_7 folders (in_these (codes "http://localhost:1234/folder/") (0 ∷ 3 ∷ [])) (codes "..") false
     ≡ found_in draft_7 0 ([]) (codes "http://localhost:1234/") (0 ∷ 3 ∷ 2 ∷ [])
 
--- and under the URI that it is handed in under
+-- a document is found under the URI that it is supplied under
 abbrev pub RootIsFoundAsHandedIn : Type 0
 RootIsFoundAsHandedIn = leads draft_7 folders (in_these (codes "http://localhost:1234/") (0 ∷ [])) (codes "json-schema:///") false
     ≡ found_in draft_7 0 ([]) (codes "http://localhost:1234/") (0 ∷ [])
 
--- with or without an empty fragment
+-- an empty fragment makes no difference
 abbrev pub EmptyFragment : Type 0
 EmptyFragment = leads draft_7 folders (in_these (codes "http://localhost:1234/") (0 ∷ []))
     (codes "http://localhost:1234/folder/folderInteger.json#") false
     ≡ found_in draft_7 1 ([]) (codes "http://localhost:1234/folder/folderInteger.json") (0 ∷ 1 ∷ [])
 
--- what is not at hand is refused with its URI
+-- a reference to a missing document is refused with its URI
 abbrev pub AbsentIsRefused : Type 0
 AbsentIsRefused = leads draft_7 folders (in_these (codes "http://localhost:1234/folder/") (0 ∷ 3 ∷ [])) (codes "none.json") false
     ≡ Err (codes "this resolver has no resource under the URI http://localhost:1234/folder/none.json")
 
--- {"$id": "http://localhost:1234/scope_change_defs2.json", "definitions": {"baz": {"$id": "folder/", "definitions": {"bar": {"items":
--- {"$ref": "folderInteger.json"}}}}}}
+-- {"$id": "http://localhost:1234/scope_change_defs2.json", "definitions": {"baz": {"$id":
+-- "folder/", "definitions": {"bar": {"items": {"$ref": "folderInteger.json"}}}}}}
 abbrev pub scopes : List Document
 scopes = alone (two (codes "$id") (string (codes "http://localhost:1234/scope_change_defs2.json")) (codes "definitions")
     (one (codes "baz") (two (codes "$id") (string (codes "folder/")) (codes "definitions")
     (one (codes "bar") (one (codes "items") (one (codes "$ref") (string (codes "folderInteger.json"))))))))
 
--- a pointer that passes through a schema with an identifier changes the base
+-- a pointer through a schema with an identifier changes the base
 abbrev pub PointerChangesTheBase : Type 0
 PointerChangesTheBase = leads draft_7 scopes (in_these (codes "http://localhost:1234/scope_change_defs2.json") (0 ∷ []))
     (codes "#/definitions/baz/definitions/bar") false
     ≡ found_in draft_7 0 (to_member (codes "definitions") ∷ to_member (codes "baz") ∷ to_member (codes "definitions")
     ∷ to_member (codes "bar") ∷ []) (codes "http://localhost:1234/folder/") (0 ∷ 1 ∷ 2 ∷ [])
 
--- {"$id": "http://localhost:1234/tree", "definitions": {"node": {"$id": "http://localhost:1234/node", "properties": {"subtree": {"$ref":
--- "tree"}}}}}
+-- {"$id": "http://localhost:1234/tree", "definitions": {"node": {"$id":
+-- "http://localhost:1234/node", "properties": {"subtree": {"$ref": "tree"}}}}}
 abbrev pub tree : List Document
 tree = alone (two (codes "$id") (string (codes "http://localhost:1234/tree")) (codes "definitions")
     (one (codes "node") (two (codes "$id") (string (codes "http://localhost:1234/node")) (codes "properties")
     (one (codes "subtree") (one (codes "$ref") (string (codes "tree")))))))
 
--- schemas that refer to one another
+-- schemas may refer to each other: here from the node to the tree
 abbrev pub TreeOfNodes : Type 0
 TreeOfNodes = leads draft_7 tree (in_these (codes "http://localhost:1234/node") (0 ∷ 2 ∷ [])) (codes "tree") false
     ≡ found_in draft_7 0 ([]) (codes "http://localhost:1234/tree") (0 ∷ 2 ∷ 1 ∷ [])
 
--- both ways
+-- and here from the tree to the node
 abbrev pub NodeOfATree : Type 0
 NodeOfATree = leads draft_7 tree (in_these (codes "http://localhost:1234/tree") (0 ∷ [])) (codes "node") false
     ≡ found_in draft_7 0 (to_member (codes "definitions") ∷ to_member (codes "node") ∷ []) (codes "http://localhost:1234/node")
     (0 ∷ 2 ∷ [])
 
--- {"id": "http://localhost:1234/", "items": {"id": "folder/", "items": {"$ref": "folderInteger.json"}}}
+-- {"id": "http://localhost:1234/", "items": {"id": "folder/", "items": {"$ref":
+-- "folderInteger.json"}}}
 abbrev pub early : List Document
 early = alone (two (codes "id") (string (codes "http://localhost:1234/")) (codes "items")
     (two (codes "id") (string (codes "folder/")) (codes "items") (one (codes "$ref") (string (codes "folderInteger.json")))))
@@ -124,15 +129,16 @@ DraftFourHasId = inside draft_4 early (in_these (codes "http://localhost:1234/")
     (record { document = 0; path = (to_member (codes "items") ∷ []) })
     ≡ Ok (in_these (codes "http://localhost:1234/folder/") (0 ∷ 2 ∷ []))
 
--- and in draft 6 it is none
+-- in draft 6 `id` is not an identifier
 abbrev pub DraftSixHasNone : Type 0
 DraftSixHasNone = inside draft_6 early (in_these (codes "json-schema:///") (0 ∷ []))
     (record { document = 0; path = (to_member (codes "items") ∷ []) })
     ≡ Ok (in_these (codes "json-schema:///") (0 ∷ []))
 
--- {"$id": "http://localhost:1234/sibling_id/base/", "allOf": [{"$id": "http://localhost:1234/sibling_id/", "$ref": "foo.json"}],
--- "definitions": {"base_foo": {"$id": "foo.json", "type": "number"}, "foo": {"$id": "http://localhost:1234/sibling_id/foo.json", "type":
--- "string"}}}
+-- {"$id": "http://localhost:1234/sibling_id/base/", "allOf": [{"$id":
+-- "http://localhost:1234/sibling_id/", "$ref": "foo.json"}], "definitions": {"base_foo": {"$id":
+-- "foo.json", "type": "number"}, "foo": {"$id": "http://localhost:1234/sibling_id/foo.json",
+-- "type": "string"}}}
 abbrev pub sibling : List Document
 sibling = alone (object (member (codes "$id") (string (codes "http://localhost:1234/sibling_id/base/"))
     (member (codes "allOf") (array (item (two (codes "$id") (string (codes "http://localhost:1234/sibling_id/"))
@@ -143,7 +149,7 @@ sibling = alone (object (member (codes "$id") (string (codes "http://localhost:1
     (codes "type") (string (codes "string"))))
     no_members))))
 
--- an identifier beside a reference is none in drafts 4 to 7
+-- in drafts 4 to 7 an identifier beside a reference does not count
 abbrev pub SiblingOfAReference : Type 0
 SiblingOfAReference = inside draft_7 sibling (in_these (codes "http://localhost:1234/sibling_id/base/") (0 ∷ []))
     (record { document = 0; path = (to_member (codes "allOf") ∷ to_item 0 ∷ []) })
@@ -157,8 +163,8 @@ SiblingKeepsTheBase = leads draft_7 sibling (in_these (codes "http://localhost:1
 
 -- ---- names
 
--- {"$id": "http://localhost:1234/root", "definitions": {"A": {"$id": "nested.json", "definitions": {"B": {"$id": "#foo", "type":
--- "integer"}}}, "C": {"$id": "#bar", "definitions": {"D": true}}}}
+-- {"$id": "http://localhost:1234/root", "definitions": {"A": {"$id": "nested.json", "definitions":
+-- {"B": {"$id": "#foo", "type": "integer"}}}, "C": {"$id": "#bar", "definitions": {"D": true}}}}
 abbrev pub independent : List Document
 independent = alone (two (codes "$id") (string (codes "http://localhost:1234/root")) (codes "definitions")
     (two (codes "A") (two (codes "$id") (string (codes "nested.json")) (codes "definitions")
@@ -170,21 +176,21 @@ abbrev pub LocationIndependent : Type 0
 LocationIndependent = leads draft_7 independent (in_these (codes "http://localhost:1234/root") (0 ∷ [])) (codes "#bar") false
     ≡ found_in draft_7 0 (to_member (codes "definitions") ∷ to_member (codes "C") ∷ []) (codes "http://localhost:1234/root") (0 ∷ 1 ∷ [])
 
--- in the resource around it
+-- the name is in the resource around the schema
 abbrev pub LocationIndependentNested : Type 0
 LocationIndependentNested = leads draft_7 independent (in_these (codes "http://localhost:1234/root") (0 ∷ []))
     (codes "nested.json#foo") false
     ≡ found_in draft_7 0 (to_member (codes "definitions") ∷ to_member (codes "A") ∷ to_member (codes "definitions") ∷ to_member (codes "B")
     ∷ []) (codes "http://localhost:1234/nested.json") (0 ∷ 2 ∷ [])
 
--- and opens none
+-- the fragment does not begin a resource
 abbrev pub FragmentOpensNoResource : Type 0
 FragmentOpensNoResource = leads draft_7 independent (in_these (codes "http://localhost:1234/root") (0 ∷ 1 ∷ []))
     (codes "#/definitions/C/definitions/D") false
     ≡ found_in draft_7 0 (to_member (codes "definitions") ∷ to_member (codes "C") ∷ to_member (codes "definitions") ∷ to_member (codes "D")
     ∷ []) (codes "http://localhost:1234/root") (0 ∷ 1 ∷ [])
 
--- later it is no name
+-- in later drafts it is not a name
 abbrev pub LateFragmentIsNoName : Type 0
 LateFragmentIsNoName = leads draft_2019_09 independent (in_these (codes "http://localhost:1234/root") (0 ∷ 1 ∷ [])) (codes "#bar") false
     ≡ Err (no_name (codes "#bar"))
@@ -193,7 +199,7 @@ LateFragmentIsNoName = leads draft_2019_09 independent (in_these (codes "http://
 abbrev pub both_at_once : List Document
 both_at_once = alone (one (codes "definitions") (one (codes "A") (one (codes "$id") (string (codes "http://localhost:1234/bar#foo")))))
 
--- an identifier with a fragment gives a URI and a name
+-- an identifier with a fragment is both a URI and a name
 abbrev pub FragmentAndUri : Type 0
 FragmentAndUri = leads draft_7 both_at_once (in_these (codes "json-schema:///") (0 ∷ [])) (codes "http://localhost:1234/bar#foo") false
     ≡ found_in draft_7 0 (to_member (codes "definitions") ∷ to_member (codes "A") ∷ []) (codes "http://localhost:1234/bar") (0 ∷ 1 ∷ [])
@@ -203,51 +209,52 @@ abbrev pub anchored : List Document
 anchored = alone (one (codes "properties")
     (one (codes "a") (two (codes "$anchor") (string (codes "s")) (codes "$dynamicAnchor") (string (codes "d")))))
 
--- an `$anchor` is a name from 2019-09 on
+-- `$anchor` is a name from 2019-09 on
 abbrev pub AnchorIsAName : Type 0
 AnchorIsAName = leads draft_2019_09 anchored (in_these (codes "json-schema:///") (0 ∷ [])) (codes "#s") false
     ≡ found_in draft_2019_09 0 (to_member (codes "properties") ∷ to_member (codes "a") ∷ []) (codes "json-schema:///") (0 ∷ [])
 
--- and none before
+-- it is not a name before
 abbrev pub EarlyAnchorIsNone : Type 0
 EarlyAnchorIsNone = leads draft_7 anchored (in_these (codes "json-schema:///") (0 ∷ [])) (codes "#s") false
     ≡ Err (no_name (codes "#s"))
 
--- a `$dynamicAnchor` is a name from 2020-12 on
+-- `$dynamicAnchor` is a name from 2020-12 on
 abbrev pub DynamicAnchorIsAName : Type 0
 DynamicAnchorIsAName = leads draft_2020_12 anchored (in_these (codes "json-schema:///") (0 ∷ [])) (codes "#d") false
     ≡ found_in draft_2020_12 0 (to_member (codes "properties") ∷ to_member (codes "a") ∷ []) (codes "json-schema:///") (0 ∷ [])
 
--- and none before
+-- it is not a name before
 abbrev pub EarlyDynamicAnchorIsNone : Type 0
 EarlyDynamicAnchorIsNone = leads draft_2019_09 anchored (in_these (codes "json-schema:///") (0 ∷ [])) (codes "#d") false
     ≡ Err (no_name (codes "#d"))
 
 -- ---- subschemas
 
--- {"definitions": {"e": {"enum": [{"$id": "http://localhost:1234/e"}]}}, "x": {"$id": "http://localhost:1234/x"}}
+-- {"definitions": {"e": {"enum": [{"$id": "http://localhost:1234/e"}]}}, "x": {"$id":
+-- "http://localhost:1234/x"}}
 abbrev pub enumerated : List Document
 enumerated = alone (two (codes "definitions")
     (one (codes "e") (one (codes "enum") (array (item (one (codes "$id") (string (codes "http://localhost:1234/e"))) no_items))))
     (codes "x") (one (codes "$id") (string (codes "http://localhost:1234/x"))))
 
--- nothing below `enum` is a schema
+-- no value below `enum` is a schema
 abbrev pub EnumHasNoSchemas : Type 0
 EnumHasNoSchemas = leads draft_7 enumerated (in_these (codes "json-schema:///") (0 ∷ [])) (codes "http://localhost:1234/e") false
     ≡ Err (codes "this resolver has no resource under the URI http://localhost:1234/e")
 
--- and nothing below an unknown name
+-- no value below an unknown name is a schema
 abbrev pub UnknownHasNoSchemas : Type 0
 UnknownHasNoSchemas = leads draft_7 enumerated (in_these (codes "json-schema:///") (0 ∷ [])) (codes "http://localhost:1234/x") false
     ≡ Err (codes "this resolver has no resource under the URI http://localhost:1234/x")
 
--- but pointers may lead there
+-- pointers may lead to such values
 abbrev pub PointersLeadAnywhere : Type 0
 PointersLeadAnywhere = leads draft_7 enumerated (in_these (codes "json-schema:///") (0 ∷ [])) (codes "#/x") false
     ≡ found_in draft_7 0 (to_member (codes "x") ∷ []) (codes "json-schema:///") (0 ∷ [])
 
--- `items` may be a list in drafts 4 to 2019-09; of `dependencies` the schemas count:
--- {"dependencies": {"a": ["b"], "c": true}, "items": [true]}
+-- `items` may be a list in drafts 4 to 2019-09; the members of `dependencies` that are schemas
+-- count: {"dependencies": {"a": ["b"], "c": true}, "items": [true]}
 abbrev pub ListsOfItems : Type 0
 ListsOfItems = subschemas Standard draft_7
     (object (member (codes "dependencies")
@@ -255,7 +262,7 @@ ListsOfItems = subschemas Standard draft_7
     (member (codes "items") (array (item (boolean true) no_items)) no_members)))
     ≡ (to_member (codes "dependencies") ∷ to_member (codes "c") ∷ []) ∷ (to_member (codes "items") ∷ to_item 0 ∷ []) ∷ []
 
--- and is one schema in 2020-12
+-- in 2020-12 `items` is one schema
 abbrev pub ItemsIsOneSchema : Type 0
 ItemsIsOneSchema = subschemas Standard draft_2020_12
     (object (member (codes "dependencies")
@@ -284,11 +291,11 @@ LateHasContentSchema =
 
 -- ---- known names
 
--- whether a draft knows all keywords that it has
+-- a draft knows all keywords that it defines
 abbrev pub knows_its_own : Draft → Bool
 knows_its_own draft = list_all (λ r. not (is_some (support_in draft r)) || is_known Standard draft r.name) keyword_table
 
--- each does
+-- every draft does
 abbrev pub KeywordsAreKnown : Type 0
 KeywordsAreKnown = map knows_its_own (draft_4 ∷ draft_6 ∷ draft_7 ∷ draft_2019_09 ∷ draft_2020_12 ∷ [])
     ≡ true ∷ true ∷ true ∷ true ∷ true ∷ []

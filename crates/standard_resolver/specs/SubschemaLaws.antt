@@ -1,4 +1,4 @@
--- Each subschema stands below its schema.
+-- Each subschema lies below its schema.
 use Rattle.std.proofs.Common.{ℕ, suc, ◌≡◌, ◌∙◌, ◌+◌, ◌++◌, ◌∷◌, [], List, Bool, true, false, cond, Option, Some, None, option_and_then}
 use Rattle.std.proofs.Common.{option_map, map, refl, sym, ap, arith}
 use Rattle.std.specs.Prelude.{flat_map, slice_get}
@@ -21,7 +21,7 @@ use Rattle.standard_subschemas.specs.FoundViews.{placed_at}
 use Rattle.standard_resolver.specs.ResolverDocuments.{HeldDocuments, Document, documents_of, value_in, value_of}
 use Rattle.standard_resolver.specs.ResolverAnswers.{document_resolving}
 
--- the path has a step, and a value stands at its end
+-- the path has at least one step, and there is a value at its end
 abbrev StandsIn : Data → Place → Type 0
 StandsIn d path = (step : Step) × (rest : Place) × (there : Data) × (path ≡ step ∷ rest) × (subject_at d path ≡ Some (a_value there))
 
@@ -45,7 +45,7 @@ module _ (d : Data) where
 
 -- ---- members, items and values
 
--- what stands below a member
+-- the values below a member
 after_it : (k : Text) (p : Place) (d v : Data) → get k d ≡ Some v → subject_at d (to_member k ∷ p) ≡ subject_from p (a_value v)
 after_it k p d v e = ap (option_and_then (subject_from p)) (after_member k d ∙ ap (option_map a_value) e)
 
@@ -180,7 +180,7 @@ module _ (r : HeldDocuments) (p : SchemaPlace) where
       ∷ map (placed_at p) (map (found_at d) ps)) same
       ∙ ap (λ (qs : List Placed). placed_in (document_resolving r) (at_path p path) ∷ qs) (values_there d e ps h.1)
 
-  -- what is found in a schema stands at its place
+  -- the subschemas that are found in a schema are the values at their places
   pub found_there : (draft : Draft) (d : Data) → value_in (documents_of r) p ≡ Some d
       → map (placed_at p) (map (found_at d) (subschemas r.rule draft d))
       ≡ map (placed_in (document_resolving r)) (map (at_path p) (subschemas r.rule draft d))

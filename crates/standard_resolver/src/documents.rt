@@ -1,4 +1,4 @@
-//! The documents that the resolver holds.
+//! The documents that a resolver holds.
 ghost use Rattle.std.specs.Prelude.{◌≡◌, option_map, slice_get};
 ghost use Rattle.schema_traits.specs.ResolverViews.{place_of};
 ghost use Rattle.standard_resolver.specs.ResolverDocuments.{value_in};
@@ -9,14 +9,16 @@ use crate::places::value_after;
 use schema_traits::schema_place::SchemaPlace;
 use serde_json::Value;
 
-/// A document, and the URI that it is found under; a fragment of the URI is left aside.
+/// A document and the URI that it is supplied under.
+///
+/// A fragment of the URI is ignored.
 #[derive(Drop)]
 pub struct Document<'a> {
     pub uri: String,
     pub value: &'a Value,
 }
 
-/// Documents, by their numbers. The root's has the number 0.
+/// Documents by their numbers. The root document has the number 0.
 #[derive(Drop)]
 pub struct Documents<'a> {
     pub uri: String,
@@ -25,7 +27,6 @@ pub struct Documents<'a> {
 }
 
 impl<'a> Documents<'a> {
-    /// The document of a number.
     fn document(&self, number: usize) -> Option<&'a Value>
         ensures document { value_read result ≡ option_map (λ d. d.value) (slice_get (held self.now) number) }
     {
@@ -38,7 +39,7 @@ impl<'a> Documents<'a> {
         }
     }
 
-    /// The URI of the document of a number.
+    /// Returns the URI of the document with a number.
     pub fn uri_of(&self, number: usize) -> Option<&str>
         ensures uri { text_read result ≡ option_map (λ d. d.uri) (slice_get (held self.now) number) }
     {
@@ -51,7 +52,7 @@ impl<'a> Documents<'a> {
         }
     }
 
-    /// The value at a place.
+    /// Returns the value at a place.
     pub fn value_at(&self, place: &SchemaPlace) -> Option<&'a Value>
         ensures value { value_read result ≡ value_in (held self.now) (place_of place.now) }
     {

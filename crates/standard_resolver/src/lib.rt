@@ -1,6 +1,7 @@
-//! A resolver of documents that keeps the resolver's laws, by one of two rules.
+//! A resolver of documents, proved to keep the laws of `Resolver`.
 //!
-//! The narrow rule is for tests and for the program `engine_bench`; the other is the standard's own.
+//! It reads documents by one of two rules: the standard's own, or a narrow one for tests and for
+//! the program `engine_bench`.
 #![tactic(auto)]
 
 mod documents;

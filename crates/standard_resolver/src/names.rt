@@ -20,7 +20,9 @@ use std::alloc::Global;
 use std::collections::HashMap;
 use std::marker::Model;
 
-/// A name of a schema: where it stands, the draft there, and whether it is a `$dynamicAnchor`.
+/// A name of a schema, with the schema's path and draft.
+///
+/// A name is dynamic if it is a `$dynamicAnchor`.
 #[derive(Drop)]
 pub struct Name {
     pub name: String,
@@ -29,11 +31,13 @@ pub struct Name {
     pub is_dynamic: bool,
 }
 
-/// The names in a resource, in the order of the walk. Contracts see the list.
+/// The names in a resource, in the order of the walk.
+///
+/// Contracts see the list.
 #[derive(Drop)]
 pub struct Names {
     names: Vec<Name>,
-    // For each text the number of the first name, and of the first dynamic one.
+    // Maps each text to the number of the first name, and of the first dynamic name.
     numbers: HashMap<String, usize>,
     dynamic_numbers: HashMap<String, usize>,
 }
@@ -54,7 +58,7 @@ impl Model for Names {
 }
 
 impl Names {
-    /// The first name with a text.
+    /// Returns the first name with a text.
     pub fn find(&self, text: &str) -> Option<&Name>
         ensures first { option_map (λ x. name_of x.now) result ≡ option_and_then (slice_get self.now) (name_number text.now self.now) }
     {
@@ -64,7 +68,7 @@ impl Names {
         }
     }
 
-    /// The first dynamic name with a text.
+    /// Returns the first dynamic name with a text.
     pub fn find_dynamic(&self, text: &str) -> Option<&Name>
         ensures first { option_map (λ x. name_of x.now) result ≡ option_and_then (slice_get self.now) (dynamic_number text.now self.now) }
     {
@@ -75,7 +79,6 @@ impl Names {
     }
 }
 
-/// Adds a name that a schema may have.
 fn push_name(
     alloc: Global,
     visited: &Visited<'_>,
@@ -97,7 +100,6 @@ fn push_name(
     Ok(())
 }
 
-/// Adds the names of a schema.
 fn push_names(
     alloc: Global,
     rule: Rule,
@@ -112,7 +114,6 @@ fn push_names(
     push_name(alloc, visited, dynamic, true, names)
 }
 
-/// The text of a dynamic name.
 fn dynamic_key(name: &Name) -> Option<&str>
     ensures key { text_read result ≡ dynamic_key (name_of name.now) }
 {
@@ -123,7 +124,7 @@ fn dynamic_key(name: &Name) -> Option<&str>
     }
 }
 
-/// The names, found by their texts.
+/// Makes the maps that find names by their texts.
 fn numbered(alloc: Global, names: Vec<Name>) -> Result<Names, OutOfMemory>
     ensures same { Yields result (map name_of names.items) }
 {
@@ -140,11 +141,11 @@ fn numbered(alloc: Global, names: Vec<Name>) -> Result<Names, OutOfMemory>
     })
 }
 
-/// The names of the resource that begins with a schema.
+/// Returns the names of the resource that begins with a schema.
 ///
 /// # Errors
 ///
-/// Fails only if memory cannot be allocated.
+/// Out of memory.
 pub fn names_in(alloc: Global, rule: Rule, root: &Visited<'_>) -> Result<Names, OutOfMemory>
     ensures names { Yields result (names_in rule (visited_of root.now)) }
 {

@@ -1,4 +1,4 @@
-//! Whether a path leads from a schema to one of its subschemas, by the steps of the path.
+//! Paths from a schema to one of its subschemas, decided by their steps.
 ghost use Rattle.std.specs.Prelude.{◌≡◌};
 ghost use Rattle.serde_json.specs.Find.{get};
 ghost use Rattle.serde_json.specs.View.{view};
@@ -18,7 +18,7 @@ use standard_subschemas::rules::Rule;
 use standard_subschemas::schema_names::{names_of_lists, names_of_objects, names_of_values};
 use standard_subschemas::subschemas::is_schema;
 
-/// Whether a step leads to the member of this name.
+/// Returns whether a step leads to the member of this name.
 fn is_named(step: &SchemaStep, keyword: &str) -> bool
     ensures named { result ≡ same_step (schema_step_of step.now) (to_member keyword.now) }
 {
@@ -28,7 +28,6 @@ fn is_named(step: &SchemaStep, keyword: &str) -> bool
     }
 }
 
-/// Whether there is a value and it is a schema.
 fn is_schema_there(value: Option<&Value>) -> bool
     ensures there { result ≡ schema_found (value_read value.entry) }
 {
@@ -38,14 +37,14 @@ fn is_schema_there(value: Option<&Value>) -> bool
     }
 }
 
-/// Whether a step leads from an object to a member that is a schema.
+/// Returns whether a step leads from an object to a member that is a schema.
 fn leads_to_member(value: &Value, step: &SchemaStep) -> bool
     ensures leads { result ≡ leads_to_member (schema_step_of step.now) (view value.now) }
 {
     let Some(members) = value.as_object() else {
         return false;
     };
-    // (the call says that the names stand in order, so that a name stands once)
+    // The contract of `len` says that the names are in order, so each occurs once.
     let _count = members.len();
     match step {
         SchemaStep::Member(name) => is_schema_there(value.get(name.as_str())),
@@ -53,7 +52,7 @@ fn leads_to_member(value: &Value, step: &SchemaStep) -> bool
     }
 }
 
-/// Whether a step leads from a list to an item that is a schema.
+/// Returns whether a step leads from a list to an item that is a schema.
 fn leads_to_item(value: &Value, step: &SchemaStep) -> bool
     ensures leads { result ≡ leads_to_item (schema_step_of step.now) (view value.now) }
 {
@@ -63,7 +62,7 @@ fn leads_to_item(value: &Value, step: &SchemaStep) -> bool
     }
 }
 
-/// Whether two steps lead to a schema in the object under this name.
+/// Returns whether two steps lead to a schema in the object under this name.
 fn in_object(schema: &Value, keyword: &str, first: &SchemaStep, second: &SchemaStep) -> bool
     ensures among { result ≡ pair_among first.now second.now (below_object keyword.now (get keyword.now (view schema.now))) }
 {
@@ -76,7 +75,7 @@ fn in_object(schema: &Value, keyword: &str, first: &SchemaStep, second: &SchemaS
     }
 }
 
-/// Whether two steps lead to a schema in the list under this name.
+/// Returns whether two steps lead to a schema in the list under this name.
 fn in_list(schema: &Value, keyword: &str, first: &SchemaStep, second: &SchemaStep) -> bool
     ensures among { result ≡ pair_among first.now second.now (below_list keyword.now (get keyword.now (view schema.now))) }
 {
@@ -89,7 +88,7 @@ fn in_list(schema: &Value, keyword: &str, first: &SchemaStep, second: &SchemaSte
     }
 }
 
-/// Whether a step leads to the schema under this name.
+/// Returns whether a step leads to the schema under this name.
 fn at_value(schema: &Value, keyword: &str, step: &SchemaStep) -> bool
     ensures among { result ≡ step_among step.now (below_value keyword.now (get keyword.now (view schema.now))) }
 {
@@ -102,7 +101,6 @@ fn at_value(schema: &Value, keyword: &str, step: &SchemaStep) -> bool
     }
 }
 
-/// Whether two steps lead to a schema in one of the objects under these names.
 fn in_objects(schema: &Value, keywords: &[&str], first: &SchemaStep, second: &SchemaStep) -> bool
     ensures among { result ≡ pair_among first.now second.now (below_each below_object keywords.now (view schema.now)) }
 {
@@ -114,7 +112,6 @@ fn in_objects(schema: &Value, keywords: &[&str], first: &SchemaStep, second: &Sc
     false
 }
 
-/// Whether two steps lead to a schema in one of the lists under these names.
 fn in_lists(schema: &Value, keywords: &[&str], first: &SchemaStep, second: &SchemaStep) -> bool
     ensures among { result ≡ pair_among first.now second.now (below_each below_list keywords.now (view schema.now)) }
 {
@@ -126,7 +123,6 @@ fn in_lists(schema: &Value, keywords: &[&str], first: &SchemaStep, second: &Sche
     false
 }
 
-/// Whether a step leads to one of the schemas under these names.
 fn at_values(schema: &Value, keywords: &[&str], step: &SchemaStep) -> bool
     ensures among { result ≡ step_among step.now (below_each below_value keywords.now (view schema.now)) }
 {
@@ -138,7 +134,7 @@ fn at_values(schema: &Value, keywords: &[&str], step: &SchemaStep) -> bool
     false
 }
 
-/// Whether two steps lead to a schema in one of the objects and lists.
+/// Returns whether two steps lead to a subschema in an object or a list.
 fn is_pair(
     rule: Rule,
     draft: Draft,
@@ -152,14 +148,14 @@ fn is_pair(
         || in_lists(schema, names_of_lists(rule, draft), first, second)
 }
 
-/// Whether a step leads to one of the other schemas.
+/// Returns whether a step leads to a subschema that is a keyword's value.
 fn is_single(rule: Rule, draft: Draft, schema: &Value, step: &SchemaStep) -> bool
     ensures among { result ≡ step_among step.now (singles_below rule (draft_of draft) (view schema.now)) }
 {
     at_values(schema, names_of_values(rule, draft), step)
 }
 
-/// Whether a path leads from a schema to one of its subschemas.
+/// Returns whether a path leads from a schema to one of its subschemas.
 pub fn is_subschema(rule: Rule, draft: Draft, path: &SchemaPath, schema: &Value) -> bool
     ensures subschema { result ≡ is_subschema rule (draft_of draft) path.now (view schema.now) }
 {

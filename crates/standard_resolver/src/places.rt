@@ -1,4 +1,4 @@
-//! Places of a document, and the values there.
+//! Places in documents, and the values there.
 ghost use Rattle.std.specs.Prelude.{◌≡◌, ◌<◌, length, map};
 ghost use Rattle.serde_json.specs.Data.{object};
 ghost use Rattle.serde_json.specs.View.{view};
@@ -17,7 +17,7 @@ use serde_json::{Map, Value};
 use standard_subschemas::steps::value_below;
 use std::alloc::Global;
 
-/// The root of the first document.
+/// Returns the place of the first document's root.
 pub fn root_place(alloc: Global) -> SchemaPlace
     ensures root { place_of result ≡ root_place }
 {
@@ -27,7 +27,7 @@ pub fn root_place(alloc: Global) -> SchemaPlace
     }
 }
 
-/// The value at the end of some steps.
+/// Returns the value that steps lead to.
 pub fn value_after<'v>(value: &'v Value, steps: &[SchemaStep]) -> Option<&'v Value>
     ensures after { subject_read result ≡ subject_from (map schema_step_of steps.now) (a_value (view value.now)) }
 {
@@ -41,7 +41,6 @@ pub fn value_after<'v>(value: &'v Value, steps: &[SchemaStep]) -> Option<&'v Val
     Some(reached)
 }
 
-/// The value one step below an object with these members.
 fn member_below<'v>(members: &'v Map<String, Value>, step: &SchemaStep) -> Option<&'v Value>
     ensures below { subject_read result ≡ after_step (schema_step_of step.now) (a_value (object (fields members.now))) }
 {
@@ -51,7 +50,7 @@ fn member_below<'v>(members: &'v Map<String, Value>, step: &SchemaStep) -> Optio
     }
 }
 
-/// The value at the end of some steps, at least one, from an object with these members.
+/// Returns the value that steps lead to from an object with these members.
 fn value_after_member<'v>(
     members: &'v Map<String, Value>,
     steps: &[SchemaStep],
@@ -65,7 +64,9 @@ fn value_after_member<'v>(
     }
 }
 
-/// The value at a place that lies at a path below an object with these members: the walk begins at the members.
+/// Returns the value at a place below an object with these members.
+///
+/// `path` leads from the object to the place, so the search begins at the members.
 pub fn value_inside<'v>(
     documents: &'v Documents<'_>,
     members: &'v Map<String, Value>,

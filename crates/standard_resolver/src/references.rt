@@ -1,4 +1,4 @@
-//! Where references lead.
+//! The targets of references.
 ghost use Rattle.std.specs.Prelude.{[], option_and_then, option_map, slice_get};
 ghost use Rattle.serde_json.specs.View.{view};
 ghost use Rattle.theory_definitions.specs.Parts.{Parts};
@@ -35,14 +35,13 @@ use standard_subschemas::steps::value_below;
 use standard_subschemas::uris::resolve_uri;
 use std::alloc::Global;
 
-/// A reference that is followed, and whether it is a dynamic one.
+/// A reference to look up, and whether it is dynamic.
 #[derive(Clone, Copy)]
 struct Followed<'r> {
     reference: &'r str,
     dynamic: bool,
 }
 
-/// The refusal of a reference that points to nothing.
 fn nothing_there(alloc: Global, reference: &str) -> LookupError
     ensures refused { RefusesWith (nothing_there reference.now) result }
 {
@@ -50,7 +49,7 @@ fn nothing_there(alloc: Global, reference: &str) -> LookupError
     refusal(alloc, text, reference)
 }
 
-/// The refusal of a reference to a resource that is not at hand.
+/// Makes the error for a reference to a resource that is not among the documents.
 fn not_at_hand(alloc: Global, rule: Rule, reference: &str, uri: &str) -> LookupError
     ensures refused { RefusesWith (not_at_hand rule reference.now uri.now) result }
 {
@@ -66,7 +65,9 @@ fn not_at_hand(alloc: Global, rule: Rule, reference: &str, uri: &str) -> LookupE
     }
 }
 
-/// The target at the end of a path below a resource's root. Identifiers on the way are entered, and the draft is taken on each schema.
+/// Follows a path from a resource's root to a target.
+///
+/// Each subschema on the path may enter a resource by its identifier, and may change the draft.
 fn arrived(
     alloc: Global,
     resources: &Resources,
@@ -108,7 +109,6 @@ fn arrived(
     })
 }
 
-/// The target of a pointer below a resource's root.
 fn target_by_pointer(
     alloc: Global,
     documents: &Documents<'_>,
@@ -133,7 +133,6 @@ fn target_by_pointer(
     arrived(alloc, resources, reference, resource, root, &path, state)
 }
 
-/// The target that has a name.
 fn target_named(
     alloc: Global,
     number: usize,
@@ -154,7 +153,7 @@ fn target_named(
     })
 }
 
-/// The target that has a dynamic name in the resource of a number.
+/// Finds a dynamic name in the resource with a number.
 fn dynamic_in(
     alloc: Global,
     resources: &Resources,
@@ -173,7 +172,7 @@ fn dynamic_in(
     }
 }
 
-/// The target that has a dynamic name in the first resource that was entered and has it.
+/// Finds a dynamic name in the first entered resource that has it.
 fn first_dynamic(
     alloc: Global,
     resources: &Resources,
@@ -191,7 +190,9 @@ fn first_dynamic(
     Ok(None)
 }
 
-/// The target of a name in a resource. A dynamic reference to a dynamic name leads to the first resource entered that has the name.
+/// Finds a name in a resource.
+///
+/// A dynamic reference to a dynamic name leads to the first entered resource that has the name.
 fn target_by_name(
     alloc: Global,
     resources: &Resources,
@@ -218,7 +219,6 @@ fn target_by_name(
     Ok(target_named(alloc, number, resource, state, name)?)
 }
 
-/// The target that is a resource's root.
 fn target_root(
     alloc: Global,
     number: usize,
@@ -234,7 +234,9 @@ fn target_root(
     })
 }
 
-/// The target of a fragment in a resource: its root, by a pointer, or by a name.
+/// Follows a fragment in a resource.
+///
+/// It is empty and leads to the root, or it is a pointer or a name.
 fn target_by_fragment(
     alloc: Global,
     documents: &Documents<'_>,
@@ -263,12 +265,14 @@ fn target_by_fragment(
     )
 }
 
-/// Where a reference leads: a place, the state there and its draft.
+/// Returns the target of a reference: its place, the state there, and its draft.
 ///
 /// # Errors
 ///
-/// A refusal, which names the reference, of one that cannot be resolved, that leads to no resource (the standard's rule names the URI), or
-/// in it to nothing; one of a subschema on the way whose identifier no resource at its place has; and `OutOfMemory`.
+/// - Out of memory.
+/// - The reference cannot be resolved, leads to no resource, or leads to nothing in its resource.
+/// The error names the reference, or the URI if the standard's rule finds no resource.
+/// - A subschema on the path has an identifier, but no resource with its URI begins there.
 pub fn looked_up(
     alloc: Global,
     documents: &Documents<'_>,
@@ -295,7 +299,7 @@ pub fn looked_up(
     )
 }
 
-/// The root of the resource of a number, where it is recursive.
+/// Returns the root of the resource with a number, if it is recursive.
 fn recursive_in(
     alloc: Global,
     resources: &Resources,
@@ -312,7 +316,7 @@ fn recursive_in(
     }
 }
 
-/// The root of the first resource that was entered and is recursive.
+/// Returns the root of the first entered resource that is recursive.
 fn first_recursive(
     alloc: Global,
     resources: &Resources,
@@ -329,18 +333,20 @@ fn first_recursive(
     Ok(None)
 }
 
-/// The refusal of a base that no resource has.
 fn no_base(alloc: Global, base: &str) -> LookupError
     ensures refused { RefusesWith (no_base base.now) result }
 {
     refusal(alloc, "this resolver has no resource under the base ", base)
 }
 
-/// Where a `$recursiveRef` leads: to the root of the resource, or, where that is recursive, to the first root entered that is.
+/// Returns the target of a `$recursiveRef`.
+///
+/// It is the root of the resource, or the first entered root that is recursive if the resource's
+/// root is.
 ///
 /// # Errors
 ///
-/// A refusal of a state whose base no resource has, and `OutOfMemory` if memory cannot be allocated.
+/// Out of memory, or no resource has the base of the state.
 pub fn looked_up_recursive(
     alloc: Global,
     resources: &Resources,
@@ -362,9 +368,12 @@ pub fn looked_up_recursive(
     Ok(target_root(alloc, number, resource, state)?)
 }
 
-/// What lies outside the resource of a pointer's target is the pointer's part up to the innermost subschema with an identifier
-/// that the pointer passes into or ends at, counted from the root of the resource that the reference's URI names, if bases lead back to
-/// their resources: by the narrow rule they always do. The function does nothing when it runs.
+/// A law: the part of a pointer outside the resource of its target.
+///
+/// It is the part up to the innermost subschema with an identifier that the pointer enters or ends
+/// at, counted from the root of the resource that the reference's URI names. This requires that
+/// bases lead back to their resources, which they always do by the narrow rule. The function does
+/// nothing.
 pub fn starts_at_the_innermost_resource<K, R>()
     ensures starts { (w : Parts Point K R) → StartsAtInnermost w }
     ensures narrow { NarrowBasesStand }

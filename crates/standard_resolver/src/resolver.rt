@@ -1,4 +1,4 @@
-//! The resolver.
+//! The resolver of documents, and its states.
 ghost use Rattle.std.specs.Prelude.{◌≡◌, IfOk, map, string_bytes};
 ghost use Rattle.schema_drafts.specs.KeywordViews.{draft_of};
 ghost use Rattle.standard_resolver.specs.ResolverAnswers.{document_resolving, HasRoot, FindsRoot};
@@ -28,14 +28,19 @@ use std::alloc::Global;
 use std::marker::Model;
 use std::rc::{Rc, RcStr};
 
-/// Where a run of the resolver is: the base URI of its resource, and the numbers of the resources that it entered. Clones share both.
+/// The state of a run.
+///
+/// It holds the base URI of its resource, and the numbers of the entered resources. Clones share
+/// both.
 #[derive(Clone, PartialEq, Eq, Hash, Drop)]
 pub struct DocumentState {
     pub(crate) base: RcStr,
     pub(crate) entered: Rc<Vec<usize>>,
 }
 
-/// A state apart from its representation; it holds no value.
+/// The type whose contract view is a state, independent of its representation.
+///
+/// It holds no value.
 #[derive(Drop)]
 pub struct StatePoint {}
 
@@ -48,8 +53,11 @@ impl Model for StatePoint {
     ghost view = { λ _. record { base = []; entered = [] } };
 }
 
-/// A resolver of documents. It finds a resource, a document or a subschema with an identifier, by its URI, and in it what a pointer or a
-/// name leads to. By the narrow rule a reference is a fragment or a URI with its scheme; by the standard's it is resolved against the base.
+/// A resolver of documents.
+///
+/// It finds a resource (a document, or a subschema with an identifier) by its URI, and in the
+/// resource the target of a pointer or a name. By the narrow rule a reference is a fragment or a
+/// URI with a scheme; by the standard's it is resolved against the base.
 #[derive(Drop)]
 pub struct DocumentResolver<'a> {
     rule: Rule,
@@ -87,10 +95,11 @@ impl<'a> Model for DocumentResolver<'a> {
 impl<'a> DocumentResolver<'a> {
     /// Makes a resolver of a root document and others, by a rule.
     ///
-    /// Build with the root's URI as the base. By the narrow rule a document is found under the URI that it is supplied under; by the
-    /// standard's also under its root's identifier. Of several documents with one URI the first is found. `draft` is the draft that a
-    /// document, and the path to a target, are read in if no `$schema` says otherwise. The vocabularies are required ones: they are in
-    /// force in every draft, beside the draft's own.
+    /// Build with the root's URI as the base. By the narrow rule a document is found under the URI
+    /// that it is supplied under; by the standard's it is also found under its root's identifier.
+    /// If several documents have the same URI, the first is found. A document, and the path to a
+    /// target, are read in `draft` unless a `$schema` says otherwise. The vocabularies are required
+    /// in every draft, beside the draft's own.
     ///
     /// # Errors
     ///
@@ -128,7 +137,7 @@ impl<'a> DocumentResolver<'a> {
         })
     }
 
-    /// The same resolver with these vocabularies in force in each draft, whatever it required before. Allocates nothing.
+    /// Replaces the vocabularies that are in force in each draft. Allocates nothing.
     pub fn with_draft_vocabularies(self, vocabularies: DraftVocabularies) -> DocumentResolver<'a>
         ensures vocabularies { result ≡ record self.entry { vocabularies = vocabularies } }
     {

@@ -1,4 +1,4 @@
-//! The resources of documents.
+//! The resources in documents.
 ghost use Rattle.std.specs.Prelude.{◌≡◌, ◌∷◌, [], IfOk, flat_map, map, option_map, slice_get, string_bytes};
 ghost use Rattle.serde_json.specs.View.{view};
 ghost use Rattle.schema_drafts.specs.KeywordViews.{draft_of};
@@ -29,7 +29,10 @@ use std::alloc::Global;
 use std::collections::HashMap;
 use std::marker::Model;
 
-/// A resource: its URI, the base inside it, where it begins, the draft there, whether its root has `$recursiveAnchor` true, its names.
+/// A resource: a document, or a subschema with an identifier.
+///
+/// It is recursive if its root has `$recursiveAnchor: true`. `base` is the base inside it, and
+/// `path` leads to its root.
 #[derive(Drop)]
 pub struct Resource {
     pub uri: String,
@@ -42,11 +45,11 @@ pub struct Resource {
 }
 
 impl Resource {
-    /// Where the resource begins.
+    /// Returns the place where the resource begins.
     ///
     /// # Errors
     ///
-    /// Fails only if memory cannot be allocated.
+    /// Out of memory.
     pub fn place(&self) -> Result<SchemaPlace, OutOfMemory>
         ensures place { Shows place_of result (place_of_resource (resource_of self.now)) }
     {
@@ -57,12 +60,14 @@ impl Resource {
     }
 }
 
-/// The resources of documents, by their numbers, and the rule by which they were found. Contracts see the rule and the list.
+/// The resources in documents, by their numbers, and the rule for finding them.
+///
+/// Contracts see the rule and the list.
 #[derive(Drop)]
 pub struct Resources {
     rule: Rule,
     resources: Vec<Resource>,
-    // For each URI the number of its resource.
+    // Maps each URI to the number of its resource.
     numbers: HashMap<String, usize>,
 }
 
@@ -81,35 +86,35 @@ impl Model for Resources {
 }
 
 impl Resources {
-    /// The rule by which they were found.
+    /// Returns the rule by which the resources were found.
     pub fn rule(&self) -> Rule
         ensures rule { result ≡ self.now.rule }
     {
         self.rule
     }
 
-    /// The number of the resource with a URI.
+    /// Returns the number of the resource with a URI.
     pub fn number_of(&self, uri: &str) -> Option<usize>
         ensures number { result ≡ number_of uri.now self.now.resources }
     {
         self.numbers.get(uri).copied()
     }
 
-    /// The resource of a number.
+    /// Returns the resource with a number.
     pub fn get(&self, number: usize) -> Option<&Resource>
         ensures resource { option_map (λ r. resource_of r.now) result ≡ slice_get self.now.resources number }
     {
         self.resources.get(number)
     }
 
-    /// The resource under a URI.
+    /// Returns the resource with a URI.
     pub fn under(&self, uri: &str) -> Option<&Resource>
         ensures resource { option_map (λ r. resource_of r.now) result ≡ resource_under self.now uri.now }
     {
         self.get(self.number_of(uri)?)
     }
 
-    /// The number of the resource with a URI, where it begins at a place.
+    /// Returns the number of the resource with a URI, if it begins at a place.
     pub fn number_at(&self, place: &SchemaPlace, uri: &str) -> Option<usize>
         ensures number { result ≡ number_at self.now (place_of place.now) uri.now }
     {
@@ -123,7 +128,7 @@ impl Resources {
     }
 }
 
-/// Whether `$recursiveAnchor` is true.
+/// Returns whether `$recursiveAnchor` is true.
 fn is_recursive(schema: &Value) -> bool
     ensures recursive { result ≡ is_recursive (view schema.now) }
 {
@@ -133,7 +138,6 @@ fn is_recursive(schema: &Value) -> bool
     }
 }
 
-/// The resource that begins with a schema.
 fn resource_of(
     alloc: Global,
     rule: Rule,
@@ -156,7 +160,7 @@ fn resource_of(
     })
 }
 
-/// Resources and their numbers by their URIs, as they are gathered.
+/// The resources that were gathered so far, and the map from URIs to their numbers.
 #[derive(Drop)]
 pub struct Gathered {
     pub resources: Vec<Resource>,
@@ -184,7 +188,7 @@ fn add_resource(
     Ok(())
 }
 
-/// Adds the resource of a schema, where its identifier gives it a URI.
+/// Adds the resource of a schema, if its identifier yields a URI.
 fn add_identified(
     alloc: Global,
     rule: Rule,
@@ -209,7 +213,7 @@ fn add_identified(
     Ok(())
 }
 
-/// Adds the resource of a document's root under its identifier, by the standard's rule.
+/// Adds a document's root under its identifier, by the standard's rule only.
 fn add_identified_root(
     alloc: Global,
     rule: Rule,
@@ -225,7 +229,7 @@ fn add_identified_root(
     }
 }
 
-/// A document's root, read in a draft.
+/// Returns a document's root as a visited schema.
 fn root_visited<'a>(
     alloc: Global,
     draft: Draft,
@@ -242,7 +246,7 @@ fn root_visited<'a>(
     })
 }
 
-/// Adds the resources of the schemas that the walk of a document has come to.
+/// Adds the resources of the schemas that a walk visited.
 fn add_all_identified(
     alloc: Global,
     rule: Rule,
@@ -258,7 +262,6 @@ fn add_all_identified(
     Ok(())
 }
 
-/// Adds the resources that are embedded in a document.
 fn add_embedded(
     alloc: Global,
     rule: Rule,
@@ -287,7 +290,6 @@ fn add_embedded(
     Ok(())
 }
 
-/// Adds the resource that is a whole document.
 fn add_document(
     alloc: Global,
     rule: Rule,
@@ -308,7 +310,6 @@ fn add_document(
     Ok(())
 }
 
-/// Adds the resources that are whole documents, the root's first.
 fn add_documents(
     alloc: Global,
     rule: Rule,
@@ -327,7 +328,6 @@ fn add_documents(
     Ok(())
 }
 
-/// Adds the resources that are embedded in documents, the root's first.
 fn add_all_embedded(
     alloc: Global,
     rule: Rule,
@@ -346,11 +346,13 @@ fn add_all_embedded(
     Ok(())
 }
 
-/// The resources of documents, by a rule: the documents, each walked once, and what is embedded, each walked once more for its names.
+/// Returns the resources in documents, by a rule.
+///
+/// Each document is walked once for embedded resources, and each resource once more for its names.
 ///
 /// # Errors
 ///
-/// Fails only if memory cannot be allocated.
+/// Out of memory.
 pub fn resources_of(
     alloc: Global,
     rule: Rule,

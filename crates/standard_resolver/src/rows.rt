@@ -1,13 +1,16 @@
-//! Worked rows: where references lead in small documents.
+//! Worked rows: the targets of references in small documents.
 ghost use Rattle.standard_resolver.specs.DocumentRows.{RowsHold};
 ghost use Rattle.standard_resolver.specs.StandardRows.{StandardRowsHold};
 
-/// The worked rows of the narrow rule hold: each names what the definitions say of a small document. It does nothing when it runs.
+/// A law: the worked rows of the narrow rule hold.
+///
+/// Each row states a consequence of the definitions for a small document. The function does
+/// nothing.
 pub fn worked_rows()
     ensures rows { RowsHold }
 {}
 
-/// The worked rows of the standard's rule hold. The function does nothing when it runs.
+/// A law: the worked rows of the standard's rule hold. The function does nothing.
 pub fn standard_rows()
     ensures rows { StandardRowsHold }
 {}

@@ -1,4 +1,4 @@
-//! Where a run of the resolver is.
+//! The states of a run: entering resources.
 ghost use Rattle.std.specs.Prelude.{◌≡◌, nat_eq, option_map, slice_get, string_bytes};
 ghost use Rattle.std.specs.List.{list_any};
 ghost use Rattle.serde_json.specs.View.{view};
@@ -26,7 +26,6 @@ use standard_subschemas::uris::{own_uri, root_base};
 use std::alloc::Global;
 use std::rc::{Rc, RcStr};
 
-/// Whether a number is one of these.
 fn has_number(numbers: &[usize], number: usize) -> bool
     ensures has { result ≡ list_any (nat_eq number) numbers.now }
 {
@@ -38,11 +37,14 @@ fn has_number(numbers: &[usize], number: usize) -> bool
     false
 }
 
-/// The state in a resource: one that was not entered before is added at the end. Where nothing changes, the state is shared.
+/// Returns the state after a resource is entered.
+///
+/// A resource that was not entered before is added at the end. If nothing changes, the state is
+/// shared.
 ///
 /// # Errors
 ///
-/// Fails only if memory cannot be allocated.
+/// Out of memory.
 pub fn enter(
     alloc: Global,
     state: &DocumentState,
@@ -63,7 +65,6 @@ pub fn enter(
     Ok(DocumentState { base, entered })
 }
 
-/// The refusal of an identifier that no resource at its place has.
 fn no_identified(alloc: Global, id: &str) -> LookupError
     ensures refused { RefusesWith (no_identified id.now) result }
 {
@@ -71,7 +72,9 @@ fn no_identified(alloc: Global, id: &str) -> LookupError
     refusal(alloc, text, id)
 }
 
-/// The state in the resource with a URI, where it begins at a place with this identifier.
+/// Enters the resource with a URI, if it begins at a place.
+///
+/// `id` is the identifier of the schema there.
 fn entered_by(
     alloc: Global,
     resources: &Resources,
@@ -92,11 +95,12 @@ fn entered_by(
     }
 }
 
-/// The state inside a schema below a document's root.
+/// Returns the state inside a schema below a document's root.
 ///
 /// # Errors
 ///
-/// A refusal of an identifier that no resource at this place has, and `OutOfMemory` if memory cannot be allocated.
+/// Out of memory, or the schema has an identifier, but no resource with its URI begins at the
+/// place.
 pub fn entered_below(
     alloc: Global,
     resources: &Resources,
@@ -117,7 +121,7 @@ pub fn entered_below(
     }
 }
 
-/// The base inside the document of a number, whose root is this schema; none where there is no such document.
+/// Returns the base inside the document with a number, whose root is `schema`.
 fn uri_of_document(
     alloc: Global,
     rule: Rule,
@@ -135,7 +139,6 @@ fn uri_of_document(
     }
 }
 
-/// The state inside a document's root.
 fn entered_root(
     alloc: Global,
     documents: &Documents<'_>,
@@ -158,11 +161,12 @@ fn entered_root(
     }
 }
 
-/// The state inside what stands at a place.
+/// Returns the state inside the value at a place.
 ///
 /// # Errors
 ///
-/// A refusal of an identifier that no resource at this place has, and `OutOfMemory` if memory cannot be allocated.
+/// Out of memory, or the schema has an identifier, but no resource with its URI begins at the
+/// place.
 pub fn entered(
     alloc: Global,
     documents: &Documents<'_>,

@@ -1,4 +1,4 @@
-//! The vocabularies of drafts.
+//! The vocabularies in force in each draft.
 ghost use Rattle.std.specs.Prelude.{IfOk};
 ghost use Rattle.schema_drafts.specs.KeywordViews.{draft_of};
 ghost use Rattle.standard_resolver.specs.ResolverDocuments.{vocabularies_in, HasCustom, HasDrafts};
@@ -7,7 +7,7 @@ ghost use Rattle.schema_traits.specs.Showing.{Yields};
 use schema_drafts::keywords::{Draft, Vocabulary, VocabularySet};
 use schema_reports::location::OutOfMemory;
 
-/// The vocabularies of drafts before 2019-09, of 2019-09, and of later ones.
+/// The vocabularies of the drafts before 2019-09, of 2019-09, and of later drafts.
 #[derive(Drop)]
 pub struct DraftVocabularies {
     pub early: VocabularySet,
@@ -16,11 +16,11 @@ pub struct DraftVocabularies {
 }
 
 impl DraftVocabularies {
-    /// Returns the vocabularies that each draft has of its own, and in every draft the required ones.
+    /// Returns each draft's own vocabularies together with the required ones.
     ///
     /// # Errors
     ///
-    /// Fails only if memory cannot be allocated.
+    /// Out of memory.
     pub fn with_required(required: VocabularySet) -> Result<DraftVocabularies, OutOfMemory>
         ensures drafts { IfOk result (HasDrafts required) }
         ensures custom { IfOk result (HasCustom required) }
@@ -43,11 +43,11 @@ impl DraftVocabularies {
         })
     }
 
-    /// Returns the vocabularies in a draft.
+    /// Returns the vocabularies in force in a draft.
     ///
     /// # Errors
     ///
-    /// Fails only if memory cannot be allocated.
+    /// Out of memory.
     pub fn in_draft(&self, draft: Draft) -> Result<VocabularySet, OutOfMemory>
         ensures vocabularies { Yields result (vocabularies_in (draft_of draft) self.now) }
     {

@@ -1,4 +1,4 @@
-//! The walk of a document, from schemas to their subschemas.
+//! The walk through a document, from schemas to their subschemas.
 ghost use Rattle.std.specs.Prelude.{◌≡◌, ◌<◌, ℕ, IfOk, map};
 ghost use Rattle.std.specs.List.{filter};
 ghost use Rattle.serde_json.specs.Data.{depth};
@@ -22,7 +22,7 @@ use standard_subschemas::subschemas::{FoundSchema, subschemas_found};
 use standard_subschemas::uris::{or_base, uri_of};
 use std::alloc::Global;
 
-/// A schema that the walk comes to: its path, the base around it, the draft that it is read in, and itself.
+/// A schema that the walk visits, with its path, the base around it, and its draft.
 #[derive(Drop)]
 pub struct Visited<'a> {
     pub path: SchemaPath,
@@ -31,14 +31,18 @@ pub struct Visited<'a> {
     pub schema: &'a Value,
 }
 
-/// Whether the walk goes into a schema: into all, or into those without an identifier alone.
+/// Returns whether the walk goes into a schema.
+///
+/// It goes into all schemas, or only into those without an identifier.
 fn goes_into(everywhere: bool, draft: Draft, schema: &Value) -> bool
     ensures goes { result ≡ goes_into everywhere (draft_of draft) (view schema.now) }
 {
     everywhere || identifier(draft, schema).is_none()
 }
 
-/// Whether a schema has what the walk looks for: an identifier, if it goes into all schemas, and else a name.
+/// Returns whether a schema has what the walk looks for.
+///
+/// That is an identifier if the walk goes into all schemas, and a name otherwise.
 fn speaks(rule: Rule, everywhere: bool, draft: Draft, schema: &Value) -> bool
     ensures speaks { result ≡ speaks rule everywhere (draft_of draft) (view schema.now) }
 {
@@ -49,14 +53,14 @@ fn speaks(rule: Rule, everywhere: bool, draft: Draft, schema: &Value) -> bool
     }
 }
 
-/// What a walk looks for, and by which rule: identifiers, if it goes into all schemas, and else names.
+/// The aim of a walk: identifiers if it goes into all schemas, and names otherwise.
 #[derive(Clone, Copy)]
 struct Aim {
     rule: Rule,
     everywhere: bool,
 }
 
-/// The path from a document's root over a schema's path and then from subschema to subschema.
+/// Returns the path of a schema, continued from subschema to subschema.
 fn path_over(
     alloc: Global,
     path: &SchemaPath,
@@ -71,7 +75,7 @@ fn path_over(
     Ok(over)
 }
 
-/// Adds a schema that the walk has come to, where it has what the walk looks for.
+/// Adds the visited schema, if it has what the walk looks for.
 fn keep<'a>(
     alloc: Global,
     aim: Aim,
@@ -97,7 +101,9 @@ fn keep<'a>(
     Ok(())
 }
 
-/// Adds the schemas below a schema that have what the walk looks for. It lies at a path and then on the way; the base is that inside it.
+/// Adds the schemas below a schema that have what the walk looks for.
+///
+/// The schema is at the path, continued along `way`, and `base` is the base inside it.
 fn visit_below<'a>(
     alloc: Global,
     aim: Aim,
@@ -134,12 +140,14 @@ fn visit_below<'a>(
     Ok(())
 }
 
-/// What a walk finds below a schema, in its order: the schemas that have an identifier, if it goes everywhere, and else those that
-/// have a name, where it goes into no schema with an identifier. The base is the one inside the schema.
+/// Returns the schemas below a schema that have an identifier or a name.
+///
+/// If the walk goes everywhere, it looks for identifiers. Otherwise it looks for names, and does
+/// not go into schemas with an identifier. `base` is the base inside the schema.
 ///
 /// # Errors
 ///
-/// Fails only if memory cannot be allocated.
+/// Out of memory.
 pub fn walked<'a>(
     alloc: Global,
     rule: Rule,

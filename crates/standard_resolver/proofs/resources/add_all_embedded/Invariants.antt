@@ -5,6 +5,6 @@ use Rattle.standard_resolver.specs.ResourcesGathered.{Adds}
 use Rattle.standard_resolver.specs.DocumentViews.{held}
 use Rattle.standard_resolver.proofs.resources.add_all_embedded.Given as goal
 
--- those of the documents so far, the root's first
+-- the resources of the documents so far, the root first
 abbrev pub invariant-loop-i : goal.invariant-loop-i
 invariant-loop-i l = Adds (embedded_resources l.rule (draft_of l.draft) 0 (take (suc l.i) (held l.documents))) l.fn.gathered l.gathered
