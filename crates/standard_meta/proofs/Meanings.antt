@@ -1,4 +1,4 @@
--- What is built of a meta-schema, by the parts and the options that each of them is built with.
+-- The validator of a meta-schema, by the parts and options of its build.
 use Rattle.std.proofs.Common.{Err, IfOk, List, Ok, Result, Some, ap, subst, sym, ℕ, ◌∙◌, ◌≡◌}
 use Rattle.std.specs.Prelude.{Contains, slice_get}
 use Rattle.std.proofs.lemmas.Option.{get_or_from_slice_get, slice_get_within}
@@ -22,11 +22,11 @@ use Rattle.standard_meta.specs.DraftMeanings.{IsCompiledOf, MeansDraft, handed_b
 module _ {State S C Maker Run K : Type 0} (resolvers : ResolverMembers HeldDocuments State S) (tables : TableMembers StandardTable C Maker Run K)
     (keywords : KeywordMembers C Run K) (r : HeldDocuments) (m : Kept) (table : StandardTable) (options : Options) (schema : Data)
   where
-    -- what is handed in with a table
+    -- the parts of a build with a table
     abbrev parts : StandardTable → Handed S K (Run × Answer) C Kept
     parts t = handed resolvers tables keywords regexes r t m
 
-    -- the table refuses what cannot be read
+    -- the table refuses unreadable patterns
     same_parts : table.unreadable ≡ unreadable.Refused → parts table ≡ handed_by resolvers tables keywords r m
     same_parts refuses = ap (λ u. parts (record { unreadable = u })) refuses
 
@@ -41,7 +41,7 @@ module _ {State S C Maker Run K : Type 0} (resolvers : ResolverMembers HeldDocum
     }
     compiled_by (Err e) refuses off means program = tt
 
--- the document at a place is among the documents
+-- the document with an index is among the documents
 among_documents : (documents : List GivenDocument) (k : ℕ) (d : GivenDocument) → slice_get documents k ≡ Some d → Contains documents d
 among_documents documents k d at = (k, slice_get_within documents k d at, get_or_from_slice_get documents k d d at)
 

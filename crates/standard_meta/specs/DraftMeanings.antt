@@ -1,5 +1,5 @@
--- What the check of a draft means: it is a validator of a document of the meta-schemas, the one under the URI of the draft's
--- meta-schema, and means this document plainly. (Core 2020-12, 8.1)
+-- The meaning of the check of a draft: it is a validator of the document under the URI of the
+-- draft's meta-schema, and it means this document plainly. (Core 2020-12, 8.1)
 use Rattle.std.specs.Prelude.{Contains, List, false, ◌≡◌}
 use Rattle.serde_json.specs.Data.{Data}
 use Rattle.serde_json.specs.View.{view}
@@ -18,27 +18,30 @@ use Rattle.standard_keywords.specs.declared.patterns.UnreadablePatterns.TheVaria
 use Rattle.standard_keywords.specs.declared.table.StandardTable.{StandardTable}
 use Rattle.meta_schemas.specs.MetaUris.{uri_of}
 
--- what matchers of regular expressions stand for
+-- the meaning of matchers of regular expressions
 abbrev pub regexes : MatcherMembers Kept
 regexes = record { matching = λ m. regex_matcher m.unreadable; finishing = λ m. finishes_each m.unreadable }
 
--- what is handed in beside the options: a resolver, the table that refuses patterns that cannot be read, and a matcher
+-- the parts of a build other than the options: a resolver, the table that refuses unreadable
+-- patterns, and a matcher
 abbrev pub handed_by : {State S C Maker Run K : Type 0} → ResolverMembers HeldDocuments State S → TableMembers StandardTable C Maker Run K → KeywordMembers C Run K
     → HeldDocuments → Kept → Handed S K (Run × Answer) C Kept
 handed_by resolvers tables keywords resolver matcher = handed resolvers tables keywords regexes resolver (record { unreadable = unreadable.Refused }) matcher
 
--- a meta-schema is not checked by another
+-- the options of a build of a meta-schema, which is not itself checked
 abbrev pub unchecked : Options
 unchecked = record default_options { checks = false }
 
 module _ {State S C Maker Run K : Type 0} (resolvers : ResolverMembers HeldDocuments State S) (tables : TableMembers StandardTable C Maker Run K)
     (keywords : KeywordMembers C Run K) where
-  -- a validator that was compiled from a schema, by a resolver and a matcher, and means the schema plainly
+  -- the validator was compiled from a schema, by a resolver and a matcher, and means the schema
+  -- plainly
   pub record IsCompiledOf (resolver : HeldDocuments) (matcher : Kept) (schema : Data) (p : Program C Kept) : Type 0 where
     pub means : MeansPlainly (handed_by resolvers tables keywords resolver matcher) unchecked schema p
     pub program : IsCompiledFrom (handed_by resolvers tables keywords resolver matcher) unchecked schema unchecked.nested p
 
-  -- that of the document under the URI of a draft's meta-schema
+  -- the validator was compiled from the document under the URI of a draft's meta-schema, and means
+  -- it plainly
   pub record MeansDraft (documents : List GivenDocument) (draft : Draft) (p : Program C Kept) : Type 0 where
     pub resolver : HeldDocuments
     pub matcher : Kept

@@ -1,5 +1,5 @@
--- The meta-schemas as documents, each under its URI: those of the drafts, the oldest first, and then those of the vocabularies.
--- (Core 2020-12, 8.1.1 and 8.1.2)
+-- The meta-schemas as documents, each under its URI: those of the drafts, oldest first, then those
+-- of the vocabularies. (Core 2020-12, 8.1.1 and 8.1.2)
 use Rattle.std.specs.Prelude.{List, [], map, ℕ, ◌++◌, ◌∷◌}
 use Rattle.theory_definitions.specs.Drafts.{Draft, draft_2019_09, draft_2020_12, draft_4, draft_6, draft_7, draft_unknown}
 use Rattle.theory_definitions.specs.Instance.{Text}
@@ -17,14 +17,14 @@ given_of d = record { uri = d.uri.now; value = d.value }
 abbrev pub uris_of : List GivenDocument → List Text
 uris_of ds = map (λ (d : GivenDocument). d.uri) ds
 
--- the URIs of the drafts' meta-schemas, the oldest first
+-- the URIs of the drafts' meta-schemas, oldest first
 abbrev pub draft_uris : List Text
 draft_uris = uri_of draft_4 ∷ uri_of draft_6 ∷ uri_of draft_7 ∷ uri_of draft_2019_09 ∷ uri_of draft_2020_12 ∷ []
 
 abbrev pub meta_uris : List Text
 meta_uris = draft_uris ++ vocabulary_uris
 
--- the place of a draft's meta-schema; that of 2020-12 where the draft is not known
+-- the index of a draft's meta-schema; an unknown draft has that of 2020-12
 abbrev pub place_of : Draft → ℕ
 place_of draft_4 = 0
 place_of draft_6 = 1

@@ -14,14 +14,14 @@ use serde_json::Value;
 use std::alloc::Global;
 use std::marker::Model;
 
-/// A meta-schema, read, and the URI that it is found under.
+/// A meta-schema that was read, and its URI.
 #[derive(Drop)]
 pub struct MetaDocument {
     pub uri: &'static str,
     pub value: Value,
 }
 
-/// The meta-schemas of the drafts and of the vocabularies, and their patterns, each compiled once.
+/// The meta-schemas of drafts and vocabularies, and their compiled patterns.
 #[derive(Drop)]
 pub struct MetaDocuments {
     documents: Vec<MetaDocument>,
@@ -43,7 +43,6 @@ impl Model for MetaDocuments {
     ghost invariant = { λ m. uris_of (map given_of m.documents.items) ≡ meta_uris };
 }
 
-/// Reads a meta-schema.
 fn read(alloc: Global, schema: MetaSchema) -> Result<MetaDocument, MetaError>
     ensures uri { IfOk result (λ d. d.uri.now ≡ schema.uri.now) }
     ensures value { IfOk result (λ d. read_text schema.text.now ≡ Some (view d.value)) }
@@ -54,7 +53,6 @@ fn read(alloc: Global, schema: MetaSchema) -> Result<MetaDocument, MetaError>
     })
 }
 
-/// Adds the meta-schemas of the drafts, the oldest first.
 fn add_drafts(alloc: Global, documents: &mut Vec<MetaDocument>) -> Result<(), MetaError>
     ensures added { IfOk result (λ _. uris_of (map given_of documents.new.items)
         ≡ uris_of (map given_of documents.old.items) ++ draft_uris) }
@@ -71,7 +69,6 @@ fn add_drafts(alloc: Global, documents: &mut Vec<MetaDocument>) -> Result<(), Me
     Ok(())
 }
 
-/// Adds the meta-schemas of the vocabularies.
 fn add_vocabularies(alloc: Global, documents: &mut Vec<MetaDocument>) -> Result<(), MetaError>
     ensures added { IfOk result (λ _. uris_of (map given_of documents.new.items)
         ≡ uris_of (map given_of documents.old.items) ++ vocabulary_uris) }
@@ -82,7 +79,6 @@ fn add_vocabularies(alloc: Global, documents: &mut Vec<MetaDocument>) -> Result<
     Ok(())
 }
 
-/// Reads all meta-schemas: those of the drafts, the oldest first, and then those of the vocabularies.
 fn read_all(alloc: Global) -> Result<Vec<MetaDocument>, MetaError>
     ensures uris { IfOk result (λ ds. uris_of (map given_of ds.items) ≡ draft_uris ++ vocabulary_uris) }
 {
@@ -92,7 +88,6 @@ fn read_all(alloc: Global) -> Result<Vec<MetaDocument>, MetaError>
     Ok(documents)
 }
 
-/// The patterns of documents.
 fn patterns_of(alloc: Global, documents: &[MetaDocument]) -> Result<Patterns, MetaError> {
     let mut values = Vec::new(alloc);
     for document in documents {
@@ -106,7 +101,8 @@ impl MetaDocuments {
     ///
     /// # Errors
     ///
-    /// Fails out of memory. That one is not JSON, or a pattern too big, does not come up.
+    /// Out of memory. The other errors do not occur: each meta-schema is JSON, and no pattern is
+    /// too big.
     pub fn new(alloc: Global) -> Result<MetaDocuments, MetaError> {
         let documents = read_all(alloc)?;
         let patterns = patterns_of(alloc, documents.as_slice())?;
@@ -116,21 +112,21 @@ impl MetaDocuments {
         })
     }
 
-    /// Returns the documents: the meta-schemas of the drafts, the oldest first, and then those of the vocabularies.
+    /// Returns the meta-schemas of the drafts, oldest first, then of the vocabularies.
     pub fn documents(&self) -> &[MetaDocument]
         ensures documents { map given_of result.now ≡ self.now.documents }
     {
         self.documents.as_slice()
     }
 
-    /// Returns their patterns.
+    /// Returns the patterns of the meta-schemas.
     pub fn patterns(&self) -> &Patterns
         ensures patterns { result.now ≡ self.now.patterns }
     {
         &self.patterns
     }
 
-    /// Returns the meta-schema of a draft; that of 2020-12 where the draft is not known.
+    /// Returns the meta-schema of a draft. An unknown draft has that of 2020-12.
     pub fn of_draft(&self, draft: Draft) -> &MetaDocument
         ensures document { slice_get self.now.documents (place_of (draft_of draft)) ≡ Some (given_of result.now) }
         ensures uri { result.now.uri.now ≡ uri_of (draft_of draft) }

@@ -1,4 +1,4 @@
-//! Why no meta validators are made.
+//! The error of making the meta validators.
 ghost use Rattle.std.specs.Prelude.{◌≡◌};
 
 use regex_matcher::error::PatternError;
@@ -7,18 +7,20 @@ use std::alloc::{AllocError, AllocFailed};
 use std::error::Error;
 use std::fmt;
 
-/// Why no meta validators are made.
+/// The reason why no meta validators could be made.
 #[derive(Debug, Drop)]
 pub enum MetaError {
     /// A document is not JSON.
     Unread(serde_json::Error),
-    /// A pattern of a document can be read, and is too big to compile.
+    /// A pattern of a document is readable but too big to compile.
     Pattern(PatternError),
     /// A meta-schema is refused.
     Refused(BuildError),
-    /// A keyword of the meta-schema of this URI shows a fraction, or the matcher leaves a match unfinished.
+    /// The meta-schema under this URI cannot check schemas.
+    ///
+    /// One of its keywords shows a fraction, or the matcher leaves a match unfinished.
     Unfit(&'static str),
-    /// Memory cannot be allocated.
+    /// Memory could not be allocated.
     OutOfMemory,
 }
 

@@ -1,5 +1,6 @@
-//! The check of schemas by the meta-schema of their draft, which this engine has compiled: `StandardMeta`, the last of the parts that a
-//! build is handed.
+//! Checks schemas by the meta-schema of their draft, compiled by this engine.
+//!
+//! `StandardMeta` is the last of the parts that a build requires.
 #![tactic(auto)]
 
 pub mod documents;

@@ -29,7 +29,7 @@ use std::alloc::Global;
 
 type StandardChecker<'p> = Checker<StandardKeyword, RegexMatcher<'p>>;
 
-/// The documents beside one, each with its URI.
+/// Returns all documents except the one with a URI.
 fn others<'d>(
     alloc: Global,
     documents: &'d MetaDocuments,
@@ -47,7 +47,7 @@ fn others<'d>(
     Ok(others)
 }
 
-/// The resolver of the meta-schemas, a draft's first.
+/// Makes the resolver of the meta-schemas, with a draft's meta-schema as the root.
 fn resolver_of<'p>(
     alloc: Global,
     documents: &'p MetaDocuments,
@@ -66,7 +66,7 @@ fn resolver_of<'p>(
     DocumentResolver::new(alloc, Rule::Narrow, draft, first, others, vocabularies)
 }
 
-/// Compiles the meta-schema of a draft. What it says of matches is what the matcher says.
+/// Compiles the meta-schema of a draft.
 fn validator_of<'p>(
     alloc: Global,
     root: &'p MetaDocument,
@@ -83,7 +83,6 @@ fn validator_of<'p>(
     options.build(alloc, &root.value, &table, resolver, matcher, &BenchMeta {})
 }
 
-/// The check by the meta-schema of a draft.
 fn checker_of<'p>(
     alloc: Global,
     documents: &'p MetaDocuments,
@@ -106,7 +105,7 @@ fn checker_of<'p>(
     }
 }
 
-/// What makes the check by each meta-schema.
+/// Makes the checker of each draft.
 #[derive(Drop)]
 struct MetaMaker<'p> {
     documents: &'p MetaDocuments,
@@ -123,10 +122,12 @@ impl<'p> CheckerMaker<StandardKeyword, RegexMatcher<'p>> for MetaMaker<'p> {
     }
 }
 
-/// The check of schemas by the meta-schema of their draft, each compiled once. A draft that is not known has that of 2020-12.
+/// The check of schemas by the meta-schema of their draft.
+///
+/// Each meta-schema is compiled once. An unknown draft has that of 2020-12.
 #[derive(Drop)]
 pub struct StandardMeta<'p> {
-    /// A checker for each draft.
+    /// The checker of each draft.
     pub checkers: DraftCheckers<StandardKeyword, RegexMatcher<'p>>,
 }
 
@@ -135,7 +136,7 @@ impl<'p> StandardMeta<'p> {
     ///
     /// # Errors
     ///
-    /// Fails out of memory. That a meta-schema is refused or unfit does not come up.
+    /// Out of memory. The other errors do not occur: no meta-schema is refused or unfit.
     pub fn new(alloc: Global, documents: &'p MetaDocuments) -> Result<StandardMeta<'p>, MetaError>
         ensures each { IfOk result (λ m. EachChecks (MeansDraft
             ⟦<DocumentResolver<'p> as Resolver>⟧ ⟦<StandardTable as KeywordTable<StandardKeyword>>⟧ ⟦<StandardKeyword as Validate>⟧

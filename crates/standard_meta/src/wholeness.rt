@@ -1,4 +1,4 @@
-//! Whether a keyword of the standard shows a fraction of its schema.
+//! Keywords of the standard that show a fraction of their schema in an error.
 ghost use Rattle.std.specs.Prelude.{◌≡◌};
 ghost use Rattle.standard_basics.specs.BasicShape.{is_whole};
 ghost use Rattle.standard_basics.specs.Shapes.{shape_of};
@@ -12,11 +12,10 @@ use standard_assertions::assertion::Assertion;
 use standard_basics::keyword::BasicKeyword;
 use standard_keywords::table::{Applied, StandardKeyword};
 
-/// Tells of a keyword of the standard whether it shows a fraction of its schema.
+/// Decides whether a keyword of the standard shows a fraction of its schema.
 #[derive(Drop)]
 pub struct StandardFractions {}
 
-/// Whether an assertion shows none.
 fn assertion_shows_none(assertion: &Assertion) -> bool
     ensures whole { result ≡ shows_no_fraction assertion.now }
 {
@@ -34,7 +33,6 @@ fn assertion_shows_none(assertion: &Assertion) -> bool
     }
 }
 
-/// Whether a keyword of the bench shows none.
 fn basic_shows_none(keyword: &BasicKeyword) -> bool
     ensures whole { result ≡ is_whole (shape_of keyword.now) }
 {
@@ -44,7 +42,6 @@ fn basic_shows_none(keyword: &BasicKeyword) -> bool
     }
 }
 
-/// Whether a keyword that is no assertion shows none.
 fn applied_shows_none(keyword: &Applied) -> bool
     ensures whole { result ≡ ⟦<Applied as Validate>⟧.is_whole (⟦<Applied as Validate>⟧.shape keyword.now) }
 {
