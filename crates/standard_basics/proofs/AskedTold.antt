@@ -1,4 +1,4 @@
--- What is told at once that a keyword asks says whether it holds.
+-- The result of the questions that a keyword asks up front says whether the keyword holds.
 use Rattle.std.proofs.Common.{◌≡◌, ◌∙◌, ◌&&◌, ◌+◌, ◌-◌, ◌||◌, ◌∷◌, [], Bool, List, ap, arith, false, length, map, min, not, refl, string_bytes, true, ℕ}
 use Rattle.std.proofs.lemmas.List.Folds.{list_all-map}
 use Rattle.std.specs.List.{list_all, list_any}
@@ -27,7 +27,7 @@ use Rattle.standard_basics.specs.Words.{way}
 min_one : (n : ℕ) → min 1 (n + 1) ≡ 1
 min_one n = omega arith
 
--- nothing is told where one accepts
+-- Nothing is reported if one of the questions is accepted.
 any_told : (text : Text) (accepts : Question → Bool) (qs : List Question) → is_nil (if_none text (min 1 (yes_count accepts qs))) ≡ list_any accepts qs
 any_told text accepts [] = refl
 any_told text accepts (q ∷ qs) = by (accepts q) (any_told text accepts qs)

@@ -1,4 +1,4 @@
--- `required` tells: its run for the verdict asks nothing, and says whether no name is missing.
+-- A run of `required` for the verdict asks nothing, and says whether no name is missing.
 use Rattle.std.proofs.Common.{Bool, List, [], ap, codes, false, map, not, refl, true, ◌||◌, ◌∙◌, ◌≡◌, ◌∷◌}
 use Rattle.std.specs.List.{list_any}
 use Rattle.theory_definitions.specs.Instance.{Subject, Text}
@@ -21,7 +21,7 @@ module _ {X : Type 0} (text_of : X → Text) (texts : Bool) (s : Subject) where
   none_first k ks true e later = ap (λ l. is_nil (told_texts l)) (missing_first (text_of k) (map text_of ks) s e)
   none_first k ks false e later = ap (λ l. is_nil (told_texts l)) (missing_later (text_of k) (map text_of ks) s e) ∙ later
 
-  -- nothing is told where none is missing
+  -- Nothing is reported if no name is missing.
   none_missing : (ks : List X) → is_nil (told_texts (missing (map text_of ks) s)) ≡ not (list_any (lacks_it text_of s) ks)
   none_missing [] = refl
   none_missing (k ∷ ks) = none_first k ks (lacks_it text_of s k) refl (none_missing ks)

@@ -1,4 +1,5 @@
--- A name that is missing is told of before the others; a verdict needs to know no more than whether one is missing.
+-- A missing name is reported before those after it. For a verdict it is enough to know whether one
+-- is missing.
 use Rattle.std.proofs.Common.{◌≡◌, ◌∙◌, ◌∷◌, ◌&&◌, ◌||◌, [], List, Bool, true, false, ap, codes, map, not, refl, sym}
 use Rattle.std.specs.List.{list_any}
 use Rattle.theory_definitions.specs.Instance.{Subject, Text}
@@ -54,7 +55,7 @@ module _ {X : Type 0} (text_of : X → Text) (texts : Bool) (s : Subject) (a : A
       ∙ refused_each (codes "required") a (map (λ k. spoken texts (required_text k)) (missing (map text_of ks) s))
   lacks_first k ks false e later h = ap told_of (missing_later (text_of k) (map text_of ks) s e) ∙ later h
 
-  -- where one is missing, the verdict is no
+  -- If a name is missing, then the verdict is no.
   pub lacks_some : (ks : List X) → list_any is_lacking ks ≡ true → told_of (missing (map text_of ks) s) ≡ refused a
   lacks_some [] h = cc
   lacks_some (k ∷ ks) h = lacks_first k ks (is_lacking k) refl (lacks_some ks) h
@@ -64,7 +65,7 @@ module _ {X : Type 0} (text_of : X → Text) (texts : Bool) (s : Subject) (a : A
   has_first k ks true e later h = cc
   has_first k ks false e later h = ap told_of (missing_later (text_of k) (map text_of ks) s e) ∙ later h
 
-  -- where none is, the answer stays
+  -- If none is missing, then the answer does not change.
   pub lacks_none : (ks : List X) → list_any is_lacking ks ≡ false → told_of (missing (map text_of ks) s) ≡ a
   lacks_none [] h = refl
   lacks_none (k ∷ ks) h = has_first k ks (is_lacking k) refl (lacks_none ks) h

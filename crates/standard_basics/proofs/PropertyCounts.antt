@@ -1,4 +1,4 @@
--- How many members an object has.
+-- The number of members of an object.
 use Rattle.std.proofs.Common.{suc, ◌≡◌, ◌∙◌, List, [], ◌∷◌, length, ap, refl, add-one}
 use Rattle.serde_json.specs.View.{members_view}
 use Rattle.serde_json.proofs.Views.{Entry}

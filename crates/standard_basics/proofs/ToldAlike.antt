@@ -1,4 +1,4 @@
--- Where the items of one list are told of those of another, place by place, what is told is one list.
+-- If the items of two lists are reported alike, index by index, then the two reports are equal.
 use Rattle.std.proofs.Common.{◌≡◌, List, [], ◌∷◌, map, refl, ap, ◌∙◌}
 use Rattle.std.specs.List.{AllZip}
 

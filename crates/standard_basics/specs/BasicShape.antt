@@ -1,4 +1,4 @@
--- What is known of a keyword apart from its representation.
+-- A keyword's shape: what is known of it apart from its representation.
 use Rattle.std.specs.Prelude.{Bool, List, true, ℕ}
 use Rattle.theory_definitions.specs.Instance.{Text}
 use Rattle.schema_applicators.specs.ApplicatorShape.{ApplicatorShape}
@@ -11,7 +11,7 @@ pub data BasicShape : Type 0 where
   has_type : TypeName → BasicShape
   has_types : List TypeName → BasicShape
   requires : List Text → BasicShape
-  -- the names of the schemas
+  -- `properties`, with the names that have a schema
   has_properties : List Text → BasicShape
   -- a keyword that counts, with its limit
   has_count : CountKind → ℕ → BasicShape
@@ -19,18 +19,18 @@ pub data BasicShape : Type 0 where
   has_pattern : Text → BasicShape
   -- `allOf`, `anyOf`, `oneOf`, `not`, `if`
   applies : ApplicatorShape → BasicShape
-  -- how many schemas there are
+  -- the number of schemas
   has_prefix_items : ℕ → BasicShape
-  -- how many items come before
+  -- the number of items that come before those that it evaluates
   has_items : ℕ → BasicShape
   has_property_names : BasicShape
 
--- whether no text of it holds a fraction of the schema
+-- whether none of its texts shows a fraction that the schema contains
 abbrev pub is_whole : BasicShape → Bool
 is_whole (applies a) = applicators.is_whole a
 is_whole _ = true
 
--- whether it says of itself that it is monotone
+-- whether the keyword declares itself monotone
 abbrev pub says_monotone : BasicShape → Bool
 says_monotone (applies a) = applicators.says_monotone a
 says_monotone _ = true

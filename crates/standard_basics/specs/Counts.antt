@@ -1,4 +1,5 @@
--- Keywords that count: characters of texts, and members of objects. (Validation 2020-12, 6.3.1, 6.3.2 and 6.5.2)
+-- Keywords that count the characters of a text or the members of an object. (Validation 2020-12,
+-- 6.3.1, 6.3.2 and 6.5.2)
 use Rattle.std.specs.Prelude.{Bool, None, Option, Some, codes, decimal, if◌then◌else◌, length, nat_le, option_map, true, ℕ, ◌++◌, ◌+◌, ◌==◌}
 use Rattle.std.specs.Str.{chars}
 use Rattle.serde_json.specs.Data.{Members, member, no_members}
@@ -13,7 +14,7 @@ count_name MinLength = codes "minLength"
 count_name MaxLength = codes "maxLength"
 count_name MinProperties = codes "minProperties"
 
--- the text of a text or of a name
+-- the text, if the subject is a text or a name
 abbrev pub subject_string : Subject → Option Text
 subject_string (a_value d) = as_str d
 subject_string (a_name k) = Some k
@@ -26,7 +27,7 @@ abbrev pub member_count : Members → ℕ
 member_count no_members = 0
 member_count (member k d ms) = member_count ms + 1
 
--- what is counted, where there is anything to count
+-- the count, if the keyword applies to the subject
 abbrev pub count_of : CountKind → Subject → Option ℕ
 count_of MinLength s = option_map (λ t. length (chars t)) (subject_string s)
 count_of MaxLength s = option_map (λ t. length (chars t)) (subject_string s)

@@ -1,4 +1,5 @@
--- Which keywords say that they are monotone: all but `oneOf`, `not` and `if`. Each hands on the units that its questions answer.
+-- All keywords but `oneOf`, `not` and `if` declare themselves monotone. Each passes on the units
+-- that its children return.
 use Rattle.std.proofs.Common.{◌≡◌, Bool, None, Option, Some, refl, true}
 use Rattle.theory_definitions.specs.Instance.{Subject, Text}
 use Rattle.theory_meaning.specs.Greatest.{IsMonotone}

@@ -1,4 +1,4 @@
--- The keywords keep the laws.
+-- The basic keywords keep the laws that every keyword must keep.
 use Rattle.std.proofs.Common.{◌≡◌, ◌∙◌, ◌<◌, ◌∷◌, ℕ, zero, List, [], Bool, true, false, Option, Some, None, refl, sym, ap, subst, arith, min, ◌+◌, ◌-◌, is_some, map}
 use Rattle.std.specs.Prelude.{All, Contains, bytes_eq, if◌then◌else◌}
 use Rattle.std.proofs.lemmas.List.{length-map}
@@ -27,7 +27,7 @@ use Rattle.standard_basics.specs.BasicShape.{BasicShape, applies, has_count, has
 use Rattle.standard_basics.specs.Counts.{subject_string}
 use Rattle.standard_basics.specs.Words.{any_run, ends_in, fits_in, has_name, held_way, is_named, name_asked, names_held, pattern_way, run_way, seen, turns_left, way, words}
 
--- they absorb no other keyword
+-- The basic keywords absorb no other keyword.
 abbrev pub none_absorbed : BasicShape → List Text
 none_absorbed m = []
 
@@ -36,9 +36,9 @@ same_asked : (texts : Bool) (pattern : Text) (s : Subject) (o : Option Text)
 same_asked texts pattern s None = (refl, refl)
 same_asked texts pattern s (Some text) = (refl, refl)
 
--- ---- names that are held
+-- ---- the names that a run holds
 
--- a name that a member has is asked
+-- If a member has the name, then the child is evaluated at that name.
 named_asked : (k : Text) (ms : Members) → is_some (member_of k ms) ≡ true → Contains (map at_name (names_in ms)) (at_name k)
 named_asked k no_members h = cc
 named_asked k (member l d ms) h = at (bytes_eq k l) refl h (named_asked k ms)
@@ -56,7 +56,7 @@ has_asked : (k : Text) (s : Subject) → has_name k s ≡ true → Contains (map
 has_asked k (a_name n) h = cc
 has_asked k (a_value d) h = any_asked k (as_object d) h
 
--- whatever names are held, those that are asked are names of members
+-- Whatever names a run holds, it evaluates its child only at names of members.
 asked_known : (s : Subject) (ks : List Text) → All (Contains (map at_name (subject_names s))) (somes (map (name_asked s) ks))
 asked_known s [] = All-nil _
 asked_known s (k ∷ ks) = at (has_name k s) refl (asked_known s ks)
@@ -66,7 +66,7 @@ asked_known s (k ∷ ks) = at (has_name k s) refl (asked_known s ks)
     at true e later = All-cons (Contains (map at_name (subject_names s))) (at_name k) (somes (map (name_asked s) ks)) (has_asked k s e) later
     at false e later = later
 
--- names of members are all asked
+-- If each name is a member's, then the child is evaluated at all of them.
 all_asked : (s : Subject) (ks : List Text) → All (λ k. has_name k s ≡ true) ks → somes (map (name_asked s) ks) ≡ map at_name ks
 all_asked s [] h = refl
 all_asked s (k ∷ ks) h = ap (λ b. somes (only_if b (at_name k) ∷ map (name_asked s) ks)) (All-head (λ k. has_name k s ≡ true) k ks h)
@@ -97,11 +97,11 @@ same_held texts (has_items n, ks) s = (refl, refl)
 same_held texts (has_property_names, ks) s = (refl, refl)
 same_held texts (applies a, ks) s = applicators.same_questions texts a s
 
--- a keyword whose runs hold no names that count
+-- a keyword that is evaluated alike whatever names its run holds
 abbrev pub HoldsNothing : BasicShape → Type 0
 HoldsNothing m = (texts : Bool) (ks : List Text) (s : Subject) → held_way texts ks m s ≡ way texts m s
 
--- it is the one that asks at names, or one whose runs hold none
+-- A keyword is `propertyNames`, or the names that its run holds do not matter.
 by_names : (P : BasicShape → Type 0) → P has_property_names → ((m : BasicShape) → HoldsNothing m → P m) → (m : BasicShape) → P m
 by_names P names other (has_type t) = other (has_type t) (λ texts ks s. refl)
 by_names P names other (has_types ts) = other (has_types ts) (λ texts ks s. refl)
@@ -114,13 +114,13 @@ by_names P names other (has_items n) = other (has_items n) (λ texts ks s. refl)
 by_names P names other has_property_names = names
 by_names P names other (applies a) = other (applies a) (λ texts ks s. refl)
 
--- what a run asks is what the keyword may ask
+-- A run asks only questions that the keyword may ask.
 may_ask_held : (texts : Bool) (m : BasicShape) (ks : List Text) (s : Subject) (q : Question) → Contains (questions (held_way texts ks m s)) q → Contains (questions (way texts m s)) q
 may_ask_held texts m ks s q = by_names (λ m. Contains (questions (held_way texts ks m s)) q → Contains (questions (way texts m s)) q)
     (λ h. All-contains (Contains (map at_name (subject_names s))) (somes (map (name_asked s) ks)) q (asked_known s ks) h)
     (λ m same. subst (λ w. Contains (questions w) q) (same texts ks s)) m
 
--- two ways of one meaning
+-- Two ways have the same meaning.
 record MeansSame (v w : Way) : Type 0 where
   places_same : places v ≡ places w
   holds_same : (matches : Matching) (accepts : Question → Bool) → way_holds v matches accepts ≡ way_holds w matches accepts
@@ -143,7 +143,7 @@ names_mean s = record {
   units_same = λ matches u. ap (λ qs. way_units (passes_on qs) matches u) (asks_names s);
 }
 
--- as a run begins, it goes about the instance as the keyword means it
+-- A run begins with the names that give it the keyword's own meaning.
 begins_meant : (texts : Bool) (m : BasicShape) (s : Subject) → MeansSame (held_way texts (names_held m s) m s) (way texts m s)
 begins_meant texts m s = by_names (λ m. MeansSame (held_way texts (names_held m s) m s) (way texts m s))
     (names_mean s)
@@ -171,7 +171,7 @@ same_answer texts m ks x for_first q = refl
 same_answer texts m ks x for_all q = refl
 same_answer texts m ks x for_units q = refl
 
--- what answers a turn is the same
+-- A turn gets the same reply either way.
 same_reply : (texts : Bool) (m : BasicShape) (ks : List Text) (x : Standing (NamesRun × Answer)) (t : Turn)
     → reply_to (words_of run_way texts) (m, ks) x.subject x.matches x.answers x.unit_at x.same x.marks t ≡ reply_to (words texts) m x.subject x.matches x.answers x.unit_at x.same x.marks t
 same_reply texts m ks x (ask q mode') = same_answer texts m ks x mode' q
@@ -181,7 +181,7 @@ same_reply texts m ks x unmark = refl
 same_reply texts m ks x (ecma text) = refl
 same_reply texts m ks x done = refl
 
--- the laws of the runs that hold these names
+-- The laws hold for the runs that hold these names.
 held_laws : (texts : Bool) (m : BasicShape) (ks : List Text)
     → TurnLaws (words_of run_way texts) (m, ks) (nothing_absorbed run_way (m, ks)) (left_at_most run_way (m, ks)) (any_state run_way (m, ks)) (run_ends run_way texts (m, ks)) (run_fits run_way texts (m, ks))
 held_laws texts m ks = turn_laws run_way same_held texts (m, ks)

@@ -1,4 +1,4 @@
--- How runs go about an instance: by which way, and by which of a keyword's numbered questions.
+-- How a run evaluates an instance: the way that it takes, and the numbered questions that it asks.
 use Rattle.std.specs.Prelude.{Bool, List, Option, Some, String, map, string_bytes, ℕ}
 use Rattle.std.specs.declared.alloc.Global.{Global}
 use Rattle.theory_definitions.specs.Instance.{Subject, Text, to_member}
@@ -12,28 +12,28 @@ use Rattle.standard_basics.specs.Words.{held_way, name_asked, pattern_way, way}
 
 -- ---- ways
 
--- of a keyword of this shape
+-- the way of a keyword with this shape
 abbrev pub as_shape : BasicShape → Bool → Subject → Way
 as_shape m texts s = way texts m s
 
--- of a run that holds these names
+-- the way of a run that holds these names
 abbrev pub holding : List Text → BasicShape → Bool → Subject → Way
 holding names m texts s = held_way texts names m s
 
--- of a pattern that is to match this text
+-- the way of a pattern that is matched against this text
 abbrev pub to_match : Text → Text → Bool → Subject → Way
 to_match pattern text texts s = pattern_way texts pattern s (Some text)
 
 -- ---- questions
 
--- the question of a child at the member of a name
+-- the question that evaluates a child at the member with this name
 abbrev pub member_asked : ℕ → Text → Question
 member_asked child name = record { child = child; below = down (to_member name) }
 
--- for each name the question at the instance's member of that name
+-- for each name, the question at the instance's member, if that is present
 abbrev pub at_members : List Text → Instance → List (Option Question)
 at_members names instance = members_from 0 names (subject_of instance)
 
--- for each name the question at the name of that member
+-- for each name, the question at the name itself, if a member has it
 abbrev pub at_names : List (String Global) → Instance → List (Option Question)
 at_names names instance = map (name_asked (subject_of instance)) (map string_bytes names)

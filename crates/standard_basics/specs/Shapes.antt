@@ -1,4 +1,4 @@
--- What is known of a keyword apart from its representation.
+-- The shape of a keyword: what is known of it apart from its representation.
 use Rattle.std.specs.Prelude.{map, string_bytes}
 use Rattle.serde_json.specs.View.{view}
 use Rattle.serde_json.specs.Written.{compact_text, has_float}

@@ -1,4 +1,5 @@
--- What a keyword tells of its own, by its shape. Where texts are spoken of, the instance holds no fraction.
+-- The errors that a keyword reports of its own, by its shape. Their texts are claimed only for
+-- instances without a fraction.
 use Rattle.std.specs.Prelude.{Bool, List, codes, map, true}
 use Rattle.theory_definitions.specs.Instance.{Text}
 use Rattle.schema_reports.specs.InstanceViews.{subject_of}
@@ -12,21 +13,22 @@ use Rattle.keyword_authoring.specs.declared.run.Progress.{Progress}
 use Rattle.standard_basics.specs.BasicShape.{BasicShape}
 use Rattle.standard_basics.specs.Words.{missing, pattern_text, required_text, way}
 
--- what the keyword tells at once is noted
+-- The answer gains the errors that the keyword reports without asking anything.
 abbrev pub TellsOwn : BasicShape → Instance → Mode → Answer → Answer → Type 0
 TellsOwn m instance mode old new = BecomesTold true instance (λ texts s a. told_at_once (way texts m s) mode a) old new
 
--- it is noted in the first turn of a run
+-- The first turn of a run reports those errors.
 abbrev pub TellsFirst : BasicShape → Instance → Progress → Answer → Answer → Type 0
 TellsFirst m instance run old new =
     BecomesTold true instance (λ texts s a. at_first run.stage (told_at_once (way texts m s) run.mode a) a) old new
 
--- an error is noted for each of these names that the instance lacks, in order, whatever the instance holds
+-- An error is reported for each name that the instance lacks, in order, even if the instance holds
+-- a fraction.
 abbrev pub TellsMissing : List Text → Instance → Mode → Answer → Answer → Type 0
 TellsMissing names instance mode old new =
     Becomes old (λ texts a. noted mode (codes "required") a (map (λ k. spoken texts (required_text k)) (missing names (subject_of instance)))) new
 
--- an error is noted where the pattern does not match
+-- An error is reported if the pattern does not match.
 abbrev pub TellsMatch : Bool → Text → Instance → Mode → Answer → Answer → Type 0
 TellsMatch matches pattern instance mode old new =
     BecomesTold true instance (λ texts s a. noted mode (codes "pattern") a (unless matches (spoken texts (pattern_text pattern s)))) old new

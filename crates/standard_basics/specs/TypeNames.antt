@@ -15,7 +15,8 @@ type_name type.Text = codes "string"
 type_name type.Array = codes "array"
 type_name type.Object = codes "object"
 
--- an integer is a number without a fraction that fits 64 bits; a name is a text
+-- whether a subject has the type: an integer is a number without a fraction that fits in 64 bits,
+-- and a name is a text
 abbrev pub fits : TypeName → Subject → Bool
 fits type.Null (a_value d) = is_some (as_null d)
 fits type.Boolean (a_value d) = is_some (as_bool d)
@@ -32,7 +33,7 @@ fits type.Number (a_name k) = false
 fits type.Array (a_name k) = false
 fits type.Object (a_name k) = false
 
--- the type of a name, and of the name that a value is
+-- the type with this name
 abbrev pub type_named : Text → Option TypeName
 type_named t =
     if bytes_eq t (codes "null") then Some type.Null
@@ -43,7 +44,7 @@ type_named t =
     else (if bytes_eq t (codes "array") then Some type.Array
     else (if bytes_eq t (codes "object") then Some type.Object else None))))))
 
--- one before others, where all are there
+-- an element and the list after it, if both are present
 abbrev pub both : {A : Type 0} → Option A → Option (List A) → Option (List A)
 both None rest = None
 both (Some a) None = None
@@ -52,7 +53,7 @@ both (Some a) (Some rest) = Some (a ∷ rest)
 abbrev pub type_of : Data → Option TypeName
 type_of d = option_and_then type_named (as_str d)
 
--- the types that values name, where each names one
+-- the types that the values name, if each of them names one
 abbrev pub types_of : Items → Option (List TypeName)
 types_of no_items = Some []
 types_of (item d ds) = both (type_of d) (types_of ds)

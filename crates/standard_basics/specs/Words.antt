@@ -1,4 +1,4 @@
--- What each keyword says of an instance.
+-- The meaning of each basic keyword: what it reports of an instance.
 use Rattle.std.specs.List.{list_any}
 use Rattle.std.specs.Prelude.{Bool, List, None, Option, Some, [], codes, false, filter, is_some, map, min, not, ℕ, ◌++◌, ◌-◌, ◌&&◌, ◌∷◌}
 use Rattle.serde_json.specs.Data.{Members}
@@ -21,7 +21,7 @@ use Rattle.keyword_authoring.specs.Ways.{Way, asks_match, passes_on, passes_some
 use Rattle.keyword_authoring.specs.WayWords.{left_at_most, run_ends, run_fits}
 use Rattle.schema_applicators.specs.Words as applicators
 
--- ---- type
+-- ---- `type` (Validation 2020-12, 6.1.1)
 
 abbrev pub type_text : TypeName → Subject → Text
 type_text t s = subject_text s ++ codes " is not of type \"" ++ type_name t ++ codes "\""
@@ -37,9 +37,9 @@ names_text (t ∷ ts) = codes "\"" ++ type_name t ++ codes "\"" ++ more_names ts
 abbrev pub types_text : List TypeName → Subject → Text
 types_text ts s = subject_text s ++ codes " is not of types " ++ names_text ts
 
--- ---- required
+-- ---- `required` (Validation 2020-12, 6.5.3)
 
--- whether it is an object without a member of this name
+-- whether the subject is an object without a member of this name
 abbrev pub lacks : Text → Subject → Bool
 lacks k s = is_object s && not (has_member k s)
 
@@ -49,17 +49,17 @@ missing ks s = filter (λ k. lacks k s) ks
 abbrev pub required_text : Text → Text
 required_text k = subject_text (a_name k) ++ codes " is a required property"
 
--- ---- pattern (section 6.3.3 of Validation 2020-12)
+-- ---- `pattern` (Validation 2020-12, 6.3.3)
 
 abbrev pub pattern_text : Text → Subject → Text
 pattern_text pattern s = subject_text s ++ codes " does not match \"" ++ pattern ++ codes "\""
 
--- what is no text is accepted; of a text it is asked whether the pattern matches it
+-- `pattern` accepts any subject that is not a text, and asks whether the pattern matches a text.
 abbrev pub pattern_way : Bool → Text → Subject → Option Text → Way
 pattern_way texts pattern s None = tells (codes "pattern") []
 pattern_way texts pattern s (Some text) = asks_match (codes "pattern") (record { pattern = pattern; subject = text }) (spoken texts (pattern_text pattern s))
 
--- ---- all of them; a text counts as empty where texts are not spoken of
+-- ---- all keywords; where texts are not claimed, each counts as empty
 
 abbrev pub way : Bool → BasicShape → Subject → Way
 way texts (has_type t) s = tells (codes "type") (map (spoken texts) (unless (fits t s) (type_text t s)))
@@ -73,10 +73,11 @@ way texts (has_items n) s = passes_on (each_from first_at_item n (item_count s -
 way texts has_property_names s = passes_on (map at_name (subject_names s))
 way texts (applies a) s = applicators.way texts a s
 
--- ---- how the runs go
+-- ---- the course of a run
 
--- A run that asks at names holds them from its beginning on, in order. A turn looks up the next one among the members of
--- the instance, so that it need not count through those before it.
+-- A run of `propertyNames` holds the names of the members from its beginning on, in order. Each
+-- turn looks up the next name among the instance's members, so that it need not count through the
+-- earlier ones.
 
 -- whether one of the members has this name
 abbrev pub is_named : Text → Option Members → Bool
@@ -87,7 +88,7 @@ abbrev pub has_name : Text → Subject → Bool
 has_name k (a_value d) = is_named k (as_object d)
 has_name k (a_name n) = false
 
--- the only child at the name, where a member has it
+-- the question that evaluates the only child at the name, if a member has it
 abbrev pub name_asked : Subject → Text → Option Question
 name_asked s k = only_if (has_name k s) (at_name k)
 
@@ -96,7 +97,7 @@ abbrev pub names_held : BasicShape → Subject → List Text
 names_held has_property_names s = subject_names s
 names_held m s = []
 
--- how a run goes about an instance that holds these names
+-- how a run that holds these names evaluates an instance
 abbrev pub held_way : Bool → List Text → BasicShape → Subject → Way
 held_way texts ks has_property_names s = passes_some (map (name_asked s) ks)
 held_way texts ks m s = way texts m s
@@ -104,7 +105,7 @@ held_way texts ks m s = way texts m s
 abbrev pub run_way : Bool → BasicShape × List Text → Subject → Way
 run_way texts m s = held_way texts m.1 m.0 s
 
--- a turn leaves the names as they are
+-- A turn leaves the names as they are.
 abbrev pub run_turn : Way → NamesRun × Answer → Reply → NamesRun × Answer
 run_turn w r reply = (record r.0 { progress = (way_turn w (r.0.progress, r.1) reply).0 }, (way_turn w (r.0.progress, r.1) reply).1)
 
@@ -122,15 +123,15 @@ words texts = record {
   answer = λ r. r.1;
 }
 
--- the turns that are left at the most
+-- an upper bound for the number of turns that are left
 abbrev pub turns_left : BasicShape → Subject → NamesRun × Answer → ℕ
 turns_left m s r = left_at_most run_way (m, r.0.names) s (r.0.progress, r.1)
 
--- a run can be in any state
+-- A run can be in any state.
 abbrev pub any_run : Bool → BasicShape → Subject → NamesRun × Answer → Type 0
 any_run texts m s r = Unit {0}
 
--- a run, seen without its names
+-- a run's situation without the names
 abbrev pub seen : Standing (NamesRun × Answer) → Standing (Progress × Answer)
 seen x = record {
   subject = x.subject;
@@ -143,7 +144,7 @@ seen x = record {
   reply = x.reply;
 }
 
--- the answer that a run ends in
+-- the answer in which a run ends
 abbrev pub ends_in : Bool → BasicShape → Standing (NamesRun × Answer) → Answer
 ends_in texts m x = run_ends run_way texts (m, x.state.0.names) (seen x)
 

@@ -1,4 +1,4 @@
-//! Clones of keywords.
+//! Clones of the basic keywords.
 ghost use Rattle.std.specs.Prelude.{◌≡◌};
 ghost use Rattle.standard_basics.specs.Shapes.{shape_of};
 
@@ -9,7 +9,11 @@ use std::alloc::AllocError;
 impl Clone for BasicKeyword {
     ghost is_clone = { λ keyword copy. shape_of copy ≡ shape_of keyword };
 
-    /// Returns a clone of the keyword. Fails only if memory cannot be allocated.
+    /// Returns a clone of the keyword.
+    ///
+    /// # Errors
+    ///
+    /// Out of memory.
     fn clone(&self) -> Result<BasicKeyword, AllocError> {
         match self {
             BasicKeyword::Type(name) => Ok(BasicKeyword::Type(*name)),

@@ -1,4 +1,4 @@
-//! Keywords that count.
+//! The keywords that count: `minLength`, `maxLength` and `minProperties`.
 ghost use Rattle.std.specs.Prelude.{◌≡◌, ◌==◌, decimal, length, option_map, if◌then◌else◌, IfOk};
 ghost use Rattle.std.specs.Str.{chars};
 ghost use Rattle.schema_reports.specs.InstanceViews.{subject_of};
@@ -17,7 +17,7 @@ use schema_traits::keyword::{Answer, Mode};
 use serde_json::{Map, Value};
 use std::alloc::Global;
 
-/// A keyword that counts: characters of a text, or members of an object.
+/// A keyword that counts the characters of a text or the members of an object.
 #[derive(Clone, Copy)]
 pub enum CountKind {
     MinLength,
@@ -26,7 +26,7 @@ pub enum CountKind {
 }
 
 impl CountKind {
-    /// The keyword's name.
+    /// Returns the keyword's name.
     pub fn name(self) -> &'static str
         ensures name { result.now ≡ count_name self }
     {
@@ -37,7 +37,7 @@ impl CountKind {
         }
     }
 
-    /// What stands before the limit in the error's text.
+    /// Returns the words before the limit in the error's text.
     fn words(self) -> &'static str
         ensures words { result.now ≡ count_words self }
     {
@@ -48,7 +48,7 @@ impl CountKind {
         }
     }
 
-    /// What stands after the limit.
+    /// Returns the words after the limit.
     fn counted(self, limit: u64) -> &'static str
         ensures counted { result.now ≡ (if limit == 1 then one_counted self else many_counted self) }
     {
@@ -67,7 +67,6 @@ impl CountKind {
         }
     }
 
-    /// Whether so many are allowed.
     fn allows(self, limit: u64, count: usize) -> bool
         ensures allows { result ≡ allows self limit count }
     {
@@ -78,7 +77,7 @@ impl CountKind {
         }
     }
 
-    /// What is counted of an instance, where there is anything to count.
+    /// Returns the count for an instance, or `None` if the keyword does not apply to it.
     fn count_of(self, instance: Instance<'_>) -> Option<usize>
         ensures count { result ≡ count_of self (subject_of instance.entry) }
     {
@@ -90,14 +89,13 @@ impl CountKind {
     }
 }
 
-/// How many characters a text has.
 fn length_of(text: &str) -> usize
     ensures length { result ≡ length (chars text.now) }
 {
     text.chars().count()
 }
 
-/// How many characters the instance has, where it is a text or a name.
+/// Returns the number of characters if the instance is a text or a name.
 fn text_length(instance: Instance<'_>) -> Option<usize>
     ensures length { result ≡ option_map (λ t. length (chars t)) (subject_string (subject_of instance.entry)) }
 {
@@ -110,7 +108,7 @@ fn text_length(instance: Instance<'_>) -> Option<usize>
     }
 }
 
-/// How many members the instance has, where it is an object.
+/// Returns the number of members if the instance is an object.
 pub fn members_count(instance: Instance<'_>) -> Option<usize>
     ensures count { result ≡ option_map member_count (subject_members (subject_of instance.entry)) }
 {
@@ -123,7 +121,6 @@ pub fn members_count(instance: Instance<'_>) -> Option<usize>
     }
 }
 
-/// How many members an object has.
 #[tactic(auto, using(crate::proofs::PropertyCounts::member_count_length))]
 fn count_members(members: &Map<String, Value>) -> usize
     ensures count { result ≡ member_count (fields members.now) }
@@ -131,7 +128,7 @@ fn count_members(members: &Map<String, Value>) -> usize
     members.len()
 }
 
-/// Whether the instance's count is allowed.
+/// Returns whether the limit allows the instance's count, or nothing is counted.
 pub fn count_fits(kind: CountKind, limit: u64, instance: Instance<'_>) -> bool
     ensures fits { result ≡ count_fits kind limit (subject_of instance.entry) }
 {
@@ -141,11 +138,11 @@ pub fn count_fits(kind: CountKind, limit: u64, instance: Instance<'_>) -> bool
     }
 }
 
-/// The error's text.
+/// Returns the error's text.
 ///
 /// # Errors
 ///
-/// Memory cannot be allocated.
+/// Out of memory.
 pub fn count_text(
     alloc: Global,
     kind: CountKind,
@@ -161,14 +158,14 @@ pub fn count_text(
     Ok(text)
 }
 
-/// Adds a number in decimal.
+/// Appends a number in decimal.
 pub fn push_decimal(text: &mut String, number: u64) -> Result<(), OutOfMemory>
     ensures decimal { IfOk result (λ _. Adds (decimal number) text.old text.new) }
 {
     write!(text, "{number}")
 }
 
-/// Notes an error where the count isn't allowed.
+/// Reports an error unless the limit allows the instance's count.
 pub fn tell_count<'i>(
     alloc: Global,
     kind: CountKind,

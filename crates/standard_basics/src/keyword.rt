@@ -1,4 +1,4 @@
-//! The keywords.
+//! The basic keywords, and their implementation of `Validate`.
 ghost use Rattle.std.specs.Prelude.{◌≡◌, IfOk};
 ghost use Rattle.schema_reports.specs.InstanceViews.{subject_of};
 ghost use Rattle.schema_traits.specs.KeywordViews.{mode_of, turn_of};
@@ -42,7 +42,9 @@ use serde_json::Value;
 use std::alloc::Global;
 use std::marker::Model;
 
-/// A keyword. Its children are named by the numbers of the requests that its maker made.
+/// A basic keyword.
+///
+/// A child is identified by the number of the request for it that the keyword's maker made.
 #[derive(Drop)]
 pub enum BasicKeyword {
     /// `type` with one name.
@@ -50,30 +52,30 @@ pub enum BasicKeyword {
     /// `type` with a list of names.
     Types(Vec<TypeName>),
     Required(Vec<String>),
-    /// The names of the schemas, child by child.
+    /// The names that have a schema, in the order of the children.
     Properties(AscendingNames),
-    /// One that counts, with its limit.
+    /// A keyword that counts, with its limit.
     Count(CountKind, u64),
     /// `pattern`, with its text.
     Pattern(String),
-    /// How many schemas there are.
+    /// The number of schemas.
     AllOf(usize),
-    /// How many schemas there are.
+    /// The number of schemas.
     PrefixItems(usize),
-    /// How many items come before.
+    /// The number of items that come before those that it evaluates.
     Items(usize),
-    /// How many schemas there are.
+    /// The number of schemas.
     AnyOf(usize),
-    /// How many schemas there are.
+    /// The number of schemas.
     OneOf(usize),
-    /// The number of the child under `then`, and of that under `else`, where there is one.
+    /// The numbers of the children for `then` and `else`, if they are present.
     If(Option<usize>, Option<usize>),
     PropertyNames,
-    /// The schema.
+    /// The schema, which the error's text shows.
     Not(Value),
 }
 
-/// What is known of a keyword apart from its representation; it holds no value.
+/// A model of keywords without their representation; the type itself is never used as a value.
 #[derive(Drop)]
 pub struct Shape {}
 
@@ -86,7 +88,7 @@ impl Model for Shape {
     ghost view = { λ _. requires [] };
 }
 
-/// Notes the errors of a keyword's own.
+/// Reports the errors of a keyword that evaluates no child.
 fn tell<'i>(
     keyword: &BasicKeyword,
     alloc: Global,
@@ -110,7 +112,7 @@ fn tell<'i>(
     }
 }
 
-/// The turn of a keyword that asks nothing: the first one tells its errors.
+/// Takes a turn of a keyword that evaluates no child: the first turn reports its errors.
 #[inline(always)]
 fn turn_telling<'s, 'i>(
     keyword: &BasicKeyword,
@@ -131,8 +133,9 @@ fn turn_telling<'s, 'i>(
     Ok(Step::Done)
 }
 
-/// The run of a keyword that asks at the names of the instance's members, which it holds from its beginning on. Fails only if
-/// memory cannot be allocated. Its room on the stack is its own, so that other runs pay nothing for it.
+/// Begins a run that holds the names of the instance's members, and evaluates a child at them.
+///
+/// Not inlined, so that other runs do not pay for its stack frame.
 #[inline(never)]
 fn begin_at_names(
     alloc: Global,

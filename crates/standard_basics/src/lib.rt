@@ -1,5 +1,7 @@
-//! The bench's keywords. Each goes about an instance in one of the ways; five are the applicators of `schema_applicators`, with their
-//! definitions and turns.
+//! The basic keywords: `type`, `required`, `properties`, `items`, `pattern`, `allOf` and others.
+//!
+//! Each evaluates an instance in one of the kinds that `keyword_authoring` offers. The five that
+//! combine schemas take their definitions and turns from `schema_applicators`.
 #![tactic(auto)]
 
 mod cloning;

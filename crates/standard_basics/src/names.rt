@@ -1,4 +1,4 @@
-//! Names that a run holds.
+//! The names that a run holds.
 ghost use Rattle.std.specs.Prelude.{◌≡◌, [], map, string_bytes};
 ghost use Rattle.schema_reports.specs.InstanceViews.{subject_of};
 ghost use Rattle.keyword_authoring.specs.Members.{names_in, subject_names};
@@ -12,7 +12,7 @@ use serde_json::{Map, Value};
 use std::alloc::Global;
 use std::marker::Model;
 
-/// Names, in order.
+/// A list of names, in order.
 #[derive(Drop)]
 pub struct Names {
     texts: Vec<String>,
@@ -27,7 +27,7 @@ impl Model for Names {
     ghost view = { λ names. map string_bytes names.texts.items };
 }
 
-/// The run of a keyword, with the names that it asks at.
+/// A keyword's run, with the names at which it evaluates its child.
 #[derive(Drop)]
 pub struct NamesRun {
     pub progress: Progress,
@@ -35,7 +35,7 @@ pub struct NamesRun {
 }
 
 impl Names {
-    /// No names.
+    /// Returns an empty list.
     pub fn none(alloc: Global) -> Names
         ensures none { result ≡ [] }
     {
@@ -44,14 +44,13 @@ impl Names {
         }
     }
 
-    /// The names as a slice.
+    /// Returns the names as a slice.
     pub fn as_slice(&self) -> &[String]
         ensures names { map string_bytes result.now ≡ self.now }
     {
         self.texts.as_slice()
     }
 
-    /// The names of an object's members. Fails only if memory cannot be allocated.
     fn of_members(alloc: Global, members: &Map<String, Value>) -> Result<Names, OutOfMemory>
         ensures names { Yields result (names_in (fields members.now)) }
     {
@@ -62,7 +61,11 @@ impl Names {
         Ok(Names { texts })
     }
 
-    /// The names of the members of the instance, which are none where it is no object. Fails only if memory cannot be allocated.
+    /// Returns the names of the instance's members: none unless it is an object.
+    ///
+    /// # Errors
+    ///
+    /// Out of memory.
     pub fn of(alloc: Global, instance: Instance<'_>) -> Result<Names, OutOfMemory>
         ensures names { Yields result (subject_names (subject_of instance.entry)) }
     {

@@ -1,4 +1,4 @@
-//! `pattern`.
+//! The keyword `pattern`.
 ghost use Rattle.std.specs.Prelude.{true, IfOk};
 ghost use Rattle.standard_basics.specs.Words.{pattern_text};
 ghost use Rattle.standard_basics.specs.BasicShape.{has_pattern};
@@ -17,7 +17,7 @@ use schema_reports::location::OutOfMemory;
 use schema_traits::keyword::{Answer, Mode, Reply, Step};
 use std::alloc::Global;
 
-/// The error's text.
+/// Returns the error's text.
 fn pattern_text(alloc: Global, pattern: &str, instance: Instance<'_>) -> Result<String, OutOfMemory>
     ensures text { IfOk result (ShowsText instance.entry (pattern_text pattern.now)) }
 {
@@ -28,7 +28,7 @@ fn pattern_text(alloc: Global, pattern: &str, instance: Instance<'_>) -> Result<
     Ok(text)
 }
 
-/// Notes an error where the pattern doesn't match.
+/// Reports an error unless the pattern matches.
 #[inline(always)]
 fn tell_pattern<'i>(
     alloc: Global,
@@ -52,7 +52,7 @@ fn tell_pattern<'i>(
     note(alloc, mode, "pattern", text, answer)
 }
 
-/// Asks whether the pattern matches a text, and refuses where it doesn't.
+/// Asks for the match with a text, and then reports an error unless the pattern matches.
 #[inline(always)]
 fn turn_of_text<'s, 'i>(
     alloc: Global,
@@ -79,7 +79,7 @@ fn turn_of_text<'s, 'i>(
     }
 }
 
-/// `pattern`: asks whether it matches an instance that is a text or a name, and accepts any other.
+/// Takes a turn of `pattern`, which matches a text or a name, and accepts any other instance.
 #[inline(always)]
 pub fn turn_pattern<'s, 'i: 's>(
     alloc: Global,

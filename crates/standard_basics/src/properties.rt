@@ -1,4 +1,4 @@
-//! `properties`.
+//! The keyword `properties`.
 ghost use Rattle.std.specs.Prelude.{◌≡◌, None, map, option_map, true};
 ghost use Rattle.std.specs.Rc.{rc_str_bytes};
 ghost use Rattle.keyword_authoring.specs.Somes.{some_from};
@@ -17,7 +17,7 @@ use schema_traits::keyword::{Answer, Below, Reply, Step};
 use std::alloc::Global;
 use std::rc::RcStr;
 
-/// Asks each child whose name is a member of the instance there.
+/// Takes a turn of `properties`, which evaluates a child at each named member that is present.
 #[inline(always)]
 pub fn turn_properties<'s, 'i>(
     alloc: Global,
@@ -36,14 +36,14 @@ pub fn turn_properties<'s, 'i>(
     Ok(ask_member(names, start, run, instance))
 }
 
-/// Whether no child is asked, where that shows at a glance: the instance has no members.
+/// Returns whether it is plain at once that no child is evaluated: there are no members.
 pub fn asks_none(names: &[RcStr], instance: Instance<'_>) -> bool
     ensures none { result ≡ true → some_from 0 (at_members (map rc_str_bytes names.now) instance.entry) ≡ None }
 {
     !may_have_members(instance) && first_present(names, 0, instance).is_none()
 }
 
-/// Whether the instance may have members. What has none is an object of no members, or no object.
+/// Returns whether the instance is an object with a member.
 fn may_have_members(instance: Instance<'_>) -> bool {
     match instance {
         Instance::Value(value) => match value.as_object() {
@@ -54,7 +54,9 @@ fn may_have_members(instance: Instance<'_>) -> bool {
     }
 }
 
-/// Asks at the first name from this number on that is a member of the instance, if there is one, and ends the run else.
+/// Evaluates the next child, from number `start` on, whose member is present.
+///
+/// The run ends if there is none.
 #[inline(always)]
 fn ask_member<'s>(
     names: &'s [RcStr],
@@ -83,7 +85,7 @@ fn ask_member<'s>(
     }
 }
 
-/// The first child from this number on whose name is a member of the instance, with its name.
+/// Returns the first child, from number `start` on, whose member is present, and its name.
 #[tactic(auto, using(keyword_authoring::proofs::NextQuestions::members_from_drop))]
 fn first_present<'s>(
     names: &'s [RcStr],

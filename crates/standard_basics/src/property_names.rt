@@ -1,4 +1,4 @@
-//! `propertyNames`.
+//! The keyword `propertyNames`.
 ghost use Rattle.std.specs.Prelude.{◌≡◌, Some, map, option_map, string_bytes};
 ghost use Rattle.schema_reports.specs.InstanceViews.{subject_of};
 ghost use Rattle.keyword_authoring.specs.Members.{at_name, only_if};
@@ -19,7 +19,7 @@ use schema_traits::keyword::{Answer, Below, Reply, Step};
 use serde_json::{Map, Value};
 use std::alloc::Global;
 
-/// The name of the member that has this name, as the object holds it.
+/// Returns the member's name as the object stores it.
 fn name_among<'i>(members: &'i Map<String, Value>, name: &str) -> Option<&'i str>
     ensures name { option_map (λ k. at_name k.now) result ≡ only_if (is_named name.now (Some (fields members.now))) (at_name name.now) }
 {
@@ -29,7 +29,7 @@ fn name_among<'i>(members: &'i Map<String, Value>, name: &str) -> Option<&'i str
     }
 }
 
-/// The name of the instance's member that has this name, as the instance holds it.
+/// Returns the member's name as the instance stores it.
 fn name_in<'i>(instance: Instance<'i>, name: &str) -> Option<&'i str>
     ensures name { option_map (λ k. at_name k.now) result ≡ name_asked (subject_of instance.entry) name.now }
 {
@@ -42,7 +42,7 @@ fn name_in<'i>(instance: Instance<'i>, name: &str) -> Option<&'i str>
     }
 }
 
-/// The first name from this place on that a member of the instance has, with its place.
+/// Returns the first name, from index `start` on, that a member has, with its index.
 #[tactic(auto, using(crate::proofs::NamesAsked::asked_drop))]
 fn first_name<'i>(
     names: &[String],
@@ -59,7 +59,9 @@ fn first_name<'i>(
     None
 }
 
-/// Asks at the first name from this place on that a member of the instance has, if there is one, and ends the run else.
+/// Evaluates the child at the next name, from index `start` on, that a member has.
+///
+/// The run ends if there is none.
 #[inline(always)]
 fn ask_name<'i>(
     names: &[String],
@@ -88,7 +90,7 @@ fn ask_name<'i>(
     }
 }
 
-/// `propertyNames`: asks its child at each of these names that a member of the instance has.
+/// Takes a turn of `propertyNames`, which evaluates its child at each name that a member has.
 #[inline(always)]
 pub fn turn_property_names<'i>(
     alloc: Global,

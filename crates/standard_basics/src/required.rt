@@ -1,4 +1,4 @@
-//! `required`.
+//! The keyword `required`.
 ghost use Rattle.std.specs.Prelude.{◌≡◌, map, string_bytes, IfOk};
 ghost use Rattle.std.specs.List.{list_any};
 ghost use Rattle.schema_reports.specs.InstanceViews.{subject_of};
@@ -14,7 +14,7 @@ use schema_reports::location::OutOfMemory;
 use schema_traits::keyword::{Answer, Mode};
 use std::alloc::Global;
 
-/// Notes an error for each name that an object lacks, in order.
+/// Reports an error for each name that the object lacks, in order.
 pub fn tell_required<'i>(
     alloc: Global,
     names: &[String],
@@ -40,21 +40,21 @@ pub fn tell_required<'i>(
     Ok(())
 }
 
-/// Whether the instance is an object that lacks one of these members.
+/// Returns whether the instance is an object that lacks one of these members.
 pub fn lacks_one(names: &[String], instance: Instance<'_>) -> bool
     ensures lacks { result ≡ list_any (λ k. lacks (string_bytes k) (subject_of instance.entry)) names.now }
 {
     names.iter().any(|name| is_missing(name, instance))
 }
 
-/// Whether the instance is an object without this member.
+/// Returns whether the instance is an object without this member.
 fn is_missing(name: &String, instance: Instance<'_>) -> bool
     ensures missing { result ≡ lacks (string_bytes name.now) (subject_of instance.entry) }
 {
     is_object(instance) && !has_member(instance, name.as_str())
 }
 
-/// The error's text.
+/// Returns the error's text.
 pub fn required_text(alloc: Global, name: &str) -> Result<String, OutOfMemory>
     ensures text { Shows string_bytes result (required_text name.now) }
 {

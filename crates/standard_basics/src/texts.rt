@@ -1,4 +1,4 @@
-//! Texts of instances.
+//! The text of an instance.
 ghost use Rattle.std.specs.Prelude.{◌≡◌};
 ghost use Rattle.schema_reports.specs.InstanceViews.{subject_of};
 ghost use Rattle.standard_basics.specs.Counts.{subject_string};
@@ -6,7 +6,7 @@ ghost use Rattle.schema_traits.specs.Readings.{text_read};
 
 use schema_reports::instance::Instance;
 
-/// The text that an instance is, where it is a text or a name.
+/// Returns the text if the instance is a text or a name.
 pub fn text_of<'i>(instance: Instance<'i>) -> Option<&'i str>
     ensures text { text_read result ≡ subject_string (subject_of instance.entry) }
 {

@@ -22,7 +22,7 @@ pub enum TypeName {
 }
 
 impl TypeName {
-    /// The name.
+    /// Returns the type's name.
     pub fn as_str(self) -> &'static str
         ensures name { result.now ≡ type_name self }
     {
@@ -37,7 +37,7 @@ impl TypeName {
         }
     }
 
-    /// Whether an instance is of this type; a name is a text.
+    /// Returns whether an instance has this type; a name counts as a text.
     pub fn fits(self, instance: Instance<'_>) -> bool
         ensures fits { result ≡ fits self (subject_of instance.entry) }
     {
@@ -56,7 +56,7 @@ impl TypeName {
     }
 }
 
-/// The type of this name.
+/// Returns the type with this name.
 pub fn type_named(name: &str) -> Option<TypeName>
     ensures named { result ≡ type_named name.now }
 {
@@ -79,7 +79,7 @@ pub fn type_named(name: &str) -> Option<TypeName>
     }
 }
 
-/// The type that a value names.
+/// Returns the type that a value names.
 pub fn type_of(value: &Value) -> Option<TypeName>
     ensures named { result ≡ type_of (view value.now) }
 {
@@ -89,11 +89,11 @@ pub fn type_of(value: &Value) -> Option<TypeName>
     }
 }
 
-/// The types that values name, if each names one.
+/// Returns the types that the values name, if each of them names one.
 ///
 /// # Errors
 ///
-/// Memory cannot be allocated.
+/// Out of memory.
 pub fn types_of(alloc: Global, values: &[Value]) -> Result<Option<Vec<TypeName>>, OutOfMemory>
     ensures named { IfOk result (λ names. option_map (λ v. v.items) names ≡ types_of (items_view values.now)) }
 {

@@ -1,4 +1,4 @@
-//! `type`.
+//! The keyword `type`.
 ghost use Rattle.std.specs.Prelude.{◌≡◌, ◌++◌, codes, IfOk};
 ghost use Rattle.std.specs.List.{list_any};
 ghost use Rattle.schema_reports.specs.InstanceViews.{subject_of};
@@ -16,7 +16,7 @@ use schema_reports::location::OutOfMemory;
 use schema_traits::keyword::{Answer, Mode};
 use std::alloc::Global;
 
-/// Notes an error where the instance isn't of the type.
+/// Reports an error unless the instance has the type.
 pub fn tell_type<'i>(
     alloc: Global,
     name: TypeName,
@@ -38,7 +38,7 @@ pub fn tell_type<'i>(
     note(alloc, mode, "type", text, answer)
 }
 
-/// The error's text for one name.
+/// Returns the error's text for one type.
 pub fn type_text(
     alloc: Global,
     name: TypeName,
@@ -53,7 +53,7 @@ pub fn type_text(
     Ok(text)
 }
 
-/// Notes an error where the instance is of none of the types.
+/// Reports an error unless the instance has one of the types.
 pub fn tell_types<'i>(
     alloc: Global,
     names: &[TypeName],
@@ -75,14 +75,14 @@ pub fn tell_types<'i>(
     note(alloc, mode, "type", text, answer)
 }
 
-/// Whether the instance is of one of the types.
+/// Returns whether the instance has one of the types.
 pub fn fits_one(names: &[TypeName], instance: Instance<'_>) -> bool
     ensures fits { result ≡ list_any (λ t. fits t (subject_of instance.entry)) names.now }
 {
     names.iter().any(|name| name.fits(instance))
 }
 
-/// The error's text for a list of names.
+/// Returns the error's text for a list of types.
 pub fn types_text(
     alloc: Global,
     names: &[TypeName],
@@ -96,7 +96,7 @@ pub fn types_text(
     Ok(text)
 }
 
-/// Adds the names, each in quotes, with a comma between.
+/// Appends the names, each in quotes, with commas between them.
 fn push_names(names: &[TypeName], text: &mut String) -> Result<(), OutOfMemory>
     ensures pushed { IfOk result (λ _. Adds (names_text names.now) text.old text.new) }
 {
@@ -107,7 +107,7 @@ fn push_names(names: &[TypeName], text: &mut String) -> Result<(), OutOfMemory>
     push_more(&names[1..], text)
 }
 
-/// Adds the names after the first.
+/// Appends the names after the first.
 fn push_more(names: &[TypeName], text: &mut String) -> Result<(), OutOfMemory>
     ensures pushed { IfOk result (λ _. Adds (more_names names.now) text.old text.new) }
 {
@@ -117,7 +117,6 @@ fn push_more(names: &[TypeName], text: &mut String) -> Result<(), OutOfMemory>
     Ok(())
 }
 
-/// Adds what stands before a name, the name, and a quote.
 fn push_name(before: &str, name: TypeName, text: &mut String) -> Result<(), OutOfMemory>
     ensures pushed { IfOk result (λ _. Adds (before.now ++ type_name name ++ codes "\"") text.old text.new) }
 {
