@@ -1,4 +1,5 @@
--- How many verdicts are yes: none where all refuse, one at least where one accepts, and one where that one is alone.
+-- The number of accepting verdicts: 0 if all refuse, at least 1 if one accepts, and exactly 1 if
+-- only one does.
 use Rattle.std.proofs.Common.{◌≡◌, ◌∙◌, ℕ, zero, suc, ◌+◌, ◌<◌, ◌++◌, ◌∷◌, [], List, Bool, true, false, ap, arith, inl, inr, map, refl, slice_index_or}
 use Rattle.std.specs.Prelude.{Contains}
 use Rattle.std.proofs.lemmas.List.Elements.{All-cons, All-head, All-nil, All-tail, Contains-append_cases, Contains-append_right}
@@ -25,7 +26,7 @@ counted_none [] h = All-nil _
 counted_none (true ∷ vs) h = absurd (omega arith)
 counted_none (false ∷ vs) h = All-cons (λ v. v ≡ false) false vs refl (counted_none vs h)
 
--- ---- one at least
+-- ---- at least one
 
 pub some_counted : (vs : List Bool) → Contains vs true → 0 < trues vs
 some_counted [] h = absurd (omega (arith, h.1))
@@ -47,7 +48,7 @@ counted_some [] h = absurd (omega arith)
 counted_some (true ∷ vs) h = (zero, omega arith, refl)
 counted_some (false ∷ vs) h = Contains-append_right (false ∷ []) vs true (counted_some vs h)
 
--- ---- one alone
+-- ---- exactly one
 
 trues-append : (xs ys : List Bool) → trues (xs ++ ys) ≡ trues xs + trues ys
 trues-append [] ys = omega arith

@@ -1,4 +1,4 @@
--- What the applicators say is what the definitions of the five say.
+-- The keywords mean what the definitions of the five say.
 use Rattle.std.proofs.Common.{◌≡◌, ◌∙◌, ℕ, zero, suc, ◌<◌, ◌⊎◌, ◌++◌, ◌∷◌, ◌&&◌, [], List, Bool, true, false, Option, Some, None, ap, arith, inl, inr, map, min, refl, sym}
 use Rattle.std.specs.List.{list_all}
 use Rattle.std.specs.Prelude.{◌↔◌, flat_map, option_map}
@@ -19,7 +19,7 @@ use Rattle.schema_applicators.specs.OwnErrors.{OneUnless}
 use Rattle.schema_applicators.specs.Words.{if_any, if_none, unless_one}
 use Rattle.schema_applicators.proofs.Counting.{alone_counted, counted_alone, counted_some, some_counted, yes_trues}
 
--- ---- allOf
+-- ---- `allOf`
 
 both : (a b : Bool) → a ≡ true → b ≡ true → (a && b) ≡ true
 both true b h k = k
@@ -51,9 +51,9 @@ all_of_faults answers [] = refl
 all_of_faults answers (q ∷ qs) = ap (λ l. map passed (answers q).errors ++ l) (all_of_faults answers qs)
     ∙ sym (map-append passed (answers q).errors (all_errors (map (λ q. (answers q).errors) qs)))
 
--- ---- errors by how many accept
+-- ---- the errors by the number of schemas that accept
 
--- one at the most, which is told unless the keyword holds
+-- There is at most one error, which is reported unless the keyword holds.
 pub own_unless : (Holds : Type 0) (name : Text) (ts : List Text) → (is_nil ts ≡ true) ↔ Holds → (ts ≡ []) ⊎ ((text : Text) × (ts ≡ text ∷ []))
     → OneUnless Holds name (map (λ x. own (plain name x)) ts)
 own_unless Holds name ts tells (inl none) = record {
@@ -65,7 +65,7 @@ own_unless Holds name ts tells (inr some) = record {
   one = λ refuses. (some.0, ap (map (λ x. own (plain name x))) some.1);
 }
 
--- ---- anyOf
+-- ---- `anyOf`
 
 if_none-tells : (text : Text) (n : ℕ) → (is_nil (if_none text (min 1 n)) ≡ true) ↔ (0 < n)
 if_none-tells text zero = ((λ h. cc h), (λ h. absurd (omega (arith, h))))
@@ -82,7 +82,7 @@ any_of_holds text accepts qs =
     let tells = if_none-tells text (yes_count accepts qs) in
     ((λ h. let some = tells.0 h in counted_some (map accepts qs) (omega arith)), (λ h. let some = some_counted (map accepts qs) h in tells.1 (omega arith)))
 
--- ---- oneOf
+-- ---- `oneOf`
 
 unless_one-tells : (none many : Text) (n : ℕ) → (is_nil (unless_one none many (min 2 n)) ≡ true) ↔ (n ≡ 1)
 unless_one-tells none many zero = ((λ h. cc h), (λ h. absurd (omega (arith, h))))
@@ -104,7 +104,7 @@ one_of_holds none many accepts qs =
     let tells = unless_one-tells none many (yes_count accepts qs) in
     ((λ h. let one = tells.0 h in counted_alone (map accepts qs) (omega arith)), (λ h. let one = alone_counted (map accepts qs) h in tells.1 (omega arith)))
 
--- ---- not
+-- ---- `not`
 
 pub if_any-one : (text : Text) (n : ℕ) → (if_any text n ≡ []) ⊎ ((t : Text) × (if_any text n ≡ t ∷ []))
 if_any-one text zero = inl refl
@@ -118,7 +118,7 @@ pub not_holds : (text : Text) (accepts : Question → Bool) (q : Question)
     → (is_nil (if_any text (min 1 (yes_count accepts (q ∷ [])))) ≡ true) ↔ Refuses (accepts q)
 not_holds text accepts q = not_tells text (accepts q)
 
--- ---- if
+-- ---- `if`
 
 module _ (accepts : Question → Bool) where
   one_asked : (o : Option ℕ) → list_all accepts (option_list (option_map child_here o)) ≡ branch_accepts (option_map (λ i. accepts (child_here i)) o)

@@ -1,4 +1,4 @@
--- `anyOf` accepts an instance where one of its schemas, or more, accepts it (Core 2020-12, 10.2.1.2).
+-- `anyOf` accepts an instance if at least one of its schemas accepts it (Core 2020-12, 10.2.1.2).
 use Rattle.std.specs.Prelude.{Bool, Contains, List, true}
 
 abbrev pub OneAccepts : List Bool → Type 0

@@ -1,5 +1,5 @@
--- `if` has the verdict and the errors of the branch that its condition picks: that under `then` where the condition accepts, and that
--- under `else` where it refuses (Core 2020-12, 10.2.2). A branch that is missing accepts.
+-- `if` has the verdict and the errors of the branch that its condition picks: `then` if the
+-- condition accepts, and `else` if it refuses (Core 2020-12, 10.2.2). A missing branch accepts.
 use Rattle.std.specs.Prelude.{Bool, List, None, Option, Some, [], false, true}
 use Rattle.theory_definitions.specs.Reports.{Error}
 

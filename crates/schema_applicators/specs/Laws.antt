@@ -1,4 +1,4 @@
--- The applicators keep the laws.
+-- The keywords keep the laws that every keyword must keep.
 use Rattle.std.proofs.Common.{◌≡◌, Bool, refl, true}
 use Rattle.std.proofs.lemmas.List.Elements.{All-append, All-cons}
 use Rattle.std.specs.Prelude.{option_map}
@@ -37,7 +37,7 @@ turns_keep = turn_laws way same_questions
 pub functions_keep : (texts : Bool) (m : ApplicatorShape) → FunctionLaws (words texts) m (nothing_absorbed way m)
 functions_keep = function_laws way present
 
--- ---- those that say that they are monotone are
+-- ---- A keyword that declares itself monotone is monotone.
 
 pub each_grows : (texts : Bool) (m : ApplicatorShape) (s : Subject) → says_monotone m ≡ true → Grows (way texts m s)
 each_grows texts (has_all_of n) s h = way_grows (way texts (has_all_of n) s) refl

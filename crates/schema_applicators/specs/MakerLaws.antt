@@ -1,4 +1,4 @@
--- The makers of the applicators ask for what lies strictly below the object, and end rightly.
+-- The makers request only schemas strictly below the object, and end as a maker must.
 use Rattle.std.proofs.Common.{ap}
 use Rattle.std.specs.Prelude.{Bool, None, Option, Some, bytes_eq, codes, false, if◌then◌else◌, not, refl, true, ◌≡◌}
 use Rattle.serde_json.specs.Written.{compact_text, has_float}
@@ -22,7 +22,7 @@ Rightly = MakesRightly (nothing_absorbed way) is_whole
 either : (owner : Members) (b : Bool) (x y : Script ApplicatorShape) → Rightly owner x → Rightly owner y → Rightly owner (if b then x else y)
 either = either_rightly (nothing_absorbed way) is_whole
 
--- the object is the owner, whose member is made
+-- the owner is the object that has the member
 value_rightly : (owner : Members) (name : Text) (d : Data) → get_member name owner ≡ Some d → Rightly owner (value_script owner name d)
 value_rightly owner name d here =
     either owner (bytes_eq name (codes "allOf")) _ _ (list_rightly (nothing_absorbed way) is_whole owner has_all_of name d (λ n. (refl, refl)))

@@ -1,4 +1,4 @@
--- What the maker of each applicator asks for, and how it ends.
+-- What the maker of each keyword requests, and how it ends.
 use Rattle.std.specs.Prelude.{Bool, None, Option, Some, bytes_eq, codes, false, if◌then◌else◌, true}
 use Rattle.serde_json.specs.Data.{Data, Members}
 use Rattle.serde_json.specs.Written.{compact_text, has_float}
@@ -10,7 +10,7 @@ use Rattle.schema_applicators.specs.ApplicatorShape.{ApplicatorShape, has_all_of
 use Rattle.keyword_makers.specs.Branches.{has_branch, if_script}
 use Rattle.keyword_makers.specs.Making.{list_script, only_child}
 
--- the object is the one whose member is made
+-- the members are those of the object that has the keyword
 
 abbrev pub value_script : Members → Text → Data → Script ApplicatorShape
 value_script ms name d =
@@ -24,7 +24,7 @@ abbrev pub member_script : Members → Text → Option Data → Script Applicato
 member_script ms name None = then_end nothing
 member_script ms name (Some d) = value_script ms name d
 
--- no name is the table's own
+-- the table owns no name
 abbrev pub applicator_script : Bool → Text → Members → Draft → Vocabularies → Bool → Script ApplicatorShape
 applicator_script true name ms draft vocabularies formats = then_end nothing
 applicator_script false name ms draft vocabularies formats = member_script ms name (get_member name ms)

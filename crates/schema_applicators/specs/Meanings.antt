@@ -1,4 +1,4 @@
--- The applicators mean what the definitions of the five say.
+-- The five keywords mean what the definitions of the five say.
 use Rattle.std.specs.Prelude.{Bool, List, Option, codes, map, option_map, true, ℕ, ◌↔◌, ◌≡◌}
 use Rattle.theory_definitions.specs.Instance.{Subject, Text}
 use Rattle.theory_definitions.specs.Keywords.{Answers, Question, here, passed}
@@ -14,11 +14,11 @@ use Rattle.schema_applicators.specs.OneOf.{OneAcceptsAlone}
 use Rattle.schema_applicators.specs.OwnErrors.{OneUnless}
 use Rattle.schema_applicators.specs.Words.{words}
 
--- a schema of the keyword's, by its number, at the instance's own place
+-- the question that evaluates the keyword's schema with this number at the instance's own place
 abbrev pub schema : ℕ → Question
 schema i = record { child = i; below = here }
 
--- the first so many, in order
+-- the questions for the first n schemas, in order
 abbrev pub schemas : ℕ → List Question
 schemas n = each_from schema 0 n
 
@@ -29,7 +29,7 @@ abbrev pub errors_in : Answers → Question → List Error
 errors_in answers q = (answers q).errors
 
 module _ (texts : Bool) (s : Subject) (matches : Matching) where
-  -- ---- allOf
+  -- ---- `allOf`
 
   abbrev pub AllOfHolds : Type 0
   AllOfHolds = (n : ℕ) (accepts : Question → Bool) → ((words texts).holds (has_all_of n) s matches accepts ≡ true) ↔ AllAccept (map accepts (schemas n))
@@ -37,7 +37,7 @@ module _ (texts : Bool) (s : Subject) (matches : Matching) where
   abbrev pub AllOfFaults : Type 0
   AllOfFaults = (n : ℕ) (answers : Answers) → (words texts).faults (has_all_of n) s matches answers ≡ map passed (all_errors (map (errors_in answers) (schemas n)))
 
-  -- ---- anyOf
+  -- ---- `anyOf`
 
   abbrev pub AnyOfHolds : Type 0
   AnyOfHolds = (n : ℕ) (accepts : Question → Bool) → ((words texts).holds (has_any_of n) s matches accepts ≡ true) ↔ OneAccepts (map accepts (schemas n))
@@ -45,7 +45,7 @@ module _ (texts : Bool) (s : Subject) (matches : Matching) where
   abbrev pub AnyOfFaults : Type 0
   AnyOfFaults = (n : ℕ) (answers : Answers) → OneUnless (OneAccepts (map (verdict_in answers) (schemas n))) (codes "anyOf") ((words texts).faults (has_any_of n) s matches answers)
 
-  -- ---- oneOf
+  -- ---- `oneOf`
 
   abbrev pub OneOfHolds : Type 0
   OneOfHolds = (n : ℕ) (accepts : Question → Bool) → ((words texts).holds (has_one_of n) s matches accepts ≡ true) ↔ OneAcceptsAlone (map accepts (schemas n))
@@ -53,7 +53,7 @@ module _ (texts : Bool) (s : Subject) (matches : Matching) where
   abbrev pub OneOfFaults : Type 0
   OneOfFaults = (n : ℕ) (answers : Answers) → OneUnless (OneAcceptsAlone (map (verdict_in answers) (schemas n))) (codes "oneOf") ((words texts).faults (has_one_of n) s matches answers)
 
-  -- ---- not, whose schema has this text
+  -- ---- `not`, whose schema has this text
 
   abbrev pub NotHolds : Type 0
   NotHolds = (text : Text) (fraction : Bool) (accepts : Question → Bool) → ((words texts).holds (has_not text fraction) s matches accepts ≡ true) ↔ Refuses (accepts (schema 0))
@@ -62,7 +62,7 @@ module _ (texts : Bool) (s : Subject) (matches : Matching) where
   NotFaults = (text : Text) (fraction : Bool) (answers : Answers)
       → OneUnless (Refuses (verdict_in answers (schema 0))) (codes "not") ((words texts).faults (has_not text fraction) s matches answers)
 
-  -- ---- if, whose branches are those of its schemas that have these numbers
+  -- ---- `if`, whose branches are the schemas with these numbers
 
   abbrev pub IfHolds : Type 0
   IfHolds = (under_then under_else : Option ℕ) (accepts : Question → Bool)

@@ -1,5 +1,5 @@
--- `oneOf` accepts an instance where exactly one of its schemas accepts it (Core 2020-12, 10.2.1.3): none before that one does, and
--- none after it.
+-- `oneOf` accepts an instance if exactly one of its schemas accepts it: none before that schema
+-- does, and none after it (Core 2020-12, 10.2.1.3).
 use Rattle.std.specs.Prelude.{All, Bool, List, false, true, ◌++◌, ◌∷◌, ◌≡◌}
 
 abbrev pub AllRefuse : List Bool → Type 0

@@ -1,4 +1,4 @@
--- What is known of an applicator apart from its representation.
+-- The shape of a keyword: what is known of it apart from its representation.
 use Rattle.serde_json.specs.View.{view}
 use Rattle.serde_json.specs.Written.{compact_text, has_float}
 use Rattle.schema_applicators.specs.ApplicatorShape.{ApplicatorShape, has_all_of, has_any_of, has_if, has_not, has_one_of}

@@ -1,4 +1,4 @@
--- What each applicator asks and says of an instance.
+-- The questions that each keyword asks, and what it reports of an instance.
 use Rattle.std.specs.Prelude.{Bool, List, [], codes, false, option_map, suc, true, zero, ℕ, ◌++◌, ◌∷◌}
 use Rattle.theory_definitions.specs.Instance.{Subject, Text}
 use Rattle.schema_reports.specs.ReportViews.{spoken}
@@ -11,12 +11,12 @@ use Rattle.keyword_authoring.specs.Ways.{Way, branches, judges, passes_on}
 use Rattle.keyword_authoring.specs.WayWords.{words_of}
 use Rattle.schema_applicators.specs.ApplicatorShape.{ApplicatorShape, has_all_of, has_any_of, has_if, has_not, has_one_of}
 
--- ---- not
+-- ---- `not`
 
 abbrev pub not_text : Text → Subject → Text
 not_text schema s = schema ++ codes " is not allowed for " ++ subject_text s
 
--- the error where one accepts
+-- the error if one schema accepts
 abbrev pub if_any : Text → ℕ → List Text
 if_any text zero = []
 if_any text (suc n) = text ∷ []
@@ -24,9 +24,9 @@ if_any text (suc n) = text ∷ []
 abbrev pub not_tally : Bool → Text → Subject → Tally
 not_tally texts schema s = record { name = codes "not"; enough = 1; told = if_any (spoken texts (not_text schema s)); shows = false }
 
--- ---- anyOf, oneOf
+-- ---- `anyOf` and `oneOf`
 
--- the error where none accepts
+-- the error if no schema accepts
 abbrev pub none_text : Text → Subject → Text
 none_text name s = subject_text s ++ codes " is not valid under any of the schemas listed in the '" ++ name ++ codes "' keyword"
 
@@ -37,7 +37,7 @@ if_none text (suc n) = []
 abbrev pub any_of_tally : Bool → Subject → Tally
 any_of_tally texts s = record { name = codes "anyOf"; enough = 1; told = if_none (spoken texts (none_text (codes "anyOf") s)); shows = true }
 
--- the error where more than one accepts
+-- the error if more than one schema accepts
 abbrev pub many_text : Subject → Text
 many_text s = subject_text s ++ codes " is valid under more than one of the schemas listed in the 'oneOf' keyword"
 
@@ -49,7 +49,7 @@ unless_one none many (suc (suc n)) = many ∷ []
 abbrev pub one_of_tally : Bool → Subject → Tally
 one_of_tally texts s = record { name = codes "oneOf"; enough = 2; told = unless_one (spoken texts (none_text (codes "oneOf") s)) (spoken texts (many_text s)); shows = true }
 
--- ---- all of them; a text counts as empty where texts are not spoken of
+-- ---- all keywords; where texts are not claimed, each counts as empty
 
 abbrev pub way : Bool → ApplicatorShape → Subject → Way
 way texts (has_all_of n) s = passes_on (each_from child_here 0 n)

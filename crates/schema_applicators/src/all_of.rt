@@ -1,4 +1,4 @@
-//! `allOf`.
+//! The keyword `allOf`.
 ghost use Rattle.keyword_authoring.specs.Items.{child_here, each_from};
 ghost use Rattle.keyword_authoring.specs.Ways.{passes_on};
 ghost use Rattle.keyword_authoring.specs.TurnWords.{Steps, Turns};
@@ -10,7 +10,7 @@ use schema_reports::location::OutOfMemory;
 use schema_traits::keyword::{Answer, Reply, Step};
 use std::alloc::Global;
 
-/// `allOf`: asks each child at the keyword's own place.
+/// Takes a turn of `allOf`, which evaluates each child at the keyword's own place.
 pub fn turn_all_of<'s, 'i>(
     alloc: Global,
     count: usize,

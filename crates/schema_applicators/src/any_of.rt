@@ -1,4 +1,4 @@
-//! `anyOf`.
+//! The keyword `anyOf`.
 ghost use Rattle.std.specs.Prelude.{true, IfOk};
 ghost use Rattle.schema_applicators.specs.Words.{any_of_tally};
 ghost use Rattle.keyword_authoring.specs.TurnWords.{StepsBy, TellsTurnBy};
@@ -14,7 +14,7 @@ use schema_reports::location::OutOfMemory;
 use schema_traits::keyword::{Answer, Below, Mode, Reply, Step};
 use std::alloc::Global;
 
-/// Notes an error where none accepts.
+/// Reports an error if no child accepts.
 fn tell_any_of<'i>(
     alloc: Global,
     accepted: usize,
@@ -36,7 +36,9 @@ fn tell_any_of<'i>(
     note(alloc, mode, "anyOf", text, answer)
 }
 
-/// `anyOf`: asks whether one child accepts; where units are wanted, asks each child for its own.
+/// Takes a turn of `anyOf`, which holds if at least one child accepts.
+///
+/// If units are requested, then each child is evaluated for its own.
 #[inline(always)]
 pub fn turn_any_of<'s, 'i>(
     alloc: Global,

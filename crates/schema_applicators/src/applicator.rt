@@ -1,4 +1,4 @@
-//! The applicators.
+//! The keywords, and their implementation of `Validate`.
 ghost use Rattle.std.specs.Prelude.{◌≡◌};
 
 use crate::all_of::turn_all_of;
@@ -14,23 +14,24 @@ use serde_json::Value;
 use std::alloc::Global;
 use std::marker::Model;
 
-/// A keyword that applies schemas at the instance's own place. Its children are named by the numbers of the requests that its maker
-/// made.
+/// A keyword that applies schemas at the instance's own place.
+///
+/// A child is identified by the number of the request for it that the keyword's maker made.
 #[derive(Drop)]
 pub enum Applicator {
-    /// How many schemas there are.
+    /// The number of schemas.
     AllOf(usize),
-    /// How many schemas there are.
+    /// The number of schemas.
     AnyOf(usize),
-    /// How many schemas there are.
+    /// The number of schemas.
     OneOf(usize),
-    /// The schema.
+    /// The schema, which the error's text shows.
     Not(Value),
-    /// The number of the child under `then`, and of that under `else`, where there is one.
+    /// The numbers of the children for `then` and `else`, if they are present.
     If(Option<usize>, Option<usize>),
 }
 
-/// What is known of an applicator apart from its representation; it holds no value.
+/// A model of keywords without their representation; the type itself is never used as a value.
 #[derive(Drop)]
 pub struct Shape {}
 

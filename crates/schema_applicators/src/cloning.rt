@@ -1,4 +1,4 @@
-//! Clones of applicators.
+//! Clones of the keywords.
 ghost use Rattle.std.specs.Prelude.{◌≡◌};
 ghost use Rattle.schema_applicators.specs.Shapes.{shape_of};
 
@@ -9,7 +9,11 @@ use std::alloc::AllocError;
 impl Clone for Applicator {
     ghost is_clone = { λ keyword copy. shape_of copy ≡ shape_of keyword };
 
-    /// Returns a clone of the keyword. Fails only if memory cannot be allocated.
+    /// Returns a clone of the keyword.
+    ///
+    /// # Errors
+    ///
+    /// Out of memory.
     fn clone(&self) -> Result<Applicator, AllocError> {
         match self {
             Applicator::AllOf(count) => Ok(Applicator::AllOf(*count)),

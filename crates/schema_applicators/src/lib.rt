@@ -1,6 +1,8 @@
-//! The keywords that apply schemas at the instance's own place: `allOf`, `anyOf`, `oneOf`, `not` and `if`, and their table. What each
-//! of them means is a definition of its own (`specs/AllOf`, `specs/AnyOf`, `specs/OneOf`, `specs/Not`, `specs/If`), and `meanings`
-//! says that the keywords mean that.
+//! The keywords that apply schemas at the instance's own place, and their table.
+//!
+//! They are `allOf`, `anyOf`, `oneOf`, `not` and `if`. The meaning of each is a definition of its
+//! own (`specs/AllOf`, `specs/AnyOf`, `specs/OneOf`, `specs/Not`, `specs/If`), and the module
+//! `meanings` states that the keywords have these meanings.
 #![tactic(auto)]
 
 pub mod all_of;

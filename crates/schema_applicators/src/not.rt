@@ -1,4 +1,4 @@
-//! `not`.
+//! The keyword `not`.
 ghost use Rattle.std.specs.Prelude.{◌≡◌, false, not, IfOk};
 ghost use Rattle.serde_json.specs.View.{view};
 ghost use Rattle.serde_json.specs.Written.{compact_text, has_float};
@@ -17,7 +17,7 @@ use schema_traits::keyword::{Answer, Below, Mode, Reply, Step};
 use serde_json::Value;
 use std::alloc::Global;
 
-/// The error's text.
+/// Returns the error's text.
 fn not_text(alloc: Global, schema: &Value, instance: Instance<'_>) -> Result<String, OutOfMemory>
     ensures text { IfOk result (λ text. has_float (view schema.now) ≡ false → ShowsText instance.entry
         (not_text (compact_text (view schema.now))) text) }
@@ -29,7 +29,7 @@ fn not_text(alloc: Global, schema: &Value, instance: Instance<'_>) -> Result<Str
     Ok(text)
 }
 
-/// Notes an error where the schema accepts.
+/// Reports an error if the schema accepts.
 fn tell_not<'i>(
     alloc: Global,
     schema: &Value,
@@ -53,7 +53,7 @@ fn tell_not<'i>(
     note(alloc, mode, "not", text, answer)
 }
 
-/// `not`: asks whether its child accepts, and refuses then.
+/// Takes a turn of `not`, which holds if its child refuses.
 #[inline(always)]
 pub fn turn_not<'s, 'i>(
     alloc: Global,

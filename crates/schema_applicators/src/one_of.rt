@@ -1,4 +1,4 @@
-//! `oneOf`.
+//! The keyword `oneOf`.
 ghost use Rattle.std.specs.Prelude.{true, IfOk};
 ghost use Rattle.schema_applicators.specs.Words.{many_text, one_of_tally};
 ghost use Rattle.keyword_authoring.specs.TextWords.{ShowsText};
@@ -15,7 +15,7 @@ use schema_reports::location::OutOfMemory;
 use schema_traits::keyword::{Answer, Below, Mode, Reply, Step};
 use std::alloc::Global;
 
-/// The error's text where more than one accepts.
+/// Returns the error's text if more than one child accepts.
 fn many_text(alloc: Global, instance: Instance<'_>) -> Result<String, OutOfMemory>
     ensures text { IfOk result (ShowsText instance.entry many_text) }
 {
@@ -24,7 +24,7 @@ fn many_text(alloc: Global, instance: Instance<'_>) -> Result<String, OutOfMemor
     Ok(text)
 }
 
-/// Notes an error where none accepts, or more than one.
+/// Reports an error if no child accepts, or if more than one does.
 fn tell_one_of<'i>(
     alloc: Global,
     accepted: usize,
@@ -50,7 +50,9 @@ fn tell_one_of<'i>(
     note(alloc, mode, "oneOf", text, answer)
 }
 
-/// `oneOf`: asks whether just one child accepts; where units are wanted, asks each child for its own.
+/// Takes a turn of `oneOf`, which holds if exactly one child accepts.
+///
+/// If units are requested, then each child is evaluated for its own.
 #[inline(always)]
 pub fn turn_one_of<'s, 'i>(
     alloc: Global,

@@ -1,4 +1,4 @@
-//! The table of the applicators.
+//! The table of the keywords.
 ghost use Rattle.std.specs.Prelude.{IfOk};
 ghost use Rattle.serde_json.specs.Find.{get_member};
 ghost use Rattle.serde_json.specs.View.{view};
@@ -18,14 +18,14 @@ use schema_traits::table::{KeywordOrigin, KeywordTable, MakerReply, MakerStep};
 use serde_json::{Map, Value};
 use std::alloc::Global;
 
-/// A table of the applicators, in each draft in which they are built in. No name is its own; a name that is none of theirs makes
-/// nothing.
+/// A table of `allOf`, `anyOf`, `oneOf`, `not` and `if`, in each draft that has them built in.
 ///
-/// A value of another shape than its keyword's is refused by an error that shows the value and is located at the keyword.
+/// The table owns no name, and makes nothing of any other name. If a value does not have the form
+/// that its keyword needs, it is refused; the error shows the value and is located at the keyword.
 #[derive(Drop)]
 pub struct ApplicatorTable {}
 
-/// The maker of a keyword with this value.
+/// Returns the maker of a keyword with this value.
 fn value_maker(
     alloc: Global,
     name: &str,
@@ -54,7 +54,7 @@ fn value_maker(
     Ok(ends(alloc, Ending::Nothing))
 }
 
-/// The maker of a member of an object, if there is one.
+/// Returns the maker of an object's member, which makes nothing if the member is missing.
 fn member_maker(
     alloc: Global,
     name: &str,

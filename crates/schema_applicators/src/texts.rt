@@ -1,4 +1,4 @@
-//! The text of an error.
+//! The text of an error that `anyOf` and `oneOf` share.
 ghost use Rattle.std.specs.Prelude.{IfOk};
 ghost use Rattle.schema_applicators.specs.Words.{none_text};
 ghost use Rattle.keyword_authoring.specs.TextWords.{ShowsText};
@@ -7,7 +7,7 @@ use schema_reports::instance::Instance;
 use schema_reports::location::OutOfMemory;
 use std::alloc::Global;
 
-/// The error's text where an instance fits no schema of a list.
+/// Returns the error's text for an instance that no schema of a list accepts.
 pub fn none_text(alloc: Global, name: &str, instance: Instance<'_>) -> Result<String, OutOfMemory>
     ensures text { IfOk result (ShowsText instance.entry (none_text name.now)) }
 {
