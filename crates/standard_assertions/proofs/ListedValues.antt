@@ -1,4 +1,4 @@
--- One value more of those that the text of `enum` shows.
+-- One more of the values that the text of `enum` shows.
 use Rattle.std.proofs.Common.{◌≡◌, ◌++◌, ◌∙◌, ◌||◌, Bool, List, append_assoc, false, refl, true, ℕ}
 use Rattle.serde_json.specs.Data.{Data, Items, item}
 use Rattle.serde_json.specs.Written.{compact_text, has_float, items_have_float}

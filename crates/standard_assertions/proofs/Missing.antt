@@ -1,4 +1,4 @@
--- Nothing is missing of two lists where nothing is missing of either.
+-- Nothing is missing of two lists if nothing is missing of either.
 use Rattle.std.proofs.Common.{[], refl, ◌&&◌, ◌++◌, ◌∷◌, ◌≡◌, List}
 use Rattle.theory_definitions.specs.Instance.{Text}
 use Rattle.schema_traits.specs.KeywordViews.{is_nil}

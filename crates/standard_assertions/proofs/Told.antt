@@ -1,4 +1,5 @@
--- A keyword that does not hold tells its one error, unless it is `dependentRequired`, which tells one for each name that is missing.
+-- A keyword that does not hold reports its one error; `dependentRequired` reports one for each
+-- missing name.
 use Rattle.std.proofs.Common.{[], Bool, false, refl, true, ◌∷◌, ◌≡◌}
 use Rattle.serde_json.specs.Data.{Data}
 use Rattle.theory_definitions.specs.Instance.{Subject, Text}

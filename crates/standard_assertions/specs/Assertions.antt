@@ -1,5 +1,6 @@
--- The keywords that assert by themselves: of each the name that its errors go by, of which instances it holds, and what its errors say.
--- Each but `dependentRequired` has one error where it does not hold. (Validation 2020-12, 6)
+-- The keywords that evaluate no schema: the name in their errors, the instances of which they hold,
+-- and the texts of their errors. Each has one error if it does not hold, except for
+-- `dependentRequired`. (Validation 2020-12, 6)
 use Rattle.std.specs.Prelude.{Bool, List, [], map, not, true, codes}
 use Rattle.serde_json.specs.Data.{Data}
 use Rattle.serde_json.specs.Find.{is_float}
@@ -18,7 +19,7 @@ use Rattle.standard_assertions.specs.Types.{fits, fits_one}
 use Rattle.standard_assertions.specs.declared.assertion.Assertion.{Assertion}
 use Rattle.standard_assertions.specs.declared.assertion.Assertion.TheVariants as assertion
 
--- a keyword, of which the values are known that it holds
+-- a keyword whose stored values are known
 abbrev pub Shape : Type 0
 Shape = Assertion Data
 
@@ -46,7 +47,7 @@ holds (assertion.Count kind limit) s = count_fits kind limit s
 holds assertion.UniqueItems s = has_distinct_items s
 holds (assertion.DependentRequired dependents) s = is_nil (missing_dependents dependents s)
 
--- what its one error says; `dependentRequired` has one for each name that is missing
+-- the text of its one error; `dependentRequired` has one for each missing name instead
 abbrev pub error_text : Shape → Subject → Text
 error_text (assertion.Type integers t) s = type_text t s
 error_text (assertion.Types integers ts) s = types_text ts s
@@ -59,12 +60,12 @@ error_text (assertion.Count kind limit) s = count_text kind limit s
 error_text assertion.UniqueItems s = distinct_text s
 error_text (assertion.DependentRequired dependents) s = []
 
--- what its errors say, in order: none where it holds
+-- the texts of its errors, in order: none if it holds
 abbrev pub error_texts : Shape → Subject → List Text
 error_texts (assertion.DependentRequired dependents) s = map required_text (missing_dependents dependents s)
 error_texts m s = unless (holds m s) (error_text m s)
 
--- whether no text of it shows a fraction of the schema
+-- whether none of its texts shows a fraction that the schema contains
 abbrev pub shows_no_fraction : Shape → Bool
 shows_no_fraction (assertion.Type integers t) = true
 shows_no_fraction (assertion.Types integers ts) = true

@@ -1,5 +1,6 @@
--- `dependentRequired` has an object as its value, the members of which are lists of names: where an object has a member of such a name, it
--- has to have those of the list as well, and each that it lacks is an error. What is no object is accepted. (Validation 2020-12, 6.5.4)
+-- The value of `dependentRequired` is an object whose members are lists of names. If an instance
+-- has a member of that name, then it must have those in the list too; each one that it lacks is an
+-- error. An instance that is no object is accepted. (Validation 2020-12, 6.5.4)
 use Rattle.std.specs.Prelude.{List, None, Option, Some, String, [], if◌then◌else◌, map, string_bytes, ◌++◌, ◌∷◌, ◌≡◌}
 use Rattle.std.specs.declared.alloc.Global.{Global}
 use Rattle.serde_json.specs.Data.{Data, Items, Members, item, member, no_items, no_members}
@@ -8,12 +9,12 @@ use Rattle.theory_definitions.specs.Instance.{Subject, Text}
 use Rattle.keyword_authoring.specs.Members.{has_member}
 use Rattle.standard_basics.specs.Words.{required_text}
 
--- the name, where the instance has no such member
+-- the name, if the instance has no such member
 abbrev pub missing_name : Option Text → Subject → List Text
 missing_name None s = []
 missing_name (Some k) s = if has_member k s then [] else k ∷ []
 
--- those of the names that the instance has no members of, in order
+-- those of the names that the instance lacks, in order
 abbrev pub missing_names : Items → Subject → List Text
 missing_names no_items s = []
 missing_names (item d ds) s = missing_name (as_str d) s ++ missing_names ds s
@@ -22,7 +23,7 @@ abbrev pub missing_of : Option Items → Subject → List Text
 missing_of None s = []
 missing_of (Some ds) s = missing_names ds s
 
--- those that a member of the instance wants, where the instance has it
+-- the missing names that a member of the instance requires, if the instance has that member
 abbrev pub wanted_by : Text → Data → Subject → List Text
 wanted_by k d s = if has_member k s then missing_of (as_array d) s else []
 
@@ -34,10 +35,11 @@ abbrev pub wanted_of : Option Members → Subject → List Text
 wanted_of None s = []
 wanted_of (Some ms) s = wanted_by_each ms s
 
--- the names that are missing, in the order of the value's members and then of their lists; one may be missing more than once
+-- the missing names, in the order of the value's members and then of their lists; a name may occur
+-- more than once
 abbrev pub missing_dependents : Data → Subject → List Text
 missing_dependents dependents s = wanted_of (as_object dependents) s
 
--- for each of these names the text of its error is added
+-- An error's text is appended for each of these names.
 abbrev pub AddsRequired : List Text → List (String Global) → List (String Global) → Type 0
 AddsRequired names old new = map string_bytes new ≡ map string_bytes old ++ map required_text names

@@ -1,6 +1,7 @@
--- A limit of numbers: a number is at least or at most the limit, or above or below it; what is no number is accepted.
--- In draft 4 `exclusiveMinimum` and `exclusiveMaximum` are truth values that stand beside `minimum` and `maximum`: where one is true, the
--- keyword beside it excludes its limit. (Validation 2020-12, 6.2.2 to 6.2.5; of draft 4, 5.1.2 and 5.1.3)
+-- A limit of numbers: a number must be at least or at most the limit, or above or below it. An
+-- instance that is no number is accepted. In draft 4 `exclusiveMinimum` and `exclusiveMaximum` are
+-- truth values beside `minimum` and `maximum`: if one is true, the keyword beside it excludes its
+-- limit. (Validation 2020-12, 6.2.2 to 6.2.5; of draft 4, 5.1.2 and 5.1.3)
 use Rattle.std.specs.Prelude.{Bool, None, Option, Some, codes, true, ◌++◌}
 use Rattle.serde_json.specs.Data.{Num}
 use Rattle.serde_json.specs.Find.{as_number}

@@ -1,6 +1,7 @@
--- What a member of a schema makes of these keywords, by its name and value, and for `minimum` and `maximum` of draft 4 by what stands beside
--- it. A draft that has not a name asks nothing of it: `const`, and `exclusiveMinimum` and `exclusiveMaximum` as keywords of their own, come
--- with draft 6, and `dependentRequired` with 2019-09. (Validation 2020-12, 6; of draft 4, 5)
+-- The keyword that a member of a schema makes, by its name and value, and for draft 4's `minimum`
+-- and `maximum` by the member beside it. A member makes nothing if its draft does not define its
+-- name: `const`, and `exclusiveMinimum` and `exclusiveMaximum` as keywords of their own, come with
+-- draft 6, and `dependentRequired` with 2019-09. (Validation 2020-12, 6; of draft 4, 5)
 use Rattle.std.specs.Prelude.{Bool, None, Option, Some, bytes_eq, codes, false, if◌then◌else◌, true}
 use Rattle.serde_json.specs.Data.{Data, Members}
 use Rattle.serde_json.specs.Find.{as_bool, get_member}
@@ -22,9 +23,10 @@ abbrev pub here_if : Option Shape → MadeHere Shape
 here_if None = here.Malformed
 here_if (Some m) = here.Keyword m children.Childless
 
--- ---- minimum and maximum
+-- ---- `minimum` and `maximum`
 
--- whether the truth value beside a limit of draft 4, where there is one, excludes the limit; nothing where it is no truth value
+-- whether the truth value beside a limit of draft 4, if it is present, excludes the limit; None for
+-- a value that is no truth value
 abbrev pub excludes : Option Data → Option Bool
 excludes None = Some false
 excludes (Some d) = as_bool d
@@ -34,19 +36,19 @@ limit_beside including excluding beside None d = here.MalformedBeside beside
 limit_beside including excluding beside (Some false) d = here_if (limit_made including d)
 limit_beside including excluding beside (Some true) d = here_if (limit_made excluding d)
 
--- a limit; in draft 4 that one that the member of this name beside it makes of it
+-- a limit, which in draft 4 depends on the member of this name beside it
 abbrev pub limit_here : LimitKind → LimitKind → Text → Draft → Members → Data → MadeHere Shape
 limit_here including excluding beside draft object d =
     if is_draft_4 draft then limit_beside including excluding beside (excludes (get_member beside object)) d else here_if (limit_made including d)
 
--- ---- uniqueItems, which asserts nothing where it is false
+-- ---- `uniqueItems`, which asserts nothing if it is false
 
 abbrev pub unique_made : Option Bool → MadeHere Shape
 unique_made None = here.Malformed
 unique_made (Some true) = here.Keyword assertion.UniqueItems children.Childless
 unique_made (Some false) = here.Nothing
 
--- ---- all of them
+-- ---- all assertions
 
 abbrev pub made_of_counts : Draft → Text → Data → MadeHere Shape
 made_of_counts draft name d =

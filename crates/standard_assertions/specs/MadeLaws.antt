@@ -1,4 +1,4 @@
--- A keyword that is made of a value without fractions shows none.
+-- A keyword that is made from a value without fractions shows none.
 use Rattle.std.proofs.Common.{ap}
 use Rattle.std.specs.Prelude.{Bool, List, None, Option, Some, [], bytes_eq, codes, false, if◌then◌else◌, is_some, not, option_map, refl, true, ◌≡◌}
 use Rattle.serde_json.specs.Data.{Data, Members, Num, array, boolean, null, number, object, string, unsigned}
@@ -21,7 +21,7 @@ use Rattle.standard_assertions.specs.declared.sizes.SizeKind.{SizeKind}
 use Rattle.standard_assertions.specs.declared.sizes.SizeKind.TheVariants as size
 use Rattle.standard_assertions.specs.declared.types.Integers.{Integers}
 
--- the keyword, if there is one, shows no fraction where the value holds none
+-- If the value contains no fraction, then the keyword, if there is one, shows none.
 abbrev IsWholeBy : Data → Option Shape → Type 0
 IsWholeBy d None = Unit {0}
 IsWholeBy d (Some m) = has_float d ≡ false → shows_no_fraction m ≡ true

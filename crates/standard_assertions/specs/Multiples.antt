@@ -1,5 +1,6 @@
--- A number is a multiple where its quotient by the divisor is an integer; what is no number is accepted. The quotient of two integers is
--- exact; where a fraction is among the two, it is rounded to a float first, as programs do. (Validation 2020-12, 6.2.1)
+-- A number is a multiple if its quotient by the divisor is an integer. An instance that is no
+-- number is accepted. The quotient of two integers is exact; if one of the two has a fraction, the
+-- quotient is rounded to a float first, as is common in programs. (Validation 2020-12, 6.2.1)
 use Rattle.std.specs.Prelude.{Bool, None, Option, Some, codes, true, ◌++◌}
 use Rattle.serde_json.specs.Data.{Num}
 use Rattle.serde_json.specs.Find.{as_number}

@@ -1,4 +1,4 @@
--- A number of JSON is stored as the value that it is. (RFC 8259, 6)
+-- A JSON number is stored as the value that it is. (RFC 8259, 6)
 use Rattle.std.specs.Prelude.{refl, ◌≡◌}
 use Rattle.std.specs.Coded.{Coded, code_by}
 use Rattle.serde_json.specs.Data.{Data, Num, number, unsigned}

@@ -1,4 +1,4 @@
--- What is known of a keyword of the engine that asserts by itself: the keyword.
+-- The shape of an assertion as the engine sees it: the keyword itself.
 use Rattle.keyword_authoring.specs.declared.leaves.Telling.{Telling}
 use Rattle.standard_assertions.specs.Assertions.{Shape}
 

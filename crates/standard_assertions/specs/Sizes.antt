@@ -1,5 +1,5 @@
--- A limit of sizes: of the items of a list, or of the members of an object. What is neither is accepted.
--- (Validation 2020-12, 6.4.1, 6.4.2 and 6.5.1)
+-- A limit of sizes: of the items of a list, or of the members of an object. An instance that is
+-- neither is accepted. (Validation 2020-12, 6.4.1, 6.4.2 and 6.5.1)
 use Rattle.std.specs.Prelude.{Bool, None, Option, Some, codes, decimal, if◌then◌else◌, nat_le, option_map, true, ℕ, ◌++◌, ◌==◌}
 use Rattle.theory_definitions.specs.Instance.{Subject, Text}
 use Rattle.theory_definitions.specs.Meaning.{subject_text}
@@ -13,7 +13,7 @@ size_name kind.MinItems = codes "minItems"
 size_name kind.MaxItems = codes "maxItems"
 size_name kind.MaxProperties = codes "maxProperties"
 
--- how many items or members there are, where they are counted
+-- the number of items or members, if the keyword counts them
 abbrev pub size_of : SizeKind → Subject → Option ℕ
 size_of kind.MinItems s = if is_list s then Some (item_count s) else None
 size_of kind.MaxItems s = if is_list s then Some (item_count s) else None

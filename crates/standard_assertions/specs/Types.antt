@@ -1,6 +1,7 @@
--- Of which type a value is, as its draft has it. In draft 4 an integer is a number that is written with no fraction and no exponent; from
--- draft 6 on it is a number whose fraction is zero, so that 1.0 is one. A name is a text.
--- (Core 2020-12, 4.2.1; Validation 2020-12, 6.1.1; Core of draft 4, 3.5; Validation of draft 6, 6.25)
+-- The type of a value, as its draft defines it. In draft 4 an integer is a number that is written
+-- with no fraction and no exponent. From draft 6 on it is a number whose fraction is zero, so that
+-- 1.0 is one. A name counts as a text. (Core 2020-12, 4.2.1; Validation 2020-12, 6.1.1; Core of
+-- draft 4, 3.5; Validation of draft 6, 6.25)
 use Rattle.std.specs.List.{list_any}
 use Rattle.std.specs.Prelude.{Bool, List, false, option_map, unwrap_or}
 use Rattle.serde_json.specs.Data.{Data}
@@ -28,6 +29,6 @@ fits integers.Valued type.Text s = written.fits type.Text s
 fits integers.Valued type.Array s = written.fits type.Array s
 fits integers.Valued type.Object s = written.fits type.Object s
 
--- one of the types is the value's
+-- whether the value has one of the types
 abbrev pub fits_one : Integers → List TypeName → Subject → Bool
 fits_one integers ts s = list_any (λ t. fits integers t s) ts

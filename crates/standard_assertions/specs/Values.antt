@@ -1,5 +1,5 @@
--- What the values of these keywords make, as their draft reads them; nothing where a value is malformed. (Validation 2020-12, 6; of drafts 4
--- and 6, 5 and 6)
+-- The keyword that a value makes, as its draft reads the value: none if the value is malformed.
+-- (Validation 2020-12, 6; of drafts 4 and 6, 5 and 6)
 use Rattle.std.specs.Prelude.{Bool, None, Option, Some, false, if◌then◌else◌, is_some, option_and_then, option_map, ℕ, ◌&&◌, true}
 use Rattle.serde_json.specs.Data.{Data, Items, Members, Num, array, item, member, no_items, no_members, string, unsigned}
 use Rattle.serde_json.specs.Find.{as_array, as_number, as_object, as_str, as_u64}
@@ -14,23 +14,26 @@ use Rattle.standard_assertions.specs.declared.sizes.SizeKind.{SizeKind}
 use Rattle.standard_assertions.specs.declared.types.Integers.{Integers}
 use Rattle.standard_assertions.specs.declared.types.Integers.TheVariants as integers
 
--- the draft whose numbers are taken as they are written: 1.0 is no integer there, and no limit of sizes or counts
+-- whether the draft takes numbers as they are written: in draft 4, 1.0 is no integer and no limit
+-- of sizes or counts
 abbrev pub is_draft_4 : Draft → Bool
 is_draft_4 draft_4 = true
 is_draft_4 _ = false
 
--- ---- type
+-- ---- `type`
 
 abbrev pub integers_of : Draft → Integers
 integers_of draft = if is_draft_4 draft then integers.Written else integers.Valued
 
--- one name, or a list of names; an empty list is accepted, and no instance is of one of its types
+-- one name, or a list of names; an empty list is accepted, and then no instance has one of its
+-- types
 abbrev pub type_made : Integers → Data → Option Shape
 type_made integers (string t) = option_map (assertion.Type integers) (type_named t)
 type_made integers (array ds) = option_map (assertion.Types integers) (types_of ds)
 type_made integers _ = None
 
--- ---- enum, whose value is a list; an empty one is accepted, and no instance is one of its values
+-- ---- `enum`, whose value is a list; an empty one is accepted, and no instance equals one of its
+-- values
 
 abbrev pub enum_made : Data → Option Shape
 enum_made d = if is_some (as_array d) then Some (assertion.Enum d) else None
@@ -49,7 +52,8 @@ multiple_made d = option_map assertion.MultipleOf (option_and_then divisor (as_n
 
 -- ---- sizes and counts
 
--- a limit of sizes or counts is a natural number, however it is written, so that 2.0 is 2; in draft 4 one that is written as such
+-- a limit of sizes or counts is a natural number in any notation, so that 2.0 is 2; in draft 4 it
+-- must be written as a natural number
 abbrev pub size_limit : Draft → Data → Option ℕ
 size_limit draft d = if is_draft_4 draft then option_and_then as_u64 (as_number d) else option_and_then natural_of (as_number d)
 
@@ -59,7 +63,7 @@ size_made kind draft d = option_map (assertion.Size kind) (size_limit draft d)
 abbrev pub count_made : CountKind → Draft → Data → Option Shape
 count_made kind draft d = option_map (assertion.Count kind) (size_limit draft d)
 
--- ---- dependentRequired
+-- ---- `dependentRequired`
 
 abbrev pub are_texts : Items → Bool
 are_texts no_items = true

@@ -1,4 +1,4 @@
-//! The keywords that assert by themselves, as one type.
+//! The assertions as one keyword type.
 ghost use Rattle.std.specs.Prelude.{◌≡◌, ◌∷◌, [], IfOk, string_bytes, true};
 ghost use Rattle.schema_reports.specs.InstanceViews.{subject_of};
 ghost use Rattle.standard_assertions.specs.Assertions.{error_text, holds, shows_no_fraction};
@@ -25,8 +25,10 @@ use standard_basics::type_names::TypeName;
 use standard_basics::types::{type_text, types_text};
 use std::alloc::Global;
 
-/// A keyword that asserts by itself, with `V` for each value of the schema that it holds. It holds of each instance that is of another
-/// type than the keyword speaks of.
+/// A keyword that evaluates no schema, such as `type` or `minimum`.
+///
+/// `V` is the type of each value of the schema that it stores. A keyword holds of each instance to
+/// whose type it does not apply.
 #[derive(Drop)]
 pub enum Assertion<V = HeldValue> {
     /// `type` with one name.
@@ -41,21 +43,25 @@ pub enum Assertion<V = HeldValue> {
     Limit(LimitKind, HeldNumber),
     /// `multipleOf`, with its divisor.
     MultipleOf(HeldNumber),
-    /// A keyword that limits how many items or members there are, with its limit.
+    /// A keyword that limits the number of items or members, with its limit.
     Size(SizeKind, u64),
-    /// A keyword that limits how many characters or members there are, with its limit.
+    /// A keyword that limits the number of characters or members, with its limit.
     Count(CountKind, u64),
-    /// `uniqueItems` that is true.
+    /// `uniqueItems` with the value `true`.
     UniqueItems,
     /// `dependentRequired`, with its value: an object of lists of names.
     DependentRequired(V),
 }
 
-/// Of more items than these `uniqueItems` is not told at once, since without memory each pair of them would be compared.
+/// The largest number of items for which `uniqueItems` has a verdict at once.
+///
+/// That verdict allocates nothing, and so compares each pair of items.
 const FEW: usize = 8;
 
 impl Assertion {
-    /// Whether it holds of an instance, found without memory: `uniqueItems` compares each pair of items.
+    /// Returns whether the keyword holds of an instance, and allocates nothing.
+    ///
+    /// Therefore `uniqueItems` compares each pair of items.
     fn holds_by_pairs(&self, instance: Instance<'_>) -> bool
         ensures holds { result ≡ holds self.now (subject_of instance.entry) }
     {
@@ -73,7 +79,9 @@ impl Assertion {
         }
     }
 
-    /// The text of the keyword's one error; of `dependentRequired`, which has an error for each name that is missing, none.
+    /// Returns the text of the keyword's one error.
+    ///
+    /// It is empty for `dependentRequired`, which has an error for each missing name.
     fn text(&self, alloc: Global, instance: Instance<'_>) -> Result<String, OutOfMemory>
         ensures text { IfOk result (λ text. shows_no_fraction self.now ≡ true → ShowsText instance.entry (error_text self.now) text) }
     {
@@ -92,7 +100,6 @@ impl Assertion {
     }
 }
 
-/// The one text, as a list.
 fn one_text(alloc: Global, text: String) -> Result<Vec<String>, OutOfMemory>
     ensures one { ListsTexts result (string_bytes text ∷ []) }
 {

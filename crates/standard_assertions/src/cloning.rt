@@ -8,7 +8,11 @@ use std::alloc::AllocError;
 impl Clone for Assertion {
     ghost is_clone = { λ assertion copy. copy ≡ assertion };
 
-    /// Returns a clone of the assertion. Fails only if memory cannot be allocated.
+    /// Returns a clone of the assertion.
+    ///
+    /// # Errors
+    ///
+    /// Out of memory.
     fn clone(&self) -> Result<Assertion, AllocError> {
         match self {
             Assertion::Type(integers, name) => Ok(Assertion::Type(*integers, *name)),

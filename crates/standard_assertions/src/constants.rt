@@ -18,7 +18,7 @@ use schema_reports::location::OutOfMemory;
 use serde_json::Value;
 use std::alloc::Global;
 
-/// Whether an instance equals the constant.
+/// Returns whether an instance equals the constant.
 pub fn is_constant(constant: &HeldValue, instance: Instance<'_>) -> bool
     ensures constant { result ≡ is_constant constant.now (subject_of instance.entry) }
 {
@@ -28,11 +28,11 @@ pub fn is_constant(constant: &HeldValue, instance: Instance<'_>) -> bool
     }
 }
 
-/// The error's text for a constant, which it shows.
+/// Returns the error's text for a constant, which it shows.
 ///
 /// # Errors
 ///
-/// `OutOfMemory` if memory cannot be allocated.
+/// Out of memory.
 pub fn constant_text(alloc: Global, constant: &HeldValue) -> Result<String, OutOfMemory>
     ensures text { IfOk result (λ text. has_float constant.now ≡ false → string_bytes text ≡ constant_text constant.now) }
 {
@@ -41,7 +41,7 @@ pub fn constant_text(alloc: Global, constant: &HeldValue) -> Result<String, OutO
     Ok(text)
 }
 
-/// The items of a value, if it is a list.
+/// Returns the items of a list, or an empty slice for any other value.
 fn items_in(values: &HeldValue) -> &[Value]
     ensures items { items_view result.now ≡ items_in values.now }
 {
@@ -51,7 +51,6 @@ fn items_in(values: &HeldValue) -> &[Value]
     }
 }
 
-/// Whether a text is one of the values.
 fn is_text_among(text: &str, values: &[Value]) -> bool
     ensures among { result ≡ has_equal (string text.now) (items_view values.now) }
 {
@@ -63,7 +62,7 @@ fn is_text_among(text: &str, values: &[Value]) -> bool
     false
 }
 
-/// Whether an instance equals one of the values of a list.
+/// Returns whether an instance equals one of the values of a list.
 pub fn is_listed(values: &HeldValue, instance: Instance<'_>) -> bool
     ensures listed { result ≡ is_listed values.now (subject_of instance.entry) }
 {
@@ -73,11 +72,11 @@ pub fn is_listed(values: &HeldValue, instance: Instance<'_>) -> bool
     }
 }
 
-/// The error's text for a list of values, which it shows.
+/// Returns the error's text for a list of values, which it shows.
 ///
 /// # Errors
 ///
-/// `OutOfMemory` if memory cannot be allocated.
+/// Out of memory.
 pub fn listed_text(
     alloc: Global,
     values: &HeldValue,
@@ -91,7 +90,7 @@ pub fn listed_text(
     Ok(text)
 }
 
-/// Adds the values: ` or ` before the last, and `, ` before each other one but the first.
+/// Appends the values, with ` or ` before the last one and `, ` between the others.
 fn push_values(alloc: Global, values: &[Value], text: &mut String) -> Result<(), OutOfMemory>
     ensures pushed { IfOk result (λ _. items_have_float (items_view values.now) ≡ false → Adds (values_text (items_view values.now))
         text.old text.new) }
@@ -105,7 +104,7 @@ fn push_values(alloc: Global, values: &[Value], text: &mut String) -> Result<(),
     }
 }
 
-/// What stands between a value and the one before it, by those that come after.
+/// Returns the words between a value and the one before it, given the values that follow.
 fn parting(others: &[Value]) -> &'static str
     ensures parting { result.now ≡ parting (items_view others.now) }
 {
@@ -115,7 +114,7 @@ fn parting(others: &[Value]) -> &'static str
     }
 }
 
-/// Adds the values after the first.
+/// Appends the values after the first, each with the words before it.
 fn push_more(alloc: Global, values: &[Value], text: &mut String) -> Result<(), OutOfMemory>
     ensures pushed { IfOk result (λ _. items_have_float (items_view values.now) ≡ false → Adds (more_values (items_view values.now))
         text.old text.new) }
@@ -128,7 +127,6 @@ fn push_more(alloc: Global, values: &[Value], text: &mut String) -> Result<(), O
     Ok(())
 }
 
-/// Adds what stands before a value, and the value.
 fn push_value(
     alloc: Global,
     before: &str,
@@ -143,7 +141,7 @@ fn push_value(
     text.push_str(shown.as_str())
 }
 
-/// Whether an instance is no list, or a list no two items of which are equal, found without memory by comparing each pair of them.
+/// Like `has_distinct_items`, but allocates nothing, and so compares each pair of items.
 pub fn has_distinct_items_by_pairs(instance: Instance<'_>) -> bool
     ensures distinct { result ≡ has_distinct_items (subject_of instance.entry) }
 {
@@ -156,11 +154,11 @@ pub fn has_distinct_items_by_pairs(instance: Instance<'_>) -> bool
     }
 }
 
-/// Whether an instance is no list, or a list no two items of which are equal.
+/// Returns whether an instance has no two equal items, or is no list.
 ///
 /// # Errors
 ///
-/// `OutOfMemory` if memory cannot be allocated.
+/// Out of memory.
 pub fn has_distinct_items(alloc: Global, instance: Instance<'_>) -> Result<bool, OutOfMemory>
     ensures distinct { Yields result (has_distinct_items (subject_of instance.entry)) }
 {
@@ -173,11 +171,11 @@ pub fn has_distinct_items(alloc: Global, instance: Instance<'_>) -> Result<bool,
     }
 }
 
-/// The error's text for items that are not distinct.
+/// Returns the error's text for items that are not distinct.
 ///
 /// # Errors
 ///
-/// `OutOfMemory` if memory cannot be allocated.
+/// Out of memory.
 pub fn distinct_text(alloc: Global, instance: Instance<'_>) -> Result<String, OutOfMemory>
     ensures text { IfOk result (ShowsText instance.entry distinct_text) }
 {

@@ -16,7 +16,7 @@ use serde_json::{Map, Value};
 use standard_basics::required::required_text;
 use std::alloc::Global;
 
-/// Whether an instance has the members of these names. What is no text names none.
+/// Returns whether an instance has a member for each of the names; other values name nothing.
 #[tactic(auto, using(crate::proofs::Missing::either_missing))]
 fn has_each(names: &[Value], instance: Instance<'_>) -> bool
     ensures each { result ≡ is_nil (missing_names (items_view names.now) (subject_of instance.entry)) }
@@ -31,7 +31,7 @@ fn has_each(names: &[Value], instance: Instance<'_>) -> bool
     true
 }
 
-/// Whether an instance has the members that a list names.
+/// Returns whether an instance has a member for each name in a list.
 fn has_each_of(names: &Value, instance: Instance<'_>) -> bool
     ensures each { result ≡ is_nil (missing_of (as_array (view names.now)) (subject_of instance.entry)) }
 {
@@ -41,7 +41,7 @@ fn has_each_of(names: &Value, instance: Instance<'_>) -> bool
     }
 }
 
-/// Whether an instance has, for each of these members that it has, those that the member wants.
+/// Returns whether each of these members that an instance has comes with those that it requires.
 #[tactic(auto, using(crate::proofs::Missing::either_missing))]
 fn meets(dependents: &Map<String, Value>, instance: Instance<'_>) -> bool
     ensures meets { result ≡ is_nil (wanted_by_each (fields dependents.now) (subject_of instance.entry)) }
@@ -54,7 +54,7 @@ fn meets(dependents: &Map<String, Value>, instance: Instance<'_>) -> bool
     true
 }
 
-/// Whether no member is missing that a member of an instance wants.
+/// Returns whether an instance has all members that its own members require.
 pub fn has_dependents(dependents: &HeldValue, instance: Instance<'_>) -> bool
     ensures meets { result ≡ is_nil (missing_dependents dependents.now (subject_of instance.entry)) }
 {
@@ -64,7 +64,7 @@ pub fn has_dependents(dependents: &HeldValue, instance: Instance<'_>) -> bool
     }
 }
 
-/// Adds the text of the error of each name that an instance has no member of.
+/// Appends an error's text for each of the names that the instance lacks.
 fn push_missing(
     alloc: Global,
     names: &[Value],
@@ -84,7 +84,7 @@ fn push_missing(
     Ok(())
 }
 
-/// Adds the text of the error of each name that a list has and an instance has no member of.
+/// Appends an error's text for each name in a list that the instance lacks.
 fn push_missing_of(
     alloc: Global,
     names: &Value,
@@ -100,7 +100,7 @@ fn push_missing_of(
     }
 }
 
-/// Adds the text of the error of each member that a member of an instance wants and the instance has not.
+/// Appends an error's text for each missing name that a member of the instance requires.
 fn push_wanted(
     alloc: Global,
     dependents: &Map<String, Value>,
@@ -118,11 +118,11 @@ fn push_wanted(
     Ok(())
 }
 
-/// The texts of the errors, one for each name that is missing.
+/// Returns the texts of the errors, one for each missing name.
 ///
 /// # Errors
 ///
-/// `OutOfMemory` if memory cannot be allocated.
+/// Out of memory.
 pub fn missing_texts(
     alloc: Global,
     dependents: &HeldValue,

@@ -1,5 +1,7 @@
-//! The keywords of JSON Schema Validation that assert by themselves: `type`, `const`, `enum`, the limits of numbers, `multipleOf`, the
-//! limits of sizes, `uniqueItems` and `dependentRequired`, as one keyword type with the table that makes them.
+//! The keywords of JSON Schema Validation that evaluate no schema, and their table.
+//!
+//! They are `type`, `const`, `enum`, the limits of numbers, `multipleOf`, the limits of sizes,
+//! `uniqueItems` and `dependentRequired`, as one keyword type.
 #![tactic(auto)]
 
 pub mod assertion;

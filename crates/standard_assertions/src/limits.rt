@@ -1,4 +1,6 @@
-//! `minimum`, `maximum`, `exclusiveMinimum` and `exclusiveMaximum` (JSON Schema Validation 2020-12, 6.2.2 to 6.2.5).
+//! The limits of numbers (JSON Schema Validation 2020-12, 6.2.2 to 6.2.5).
+//!
+//! They are `minimum`, `maximum`, `exclusiveMinimum` and `exclusiveMaximum`.
 ghost use Rattle.std.specs.Prelude.{◌≡◌, IfOk, false};
 ghost use Rattle.serde_json.specs.Find.{is_float};
 ghost use Rattle.serde_json.specs.View.{number_view};
@@ -27,7 +29,7 @@ pub enum LimitKind {
 }
 
 impl LimitKind {
-    /// The keyword's name.
+    /// Returns the keyword's name.
     pub fn name(self) -> &'static str
         ensures name { result.now ≡ limit_name self }
     {
@@ -39,7 +41,7 @@ impl LimitKind {
         }
     }
 
-    /// What stands before the limit in the error's text.
+    /// Returns the words before the limit in the error's text.
     fn words(self) -> &'static str
         ensures words { result.now ≡ limit_words self }
     {
@@ -55,7 +57,7 @@ impl LimitKind {
         }
     }
 
-    /// Whether a number is on the right side of the limit.
+    /// Returns whether a number is on the right side of the limit.
     fn is_within(self, limit: &Number, number: &Number) -> bool
         ensures within { result ≡ is_within self (number_view limit.now) (number_view number.now) }
     {
@@ -68,7 +70,7 @@ impl LimitKind {
     }
 }
 
-/// Whether an instance keeps a limit: it is no number, or a number on the right side of it.
+/// Returns whether an instance is on the right side of a limit, or is no number.
 pub fn keeps_limit(kind: LimitKind, limit: &HeldNumber, instance: Instance<'_>) -> bool
     ensures keeps { result ≡ keeps_limit kind limit.now (subject_of instance.entry) }
 {
@@ -81,11 +83,11 @@ pub fn keeps_limit(kind: LimitKind, limit: &HeldNumber, instance: Instance<'_>) 
     }
 }
 
-/// The error's text.
+/// Returns the error's text.
 ///
 /// # Errors
 ///
-/// `OutOfMemory` if memory cannot be allocated.
+/// Out of memory.
 pub fn limit_text(
     alloc: Global,
     kind: LimitKind,

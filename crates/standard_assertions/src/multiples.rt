@@ -11,8 +11,10 @@ use schema_reports::instance::Instance;
 use schema_reports::location::OutOfMemory;
 use std::alloc::Global;
 
-/// Whether an instance is no number, or a multiple of the divisor: a quotient of integers is exact, and one in which a fraction
-/// takes part is rounded to a float before it is asked whether it is an integer.
+/// Returns whether an instance is a multiple of the divisor, or is no number.
+///
+/// The quotient of two integers is exact. If one of the two has a fraction, then the quotient is
+/// rounded to a float, which must be an integer.
 pub fn is_multiple(divisor: &HeldNumber, instance: Instance<'_>) -> bool
     ensures multiple { result ≡ is_multiple divisor.now (subject_of instance.entry) }
 {
@@ -25,11 +27,11 @@ pub fn is_multiple(divisor: &HeldNumber, instance: Instance<'_>) -> bool
     }
 }
 
-/// The error's text.
+/// Returns the error's text.
 ///
 /// # Errors
 ///
-/// `OutOfMemory` if memory cannot be allocated.
+/// Out of memory.
 pub fn multiple_text(
     alloc: Global,
     divisor: &HeldNumber,

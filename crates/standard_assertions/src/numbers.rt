@@ -9,8 +9,9 @@ use serde_json::{Number, Value};
 use std::alloc::{AllocError, Global};
 use std::marker::Model;
 
-/// A number that is kept, as a keyword keeps its limit. Contracts see the number alone, so that a keyword that holds one is its
-/// own shape.
+/// A number that a keyword stores, such as its limit.
+///
+/// Contracts see only the number, so that a keyword that stores one is its own shape.
 #[derive(Drop)]
 pub struct HeldNumber {
     number: Number,
@@ -29,7 +30,7 @@ impl Model for HeldNumber {
 }
 
 impl HeldNumber {
-    /// The number that a value is, if it is one.
+    /// Returns the number if the value is one.
     pub fn of(value: &Value) -> Option<HeldNumber>
         ensures held { result ≡ as_number (view value.now) }
     {
@@ -39,18 +40,18 @@ impl HeldNumber {
         }
     }
 
-    /// The number.
+    /// Returns the number.
     pub fn as_number(&self) -> &Number
         ensures number { number_view result.now ≡ self.now }
     {
         &self.number
     }
 
-    /// The number as it is written in compact JSON. Nothing is said of the digits of a fraction.
+    /// Returns the number as compact JSON; the contract does not cover the digits of a fraction.
     ///
     /// # Errors
     ///
-    /// `OutOfMemory` if memory cannot be allocated.
+    /// Out of memory.
     pub fn text(&self, alloc: Global) -> Result<String, OutOfMemory>
         ensures text { IfOk result (λ s. is_float self.now ≡ false → string_bytes s ≡ number_text self.now) }
     {

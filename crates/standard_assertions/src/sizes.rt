@@ -1,4 +1,5 @@
-//! `minItems`, `maxItems` and `maxProperties` (JSON Schema Validation 2020-12, 6.4.1, 6.4.2 and 6.5.1).
+//! `minItems`, `maxItems` and `maxProperties` (JSON Schema Validation 2020-12, 6.4.1, 6.4.2,
+//! 6.5.1).
 ghost use Rattle.std.specs.Prelude.{◌≡◌, ◌==◌, IfOk, None, Some, if◌then◌else◌};
 ghost use Rattle.schema_reports.specs.InstanceViews.{subject_of};
 ghost use Rattle.keyword_authoring.specs.Items.{is_list, item_count};
@@ -11,7 +12,7 @@ use schema_reports::location::OutOfMemory;
 use standard_basics::counts::{members_count, push_decimal};
 use std::alloc::Global;
 
-/// A keyword that limits how many items or members there are.
+/// A keyword that limits the number of items or members.
 #[derive(Clone, Copy)]
 pub enum SizeKind {
     MinItems,
@@ -20,7 +21,7 @@ pub enum SizeKind {
 }
 
 impl SizeKind {
-    /// The keyword's name.
+    /// Returns the keyword's name.
     pub fn name(self) -> &'static str
         ensures name { result.now ≡ size_name self }
     {
@@ -31,7 +32,7 @@ impl SizeKind {
         }
     }
 
-    /// What stands before the limit in the error's text.
+    /// Returns the words before the limit in the error's text.
     fn words(self) -> &'static str
         ensures words { result.now ≡ size_words self }
     {
@@ -42,7 +43,7 @@ impl SizeKind {
         }
     }
 
-    /// What stands after the limit.
+    /// Returns the words after the limit.
     fn counted(self, limit: u64) -> &'static str
         ensures counted { result.now ≡ (if limit == 1 then one_counted self else many_counted self) }
     {
@@ -61,7 +62,6 @@ impl SizeKind {
         }
     }
 
-    /// Whether so many are allowed.
     fn allows(self, limit: u64, size: usize) -> bool
         ensures allows { result ≡ allows self limit size }
     {
@@ -72,7 +72,7 @@ impl SizeKind {
         }
     }
 
-    /// How many items or members an instance has, where they are counted.
+    /// Returns the number of items or members, or `None` if the keyword does not apply.
     fn size_of(self, instance: Instance<'_>) -> Option<usize>
         ensures size { result ≡ size_of self (subject_of instance.entry) }
     {
@@ -84,7 +84,7 @@ impl SizeKind {
     }
 }
 
-/// How many items an instance has, where it is a list.
+/// Returns the number of items if the instance is a list.
 fn items_count(instance: Instance<'_>) -> Option<usize>
     ensures count { result ≡ (if is_list (subject_of instance.entry) then Some (item_count (subject_of instance.entry)) else None) }
 {
@@ -95,7 +95,7 @@ fn items_count(instance: Instance<'_>) -> Option<usize>
     }
 }
 
-/// Whether an instance has as many items or members as are allowed; what has none of them is accepted.
+/// Returns whether the limit allows the instance's size, or the keyword does not apply.
 pub fn size_fits(kind: SizeKind, limit: u64, instance: Instance<'_>) -> bool
     ensures fits { result ≡ size_fits kind limit (subject_of instance.entry) }
 {
@@ -105,11 +105,11 @@ pub fn size_fits(kind: SizeKind, limit: u64, instance: Instance<'_>) -> bool
     }
 }
 
-/// The error's text.
+/// Returns the error's text.
 ///
 /// # Errors
 ///
-/// `OutOfMemory` if memory cannot be allocated.
+/// Out of memory.
 pub fn size_text(
     alloc: Global,
     kind: SizeKind,

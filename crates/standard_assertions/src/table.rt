@@ -1,4 +1,4 @@
-//! The table that makes the keywords that assert by themselves.
+//! The table that makes the assertions.
 ghost use Rattle.std.specs.Prelude.{◌≡◌};
 ghost use Rattle.serde_json.specs.Find.{as_bool, get_member};
 ghost use Rattle.serde_json.specs.View.{view};
@@ -28,10 +28,10 @@ use serde_json::{Map, Value};
 use standard_basics::counts::CountKind;
 use std::alloc::Global;
 
-/// What a member of an object makes.
+/// The keyword that a member of an object makes.
 type Made = ObjectKeyword<Telling<Assertion>>;
 
-/// A keyword without children, or a refusal of its value.
+/// Returns a keyword without children, or a refusal of its value.
 fn here_if(made: Option<Assertion>) -> Made
     ensures here { formed shape_of result ≡ here_if made }
 {
@@ -41,7 +41,9 @@ fn here_if(made: Option<Assertion>) -> Made
     }
 }
 
-/// Whether the truth value beside a limit of draft 4, where there is one, excludes the limit; nothing where it is no truth value.
+/// Returns whether the truth value beside a limit of draft 4 excludes the limit.
+///
+/// A missing value does not exclude it. Returns `None` for a value that is no truth value.
 fn excludes(object: &Map<String, Value>, beside: &str) -> Option<bool>
     ensures excludes { result ≡ excludes (get_member beside.now (fields object.now)) }
 {
@@ -51,7 +53,7 @@ fn excludes(object: &Map<String, Value>, beside: &str) -> Option<bool>
     }
 }
 
-/// `minimum` or `maximum`, by the member of a name beside it.
+/// Makes `minimum` or `maximum`, which in draft 4 depends on the member named `beside`.
 fn limit_here(
     including: LimitKind,
     excluding: LimitKind,
@@ -73,7 +75,7 @@ fn limit_here(
     }
 }
 
-/// `uniqueItems`.
+/// Makes `uniqueItems`.
 fn unique_made(value: &Value) -> Made
     ensures made { formed shape_of result ≡ unique_made (as_bool (view value.now)) }
 {
@@ -84,7 +86,7 @@ fn unique_made(value: &Value) -> Made
     }
 }
 
-/// A keyword that counts characters or members, and limits their count.
+/// Makes a keyword that limits the number of characters, or `minProperties`.
 fn made_of_counts(draft: Draft, name: &str, value: &Value) -> Made
     ensures made { formed shape_of result ≡ made_of_counts (draft_of draft) name.now (view value.now) }
 {
@@ -99,7 +101,7 @@ fn made_of_counts(draft: Draft, name: &str, value: &Value) -> Made
     }
 }
 
-/// A keyword that speaks of lists or of objects, or one of those that count.
+/// Makes a keyword for lists or objects, or one of `made_of_counts`.
 fn made_of_lists(
     alloc: Global,
     draft: Draft,
@@ -123,7 +125,7 @@ fn made_of_lists(
     }
 }
 
-/// A keyword that speaks of numbers, or one of the others.
+/// Makes a keyword for numbers, or one of `made_of_lists`.
 fn made_of_numbers(
     alloc: Global,
     draft: Draft,
@@ -164,8 +166,9 @@ fn made_of_numbers(
     }
 }
 
-/// The keywords that assert by themselves, by name and value, and for draft 4's `minimum` and `maximum` by what stands beside them.
-/// No name is the table's own.
+/// A table that makes an assertion from its name and value.
+///
+/// Draft 4's `minimum` and `maximum` depend on a member beside them too. The table owns no name.
 #[derive(Drop)]
 pub struct AssertionTable {}
 

@@ -10,16 +10,18 @@ use standard_basics::type_names::TypeName;
 use std::alloc::AllocError;
 use std::marker::Model;
 
-/// Which numbers are integers.
+/// The numbers that count as integers.
 #[derive(Clone, Copy)]
 pub enum Integers {
-    /// Those that are written with no fraction and no exponent, as draft 4 has it.
+    /// Those that are written with no fraction and no exponent, as in draft 4.
     Written,
-    /// Those whose value has no fraction, as every later draft has it: 1.0 is one.
+    /// Those whose value has no fraction, as in every later draft: 1.0 is one.
     Valued,
 }
 
-/// A list of types. Contracts see the types alone, so that a keyword that holds one is its own shape.
+/// A list of types.
+///
+/// Contracts see only the types, so that a keyword that stores one is its own shape.
 #[derive(Drop)]
 pub struct TypeList {
     pub names: Vec<TypeName>,
@@ -37,14 +39,18 @@ impl Model for TypeList {
 impl Clone for TypeList {
     ghost is_clone = { λ types copy. copy ≡ types };
 
-    /// Returns a clone of the list. Fails only if memory cannot be allocated.
+    /// Returns a clone of the list.
+    ///
+    /// # Errors
+    ///
+    /// Out of memory.
     fn clone(&self) -> Result<TypeList, AllocError> {
         let names = self.names.clone()?;
         Ok(TypeList { names })
     }
 }
 
-/// Whether an instance is of the type; a name is a text.
+/// Returns whether an instance has the type; a name counts as a text.
 pub fn fits(integers: Integers, name: TypeName, instance: Instance<'_>) -> bool
     ensures fits { result ≡ fits integers name (subject_of instance.entry) }
 {
@@ -57,7 +63,7 @@ pub fn fits(integers: Integers, name: TypeName, instance: Instance<'_>) -> bool
     }
 }
 
-/// Whether an instance is a number with no fraction.
+/// Returns whether an instance is a number with no fraction.
 fn is_integer(instance: Instance<'_>) -> bool
     ensures integer { result ≡ is_integer_valued (value_of (subject_of instance.entry)) }
 {
@@ -67,7 +73,7 @@ fn is_integer(instance: Instance<'_>) -> bool
     }
 }
 
-/// Whether an instance is of one of the types.
+/// Returns whether an instance has one of the types.
 pub fn fits_one(integers: Integers, types: &TypeList, instance: Instance<'_>) -> bool
     ensures fits { result ≡ fits_one integers types.now (subject_of instance.entry) }
 {

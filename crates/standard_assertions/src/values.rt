@@ -1,4 +1,4 @@
-//! The values of these keywords, as their draft reads them.
+//! The values of the assertions, as their draft reads them.
 ghost use Rattle.std.specs.Prelude.{◌≡◌};
 ghost use Rattle.serde_json.specs.Find.{as_array, as_number, as_object};
 ghost use Rattle.serde_json.specs.View.{items_view, view};
@@ -24,14 +24,14 @@ use standard_basics::counts::CountKind;
 use standard_basics::type_names::{type_named, types_of};
 use std::alloc::Global;
 
-/// Whether the draft takes numbers as they are written.
+/// Returns whether the draft takes numbers as they are written.
 pub fn is_draft_4(draft: Draft) -> bool
     ensures draft_4 { result ≡ is_draft_4 (draft_of draft) }
 {
     matches!(draft, Draft::Draft4)
 }
 
-/// Which numbers are integers in a draft.
+/// Returns the numbers that count as integers in a draft.
 pub fn integers_of(draft: Draft) -> Integers
     ensures integers { result ≡ integers_of (draft_of draft) }
 {
@@ -42,7 +42,7 @@ pub fn integers_of(draft: Draft) -> Integers
     }
 }
 
-/// `type`.
+/// Makes `type` from its value.
 pub fn type_made(
     alloc: Global,
     integers: Integers,
@@ -63,7 +63,7 @@ pub fn type_made(
     }
 }
 
-/// `enum`.
+/// Makes `enum` from its value.
 pub fn enum_made(alloc: Global, value: &Value) -> Result<Option<Assertion>, OutOfMemory>
     ensures made { Yields result (enum_made (view value.now)) }
 {
@@ -75,7 +75,7 @@ pub fn enum_made(alloc: Global, value: &Value) -> Result<Option<Assertion>, OutO
     }
 }
 
-/// A keyword that limits numbers.
+/// Makes a keyword that limits numbers from its value.
 pub fn limit_made(kind: LimitKind, value: &Value) -> Option<Assertion>
     ensures made { result ≡ limit_made kind (view value.now) }
 {
@@ -85,7 +85,7 @@ pub fn limit_made(kind: LimitKind, value: &Value) -> Option<Assertion>
     }
 }
 
-/// `multipleOf`.
+/// Makes `multipleOf` from its value.
 pub fn multiple_made(value: &Value) -> Option<Assertion>
     ensures made { result ≡ multiple_made (view value.now) }
 {
@@ -97,7 +97,7 @@ pub fn multiple_made(value: &Value) -> Option<Assertion>
     }
 }
 
-/// The limit of sizes or counts that a value is, as the draft reads it.
+/// Returns the limit of sizes or counts that a value is, as the draft reads it.
 fn size_limit(draft: Draft, value: &Value) -> Option<u64>
     ensures limit { result ≡ size_limit (draft_of draft) (view value.now) }
 {
@@ -111,7 +111,7 @@ fn size_limit(draft: Draft, value: &Value) -> Option<u64>
     }
 }
 
-/// A keyword that limits how many items or members there are.
+/// Makes a keyword that limits the number of items or members from its value.
 pub fn size_made(kind: SizeKind, draft: Draft, value: &Value) -> Option<Assertion>
     ensures made { result ≡ size_made kind (draft_of draft) (view value.now) }
 {
@@ -121,7 +121,7 @@ pub fn size_made(kind: SizeKind, draft: Draft, value: &Value) -> Option<Assertio
     }
 }
 
-/// A keyword that limits how many characters or members there are.
+/// Makes a keyword that limits the number of characters or members from its value.
 pub fn count_made(kind: CountKind, draft: Draft, value: &Value) -> Option<Assertion>
     ensures made { result ≡ count_made kind (draft_of draft) (view value.now) }
 {
@@ -131,7 +131,6 @@ pub fn count_made(kind: CountKind, draft: Draft, value: &Value) -> Option<Assert
     }
 }
 
-/// Whether these are texts.
 fn are_texts(values: &[Value]) -> bool
     ensures texts { result ≡ are_texts (items_view values.now) }
 {
@@ -143,7 +142,6 @@ fn are_texts(values: &[Value]) -> bool
     true
 }
 
-/// Whether a value is a list of texts.
 fn is_text_list(value: &Value) -> bool
     ensures list { result ≡ is_any_text_list (as_array (view value.now)) }
 {
@@ -153,7 +151,6 @@ fn is_text_list(value: &Value) -> bool
     }
 }
 
-/// Whether the value of each member is a list of texts.
 fn are_text_lists(members: &Map<String, Value>) -> bool
     ensures lists { result ≡ are_text_lists (fields members.now) }
 {
@@ -165,7 +162,7 @@ fn are_text_lists(members: &Map<String, Value>) -> bool
     true
 }
 
-/// `dependentRequired`.
+/// Makes `dependentRequired` from its value.
 pub fn dependents_made(alloc: Global, value: &Value) -> Result<Option<Assertion>, OutOfMemory>
     ensures made { Yields result (dependents_made (view value.now)) }
 {
@@ -177,7 +174,7 @@ pub fn dependents_made(alloc: Global, value: &Value) -> Result<Option<Assertion>
     }
 }
 
-/// Whether a value is an object whose members are lists of texts.
+/// Returns whether a value is an object whose members are lists of texts.
 fn has_text_lists(value: &Value) -> bool
     ensures lists { result ≡ has_text_lists (as_object (view value.now)) }
 {
