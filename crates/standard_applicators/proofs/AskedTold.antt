@@ -1,4 +1,4 @@
--- What is told at once that a keyword asks at items says whether it holds.
+-- The result of the questions that a keyword asks at items says whether the keyword holds.
 use Rattle.std.proofs.Common.{◌≡◌, ◌∙◌, ◌-◌, Bool, List, ap, length, min, ℕ}
 use Rattle.std.proofs.lemmas.List.Folds.{list_all-map}
 use Rattle.std.specs.List.{list_all}

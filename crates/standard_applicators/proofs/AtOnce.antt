@@ -1,4 +1,4 @@
--- The keywords that say at once whether they hold, where they do.
+-- The verdicts of the keywords that have one at once.
 use Rattle.std.proofs.Common.{Bool, None, Option, Some, ◌≡◌, ◌∙◌}
 use Rattle.std.specs.Prelude.{IfSome}
 use Rattle.theory_definitions.specs.Instance.{Subject}

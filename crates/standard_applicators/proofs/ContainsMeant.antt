@@ -1,4 +1,4 @@
--- What `contains` says is what the definition of it says.
+-- `contains` means what its definition says.
 use Rattle.std.proofs.Common.{◌≡◌, ◌∙◌, ◌↔◌, ℕ, zero, suc, ◌+◌, ◌≤◌, ◌++◌, ◌∷◌, [], List, Bool, true, false, Option, Some, None, ap, arith, inl, inr, map, min, nat_le, nat_lt, refl, subst, sym}
 use Rattle.std.proofs.Math.Nat.{le-min, min-le_right, min-eq_right}
 use Rattle.std.proofs.lemmas.Bool.{le-leb, leb-true, lt-leb, cases_lt}
@@ -19,7 +19,7 @@ use Rattle.standard_applicators.specs.Meanings.{at_items, schema_at, verdict_in}
 use Rattle.standard_applicators.specs.OwnErrors.{OneUnless, own_error}
 use Rattle.standard_applicators.proofs.Meant.{nil_unless, one_unless}
 
--- ---- how many answers are yes
+-- ---- the number of answers that are yes
 
 one_counted : (b : Bool) (vs : List Bool) → counted b (how_many_fit vs) ≡ how_many_fit (b ∷ vs)
 one_counted true vs = omega arith
@@ -37,9 +37,10 @@ pub yes_within : (accepts : Question → Bool) (f : ℕ → Question) (i n : ℕ
 yes_within accepts f i zero = omega arith
 yes_within accepts f i (suc n) = counted_within (accepts (f i)) (yes_count accepts (each_from f (i + 1) n)) n (yes_within accepts f (i + 1) n)
 
--- ---- whether they are as many as are wanted
+-- ---- whether that number is within the limits
 
--- a run hears no more answers by yes than are enough; so many are heard of `met` ones, among `count` answers
+-- A run stops when it has heard enough answers that are yes: so many it has heard then, if `met` of
+-- `count` answers are yes.
 abbrev heard : ℕ → Option ℕ → ℕ → ℕ → ℕ
 heard least most count met = min (enough_of least most count) met
 
@@ -85,7 +86,7 @@ many_fit least most count met verdicts within is = (
   (λ h. (wanted_fits least most count met within).1 (subst (λ n. least ≤ n) (sym is) h.enough, subst (IsAtMost most) (sym is) h.not_too_many)),
 )
 
--- ---- how its error begins
+-- ---- the beginning of its error's text
 
 same_over : (least most count met : ℕ) → met ≤ count → nat_lt most (heard least (Some most) count met) ≡ nat_lt most met
 same_over least most count met within = elim (cases_lt most met) [
@@ -127,7 +128,7 @@ module _ (texts : Bool) (s : Subject) (matches : Matching) (text : ℕ → Text)
       (one_unless (spoken texts) (is_wanted least most (heard least most (item_count s) met)) _ (codes "contains") (text (heard least most (item_count s) met)) fits)
 
 module _ (texts : Bool) (s : Subject) (matches : Matching) where
-  -- as the instance is a list or none
+  -- by whether the instance is a list
   abbrev contains_way : Bool → ℕ → Option ℕ → Way
   contains_way is least most = spoken_way texts (way_by (codes "contains") (λ n. how_many least most n ++ rest_of s) s (if is then wanted least most else Holds true))
 

@@ -23,7 +23,7 @@ items_past zero xs h = absurd (omega arith)
 items_past (suc n) [] h = refl
 items_past (suc n) (x ∷ xs) h = items_past n xs (omega arith)
 
--- ---- they hold no fraction where the instance holds none
+-- ---- They contain no fraction if the instance contains none.
 
 or_right : (a b : Bool) → (a || b) ≡ false → b ≡ false
 or_right true b h = cc

@@ -1,4 +1,4 @@
--- What the keywords say is what the definitions of them say.
+-- The keywords mean what their definitions say.
 use Rattle.std.proofs.Common.{◌≡◌, ◌∙◌, ◌↔◌, ℕ, zero, suc, ◌+◌, ◌-◌, ◌<◌, ◌≤◌, ◌++◌, ◌∷◌, ◌&&◌, [], List, Bool, true, false, ap, arith, inl, inr, length, map, min, refl, subst, sym}
 use Rattle.std.proofs.Math.Nat.{eq-or-lt_of_le, le-min, min-le_left, min-le_right}
 use Rattle.std.proofs.lemmas.List.{map-append}
@@ -16,7 +16,7 @@ use Rattle.standard_applicators.specs.DependentSchemas.{EachDependentAccepts}
 use Rattle.standard_applicators.specs.ListedItems.{EachFitsItsOwn, EachLaterFits}
 use Rattle.standard_applicators.specs.OwnErrors.{OneUnless, own_error, passed_on}
 
--- ---- all of them
+-- ---- all keywords
 
 both : (a b : Bool) → a ≡ true → b ≡ true → (a && b) ≡ true
 both true b h k = k
@@ -89,7 +89,7 @@ module _ (accepts : Question → Bool) (s : Subject) where
   abbrev AcceptFrom : ℕ → List Text → Type 0
   AcceptFrom i ks = (name : Text) (before after : List Text) → ks ≡ before ++ name ∷ after → has_member name s ≡ true → accepts (child_here (i + length before)) ≡ true
 
-  -- the first one is asked where the instance has the member of its name
+  -- The first child is evaluated if the instance has the member of its name.
   asked_first : (b : Bool) (i : ℕ) (k : Text) (ks : List Text) → has_member k s ≡ b
       → list_all accepts (somes (only_if b (child_here i) ∷ dependents_from (i + 1) ks s)) ≡ true → has_member k s ≡ true → accepts (child_here i) ≡ true
   asked_first true i k ks e h here = first_of (accepts (child_here i)) _ h

@@ -1,4 +1,4 @@
--- The children that are asked from a number on.
+-- The children that are evaluated from a number on.
 use Rattle.std.proofs.Common.{ℕ, zero, suc, drop, add-zero, ap, arith, length, map, refl, sym, ◌≡◌, ◌∙◌, ◌+◌, List, [], ◌∷◌}
 use Rattle.std.proofs.lemmas.List.{drop-map}
 use Rattle.theory_definitions.specs.Instance.{Subject, Text}

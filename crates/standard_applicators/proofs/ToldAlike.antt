@@ -1,4 +1,4 @@
--- Where the texts of one list are those of another, place by place, they are one list.
+-- If the texts of two lists are equal, index by index, then the lists are equal.
 use Rattle.std.proofs.Common.{◌≡◌, List, [], ◌∷◌, map, refl, ap, ◌∙◌}
 use Rattle.std.specs.List.{AllZip}
 

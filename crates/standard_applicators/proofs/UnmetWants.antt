@@ -1,4 +1,4 @@
--- The errors of members that are missing, one after the other.
+-- The errors of missing members, one after the other.
 use Rattle.std.proofs.Common.{◌≡◌, ◌∙◌, ◌∷◌, ◌&&◌, ◌||◌, [], List, Bool, true, false, ap, codes, map, not, refl, sym}
 use Rattle.std.specs.List.{list_any}
 use Rattle.std.specs.Prelude.{Option, if◌then◌else◌}
@@ -56,7 +56,7 @@ module _ (texts : Bool) (s : Subject) where
     some_first true want wants e later h = ap told_of (texts_first want wants e) ∙ refused_each (codes "dependencies") a (told_texts texts s wants)
     some_first false want wants e later h = ap told_of (texts_later want wants e) ∙ later h
 
-    -- where one is unmet, the verdict is no
+    -- If a want is unmet, then the verdict is no.
     pub some_unmet : (wants : List (Text × Text)) → list_any (is_unmet s) wants ≡ true → told_of (told_texts texts s wants) ≡ refused a
     some_unmet [] h = cc
     some_unmet (want ∷ wants) h = some_first (is_unmet s want) want wants refl (some_unmet wants) h
@@ -67,7 +67,7 @@ module _ (texts : Bool) (s : Subject) where
     none_first true want wants e later h = cc
     none_first false want wants e later h = ap told_of (texts_later want wants e) ∙ later h
 
-    -- where none is, the answer stays
+    -- If none is unmet, then the answer does not change.
     pub none_unmet : (wants : List (Text × Text)) → list_any (is_unmet s) wants ≡ false → told_of (told_texts texts s wants) ≡ a
     none_unmet [] h = refl
     none_unmet (want ∷ wants) h = none_first (is_unmet s want) want wants refl (none_unmet wants) h
@@ -77,12 +77,12 @@ module _ (texts : Bool) (s : Subject) where
   any_first true want wants e later = ap (λ ts. not (is_nil ts)) (texts_first want wants e)
   any_first false want wants e later = ap (λ ts. not (is_nil ts)) (texts_later want wants e) ∙ later
 
-  -- there is an error to tell where one is unmet
+  -- There is an error to report if and only if a want is unmet.
   pub any_unmet : (wants : List (Text × Text)) → not (is_nil (told_texts texts s wants)) ≡ list_any (is_unmet s) wants
   any_unmet [] = refl
   any_unmet (want ∷ wants) = any_first (is_unmet s want) want wants refl (any_unmet wants)
 
-  -- so a first turn ends the run where one error is wanted
+  -- So a first turn ends the run if one error is enough.
   pub ends_so : (wants : List (Text × Text)) (stage : Stage) (m : Mode) (os : List (Option Question)) (e : Bool) → stage ≡ Begun → wants_one m ≡ true → e ≡ list_any (is_unmet s) wants
       → left_to_ask stage (ends_run m (told_texts texts s wants)) os ≡ (if e then [] else os)
   ends_so wants stage m os e begun one is = ap (λ x. left_to_ask x (ends_run m (told_texts texts s wants)) os) begun

@@ -1,4 +1,4 @@
--- What `dependencies` says is what the definition of it says.
+-- `dependencies` means what its definition says.
 use Rattle.std.proofs.Common.{◌≡◌, ◌∙◌, ◌↔◌, ◌++◌, ◌∷◌, ◌&&◌, [], List, Bool, true, false, ap, ap₂, codes, map, not, refl, sym}
 use Rattle.std.proofs.lemmas.List.Elements.{All-cons, All-head, All-nil, All-tail}
 use Rattle.std.specs.List.{list_all}
@@ -32,7 +32,7 @@ unmet_not true b h = ap not (h refl)
 unmet_not false b h = refl
 
 module _ (texts : Bool) (s : Subject) where
-  -- nothing is told where each is met
+  -- Nothing is reported only if each want is met.
   nothing_first : (b : Bool) (want : Text × Text) (wants : List (Text × Text)) → is_unmet s want ≡ b → (is_nil (told_texts texts s wants) ≡ true → EachWantIsMet wants s)
       → is_nil (told_texts texts s (want ∷ wants)) ≡ true → EachWantIsMet (want ∷ wants) s
   nothing_first true want wants e later h = let wrong : false ≡ true = sym (ap is_nil (texts_first texts s want wants e)) ∙ h in absurd (cc wrong)

@@ -1,5 +1,5 @@
--- `contains`: how many items of a list are to fit its schema, at least and at most. (Core 2020-12, 10.3.1.3; for `minContains` and
--- `maxContains` beside it Validation 2020-12, 6.4.4 and 6.4.5)
+-- `contains`: the least and the greatest number of items that may fit its schema. (Core 2020-12,
+-- 10.3.1.3; for `minContains` and `maxContains` beside it Validation 2020-12, 6.4.4 and 6.4.5)
 use Rattle.std.proofs.Common.{refl}
 use Rattle.std.specs.Prelude.{Bool, None, Option, Some, codes, decimal, if◌then◌else◌, is_some, nat_lt, not, true, ℕ, ◌++◌, ◌==◌, ◌≡◌}
 use Rattle.theory_definitions.specs.Instance.{Subject, Text}
@@ -16,14 +16,14 @@ abbrev pub wanted : ℕ → Option ℕ → Plan
 wanted least None = AtLeast asks.Items least
 wanted least (Some most) = Within asks.Items least most
 
--- what is no list is accepted
+-- An instance that is no list is accepted.
 abbrev pub planned : Contains → Subject → Plan
 planned k s = if is_list s then wanted k.least k.most else Holds true
 
 abbrev pub called : Contains → Text
 called k = codes "contains"
 
--- ---- its error's text, where so many items fit
+-- ---- the error's text, by the number of items that fit
 
 abbrev pub more_than : ℕ → Text
 more_than most = codes "More than " ++ (decimal most ++ codes " of ")
@@ -41,7 +41,7 @@ rest_of s = subject_text s ++ codes " are valid under the given schema"
 abbrev pub error_text : Contains → Subject → ℕ → Text
 error_text k s accepted = how_many k.least k.most accepted ++ rest_of s
 
--- ---- where there is no most, a yes more does no harm
+-- ---- Without a greatest number, one more fitting item does no harm.
 
 abbrev pub says_monotone : Contains → Bool
 says_monotone k = not (is_some k.most)

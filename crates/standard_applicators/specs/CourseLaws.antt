@@ -1,5 +1,5 @@
--- The laws of keywords that go about an instance by a course: what is left to show of a type is that each question is asked at a
--- place that is there.
+-- The laws of keywords that evaluate an instance by a course. Of each type of keyword it remains to
+-- be shown that each question is asked at a place that is present.
 use Rattle.std.proofs.Common.{◌≡◌, ◌∙◌, ℕ, zero, suc, ◌+◌, ◌<◌, ◌⊎◌, ◌&&◌, ◌++◌, ◌∷◌, [], List, Bool, true, false, Option, refl, sym, ap, subst, arith, map}
 use Rattle.std.specs.Prelude.{All, Contains, ◌↔◌}
 use Rattle.std.proofs.lemmas.List.Elements.{All-append, All-map, All-nil}
@@ -36,7 +36,7 @@ use Rattle.keyword_authoring.specs.declared.run.Stage.TheVariants.{Asked, Begun,
 use Rattle.standard_applicators.specs.CourseRuns.{IsCourseEnd, course_ends, course_falls, course_keeps, course_stands}
 use Rattle.standard_applicators.specs.Courses.{Course, any_run, asked_by, by_way, course_faults, course_holds, course_places, course_step, course_turn, course_units, course_words, ends_in, ends_run, fits_by, fits_in, left_to_ask, none_absorbed, spoken_by, spoken_course, tells_first, turns_left}
 
--- ---- whether texts are spoken of or not, the same is asked
+-- ---- The questions are the same whether texts are claimed or not.
 
 same_way_places : (texts : Bool) (w : Way) → places (spoken_way texts w) ≡ places w
 same_way_places texts (tells name ts) = refl
@@ -54,7 +54,7 @@ same_asked : (texts : Bool) (c : Course) → asked_by (spoken_course texts c) �
 same_asked texts (by_way w) = same_questions texts w
 same_asked texts (tells_first name ts os) = refl
 
--- ---- what a turn asks
+-- ---- the questions of a turn
 
 -- each way, as a keyword of its own
 abbrev alone : Bool → Way → Subject → Way
@@ -67,7 +67,7 @@ some_left (Asked i) e os q h = h
 some_left (Counted i n) e os q h = h
 some_left Ended e os q h = h
 
--- ---- its functions
+-- ---- the functions of a course
 
 both_agree : (all : Bool) (es fs : List Fault) (b : Bool) → is_nil es ≡ b → ((all ≡ true) ↔ (fs ≡ [])) → ((b && all) ≡ true) ↔ (es ++ fs ≡ [])
 both_agree all [] fs true h agrees = agrees
@@ -115,13 +115,13 @@ course_passes (by_way w) matching a = way_passes w matching a
 course_passes (tells_first name ts os) matching a = All-append (PassesUnchanged a (somes os)) (map (λ t. own (plain name t)) ts) (way_faults (passes_some os) matching a)
     (All-map (PassesUnchanged a (somes os)) (λ t. own (plain name t)) ts (λ k d h. tt)) (way_passes (passes_some os) matching a)
 
--- ---- those that are monotone
+-- ---- monotone courses
 
--- a course that is
+-- a course that is monotone
 abbrev pub CourseGrows : Course → Type 0
 CourseGrows c = (matching : Matching) (a b : Question → Bool) → SaysYesWhere a b → course_holds c matching a ≡ true → course_holds c matching b ≡ true
 
--- what is told hears no answer
+-- What is reported first does not depend on any answer.
 told_stays : (told x y : Bool) → (x ≡ true → y ≡ true) → (told && x) ≡ true → (told && y) ≡ true
 told_stays true x y rest h = rest h
 told_stays false x y rest h = h
@@ -220,7 +220,7 @@ module _ {M : Type 0} (course : M → Subject → Course) where
 
   -- ---- the laws of the functions
 
-  -- each keyword asks at places that are there
+  -- Each keyword asks at places that are present.
   abbrev pub CoursesPresent : Type 0
   CoursesPresent = (m : M) (s : Subject) → AsksPresent s (asked_by (course m s))
 
@@ -236,7 +236,7 @@ module _ {M : Type 0} (course : M → Subject → Course) where
     passes = λ s matches a. course_passes (spoken_by course texts m s) matches a;
   }
 
-  -- each keyword that says that it is monotone is
+  -- Each keyword that declares itself monotone is monotone.
   abbrev pub CoursesGrow : (M → Bool) → Type 0
   CoursesGrow says = (m : M) (s : Subject) → says m ≡ true → CourseGrows (course m s)
 
@@ -249,13 +249,13 @@ module _ {M : Type 0} (course : M → Subject → Course) where
     absorbed = course_absorbs u matches s (spoken_by course texts m s);
   }
 
-  -- ---- what runs ask for
+  -- ---- what runs request
 
   course_for_less : (c : Course) (x : Progress × Answer) (r : Reply) → WantsNone x.0.mode → AsksForLess (course_step c x r)
   course_for_less (by_way w) x r none = step_for_less w x.0.mode x.0.stage r none
   course_for_less (tells_first name ts os) x r none = step_for_less (passes_some (left_to_ask x.0.stage (ends_run x.0.mode ts) os)) x.0.mode x.0.stage r none
 
-  -- each turn keeps the run's mode
+  -- Each turn keeps the run's mode.
   turns_for_less : (texts : Bool) (m : M) (s : Subject) (n : ℕ) (x : Progress × Answer) (r : Reply) → WantsNone x.0.mode → AlwaysAsksForLess (course_words course texts) m s n x r
   turns_for_less texts m s zero x r none = tt
   turns_for_less texts m s (suc n) x r none =

@@ -1,4 +1,5 @@
--- The runs of a course: they fall with each turn, keep their end, and end in what the course means.
+-- The runs of a course: each turn leaves fewer to take and does not change the final answer, which
+-- is the one that the course means.
 use Rattle.std.proofs.Common.{◌≡◌, ◌∙◌, ℕ, ◌+◌, ◌<◌, ◌⊎◌, ◌&&◌, ◌++◌, ◌∷◌, [], List, Bool, true, false, Option, Some, None, refl, sym, ap, ap₂, inl, length, map, append_assoc, append-nil}
 use Rattle.std.specs.List.{list_all}
 use Rattle.std.specs.Prelude.{flat_map, if◌then◌else◌}
@@ -19,7 +20,7 @@ use Rattle.keyword_authoring.specs.declared.run.Stage.{Stage}
 use Rattle.keyword_authoring.specs.declared.run.Stage.TheVariants.{Asked, Begun, Counted, Ended}
 use Rattle.standard_applicators.specs.Courses.{Course, by_way, course_faults, course_holds, course_places, course_step, course_turn, course_units, end_by, ends_run, fits_by, left_to_ask, tells_first}
 
--- ---- a number falls with each turn
+-- ---- A number falls with each turn.
 
 falls_begun : (e : Bool) (os : List (Option Question)) (m : Mode) (r : Reply)
     → (step_at (passes_some (left_to_ask Begun e os)) m Begun r ≡ done)
@@ -40,9 +41,9 @@ pub course_falls : (c : Course) (x : Progress × Answer) (r : Reply)
 course_falls (by_way w) x r = way_falls w x.0.mode x.0.stage r
 course_falls (tells_first name ts os) x r = falls_told (ends_run x.0.mode ts) os x.0.mode x.0.stage r
 
--- ---- a turn whose reply is the true one keeps the end
+-- ---- A turn whose reply is the true one does not change the final answer.
 
--- what is told is told in the first turn
+-- The first turn reports the course's own errors.
 module _ (e : Bool) (os : List (Option Question)) (replies : Replies) (m : Mode) (told a end : Answer) (next : Reply) where
   abbrev KeptAt : Stage → Type 0
   KeptAt stage = fits_at (passes_some (left_to_ask stage e os)) replies m stage next
@@ -88,7 +89,7 @@ course_stands (by_way w) replies x r fits h = way_stands w replies x.0.mode x.0.
 course_stands (tells_first name ts os) replies x r fits h =
     way_stands (passes_some (left_to_ask x.0.stage (ends_run x.0.mode ts) os)) replies x.0.mode x.0.stage (at_first x.0.stage (noted x.0.mode name x.1 ts) x.1) r fits h
 
--- ---- the end is the course's own
+-- ---- The final answer is the course's own.
 
 and_true : (b : Bool) → b ≡ b && true
 and_true true = refl
@@ -118,7 +119,7 @@ module _ (answers : Answers) (u : Question → Unit_) where
   led_valid valid (q ∷ qs) a = led_valid valid qs (with_unit a (u q)) ∙ (valid_step (report_of (u q)).valid a.verdict (list_all (λ q. (answers q).verdict) qs)
       ∙ ap (λ b. a.verdict && (b && list_all (λ q. (answers q).verdict) qs)) (valid q))
 
--- what is wanted of the end, by mode
+-- the final answer that is required, by mode
 abbrev pub IsCourseEnd : Course → Matching → Answers → (Question → Unit_) → spec.Mode → Answer → Type 0
 IsCourseEnd c matching answers u for_verdict a = a.verdict ≡ course_holds c matching (λ q. (answers q).verdict)
 IsCourseEnd c matching answers u for_first a = a.errors ≡ first_fault (course_faults c matching answers)

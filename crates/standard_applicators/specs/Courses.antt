@@ -1,5 +1,6 @@
--- How a keyword goes about an instance: in one of the ways (keyword_authoring), or so that it tells errors of its own first, and then
--- passes on what its questions answer. Its runs by turns follow from that.
+-- A course: how a keyword evaluates an instance. It is one of the ways of `keyword_authoring`, or
+-- it reports errors of its own first and then passes on the answers to its questions. Its runs by
+-- turns follow from that.
 use Rattle.std.specs.List.{list_all}
 use Rattle.std.specs.Prelude.{Bool, List, Option, [], false, if◌then◌else◌, length, map, not, true, ℕ, ◌++◌, ◌+◌, ◌&&◌}
 use Rattle.theory_definitions.specs.Instance.{Subject, Text}
@@ -22,15 +23,16 @@ use Rattle.keyword_authoring.specs.declared.run.Stage.TheVariants.{Asked, Begun,
 
 pub data Course : Type 0 where
   by_way : Way → Course
-  -- errors of this name with these texts; and for each number a question, or none
+  -- the errors that it reports, by their name and texts, and then for each number a question or
+  -- none
   tells_first : Text → List Text → List (Option Question) → Course
 
--- where texts are not spoken of, each counts as empty
+-- the course where texts are not claimed: each counts as empty
 abbrev pub spoken_course : Bool → Course → Course
 spoken_course texts (by_way w) = by_way (spoken_way texts w)
 spoken_course texts (tells_first name ts os) = tells_first name (map (spoken texts) ts) os
 
--- ---- what it means
+-- ---- the meaning of a course
 
 abbrev pub asked_by : Course → List Question
 asked_by (by_way w) = questions w
@@ -54,7 +56,7 @@ course_units (tells_first name ts os) matching u = record no_gives {
 
 -- ---- its runs
 
--- a verdict or a first error is known at once where there are errors to tell
+-- If there are errors to report, then a verdict or a first error is known at once.
 abbrev pub wants_one : Mode → Bool
 wants_one mode.Verdict = true
 wants_one mode.First = true
@@ -64,14 +66,15 @@ wants_one mode.Evaluate = false
 abbrev pub ends_run : Mode → List Text → Bool
 ends_run m ts = wants_one m && not (is_nil ts)
 
--- a first turn that ends the run asks nothing
+-- A first turn that ends the run asks nothing.
 abbrev pub left_to_ask : Stage → Bool → List (Option Question) → List (Option Question)
 left_to_ask Begun ends os = if ends then [] else os
 left_to_ask (Asked i) ends os = os
 left_to_ask (Counted i n) ends os = os
 left_to_ask Ended ends os = os
 
--- how it goes on from a stage in a mode, and the answer once the errors are told
+-- the way in which it continues from a stage in a mode, and the answer after its errors are
+-- reported
 abbrev pub way_from : Course → Mode → Stage → Way
 way_from (by_way w) m stage = w
 way_from (tells_first name ts os) m stage = passes_some (left_to_ask stage (ends_run m ts) os)
@@ -86,19 +89,19 @@ course_step c r reply = way_step (way_from c r.0.mode r.0.stage) r reply
 abbrev pub course_turn : Course → Progress × Answer → Reply → Progress × Answer
 course_turn c r reply = way_turn (way_from c r.0.mode r.0.stage) (r.0, once_told c r.0.mode r.0.stage r.1) reply
 
--- how many places its questions have
+-- the number of its questions' places, those without a question included
 abbrev pub course_places : Course → ℕ
 course_places (by_way w) = places w
 course_places (tells_first name ts os) = length os
 
--- the answer that a run ends in, and what is true of it and of the reply that it takes next
+-- the answer in which a run ends, and what is true of it and of the reply that it takes next
 abbrev pub end_by : Course → Replies → Progress × Answer → Answer
 end_by c replies r = end_at (way_from c r.0.mode r.0.stage) replies r.0.mode r.0.stage (once_told c r.0.mode r.0.stage r.1)
 
 abbrev pub fits_by : Course → Replies → Progress × Answer → Reply → Type 0
 fits_by c replies r reply = fits_at (way_from c r.0.mode r.0.stage) replies r.0.mode r.0.stage reply
 
--- ---- keywords that go about an instance so
+-- ---- keywords that evaluate an instance by a course
 
 module _ {M : Type 0} (course : M → Subject → Course) where
   abbrev pub spoken_by : Bool → M → Subject → Course
@@ -118,15 +121,15 @@ module _ {M : Type 0} (course : M → Subject → Course) where
     answer = λ r. r.1;
   }
 
-  -- they absorb no other keyword
+  -- Such keywords absorb no other keyword.
   abbrev pub none_absorbed : M → List Text
   none_absorbed m = []
 
-  -- the turns that are left at the most
+  -- an upper bound for the number of turns that are left
   abbrev pub turns_left : M → Subject → Progress × Answer → ℕ
   turns_left m s r = left_of (course_places (course m s)) r.0.stage
 
-  -- a run can be in any state
+  -- A run can be in any state.
   abbrev pub any_run : Bool → M → Subject → Progress × Answer → Type 0
   any_run texts m s r = Unit {0}
 

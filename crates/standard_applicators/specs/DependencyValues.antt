@@ -1,11 +1,11 @@
--- The value of `dependencies`: what its members want, each of a list of names, and the names of those whose values are schemas.
--- (Validation draft 7, 6.5.7)
+-- The value of `dependencies`: the names that its members require, each by a list, and the names of
+-- the members whose values are schemas. (Validation draft 7, 6.5.7)
 use Rattle.std.specs.Prelude.{Bool, List, None, Option, Some, [], if◌then◌else◌, is_some, true, ◌++◌, ◌&&◌, ◌∷◌}
 use Rattle.serde_json.specs.Data.{Items, Members, item, member, no_items, no_members}
 use Rattle.serde_json.specs.Find.{as_array, as_str}
 use Rattle.theory_definitions.specs.Instance.{Text}
 
--- ---- each list is one of texts
+-- ---- each list is a list of texts
 
 abbrev pub are_texts : Items → Bool
 are_texts no_items = true
@@ -19,7 +19,7 @@ abbrev pub are_lists_of_texts : Members → Bool
 are_lists_of_texts no_members = true
 are_lists_of_texts (member k d ms) = is_list_of_texts (as_array d) && are_lists_of_texts ms
 
--- ---- what a member wants whose value is a list
+-- ---- the names that a member requires if its value is a list
 
 abbrev pub with_want : Text → Option Text → List (Text × Text) → List (Text × Text)
 with_want k None wants = wants
@@ -37,7 +37,7 @@ abbrev pub wants_of : Members → List (Text × Text)
 wants_of no_members = []
 wants_of (member k d ms) = list_wants k (as_array d) ++ wants_of ms
 
--- ---- the others are schemas
+-- ---- the members whose values are schemas: those that are no lists
 
 abbrev pub schema_names : Members → List Text
 schema_names no_members = []

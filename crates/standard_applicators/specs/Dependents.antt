@@ -1,4 +1,5 @@
--- Children at the keyword's own place, each asked where the instance has the member of its name. (Core 2020-12, 10.2.2.4)
+-- Children at the keyword's own place: each is evaluated if the instance has the member of its
+-- name. (Core 2020-12, 10.2.2.4)
 use Rattle.std.proofs.Common.{refl}
 use Rattle.std.specs.Prelude.{Bool, List, Option, [], false, true, ℕ, ◌+◌, ◌∷◌}
 use Rattle.std.proofs.lemmas.List.Elements.{All-cons, All-nil}
@@ -10,7 +11,7 @@ use Rattle.keyword_authoring.specs.Members.{has_member, only_if}
 use Rattle.keyword_authoring.specs.Places.{AsksPresent}
 use Rattle.keyword_authoring.specs.Somes.{somes}
 
--- the children are numbered in the order of their names
+-- The children are numbered in the order of their names.
 abbrev pub dependents_from : ℕ → List Text → Subject → List (Option Question)
 dependents_from i [] s = []
 dependents_from i (k ∷ ks) s = only_if (has_member k s) (child_here i) ∷ dependents_from (i + 1) ks s

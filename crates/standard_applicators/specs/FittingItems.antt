@@ -1,6 +1,7 @@
--- `contains` accepts a list of which so many items fit its schema: at least as many as `minContains` says, which is 1 where it is
--- missing, and at most as many as `maxContains` says, where it is there. What is no list it accepts. (Core 2020-12, 10.3.1.3;
--- Validation 2020-12, 6.4.4 and 6.4.5) What the schema says of the items comes in their order.
+-- `contains` accepts a list if the number of items that fit its schema is at least `minContains`,
+-- which is 1 if it is missing, and at most `maxContains`, if that is present. It accepts whatever
+-- is no list. The schema's results come in the order of the items. (Core 2020-12, 10.3.1.3;
+-- Validation 2020-12, 6.4.4 and 6.4.5)
 use Rattle.std.specs.Prelude.{Bool, List, None, Option, Some, filter, length, ℕ, ◌≤◌}
 
 abbrev pub how_many_fit : List Bool → ℕ

@@ -1,15 +1,16 @@
--- `items` with a list of schemas accepts a list of which each item fits the schema of its number, where there is one (Core 2019-09,
--- 9.3.1.1). With one schema it accepts a list of which each item fits, from a number on: after as many as `prefixItems` has schemas,
--- and from the first one where there is no such (Core 2020-12, 10.3.1.2). `additionalItems` accepts a list of which each item fits
--- after those for which `items` lists a schema (Core 2019-09, 9.3.1.2); where its value is false, there are no such items. What is no
--- list has no items.
+-- `items` with a list of schemas accepts a list if each item fits the schema of its number, if
+-- there is one (Core 2019-09, 9.3.1.1). `items` with one schema accepts a list if each later item
+-- fits: each after the first as many as `prefixItems` has schemas, or each item if there is no
+-- `prefixItems` (Core 2020-12, 10.3.1.2). `additionalItems` accepts a list if each item fits that
+-- comes after those for which `items` lists a schema (Core 2019-09, 9.3.1.2); if its value is
+-- `false`, there must be no such items. An instance that is no list has no items.
 use Rattle.std.specs.Prelude.{Bool, true, ℕ, ◌<◌, ◌≡◌, ◌≤◌}
 
--- `fits` says whether an item fits the schema of its number
+-- `fits` says whether an item fits the schema of its number.
 abbrev pub EachFitsItsOwn : ℕ → ℕ → (ℕ → Bool) → Type 0
 EachFitsItsOwn schemas items fits = (i : ℕ) → i < schemas → i < items → fits i ≡ true
 
--- `fits` says whether an item fits the only schema
+-- `fits` says whether an item fits the only schema.
 abbrev pub EachLaterFits : ℕ → ℕ → (ℕ → Bool) → Type 0
 EachLaterFits before items fits = (i : ℕ) → before ≤ i → i < items → fits i ≡ true
 

@@ -1,4 +1,4 @@
--- The makers ask for what lies strictly below the object, and end rightly.
+-- The makers request only schemas strictly below the object, and end as a maker must.
 use Rattle.std.specs.Prelude.{Bool, None, Option, Some, [], bytes_eq, codes, false, if◌then◌else◌, refl, true, ℕ}
 use Rattle.serde_json.specs.Data.{Data, Members, array, boolean, null, number, object, string}
 use Rattle.serde_json.specs.Find.{get_member}
@@ -18,7 +18,7 @@ use Rattle.standard_applicators.specs.StandardCourses.{course}
 use Rattle.standard_applicators.specs.declared.applicator.StandardApplicator.{StandardApplicator}
 use Rattle.standard_applicators.specs.declared.applicator.StandardApplicator.TheVariants.{Contains, Dependencies, DependentSchemas, LaterItems, ListedItems}
 
--- no keyword holds a value of the schema
+-- No keyword stores a value of the schema.
 abbrev pub is_whole : StandardApplicator → Bool
 is_whole k = true
 

@@ -1,4 +1,4 @@
--- What the maker of each keyword asks for, and how it ends.
+-- What the maker of each keyword requests, and how it ends.
 use Rattle.std.specs.Prelude.{Bool, None, Option, Some, [], bytes_eq, codes, false, if◌then◌else◌, is_some, not, option_and_then, option_map, true, ℕ, ◌&&◌}
 use Rattle.serde_json.specs.Data.{Data, Members, boolean, object}
 use Rattle.serde_json.specs.Find.{as_array, get_member}
@@ -13,17 +13,18 @@ use Rattle.standard_applicators.specs.Limits.{contains_in, refused_limit}
 use Rattle.standard_applicators.specs.declared.applicator.StandardApplicator.{StandardApplicator}
 use Rattle.standard_applicators.specs.declared.applicator.StandardApplicator.TheVariants.{Contains, Dependencies, DependentSchemas, LaterItems, ListedItems, NoLaterItems}
 
--- ---- the editions
+-- ---- the drafts
 
--- the editions in which `items` goes on after `prefixItems`, and `additionalItems` is none (Core 2020-12, 10.3.1.2)
+-- the drafts in which `items` continues after `prefixItems`, and `additionalItems` is no keyword
+-- (Core 2020-12, 10.3.1.2)
 abbrev pub has_prefix : Draft → Bool
 has_prefix draft_2020_12 = true
 has_prefix draft_unknown = true
 has_prefix _ = false
 
--- ---- contains
+-- ---- `contains`
 
--- a limit that is none is refused at its own place
+-- A limit that is no natural number is refused at its own place.
 abbrev pub unless_refused : Text → Option Data → Script StandardApplicator → Script StandardApplicator
 unless_refused name None s = s
 unless_refused name (Some d) s = malformed name d
@@ -34,14 +35,15 @@ contains_script draft ms name =
     (unless_refused (codes "maxContains") (refused_limit draft (codes "maxContains") ms)
     (only_child name (Contains (record { keyword = contains_in draft ms }))))
 
--- ---- dependentSchemas
+-- ---- `dependentSchemas`
 
 abbrev pub dependent_schemas_script : Text → Data → Script StandardApplicator
 dependent_schemas_script name (object ms) = asks_for (values_below name (names_of ms)) (a_keyword (DependentSchemas (names_of ms)) [])
 dependent_schemas_script name d = malformed name d
 
--- ---- dependencies. From 2019-09 on `dependentRequired` and `dependentSchemas` stand for it; schemas that still have it mean what they meant.
--- (draft 7, 6.5.7; the meta-schemas of 2019-09 and 2020-12 say its shape)
+-- ---- `dependencies`. From 2019-09 on `dependentRequired` and `dependentSchemas` replace it; a
+-- schema that still has it keeps its meaning. (Draft 7, 6.5.7; the meta-schemas of 2019-09 and
+-- 2020-12 define its form)
 
 abbrev pub dependencies_in : Members → Text → Data → Script StandardApplicator
 dependencies_in ms name d =
@@ -52,20 +54,20 @@ abbrev pub dependencies_script : Text → Data → Script StandardApplicator
 dependencies_script name (object ms) = dependencies_in ms name (object ms)
 dependencies_script name d = malformed name d
 
--- ---- items, additionalItems
+-- ---- `items` and `additionalItems`
 
--- how many items come before those of `items` with one schema
+-- the number of items that come before those that `items` with one schema evaluates
 abbrev pub items_before : Draft → Members → ℕ
 items_before draft ms = if has_prefix draft then count_in (option_and_then as_array (get_member (codes "prefixItems") ms)) else 0
 
--- a list of schemas, in the editions that have it (Core 2019-09, 9.3.1.1)
+-- a list of schemas, in the drafts that allow a list (Core 2019-09, 9.3.1.1)
 abbrev pub is_older_list : Draft → Data → Bool
 is_older_list draft d = not (has_prefix draft) && is_some (as_array d)
 
 abbrev pub items_script : Draft → Members → Text → Data → Script StandardApplicator
 items_script draft ms name d = if is_older_list draft d then list_script ListedItems name d else only_child name (LaterItems (items_before draft ms))
 
--- how many items `items` lists, where it is a list in an edition that has it
+-- the number of schemas in `items`, if it is a list in a draft that allows a list
 abbrev pub listed_beside : Draft → Members → Option ℕ
 listed_beside draft ms = if has_prefix draft then None else option_map items_count (option_and_then as_array (get_member (codes "items") ms))
 
@@ -73,7 +75,7 @@ abbrev pub is_false : Data → Bool
 is_false (boolean b) = not b
 is_false _ = false
 
--- without such a list it counts for nothing
+-- Without such a list it makes nothing.
 abbrev pub after_listed : Option ℕ → Text → Data → Script StandardApplicator
 after_listed None name d = then_end nothing
 after_listed (Some n) name d = if is_false d then makes (NoLaterItems (record { before = n })) else only_child name (LaterItems n)
@@ -81,7 +83,7 @@ after_listed (Some n) name d = if is_false d then makes (NoLaterItems (record { 
 abbrev pub additional_items_script : Draft → Members → Text → Data → Script StandardApplicator
 additional_items_script draft ms name d = after_listed (listed_beside draft ms) name d
 
--- ---- all of them; the object is the one whose member is made
+-- ---- all keywords; the members are those of the object that has the keyword
 
 abbrev pub value_script : Draft → Members → Text → Data → Script StandardApplicator
 value_script draft ms name d =
@@ -95,7 +97,7 @@ abbrev pub member_script : Draft → Members → Text → Option Data → Script
 member_script draft ms name None = then_end nothing
 member_script draft ms name (Some d) = value_script draft ms name d
 
--- no name is the table's own
+-- the table owns no name
 abbrev pub standard_script : Bool → Text → Members → Draft → Vocabularies → Bool → Script StandardApplicator
 standard_script true name ms draft vocabularies formats = then_end nothing
 standard_script false name ms draft vocabularies formats = member_script draft ms name (get_member name ms)

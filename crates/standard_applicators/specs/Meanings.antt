@@ -1,4 +1,4 @@
--- The keywords mean what the definitions of them say.
+-- The keywords mean what their definitions say.
 use Rattle.std.specs.Prelude.{Bool, List, codes, map, min, true, ℕ, ◌++◌, ◌-◌, ◌↔◌, ◌≡◌}
 use Rattle.theory_definitions.specs.Instance.{Subject, Text, to_item}
 use Rattle.theory_definitions.specs.Keywords.{Answers, Question, down, here}
@@ -21,15 +21,15 @@ use Rattle.standard_applicators.specs.declared.applicator.StandardApplicator.The
 use Rattle.standard_applicators.specs.declared.contains.Contains.{Contains as Limits}
 use Rattle.standard_applicators.specs.declared.unexpected.NoLaterItems.{NoLaterItems as Before}
 
--- a schema of the keyword's, by its number, at the instance's own place
+-- the question that evaluates the keyword's schema with this number at the instance's own place
 abbrev pub schema_here : ℕ → Question
 schema_here i = record { child = i; below = here }
 
--- the schema of this number, at the item of that
+-- the question that evaluates the schema with the one number at the item with the other
 abbrev pub schema_at : ℕ → ℕ → Question
 schema_at i k = record { child = i; below = down (to_item k) }
 
--- the only schema, at so many items from one on
+-- the questions that evaluate the only schema at `count` items, from item `first` on
 abbrev pub at_items : ℕ → ℕ → List Question
 at_items first count = each_from (λ k. schema_at 0 k) first count
 
@@ -37,7 +37,7 @@ abbrev pub verdict_in : Answers → Question → Bool
 verdict_in answers q = (answers q).verdict
 
 module _ (texts : Bool) (s : Subject) (matches : Matching) where
-  -- ---- contains
+  -- ---- `contains`
 
   abbrev pub ContainsHolds : Type 0
   ContainsHolds = (k : Limits) (accepts : Question → Bool)
@@ -50,7 +50,7 @@ module _ (texts : Bool) (s : Subject) (matches : Matching) where
       (own_error (codes "contains") (spoken texts (contains.error_text k s (how_many_fit (map (verdict_in answers) (at_items 0 (item_count s)))))))
       ((course_words course texts).faults (Contains (record { keyword = k })) s matches answers)
 
-  -- ---- dependentSchemas
+  -- ---- `dependentSchemas`
 
   abbrev pub DependentSchemasHolds : Type 0
   DependentSchemasHolds = (names : List Text) (accepts : Question → Bool)
@@ -60,7 +60,7 @@ module _ (texts : Bool) (s : Subject) (matches : Matching) where
   DependentSchemasFaults = (names : List Text) (answers : Answers)
       → (course_words course texts).faults (DependentSchemas names) s matches answers ≡ passed_on answers (somes (dependents_from 0 names s))
 
-  -- ---- dependencies
+  -- ---- `dependencies`
 
   abbrev pub DependenciesHold : Type 0
   DependenciesHold = (wants : List (Text × Text)) (names : List Text) (accepts : Question → Bool)
@@ -73,7 +73,7 @@ module _ (texts : Bool) (s : Subject) (matches : Matching) where
       ≡ map (λ want. own_error (codes "dependencies") (spoken texts (required_text want))) (unmet wants s)
       ++ passed_on answers (somes (dependents_from 0 names s))
 
-  -- ---- items with a list of schemas
+  -- ---- `items` with a list of schemas
 
   abbrev pub ListedItemsHold : Type 0
   ListedItemsHold = (n : ℕ) (accepts : Question → Bool)
@@ -83,7 +83,7 @@ module _ (texts : Bool) (s : Subject) (matches : Matching) where
   ListedItemsFaults = (n : ℕ) (answers : Answers)
       → (course_words course texts).faults (ListedItems n) s matches answers ≡ passed_on answers (each_from (λ i. schema_at i i) 0 (min n (item_count s)))
 
-  -- ---- items with one schema, and additionalItems
+  -- ---- `items` with one schema, and `additionalItems`
 
   abbrev pub LaterItemsHold : Type 0
   LaterItemsHold = (before : ℕ) (accepts : Question → Bool)
@@ -93,7 +93,7 @@ module _ (texts : Bool) (s : Subject) (matches : Matching) where
   LaterItemsFaults = (before : ℕ) (answers : Answers)
       → (course_words course texts).faults (LaterItems before) s matches answers ≡ passed_on answers (at_items before (item_count s - before))
 
-  -- ---- additionalItems with the value false
+  -- ---- `additionalItems` with the value `false`
 
   abbrev pub NoLaterItemsHolds : Type 0
   NoLaterItemsHolds = (k : Before) (accepts : Question → Bool)

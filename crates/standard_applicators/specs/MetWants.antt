@@ -1,6 +1,8 @@
--- `dependencies` accepts an object that has, for each of its members whose value there is a list of names, the members of these names,
--- and that each schema accepts whose name is a member of the object; what is no object has no members (Validation draft 7, 6.5.7; from
--- 2019-09 on `dependentRequired` and `dependentSchemas` are in its place). A want is a member and a name that it wants.
+-- `dependencies` relates a member either to a list of names or to a schema. It accepts an object
+-- if, for each such member that the object has, the object also has the listed names, or the schema
+-- accepts the object. An instance that is no object has no members. A want is a member and a name
+-- that it requires. (Validation draft 7, 6.5.7; from 2019-09 on `dependentRequired` and
+-- `dependentSchemas` take its place)
 use Rattle.std.specs.Prelude.{All, List, true, ◌≡◌}
 use Rattle.theory_definitions.specs.Instance.{Subject, Text}
 use Rattle.keyword_authoring.specs.Members.{has_member}

@@ -1,20 +1,20 @@
--- Errors of a keyword's own, and errors that it passes on.
+-- The errors that a keyword reports of its own, and those that it passes on.
 use Rattle.std.specs.Prelude.{List, [], flat_map, map, ◌∷◌, ◌≡◌}
 use Rattle.theory_definitions.specs.Instance.{Text}
 use Rattle.theory_definitions.specs.Keywords.{Answers, Fault, Question, own, passed}
 use Rattle.theory_definitions.specs.Reports.{Error}
 use Rattle.keyword_authoring.specs.Ways.{plain}
 
--- an error of this name with this text, at the keyword itself
+-- an error with this name and this text, at the keyword itself
 abbrev pub own_error : Text → Text → Fault
 own_error name text = own (plain name text)
 
--- none where the keyword holds, and this one where it does not
+-- no error if the keyword holds, and this one if it does not
 pub record OneUnless (Holds : Type 0) (error : Fault) (fs : List Fault) : Type 0 where
   pub none : Holds → fs ≡ []
   pub one : ¬ Holds → fs ≡ error ∷ []
 
--- what the schemas say that are asked, those of an earlier question before those of a later one
+-- the errors of the schemas that are evaluated, in the order of the questions
 abbrev pub errors_of : Answers → List Question → List Error
 errors_of answers asked = flat_map (λ q. (answers q).errors) asked
 

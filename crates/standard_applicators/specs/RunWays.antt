@@ -1,4 +1,4 @@
--- How runs go about an instance: by which way, and by which course.
+-- How runs evaluate an instance: by which way, and by which course.
 use Rattle.std.specs.Prelude.{Bool, List, Option, String, codes, map, min, string_bytes, ℕ, ◌-◌, ◌≡◌}
 use Rattle.std.specs.declared.alloc.Global.{Global}
 use Rattle.theory_definitions.specs.Instance.{Text}
@@ -16,30 +16,30 @@ use Rattle.standard_applicators.specs.Courses.{Course, course_step, course_turn,
 use Rattle.standard_applicators.specs.Dependents.{dependents_from}
 use Rattle.standard_applicators.specs.Wanting.{missing_texts}
 
--- each of so many children is asked at the item of its number
+-- Each child is evaluated at the item of its number.
 abbrev pub at_listed : ℕ → Instance → Way
 at_listed children instance = passes_on (each_from child_at_item 0 (min children (item_count (subject_of instance))))
 
--- the only child is asked at each item after the first so many
+-- The only child is evaluated at each item after the first `before`.
 abbrev pub at_later : ℕ → Instance → Way
 at_later before instance = passes_on (each_from first_at_item before (item_count (subject_of instance) - before))
 
--- for each name the question that is asked where the instance has the member of that name
+-- for each name, the question that is asked if the instance has the member of that name
 abbrev pub dependents_asked : List (String Global) → Instance → List (Option Question)
 dependents_asked names instance = dependents_from 0 (map string_bytes names) (subject_of instance)
 
 -- ---- courses
 
--- the errors of unmet wants are told first, and then the dependents are asked
+-- The errors of unmet wants are reported first, and then the dependents are evaluated.
 abbrev pub dependencies_course : List (Text × Text) → List (String Global) → Instance → Course
 dependencies_course wants names instance = tells_first (codes "dependencies") (missing_texts wants (subject_of instance)) (dependents_asked names instance)
 
--- the run and the answer after a turn by a course, whether texts are spoken of or not
+-- the run and the answer after a turn by a course, whether texts are claimed or not
 abbrev pub TurnsCourse : Course → Progress → Answer → Reply → Progress → Answer → Type 0
 TurnsCourse course run old reply run' new = (texts : Bool)
     → course_turn (spoken_course texts course) (run, answer_of texts old) (reply_of texts reply) ≡ (run', answer_of texts new)
 
--- and its step
+-- the step of a turn by a course
 abbrev pub StepsCourse : Course → Progress → Answer → Reply → Step → Type 0
 StepsCourse course run old reply step = (texts : Bool)
     → course_step (spoken_course texts course) (run, answer_of texts old) (reply_of texts reply) ≡ turn_of step

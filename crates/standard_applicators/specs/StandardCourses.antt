@@ -1,4 +1,4 @@
--- How each keyword goes about an instance.
+-- How each keyword evaluates an instance.
 use Rattle.std.proofs.Common.{refl}
 use Rattle.std.specs.Prelude.{Bool, codes, min, true, ◌-◌}
 use Rattle.theory_definitions.specs.Instance.{Subject}
@@ -25,7 +25,7 @@ course (ListedItems n) s = by_way (passes_on (each_from child_at_item 0 (min n (
 course (LaterItems n) s = by_way (passes_on (each_from first_at_item n (item_count s - n)))
 course (NoLaterItems k) s = by_way (leaf_way (unexpected.called k) (unexpected.accepts k s) (unexpected.error_text k s))
 
--- each question is asked at a place that is there
+-- Each question is asked at a place that is present.
 pub present : CoursesPresent course
 present (Contains k) s = plans_present contains.planned contains.called contains.error_text k.keyword s
 present (DependentSchemas ks) s = dependents_present 0 ks s
@@ -34,7 +34,7 @@ present (ListedItems n) s = first_items_present s n
 present (LaterItems n) s = later_items_present s n
 present (NoLaterItems k) s = nothing_asked s
 
--- all say that they are monotone, but a `contains` with a most
+-- All keywords declare themselves monotone, except for a `contains` with a greatest number.
 abbrev pub says_monotone : StandardApplicator → Bool
 says_monotone (Contains k) = contains.says_monotone k.keyword
 says_monotone _ = true

@@ -1,5 +1,5 @@
--- `additionalItems` with the value false: a list has no items but those that are listed, and its error names the others.
--- (Core 2019-09, 9.3.1.2)
+-- `additionalItems` with the value `false`: a list has no items but those that have a schema, and
+-- the error shows the others. (Core 2019-09, 9.3.1.2)
 use Rattle.std.specs.Prelude.{None, Option, Some, [], codes, if◌then◌else◌, nat_le, suc, zero, Bool, ℕ, ◌++◌, ◌-◌, ◌==◌}
 use Rattle.serde_json.specs.Data.{Items, item, no_items}
 use Rattle.serde_json.specs.Find.{as_array}
@@ -8,13 +8,13 @@ use Rattle.theory_definitions.specs.Instance.{Subject, Text, a_name, a_value}
 use Rattle.keyword_authoring.specs.Items.{item_count}
 use Rattle.standard_applicators.specs.declared.unexpected.NoLaterItems.{NoLaterItems}
 
--- there are no more
+-- whether there are no more items
 abbrev pub accepts : NoLaterItems → Subject → Bool
 accepts k s = nat_le (item_count s) k.before
 
--- ---- its error's text
+-- ---- the error's text
 
--- the items of a list; what is no list has none
+-- the items of a list, and none of any other value
 abbrev pub items_of_any : Option Items → Items
 items_of_any None = no_items
 items_of_any (Some ds) = ds
@@ -29,7 +29,7 @@ items_after zero ds = ds
 items_after (suc n) no_items = no_items
 items_after (suc n) (item d ds) = items_after n ds
 
--- the texts of values, with this before the first, and a comma between
+-- the texts of the values, with `before` in front of the first one and commas between them
 abbrev pub texts_from : Text → Items → Text
 texts_from before no_items = []
 texts_from before (item d ds) = before ++ (compact_text d ++ texts_from (codes ", ") ds)

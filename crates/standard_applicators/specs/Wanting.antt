@@ -1,11 +1,11 @@
--- Members that want others: where an object has the one, it is to have the other. (Validation draft 7, 6.5.7; from 2019-09 on
--- `dependentRequired`, Validation 2019-09, 6.5.4)
+-- Members that require others: if an object has the one, it must have the other. (Validation draft
+-- 7, 6.5.7; from 2019-09 on `dependentRequired`, Validation 2019-09, 6.5.4)
 use Rattle.std.specs.Prelude.{Bool, List, codes, filter, map, not, ◌++◌, ◌&&◌}
 use Rattle.theory_definitions.specs.Instance.{Subject, Text, a_name}
 use Rattle.theory_definitions.specs.Meaning.{subject_text}
 use Rattle.keyword_authoring.specs.Members.{has_member}
 
--- the one is there, and the other is not
+-- the member is present, and the one that it requires is not
 abbrev pub is_unmet : Subject → Text × Text → Bool
 is_unmet s want = has_member want.0 s && not (has_member want.1 s)
 

@@ -1,4 +1,4 @@
-//! The keywords.
+//! The keywords as one type.
 ghost use Rattle.std.specs.Prelude.{◌≡◌};
 
 use crate::contains::Contains;
@@ -18,21 +18,23 @@ use schema_traits::asking::Asking;
 use schema_traits::keyword::{Answer, Mode, Reply, Step, Validate};
 use std::alloc::Global;
 
-/// A keyword that applies schemas to items, or by the members that an instance has. Its children are named by the numbers of the
-/// requests that its maker made.
+/// A keyword that applies schemas to items, or by the members that an instance has.
+///
+/// A child is identified by the number of the request for it that the keyword's maker made.
 #[derive(Drop)]
 pub enum StandardApplicator {
     /// `contains`, whose value is its only child.
     Contains(Planned<Contains>),
-    /// `dependentSchemas`, with the names of the schemas, child by child.
+    /// `dependentSchemas`, with the names that have a schema, in the order of the children.
     DependentSchemas(Names),
-    /// `dependencies`: the members that want others, and the names of the schemas, child by child.
+    /// `dependencies`: the required names, and the names that have a schema, in the order of the
+    /// children.
     Dependencies(Wants, Names),
-    /// `items` with a list of so many schemas.
+    /// `items` with a list of this number of schemas.
     ListedItems(usize),
-    /// `items` with one schema, or `additionalItems`: how many items come before those that it asks.
+    /// `items` with one schema, or `additionalItems`, with the number of items that come before.
     LaterItems(usize),
-    /// `additionalItems` with the value false.
+    /// `additionalItems` with the value `false`.
     NoLaterItems(NoLaterItems),
 }
 

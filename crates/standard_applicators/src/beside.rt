@@ -1,4 +1,4 @@
-//! What keywords read of the draft, and what `items` and `additionalItems` read of their values and of what stands beside them.
+//! How the draft and the members beside them affect `items` and `additionalItems`.
 ghost use Rattle.std.specs.Prelude.{◌≡◌, codes, option_and_then};
 ghost use Rattle.serde_json.specs.Find.{as_array, get_member};
 ghost use Rattle.serde_json.specs.View.{view};
@@ -12,7 +12,9 @@ use keyword_makers::paths::value_in;
 use schema_drafts::keywords::Draft;
 use serde_json::{Map, Value};
 
-/// Whether `items` goes on after `prefixItems` in this draft, which has no `additionalItems` and no `dependencies` then.
+/// Returns whether the draft has `prefixItems`, after which `items` continues.
+///
+/// Such a draft has no `additionalItems`.
 pub fn has_prefix(draft: Draft) -> bool
     ensures prefix { result ≡ has_prefix (draft_of draft) }
 {
@@ -23,14 +25,14 @@ pub fn has_prefix(draft: Draft) -> bool
     }
 }
 
-/// Whether a value of `items` is a list, in a draft that has lists of schemas there.
+/// Returns whether a value of `items` is a list of schemas, in a draft that allows a list there.
 pub fn is_older_list(draft: Draft, value: &Value) -> bool
     ensures older { result ≡ is_older_list (draft_of draft) (view value.now) }
 {
     !has_prefix(draft) && value.is_array()
 }
 
-/// How many schemas `prefixItems` has.
+/// Returns the number of schemas in `prefixItems`.
 fn prefix_length(object: &Map<String, Value>) -> usize
     ensures length { result ≡ count_in (option_and_then as_array (get_member (codes "prefixItems") (fields object.now))) }
 {
@@ -40,7 +42,9 @@ fn prefix_length(object: &Map<String, Value>) -> usize
     }
 }
 
-/// How many items come before those of `items` with one schema: as many as `prefixItems` has schemas, in the drafts that have it.
+/// Returns the number of items that come before those that `items` with one schema evaluates.
+///
+/// It is the number of schemas in `prefixItems`, in the drafts that have it.
 pub fn items_before(draft: Draft, object: &Map<String, Value>) -> usize
     ensures before { result ≡ items_before (draft_of draft) (fields object.now) }
 {
@@ -51,7 +55,7 @@ pub fn items_before(draft: Draft, object: &Map<String, Value>) -> usize
     }
 }
 
-/// How many schemas `items` lists, where it is a list in a draft that has lists there.
+/// Returns the number of schemas in `items`, if it is a list in a draft that allows a list there.
 #[tactic(auto, using(keyword_authoring::proofs::MemberCounts::items_count_length))]
 pub fn listed_beside(draft: Draft, object: &Map<String, Value>) -> Option<usize>
     ensures listed { result ≡ listed_beside (draft_of draft) (fields object.now) }
@@ -68,7 +72,7 @@ pub fn listed_beside(draft: Draft, object: &Map<String, Value>) -> Option<usize>
     }
 }
 
-/// Whether a value is false.
+/// Returns whether a value is `false`.
 pub fn is_false(value: &Value) -> bool
     ensures is_false { result ≡ is_false (view value.now) }
 {

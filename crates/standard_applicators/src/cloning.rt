@@ -9,7 +9,11 @@ use std::alloc::AllocError;
 impl Clone for StandardApplicator {
     ghost is_clone = { λ keyword copy. copy ≡ keyword };
 
-    /// Returns a clone of the keyword. Fails only if memory cannot be allocated.
+    /// Returns a clone of the keyword.
+    ///
+    /// # Errors
+    ///
+    /// Out of memory.
     fn clone(&self) -> Result<StandardApplicator, AllocError> {
         match self {
             StandardApplicator::Contains(planned) => {

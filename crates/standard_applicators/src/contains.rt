@@ -9,14 +9,14 @@ use schema_reports::instance::Instance;
 use schema_reports::location::OutOfMemory;
 use std::alloc::Global;
 
-/// `contains`, with how many items are to fit at least, and at most where that is said.
+/// `contains`, with the least number of items that must fit, and the greatest, if it is limited.
 #[derive(Clone, Copy)]
 pub struct Contains {
     pub least: usize,
     pub most: Option<usize>,
 }
 
-/// How an error begins where more items fit than this.
+/// Returns the beginning of the error's text if more items fit than this.
 fn more_than(alloc: Global, most: usize) -> Result<String, OutOfMemory>
     ensures more { Shows string_bytes result (more_than most) }
 {
@@ -25,7 +25,7 @@ fn more_than(alloc: Global, most: usize) -> Result<String, OutOfMemory>
     Ok(text)
 }
 
-/// How an error begins where fewer items fit than this.
+/// Returns the beginning of the error's text if fewer items fit than this.
 fn fewer_than(alloc: Global, least: usize) -> Result<String, OutOfMemory>
     ensures fewer { Shows string_bytes result (fewer_than least) }
 {
@@ -38,7 +38,7 @@ fn fewer_than(alloc: Global, least: usize) -> Result<String, OutOfMemory>
 }
 
 impl Contains {
-    /// How its error begins, where so many items fit.
+    /// Returns the beginning of the error's text if this number of items fit.
     fn how_many(self, alloc: Global, accepted: usize) -> Result<String, OutOfMemory>
         ensures how_many { Shows string_bytes result (how_many self.least self.most accepted) }
     {

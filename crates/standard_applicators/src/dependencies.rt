@@ -1,4 +1,4 @@
-//! `dependencies`: names that members want beside them, and schemas that count where a member is there.
+//! `dependencies`: a member may require other members, or a schema that the instance must satisfy.
 ghost use Rattle.std.specs.Prelude.{◌≡◌, [], IfOk, if◌then◌else◌, map, string_bytes};
 ghost use Rattle.theory_definitions.specs.Instance.{Subject};
 ghost use Rattle.keyword_authoring.specs.Ways.{at_first};
@@ -17,7 +17,7 @@ use schema_reports::location::OutOfMemory;
 use schema_traits::keyword::{Answer, Mode, Reply, Step};
 use std::alloc::Global;
 
-/// Whether an error at once ends a run in this mode.
+/// Returns whether an error that is known at once ends a run in this mode.
 fn wants_one(mode: Mode) -> bool
     ensures one { result ≡ wants_one mode }
 {
@@ -29,7 +29,7 @@ fn wants_one(mode: Mode) -> bool
     }
 }
 
-/// Notes the errors of what is unmet in the first turn, and says whether they end the run.
+/// Reports in the first turn the errors of missing members, and returns whether they end the run.
 fn tell_first<'i>(
     alloc: Global,
     wants: &[Want],
@@ -51,7 +51,7 @@ fn tell_first<'i>(
     }
 }
 
-/// The names that are asked: none, where the run ends.
+/// Returns the names whose schemas are evaluated: none if the run ends.
 fn asked_names(ends: bool, names: &[String]) -> &[String]
     ensures asked { (s : Subject) → dependents_from 0 (map string_bytes result.now) s
         ≡ (if ends then [] else dependents_from 0 (map string_bytes names.now) s) }
@@ -59,8 +59,10 @@ fn asked_names(ends: bool, names: &[String]) -> &[String]
     if ends { &[] } else { names }
 }
 
-/// Takes a turn: the first one notes an error for each that is unmet, and then each child is asked whose name is a member of the
-/// instance.
+/// Takes a turn of `dependencies`.
+///
+/// The first turn reports an error for each missing member. Then each child is evaluated whose name
+/// is a member of the instance.
 pub fn turn_dependencies<'s, 'i>(
     alloc: Global,
     wants: &[Want],

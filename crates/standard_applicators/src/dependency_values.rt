@@ -1,4 +1,4 @@
-//! The value of `dependencies`: what its members want, and the names of those whose values are schemas.
+//! The value of `dependencies`: the names that its members require, and those that have a schema.
 ghost use Rattle.std.specs.Prelude.{◌≡◌, ◌++◌, IfOk};
 ghost use Rattle.serde_json.specs.View.{items_view};
 ghost use Rattle.standard_applicators.specs.DependencyValues.{are_lists_of_texts, are_texts, schema_names, text_wants, wants_of};
@@ -10,7 +10,6 @@ use schema_reports::location::OutOfMemory;
 use serde_json::{Map, Value};
 use std::alloc::Global;
 
-/// Whether these are texts.
 #[tactic(auto, using(crate::proofs::ItemSteps::items_at, crate::proofs::ItemSteps::items_end))]
 fn are_texts(values: &[Value]) -> bool
     ensures texts { result ≡ are_texts (items_view values.now) }
@@ -23,7 +22,7 @@ fn are_texts(values: &[Value]) -> bool
     true
 }
 
-/// Whether each of the members that is a list is one of texts.
+/// Returns whether each member that is a list is a list of texts.
 pub fn are_lists_of_texts(members: &Map<String, Value>) -> bool
     ensures lists { result ≡ are_lists_of_texts (fields members.now) }
 {
@@ -37,7 +36,7 @@ pub fn are_lists_of_texts(members: &Map<String, Value>) -> bool
     true
 }
 
-/// Adds what a member of this name wants: the members that these values name.
+/// Appends the names that a member's value requires.
 #[tactic(auto, using(crate::proofs::ItemSteps::items_at, crate::proofs::ItemSteps::items_end))]
 fn push_wants(
     alloc: Global,
@@ -55,7 +54,7 @@ fn push_wants(
     Ok(())
 }
 
-/// What the members want whose values are lists.
+/// Returns the required names of all members whose values are lists.
 pub fn wants_of(alloc: Global, members: &Map<String, Value>) -> Result<Vec<Want>, OutOfMemory>
     ensures wants { Lists result (wants_of (fields members.now)) }
 {
@@ -68,7 +67,7 @@ pub fn wants_of(alloc: Global, members: &Map<String, Value>) -> Result<Vec<Want>
     Ok(wants)
 }
 
-/// The names of the members whose values are no lists.
+/// Returns the names of the members whose values are schemas: those that are no lists.
 pub fn schema_names(alloc: Global, members: &Map<String, Value>) -> Result<Vec<String>, OutOfMemory>
     ensures names { ListsTexts result (schema_names (fields members.now)) }
 {

@@ -1,4 +1,4 @@
-//! `dependentSchemas`: children at the keyword's own place, each where the instance has the member of its name.
+//! `dependentSchemas`: each child is evaluated if the instance has the member of its name.
 ghost use Rattle.std.specs.Prelude.{◌≡◌, option_map};
 ghost use Rattle.keyword_authoring.specs.Items.{child_here};
 ghost use Rattle.keyword_authoring.specs.Somes.{some_from};
@@ -16,7 +16,7 @@ use schema_reports::location::OutOfMemory;
 use schema_traits::keyword::{Answer, Below, Reply, Step};
 use std::alloc::Global;
 
-/// Asks each child whose name is a member of the instance.
+/// Takes a turn of `dependentSchemas`, which evaluates each child whose member is present.
 #[inline(always)]
 pub fn turn_dependents<'s, 'i>(
     alloc: Global,
@@ -35,7 +35,9 @@ pub fn turn_dependents<'s, 'i>(
     Ok(ask_dependent(names, start, run, instance))
 }
 
-/// Asks the first child from this number on whose name is a member of the instance, if there is one, and ends the run else.
+/// Evaluates the next child, from number `start` on, whose member is present.
+///
+/// The run ends if there is none.
 fn ask_dependent<'s>(
     names: &[String],
     start: Option<usize>,
@@ -63,7 +65,7 @@ fn ask_dependent<'s>(
     }
 }
 
-/// The first child from this number on whose name is a member of the instance.
+/// Returns the first child, from number `start` on, whose member is present.
 #[tactic(auto, using(crate::proofs::NextDependents::dependents_from_drop))]
 fn first_present(names: &[String], start: usize, instance: Instance<'_>) -> Option<usize>
     ensures present { option_map (λ i. (i, child_here i)) result ≡ some_from start (dependents_asked names.now instance.entry) }

@@ -1,4 +1,4 @@
-//! Children at items: each of several at the item of its number, or the only one at each item after so many.
+//! The keywords that evaluate items one after the other: `items` and `additionalItems`.
 ghost use Rattle.std.specs.Prelude.{◌≡◌, ◌+◌, ◌-◌, ◌^◌, ◌<◌, min, option_map};
 ghost use Rattle.schema_reports.specs.InstanceViews.{subject_of};
 ghost use Rattle.schema_traits.specs.KeywordViews.{turn_of};
@@ -16,7 +16,7 @@ use schema_reports::location::OutOfMemory;
 use schema_traits::keyword::{Answer, Below, Mode, Reply, Step};
 use std::alloc::Global;
 
-/// The question of a child at the item of its number.
+/// Returns the step that evaluates the child with this number at the item with this number.
 fn ask_child_at_item<'s>(number: Option<usize>, mode: Mode) -> Step<'s>
     ensures step { turn_of result ≡ asked mode (option_map child_at_item number) }
 {
@@ -26,7 +26,7 @@ fn ask_child_at_item<'s>(number: Option<usize>, mode: Mode) -> Step<'s>
     }
 }
 
-/// The question of the only child at an item.
+/// Returns the step that evaluates the keyword's only child at the item with this number.
 fn ask_first_at_item<'s>(number: Option<usize>, mode: Mode) -> Step<'s>
     ensures step { turn_of result ≡ asked mode (option_map first_at_item number) }
 {
@@ -36,7 +36,7 @@ fn ask_first_at_item<'s>(number: Option<usize>, mode: Mode) -> Step<'s>
     }
 }
 
-/// Asks each child at the item of its number.
+/// Takes a turn of `items` with a list, which evaluates child number N at item number N.
 pub fn turn_listed_items<'s, 'i>(
     alloc: Global,
     children: usize,
@@ -55,7 +55,7 @@ pub fn turn_listed_items<'s, 'i>(
     Ok(ask_child_at_item(number, mode))
 }
 
-/// Asks the only child at each item after the first `before`.
+/// Takes a turn of a keyword that evaluates its child at each item after the first `before`.
 pub fn turn_later_items<'s, 'i>(
     alloc: Global,
     before: usize,
@@ -74,7 +74,7 @@ pub fn turn_later_items<'s, 'i>(
     Ok(ask_first_at_item(number, mode))
 }
 
-/// How many items come after the first `before`, if any.
+/// Returns the number of items after the first `before`.
 fn items_after(before: usize, instance: Instance<'_>) -> usize
     ensures count { result ≡ item_count (subject_of instance.entry) - before }
     ensures fits { before + result < 2 ^ 64 }
@@ -83,7 +83,7 @@ fn items_after(before: usize, instance: Instance<'_>) -> usize
     if before < all { all - before } else { 0 }
 }
 
-/// How many items there are for so many children.
+/// Returns the number of items that have a child of their own.
 fn listed_count(children: usize, instance: Instance<'_>) -> usize
     ensures count { result ≡ min children (item_count (subject_of instance.entry)) }
 {

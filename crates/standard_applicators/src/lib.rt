@@ -1,9 +1,13 @@
-//! The keywords that apply schemas to items, or by the members that an instance has, and that need no match: `contains` with
-//! `minContains` and `maxContains`, `dependentSchemas` and `dependencies`, and `items` and `additionalItems` as they were before
-//! 2020-12; and their table. What each of them means is a definition of its own, and `meanings` says that the keywords mean that.
+//! The keywords that apply schemas to items, or by the members that an instance has.
 //!
-//! Each goes about an instance in one of the ways of `keyword_authoring`, but `dependencies`, which tells errors of its own first and then
-//! passes on what its schemas say (`specs/Courses`).
+//! They are `contains` with `minContains` and `maxContains`, `dependentSchemas`, `dependencies`,
+//! and `items` and `additionalItems` as they were before 2020-12. None of them matches a pattern.
+//! The crate has their table too. The meaning of each is a definition of its own, and the module
+//! `meanings` states that the keywords have these meanings.
+//!
+//! Each evaluates an instance in one of the kinds that `keyword_authoring` offers, except for
+//! `dependencies`: it reports errors of its own first, and then passes on the errors of its schemas
+//! (`specs/Courses`).
 #![tactic(auto)]
 
 pub mod applicator;

@@ -1,4 +1,4 @@
-//! What `contains` reads of the limits beside it.
+//! The limits beside `contains`.
 ghost use Rattle.std.specs.Prelude.{◌≡◌};
 ghost use Rattle.serde_json.specs.View.{view};
 ghost use Rattle.schema_drafts.specs.KeywordViews.{draft_of};
@@ -11,7 +11,7 @@ use keyword_makers::paths::value_in;
 use schema_drafts::keywords::Draft;
 use serde_json::{Map, Value};
 
-/// Whether a draft knows `minContains` and `maxContains`.
+/// Returns whether a draft has `minContains` and `maxContains`.
 fn has_limits(draft: Draft) -> bool
     ensures limits { result ≡ has_limits (draft_of draft) }
 {
@@ -23,7 +23,7 @@ fn has_limits(draft: Draft) -> bool
     }
 }
 
-/// The limit that a value is.
+/// Returns the limit that a value is.
 fn limit_of(value: &Value) -> Option<usize>
     ensures limit { result ≡ limit_of (view value.now) }
 {
@@ -33,7 +33,7 @@ fn limit_of(value: &Value) -> Option<usize>
     }
 }
 
-/// The value of a limit beside `contains`, in a draft that knows it.
+/// Returns the value of a limit beside `contains`, in a draft that has the limit.
 fn limit_beside<'o>(draft: Draft, name: &str, object: &'o Map<String, Value>) -> Option<&'o Value>
     ensures value { value_read result ≡ limit_beside (draft_of draft) name.now (fields object.now) }
 {
@@ -44,7 +44,7 @@ fn limit_beside<'o>(draft: Draft, name: &str, object: &'o Map<String, Value>) ->
     }
 }
 
-/// The limit of this name beside `contains`.
+/// Returns the limit with this name beside `contains`.
 fn limit_in(draft: Draft, name: &str, object: &Map<String, Value>) -> Option<usize>
     ensures limit { result ≡ limit_in (draft_of draft) name.now (fields object.now) }
 {
@@ -54,7 +54,7 @@ fn limit_in(draft: Draft, name: &str, object: &Map<String, Value>) -> Option<usi
     }
 }
 
-/// The value of a limit beside `contains` that is no number.
+/// Returns the value of a limit beside `contains` if it is no natural number.
 pub fn refused_limit<'o>(
     draft: Draft,
     name: &str,
@@ -71,7 +71,7 @@ pub fn refused_limit<'o>(
     }
 }
 
-/// The `contains` of an object.
+/// Returns the `contains` of an object, with the limits beside it.
 pub fn contains_in(draft: Draft, object: &Map<String, Value>) -> Contains
     ensures contains { result ≡ contains_in (draft_of draft) (fields object.now) }
 {

@@ -1,10 +1,10 @@
-//! Names that a keyword holds.
+//! The names that a keyword stores.
 ghost use Rattle.std.specs.Prelude.{◌≡◌, map, string_bytes};
 
 use std::alloc::AllocError;
 use std::marker::Model;
 
-/// Names, in order.
+/// A list of names, in order.
 #[derive(Drop)]
 pub struct Names {
     texts: Vec<String>,
@@ -20,14 +20,14 @@ impl Model for Names {
 }
 
 impl Names {
-    /// These texts, as names.
+    /// Returns the texts as names.
     pub fn new(texts: Vec<String>) -> Names
         ensures names { result ≡ map string_bytes texts.items }
     {
         Names { texts }
     }
 
-    /// The names as a slice.
+    /// Returns the names as a slice.
     pub fn as_slice(&self) -> &[String]
         ensures names { map string_bytes result.now ≡ self.now }
     {
@@ -38,7 +38,11 @@ impl Names {
 impl Clone for Names {
     ghost is_clone = { λ names copy. copy ≡ names };
 
-    /// Returns a clone of the names. Fails only if memory cannot be allocated.
+    /// Returns a clone of the names.
+    ///
+    /// # Errors
+    ///
+    /// Out of memory.
     #[tactic(auto, using(crate::proofs::ToldAlike::told_alike))]
     fn clone(&self) -> Result<Names, AllocError> {
         let texts = self.texts.clone()?;

@@ -27,17 +27,18 @@ use schema_traits::table::{KeywordOrigin, KeywordTable, MakerReply, MakerStep};
 use serde_json::{Map, Value};
 use std::alloc::Global;
 
-/// A table of these keywords, in each draft that knows them. No name is its own; a name that is none of theirs makes nothing.
+/// A table of these keywords, in each draft that has them.
 ///
-/// A value of another shape than its keyword's is refused by an error that shows the value and is located at the keyword; so is one
-/// of `minContains` or `maxContains`, which `contains` reads.
+/// The table owns no name, and makes nothing of any other name. If a value does not have the form
+/// that its keyword needs, it is refused; the error shows the value and is located at the keyword.
+/// The same holds of the values of `minContains` and `maxContains`, which `contains` reads.
 #[derive(Drop)]
 pub struct StandardApplicatorTable {}
 
-/// A maker of these keywords.
+/// The maker of these keywords.
 type Maker = PathsMaker<StandardApplicator>;
 
-/// The maker of `contains`.
+/// Returns the maker of `contains`.
 fn contains_maker(
     alloc: Global,
     name: &str,
@@ -60,7 +61,7 @@ fn contains_maker(
     )
 }
 
-/// The maker of `dependentSchemas`.
+/// Returns the maker of `dependentSchemas`.
 fn dependent_schemas_maker(alloc: Global, name: &str, value: &Value) -> Result<Maker, OutOfMemory>
     ensures maker { IfOk result (Begins (λ k. k) (dependent_schemas_script name.now (view value.now))) }
 {
@@ -75,7 +76,7 @@ fn dependent_schemas_maker(alloc: Global, name: &str, value: &Value) -> Result<M
     }
 }
 
-/// The maker of `dependencies`.
+/// Returns the maker of `dependencies`.
 fn dependencies_maker(alloc: Global, name: &str, value: &Value) -> Result<Maker, OutOfMemory>
     ensures maker { IfOk result (Begins (λ k. k) (dependencies_script name.now (view value.now))) }
 {
@@ -91,7 +92,7 @@ fn dependencies_maker(alloc: Global, name: &str, value: &Value) -> Result<Maker,
     }
 }
 
-/// The maker of `items`.
+/// Returns the maker of `items`.
 fn items_maker(
     alloc: Global,
     name: &str,
@@ -109,7 +110,9 @@ fn items_maker(
     only_child(alloc, name, StandardApplicator::LaterItems(before))
 }
 
-/// The maker of `additionalItems` beside a list of so many schemas, if there is one.
+/// Returns the maker of `additionalItems` beside a list of schemas.
+///
+/// Without such a list it makes nothing.
 fn after_listed(
     alloc: Global,
     listed: Option<usize>,
@@ -131,7 +134,7 @@ fn after_listed(
     }
 }
 
-/// The maker of `additionalItems`.
+/// Returns the maker of `additionalItems`.
 fn additional_items_maker(
     alloc: Global,
     name: &str,
@@ -144,7 +147,7 @@ fn additional_items_maker(
     after_listed(alloc, listed_beside(draft, object), name, value)
 }
 
-/// The maker of a keyword with this value.
+/// Returns the maker of a keyword with this value.
 fn value_maker(
     alloc: Global,
     name: &str,
@@ -172,7 +175,7 @@ fn value_maker(
     Ok(ends(alloc, Ending::Nothing))
 }
 
-/// The maker of a member of an object, if there is one.
+/// Returns the maker of an object's member, which makes nothing if the member is missing.
 fn member_maker(
     alloc: Global,
     name: &str,

@@ -1,4 +1,4 @@
-//! `additionalItems` with the value false: a list has no items but so many.
+//! `additionalItems` with the value `false`: a list has no items after the first `before`.
 ghost use Rattle.std.specs.Prelude.{◌≡◌, ◌++◌, IfOk, false, string_bytes};
 ghost use Rattle.serde_json.specs.View.{items_view, view};
 ghost use Rattle.serde_json.specs.Written.{compact_text, has_float, items_have_float};
@@ -13,13 +13,12 @@ use schema_reports::location::OutOfMemory;
 use serde_json::Value;
 use std::alloc::Global;
 
-/// A list may have so many items, and no more.
+/// The number of items that a list may have at most.
 #[derive(Clone, Copy)]
 pub struct NoLaterItems {
     pub before: usize,
 }
 
-/// Adds the text of a value, with this before it.
 fn push_shown(
     alloc: Global,
     before: &str,
@@ -35,7 +34,7 @@ fn push_shown(
     Ok(())
 }
 
-/// The texts of values, with a comma between.
+/// Returns the texts of the values, with commas between them.
 fn listed(alloc: Global, items: &[Value]) -> Result<String, OutOfMemory>
     ensures text { IfOk result (λ text. items_have_float (items_view items.now) ≡ false
         → string_bytes text ≡ listed (items_view items.now)) }
@@ -49,7 +48,7 @@ fn listed(alloc: Global, items: &[Value]) -> Result<String, OutOfMemory>
     Ok(text)
 }
 
-/// The items after the first so many.
+/// Returns the items after the first `before`.
 #[tactic(auto, using(crate::proofs::LaterItems::items_dropped, crate::proofs::LaterItems::items_past))]
 fn items_after(list: &[Value], before: usize) -> &[Value]
     ensures items { items_view result.now ≡ items_after before (items_view list.now) }
@@ -61,7 +60,7 @@ fn items_after(list: &[Value], before: usize) -> &[Value]
     }
 }
 
-/// The items of a list after the first so many; what is no list has none.
+/// Returns the items after the first `before` if the instance is a list, and else none.
 fn later_items<'i>(instance: Instance<'i>, before: usize) -> &'i [Value]
     ensures items { items_view result.now ≡ items_after before (subject_items (subject_of instance.entry)) }
 {
@@ -74,7 +73,7 @@ fn later_items<'i>(instance: Instance<'i>, before: usize) -> &'i [Value]
     }
 }
 
-/// How the error ends where so many items are unexpected.
+/// Returns the end of the error's text for this number of unexpected items.
 fn were(count: usize) -> &'static str
     ensures were { result.now ≡ were count }
 {

@@ -1,4 +1,4 @@
-//! Members that want others: where an object has the one, it is to have the other.
+//! Members that require others: if an object has the one, it must have the other.
 ghost use Rattle.std.specs.Prelude.{◌≡◌, IfOk, string_bytes};
 ghost use Rattle.std.specs.List.{list_any};
 ghost use Rattle.schema_reports.specs.InstanceViews.{subject_of};
@@ -16,7 +16,7 @@ use schema_traits::keyword::{Answer, Mode};
 use std::alloc::{AllocError, Global};
 use std::marker::Model;
 
-/// A member of an object, and another that it wants.
+/// The name of a member, and a name that it requires.
 #[derive(Drop)]
 pub struct Want {
     member: String,
@@ -33,7 +33,7 @@ impl Model for Want {
 }
 
 impl Want {
-    /// A member of this name wants one of that name.
+    /// Returns a want: a member with the one name requires a member with the other.
     pub fn new(alloc: Global, member: &str, wanted: &str) -> Result<Want, OutOfMemory>
         ensures want { Yields result (member.now, wanted.now) }
     {
@@ -42,14 +42,14 @@ impl Want {
         Ok(Want { member, wanted })
     }
 
-    /// Whether the instance has the one and not the other.
+    /// Returns whether the instance has the member, but not the one that it requires.
     fn is_unmet(&self, instance: Instance<'_>) -> bool
         ensures unmet { result ≡ is_unmet (subject_of instance.entry) self.now }
     {
         has_member(instance, self.member.as_str()) && !has_member(instance, self.wanted.as_str())
     }
 
-    /// The text of its error.
+    /// Returns the text of its error.
     fn text(&self, alloc: Global) -> Result<String, OutOfMemory>
         ensures text { Shows string_bytes result (required_text self.now) }
     {
@@ -62,7 +62,11 @@ impl Want {
 impl Clone for Want {
     ghost is_clone = { λ want copy. copy ≡ want };
 
-    /// Returns a clone. Fails only if memory cannot be allocated.
+    /// Returns a clone of the want.
+    ///
+    /// # Errors
+    ///
+    /// Out of memory.
     fn clone(&self) -> Result<Want, AllocError> {
         let member = self.member.clone()?;
         let wanted = self.wanted.clone()?;
@@ -70,7 +74,7 @@ impl Clone for Want {
     }
 }
 
-/// Members that want others, in order.
+/// A list of wants, in order.
 #[derive(Drop)]
 pub struct Wants {
     items: Vec<Want>,
@@ -86,14 +90,14 @@ impl Model for Wants {
 }
 
 impl Wants {
-    /// These, as one value.
+    /// Returns the wants as one value.
     pub fn new(items: Vec<Want>) -> Wants
         ensures wants { result ≡ items.items }
     {
         Wants { items }
     }
 
-    /// They as a slice.
+    /// Returns the wants as a slice.
     pub fn as_slice(&self) -> &[Want]
         ensures wants { result.now ≡ self.now }
     {
@@ -104,7 +108,11 @@ impl Wants {
 impl Clone for Wants {
     ghost is_clone = { λ wants copy. copy ≡ wants };
 
-    /// Returns a clone. Fails only if memory cannot be allocated.
+    /// Returns a clone of the wants.
+    ///
+    /// # Errors
+    ///
+    /// Out of memory.
     fn clone(&self) -> Result<Wants, AllocError> {
         Ok(Wants {
             items: self.items.clone()?,
@@ -112,14 +120,14 @@ impl Clone for Wants {
     }
 }
 
-/// Whether one of them is unmet.
+/// Returns whether one of the wants is unmet.
 pub fn has_unmet(wants: &[Want], instance: Instance<'_>) -> bool
     ensures unmet { result ≡ list_any (is_unmet (subject_of instance.entry)) wants.now }
 {
     wants.iter().any(|want| want.is_unmet(instance))
 }
 
-/// Notes an error for each that is unmet, in order.
+/// Reports an error for each unmet want, in order.
 pub fn tell_unmet<'i>(
     alloc: Global,
     wants: &[Want],
