@@ -1,4 +1,4 @@
--- Where a keyword tells at once.
+-- The keywords that have a verdict at once.
 use Rattle.std.proofs.Common.{◌≡◌, ◌∙◌, ◌∷◌, [], Bool, List, ap, arith, false, length, refl, rules, true}
 use Rattle.std.specs.Prelude.{All, IsTrue, ◌↔◌, if◌then◌else◌, not}
 use Rattle.std.specs.List.{filter}
@@ -21,7 +21,7 @@ use Rattle.standard_pattern_properties.specs.declared.keyword.GatedKeyword.{Gate
 use Rattle.standard_pattern_properties.specs.declared.keyword.GatedKeyword.TheVariants.{AdditionalProperties, NoAdditionalProperties, PatternProperties}
 use Rattle.standard_pattern_properties.specs.declared.keyword.Neighbours.{Neighbours}
 
--- ---- no member is looked at
+-- ---- No member is looked at.
 
 none_told : (texts : Bool) (form : Form) → (told_in texts form mode.Verdict (fresh for_verdict) []).verdict ≡ true
 none_told texts passes = refl
@@ -43,7 +43,7 @@ no_members_at_once texts (PatternProperties patterns) s h = nothing_at_once text
 no_members_at_once texts (AdditionalProperties beside) s h = nothing_at_once texts (AdditionalProperties beside) s (ap (unlisted beside.listed) (nil_list (subject_names s) h))
 no_members_at_once texts (NoAdditionalProperties beside) s h = nothing_at_once texts (NoAdditionalProperties beside) s (ap (unlisted beside.listed) (nil_list (subject_names s) h))
 
--- ---- no pattern is asked
+-- ---- No pattern is asked.
 
 kept_all : (P : Text → Type 0) (f : Text → Bool) (ks : List Text) → All P ks → All P (filter f ks)
 kept_all P f [] h = All-nil _
@@ -60,7 +60,7 @@ module _ (texts : Bool) (beside : Neighbours) (s : Subject) where
   abbrev moved : List Text → Move
   moved names = seeks (gates_of keyword) (form_of keyword) s mode.Verdict 0 [] names
 
-  -- the first member that is left over ends the run
+  -- The first additional member ends the run.
   left_over : (k : Text) (ks : List Text) → has_member k s ≡ true → beside.patterns ≡ [] → moved (k ∷ ks) ≡ halts (k ∷ [])
   left_over k ks here none =
       ap (λ b. if b then at_gates (gates_of keyword) (form_of keyword) s mode.Verdict (k ∷ ks) [] k 0 (gates_of keyword) next else seeks (gates_of keyword) (form_of keyword) s mode.Verdict 0 [] ks) here

@@ -1,4 +1,4 @@
--- The gate of a number, and those from a number on.
+-- The gate with a number, and the gates from a number on.
 use Rattle.std.proofs.Common.{◌≡◌, ◌∙◌, ◌+◌, ◌-◌, ◌<◌, ◌≤◌, ◌∷◌, [], List, None, Option, Some, String, ℕ, add-one, add-zero, ap, arith, drop, get_or, length, map, refl, string_bytes, suc, sym, take, zero}
 use Rattle.std.specs.declared.alloc.Global.{Global}
 use Rattle.std.proofs.lemmas.List.{at_drop_all, drop-map}
@@ -40,7 +40,7 @@ gate_past (suc i) j (p ∷ ps) l = gate_past i (j + 1) ps (omega arith)
 pub no_gate : (i : ℕ) (ps : Strings) → length ps ≤ i → None ≡ first_of (drop i (gates_from 0 (map string_bytes ps)))
 no_gate i ps l = gate_past i 0 ps l
 
--- past the only one
+-- after the only one
 pub only_past : (i : ℕ) (g : Gate) → (i ≡ 0 → ⊥) → None ≡ first_of (drop i (g ∷ []))
 only_past zero g h = absurd (h refl)
 only_past (suc zero) g h = refl
@@ -79,7 +79,7 @@ past_none i xs h = ap (λ n. drop n xs) (add-one i) ∙ gone i xs h
     gone (suc i) [] h = refl
     gone (suc i) (x ∷ xs) h = gone i xs h
 
--- the pattern of a number
+-- the pattern with a number
 pub pattern_at : (ps : Strings) (i : ℕ) (p : String Global) → i < length ps → p ≡ get_or ps i p → drop i (map string_bytes ps) ≡ string_bytes p ∷ drop (i + 1) (map string_bytes ps)
 pattern_at ps i p l is = drop-map string_bytes i ps ∙ (ap (map string_bytes) (drop_at ps i p l is) ∙ ap (λ xs. string_bytes p ∷ xs) (sym (drop-map string_bytes (i + 1) ps)))
 

@@ -38,7 +38,7 @@ insert_last (x ∷ keys) k h = ap (λ o. map string_bytes (match_ordering o (k �
     above : string_cmp k x ≡ Greater
     above = string_cmp_total.antisymm k x ∙ ap ordering_reverse h.0
 
--- the names of an object ascend
+-- The names of an object are in ascending order.
 abbrev pub Ascend : List Text → Type 0
 Ascend [] = Unit {0}
 Ascend (k ∷ ks) = AllByRecursion (λ l. slice_cmp nat_cmp k l ≡ Less) ks × Ascend ks

@@ -1,4 +1,4 @@
--- The gates of a keyword mean what is said of the members.
+-- The gates of a keyword have the meaning that `Meanings` states for the members.
 use Rattle.std.proofs.Common.{◌≡◌, ◌∙◌, ◌&&◌, ◌||◌, ◌+◌, ◌++◌, ◌∷◌, [], Bool, List, ap, false, map, refl, true, ℕ}
 use Rattle.std.specs.List.{filter, list_all, list_any}
 use Rattle.std.specs.Prelude.{All, if◌then◌else◌, not}
@@ -17,7 +17,7 @@ use Rattle.standard_pattern_properties.specs.Meanings.{is_spoken_of, others_acce
 use Rattle.standard_pattern_properties.specs.declared.gates.Condition.TheVariants.{OneMatches}
 use Rattle.standard_pattern_properties.specs.declared.keyword.Neighbours.{Neighbours}
 
--- ---- open ones of two lists
+-- ---- the open questions of two lists
 
 abbrev put_if : Bool → Gated → List Gated → List Gated
 put_if b g gs = if b then g ∷ gs else gs
@@ -84,7 +84,7 @@ module _ (matching : Matching) where
       abbrev others : List Text → Bool
       others ks = accepted (gated (other_gate beside.patterns ∷ []) s (unlisted beside.listed ks))
 
-      -- a member that is listed is passed over
+      -- A member that is listed is skipped.
       other_first : (b : Bool) (k : Text) (ks : List Text) → has_member k s ≡ true
           → accepted (gated (other_gate beside.patterns ∷ []) s (if not b then k ∷ unlisted beside.listed ks else unlisted beside.listed ks))
           ≡ ((b || (list_any (λ p. matching.matches p k) beside.patterns || accepts (at_member 0 k))) && others ks)
@@ -98,7 +98,7 @@ module _ (matching : Matching) where
           ∙ (ap (λ x. x && others ks) (or_assoc (is_among beside.listed k) (list_any (λ p. matching.matches p k) beside.patterns) (accepts (at_member 0 k)))
           ∙ ap (λ x. others_accept matching accepts beside k && x) (others_mean ks (All-tail (λ k. has_member k s ≡ true) k ks h)))
 
-  -- ---- the names that are left over
+  -- ---- the names of the additional members
 
   module _ (s : Subject) (beside : Neighbours) where
     abbrev names_open : List Text → List Text
@@ -122,7 +122,7 @@ module _ (matching : Matching) where
     names_mean (k ∷ ks) h = name_first (is_among beside.listed k) k ks (All-head (λ k. has_member k s ≡ true) k ks h)
         ∙ ap (λ ns. if not (is_spoken_of matching beside k) then k ∷ ns else ns) (names_mean ks (All-tail (λ k. has_member k s ≡ true) k ks h))
 
-    -- none is left over where each is spoken of
+    -- Nothing is reported if and only if there are no names.
     nil_told : (texts : Bool) (text : List Text → Text) (ks : List Text) → is_nil (map (spoken texts) (told text ks)) ≡ is_nil ks
     nil_told texts text [] = refl
     nil_told texts text (k ∷ ks) = refl

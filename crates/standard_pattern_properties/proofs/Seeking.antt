@@ -1,4 +1,4 @@
--- How a run goes from member to member, as the code takes it.
+-- How a run goes from member to member, as the code computes it.
 use Rattle.std.proofs.Common.{◌≡◌, ◌∙◌, ◌+◌, ◌∷◌, [], Bool, Equal, List, None, Some, String, ap, drop, false, is_eq, is_some, length, map, nat_cmp, refl, string_bytes, sym, true, ℕ}
 use Rattle.std.specs.Prelude.{if◌then◌else◌}
 use Rattle.std.specs.declared.alloc.Global.{Global}
@@ -21,7 +21,7 @@ use Rattle.standard_pattern_properties.specs.Gates.{Form, Gate, told}
 use Rattle.standard_pattern_properties.specs.GateMoves.{Move, at_gates, at_pattern, seeks, tested, tested_at, matched_by}
 use Rattle.standard_pattern_properties.proofs.GateNumbers.{past_none}
 
--- ---- the name of a member, as the object holds it
+-- ---- the name of a member, as the object stores it
 
 pub member_there : (name : Text) (es : List Entry) → is_some (get_member name (members_view es)) ≡ is_some (lookup (is_at (λ k. slice_cmp nat_cmp name (string_bytes k))) es)
 member_there name es = ap is_some (sym (view-lookup name es)) ∙ is_some-map view (lookup (is_at (λ k. slice_cmp nat_cmp name (string_bytes k))) es)
@@ -46,13 +46,13 @@ held_none k false h = refl
 -- ---- from a gate on
 
 module _ (gates : List Gate) (form : Form) (s : Subject) (m : Mode) where
-  -- no gate is left there
+  -- There is no such gate.
   pub seeks_past : (i : ℕ) → drop i gates ≡ [] → (left names : List Text) → seeks gates form s m i left names ≡ seeks gates form s m (i + 1) left names
   seeks_past i e left [] = refl
   seeks_past i e left (k ∷ ks) = ap (λ gs. if has_member k s then at_gates gates form s m (k ∷ ks) left k i gs (λ left'. seeks gates form s m 0 left' ks) else seeks gates form s m 0 left ks) e
       ∙ ap (λ gs. if has_member k s then at_gates gates form s m (k ∷ ks) left k (i + 1) gs (λ left'. seeks gates form s m 0 left' ks) else seeks gates form s m 0 left ks) (sym (past_none i gates e))
 
-  -- so the run goes on from the next member
+  -- So the run continues with the next member.
   pub seeks_next : (i : ℕ) → drop i gates ≡ [] → (left names : List Text) → seeks gates form s m i left names ≡ seeks gates form s m 0 left (later_of names)
   seeks_next i e left [] = refl
   seeks_next i e left (k ∷ ks) = ap (λ gs. if has_member k s then at_gates gates form s m (k ∷ ks) left k i gs (λ left'. seeks gates form s m 0 left' ks) else seeks gates form s m 0 left ks) e ∙ same (has_member k s)
@@ -61,14 +61,14 @@ module _ (gates : List Gate) (form : Form) (s : Subject) (m : Mode) where
       same true = refl
       same false = refl
 
-  -- a gate that the run goes past
+  -- a gate that the run passes
   pub gate_passed : (names left left' : List Text) (k : Text) (j : ℕ) (g : Gate) (next : List Text → Move) → drop j gates ≡ g ∷ drop (j + 1) gates
       → ((next' : List Text → Move) → at_pattern gates form s m names left k j 0 g g.patterns next' ≡ next' left')
       → at_gates gates form s m names left k j (drop j gates) next ≡ at_gates gates form s m names left' k (j + 1) (drop (j + 1) gates) next
   gate_passed names left left' k j g next e passed = ap (λ gs. at_gates gates form s m names left k j gs next) e
       ∙ passed (λ left''. at_gates gates form s m names left'' k (j + 1) (drop (j + 1) gates) next)
 
-  -- ---- at the first member that is left
+  -- ---- at the current member
 
   pub seeks_here : (j : ℕ) (left names : List Text) (k name : Text) → first_of names ≡ Some k → Some name ≡ (if has_member k s then Some k else None)
       → seeks gates form s m j left names ≡ at_gates gates form s m names left name j (drop j gates) (λ left'. seeks gates form s m 0 left' (later_of names))
@@ -86,7 +86,7 @@ module _ (gates : List Gate) (form : Form) (s : Subject) (m : Mode) where
       let same : l ≡ k = cc in
       ap (λ b. if b then at_gates gates form s m (l ∷ ls) left l j (drop j gates) (λ left'. seeks gates form s m 0 left' ls) else seeks gates form s m 0 left ls) (ap (λ x. has_member x s) same ∙ held_none k (has_member k s) h)
 
--- ---- names to tell of
+-- ---- names that the error shows
 
 pub told_some : (text : List Text → Text) (ks : List Text) → (ks ≡ [] → ⊥) → told text ks ≡ text ks ∷ []
 told_some text [] h = absurd (h refl)
@@ -96,7 +96,7 @@ pub no_names : (xs : List (String Global)) → map string_bytes xs ≡ [] → le
 no_names [] h = refl
 no_names (x ∷ xs) h = cc
 
--- ---- with the name of the first member, as the instance holds it
+-- ---- with the current member's name, as the instance stores it
 
 held_first : (s : Subject) (k : Text) (b : Bool) (name : Text) → (if b then Some k else None) ≡ Some name → (b ≡ true) × (name ≡ k)
 held_first s k true name h = (refl, let e : name ≡ k = cc in e)
@@ -122,7 +122,7 @@ module _ (gates : List Gate) (form : Form) (s : Subject) (m : Mode) where
       ≡ matched_by gates form s m won names left name j l g (λ left'. at_gates gates form s m names left' name (j + 1) (drop (j + 1) gates) (λ left''. seeks gates form s m 0 left'' (later_of names)))
   tested_gate won j l left names name g h e = tested_held won j l left names name h ∙ ap (λ gs. tested_at gates form s m won names left name j l gs (λ left'. seeks gates form s m 0 left' (later_of names))) e
 
-  -- after a match that settles its gate the run goes on from the next gate
+  -- After a match that decides its gate, the run continues with the next gate.
   pub tested_passed : (won : Bool) (j l : ℕ) (left left' names : List Text) (name : Text) (g : Gate) → name_here s names ≡ Some name → drop j gates ≡ g ∷ drop (j + 1) gates
       → ((next : List Text → Move) → matched_by gates form s m won names left name j l g next ≡ next left')
       → tested gates form s m won j l left names ≡ seeks gates form s m (j + 1) left' names
@@ -130,6 +130,6 @@ module _ (gates : List Gate) (form : Form) (s : Subject) (m : Mode) where
       ∙ (passed (λ left''. at_gates gates form s m names left'' name (j + 1) (drop (j + 1) gates) (λ left'''. seeks gates form s m 0 left''' (later_of names)))
       ∙ sym (seeks_held (j + 1) left' names name h))
 
-  -- a run whose first member is behind it, and which ends so
+  -- a run that is done with the current member, and ends like this
   abbrev pub GoesOn : Mode → Move → GateRun → Type 0
   GoesOn m' end r = (r.mode ≡ m') × (seeks gates form s r.mode 0 r.left (later_of r.names) ≡ end)

@@ -1,4 +1,5 @@
--- The runs of keywords behind matches end as their questions say: where a run stands says what it ends in, and a turn keeps that.
+-- A run ends in the answer that its questions determine: the situation of a run determines the
+-- final answer, and a turn does not change it.
 use Rattle.std.proofs.Common.{◌≡◌, ◌∙◌, ℕ, zero, suc, ◌+◌, ◌||◌, ◌++◌, ◌∷◌, [], List, Bool, true, false, refl, sym, ap, add-one, append-nil, append_assoc, drop, map}
 use Rattle.std.specs.List.{list_any}
 use Rattle.std.specs.Prelude.{if◌then◌else◌}
@@ -28,9 +29,10 @@ after_suc (suc i) (y ∷ xs) x rest h = after_suc i xs x rest h
 pub after_one : {A : Type 0} (i : ℕ) (xs : List A) (x : A) (rest : List A) → drop i xs ≡ x ∷ rest → drop (i + 1) xs ≡ rest
 after_one i xs x rest h = ap (λ n. drop n xs) (add-one i) ∙ after_suc i xs x rest h
 
--- ---- what a run ends in
+-- ---- the final answer of a run
 
--- where these are the open questions that are left, and these the names to tell of before them
+-- the final answer, if these are the open questions that are left, and `left` are the names that
+-- the error shows before theirs
 abbrev pub finished : Bool → Mode → (Question → Reply) → Form → Answer → List Text → List Gated → Answer
 finished texts m reply passes a left gs = led reply a (map question_of gs)
 finished texts m reply (tells called text) a left gs = noted m called a (map (spoken texts) (told text (left ++ map name_of gs)))
@@ -39,16 +41,16 @@ module _ (gates : List Gate) (s : Subject) (matching : Matching) where
   abbrev pub open_at : List Text → List Gated
   open_at ks = open_ones matching (gated gates s ks)
 
-  -- with so many gates behind it at the first member
+  -- the open questions that are left if the run has passed the first j gates at the current member
   abbrev pub open_after : ℕ → List Text → List Gated
   open_after j [] = []
   open_after j (k ∷ ks) = open_ones matching (gated_here (has_member k s) (drop j gates) k ++ gated gates s ks)
 
-  -- with these gates left at a member, before others
+  -- the open questions if these gates are left at a member, followed by other members
   abbrev pub open_left : Text → List Gate → List Text → List Gated
   open_left k gs ks = open_ones matching (map (gated_at k) gs ++ gated gates s ks)
 
-  -- with a gate in question, one of whose patterns matches or none does
+  -- the open questions with those of a gate, given whether one of its patterns matches
   abbrev pub open_if : Bool → Text → Gate → List Gated → List Gated
   open_if matched k g gs = if opens g.condition matched then gated_at k g ∷ gs else gs
 
@@ -71,17 +73,17 @@ module _ (gates : List Gate) (s : Subject) (matching : Matching) where
     end_by (Asked j) left names a r = either (goes_on r) (finished texts m reply form (taken a r) left (open_after (j + 1) names)) (told_in texts form m (taken a r) left)
     end_by Ended left names a r = told_in texts form m a left
 
-    -- where a move leads, if it is replied to truly
+    -- the final answer after a move whose reply is the true one
     abbrev pub leads_to : Move → Answer → Answer
     leads_to (halts names) a = told_in texts form m a names
     leads_to (tests names left j l p k) a = end_by (Tested j l) left names a (truth (matching.matches p k))
     leads_to (asks names left j q) a = end_by (Asked j) left names a (reply q)
 
-    -- what follows leads on
+    -- What follows ends in the answer that these questions determine.
     abbrev pub LeadsOn : Answer → (List Text → Move) → List Gated → Type 0
     LeadsOn a next gs = (left : List Text) → leads_to (next left) a ≡ finished texts m reply form a left gs
 
--- ---- a name to tell of
+-- ---- a name that the error shows
 
 refused_told : (texts : Bool) (called : Text) (text : List Text → Text) (a : Answer) (k : Text) (left names : List Text)
     → noted mode.Verdict called a (map (spoken texts) (told text (left ++ k ∷ []))) ≡ noted mode.Verdict called a (map (spoken texts) (told text (left ++ k ∷ names)))
@@ -208,7 +210,7 @@ module _ (gates : List Gate) (s : Subject) (matching : Matching) (texts : Bool) 
   answered_leads true j left names = seeks_lead names (j + 1) left
   answered_leads false j left names = refl
 
--- a move leads where the run was to end
+-- A move does not change the final answer.
 pub move_leads : (gates : List Gate) (s : Subject) (matching : Matching) (texts : Bool) (m : Mode) (reply : Question → Reply) (form : Form) (stage : GateStage) (left names : List Text) (a : Answer) (r : Reply)
     → leads_to gates s matching texts m reply form (move_by gates form s m stage left names (says_yes r) (goes_on r)) (answer_at stage a r)
     ≡ end_by gates s matching texts m reply form stage left names a r

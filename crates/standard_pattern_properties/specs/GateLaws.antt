@@ -1,4 +1,4 @@
--- Keywords behind matches keep the laws of keywords, whatever their gates are.
+-- Keywords with gates keep the laws that every keyword must keep, whatever their gates are.
 use Rattle.std.proofs.Common.{◌≡◌, ◌∙◌, ℕ, zero, suc, ◌+◌, ◌<◌, ◌≤◌, ◌⊎◌, ◌++◌, ◌∷◌, [], List, Bool, true, false, refl, sym, ap, inl, inr, add-one, arith, drop, length, map, subst}
 use Rattle.std.specs.Prelude.{All, Contains, if◌then◌else◌}
 use Rattle.std.proofs.lemmas.List.Elements.{All-append, All-cons, All-contains_itself, All-head, All-map, All-nil, All-tail, All-weaker, Contains-append_left, Contains-append_right, All-contains}
@@ -41,7 +41,8 @@ IsRest all names = (i : ℕ) × (names ≡ drop i all)
 rest_later : (all : List Text) (k : Text) (ks : List Text) → IsRest all (k ∷ ks) → IsRest all ks
 rest_later all k ks (i, e) = (i + 1, sym (after_one i all k ks (sym e)))
 
--- it ends the run, or leaves fewer turns, at members that were left; and asks what may be asked there
+-- A move ends the run, or leaves fewer turns to take. If it does not end the run, it keeps to the
+-- members that were left, and asks only what may be asked there.
 abbrev pub IsFine : List Gate → Form → Subject → List Text → ℕ → Move → Type 0
 IsFine gates form s all n (halts names) = Unit {0}
 IsFine gates form s all n (tests names left j l p k) = (tested_left gates j l names < n) × IsRest all names
@@ -71,7 +72,7 @@ map-map k [] = refl
 map-map k (g ∷ gs) = ap (λ qs. at_member g.child k ∷ qs) (map-map k gs)
 
 module _ (gates : List Gate) (s : Subject) where
-  -- the question of a gate at a member that is there
+  -- the question of a gate at a member that is present
   asked_here : (all : List Text) (i : ℕ) (k : Text) (ks : List Text) → drop i all ≡ k ∷ ks → has_member k s ≡ true → (j : ℕ) (g : Gate) (gs : List Gate) → drop j gates ≡ g ∷ gs
       → Contains (map question_of (gated gates s all)) (at_member g.child k)
   asked_here [] zero k ks e here j g gs is = cc
@@ -202,7 +203,7 @@ module _ (gates : List Gate) (s : Subject) (m : Mode) (all : List Text) where
   move_fine form (Asked j) left names won onward there = answered_fine form onward j left names there
   move_fine form Ended left names won onward there = tt
 
-  -- ---- so it ends, asks rightly, and goes on so
+  -- ---- So a turn ends the run, or asks what it may ask and leaves fewer turns to take.
 
   fine_falls : (form : Form) (n : ℕ) (mv : Move) → Fine form n mv → (turn_by m mv ≡ done) ⊎ (turns_left gates (run_after m mv).stage (run_after m mv).names < n)
   fine_falls form n (halts names) h = inl refl
@@ -224,7 +225,7 @@ module _ (gates : List Gate) (s : Subject) (m : Mode) (all : List Text) where
   fine_turn form n (tests names left j l p k) h P ends matched asked = matched p k
   fine_turn form n (asks names left j q) h P ends matched asked = asked q h.2
 
--- ---- the open questions are among those that may be asked
+-- ---- The open questions are among those that may be asked.
 
 open_all : (P : Question → Type 0) (texts : Bool) (form : Form) (matching : Matching) (gs : List Gated) → All P (asked_of form gs) → All P (questions (way_by texts form matching gs))
 open_all P texts (tells called text) matching gs h = All-nil _
@@ -256,7 +257,7 @@ module _ (s : Subject) where
   asked_there passes gs h = h
   asked_there (tells called text) gs h = All-nil _
 
--- ---- a way's runs end as it says
+-- ---- The runs of a way end in the answer that the way means.
 
 ends_by : (texts : Bool) (form : Form) (gs : List Gated) (matching : Matching) (a : Answers) (u : Question → Unit_) → ((q : Question) → (report_of (u q)).valid ≡ (a q).verdict) → (mode' : spec.Mode)
     → IsEnd (way_of texts form gs) matching a u mode' (finished texts (mode_from mode') (reply_for (mode_from mode') a u) form (fresh mode') [] gs)
@@ -278,7 +279,7 @@ wider answers qs rs inside (own o) h = tt
 wider answers qs rs inside (passed e) (q, there, is) = (q, All-contains (Contains rs) qs q inside there, is)
 
 module _ (texts : Bool) (matching : Matching) (u : Question → Unit_) (rs : List Question) where
-  -- the units that it gives are those of its open questions
+  -- The units that the keyword returns are those of its open questions.
   children_by : (form : Form) (gs : List Gated) → All (Contains rs) (questions (way_of texts form gs)) → All (IsHandedOn u rs) (way_units (way_of texts form gs) matching u).children
   children_by passes gs h = All-map (IsHandedOn u rs) u (map question_of gs) (All-weaker (Contains rs) (λ q. IsHandedOn u rs (u q)) (λ q c. (q, c, refl)) (map question_of gs) h)
   children_by (tells called text) gs h = All-nil _
@@ -322,7 +323,7 @@ module _ {M : Type 0} (gates_of : M → List Gate) (form_of : M → Form) (names
   abbrev pub gated_left : M → Subject → State → ℕ
   gated_left m s r = turns_left (gates_of m) r.0.stage r.0.names
 
-  -- the names that are left are the last of all
+  -- The names that are left are the last of all.
   abbrev pub gated_can_be : Bool → M → Subject → State → Type 0
   gated_can_be texts m s r = IsRest (names_of m s) r.0.names
 
@@ -332,7 +333,7 @@ module _ {M : Type 0} (gates_of : M → List Gate) (form_of : M → Form) (names
   abbrev pub gated_fits : Bool → M → Standing State → Type 0
   gated_fits texts m x = Unit {0}
 
-  -- ---- its turns
+  -- ---- the keyword's turns
 
   same_reply : (texts : Bool) (m : M) (s : Subject) (matches : Matching) (a : Answers) (u : Question → Unit_) (same : Marked → Marked → Bool) (mode' : Mode) (q : Question)
       → answer_in (gated_words texts) m s matches a u same (mode_of mode') q ≡ reply_for mode' a u q
@@ -354,7 +355,7 @@ module _ {M : Type 0} (gates_of : M → List Gate) (form_of : M → Form) (names
     abbrev standing_at : GateRun → Answer → Reply → Answer
     standing_at r a reply = end_by (gates_of m) x.subject x.matches texts x.state.0.mode questioned (form_of m) r.stage r.left r.names a reply
 
-    -- after a move that is no end
+    -- after a move that does not end the run
     after_move : (a : Answer) (mv : Move) → (turn_by x.state.0.mode mv ≡ done → ⊥)
         → standing_at (run_after x.state.0.mode mv) (answer_by texts (form_of m) x.state.0.mode a mv) (replied mv) ≡ led_by mv a
     after_move a (halts names) h = absurd (h refl)
@@ -362,7 +363,7 @@ module _ {M : Type 0} (gates_of : M → List Gate) (form_of : M → Form) (names
     after_move a (asks names left j q) h = ap (end_by (gates_of m) x.subject x.matches texts x.state.0.mode questioned (form_of m) (Asked j) left names a)
         (same_reply texts m x.subject x.matches x.answers x.unit_at x.same x.state.0.mode q)
 
-    -- after one that is
+    -- after a move that ends the run
     at_end : (a : Answer) (mv : Move) → turn_by x.state.0.mode mv ≡ done → answer_by texts (form_of m) x.state.0.mode a mv ≡ led_by mv a
     at_end a (halts names) h = refl
     at_end a (tests names left j l p k) h = cc
@@ -406,7 +407,7 @@ module _ {M : Type 0} (gates_of : M → List Gate) (form_of : M → Form) (names
     stands = λ x fits h. at_end texts m x (answered_so texts m x) (moved texts m x) h ∙ leads_there texts m x;
   }
 
-  -- ---- its functions
+  -- ---- the keyword's functions
 
   open_inside : (texts : Bool) (m : M) (s : Subject) (matches : Matching) → All (Contains (asked_of (form_of m) (gated_in m s))) (questions (gated_way texts m s matches))
   open_inside texts m s matches = open_all (Contains (asked_of (form_of m) (gated_in m s))) texts (form_of m) matches (gated_in m s) (All-contains_itself (asked_of (form_of m) (gated_in m s)))
@@ -434,7 +435,7 @@ module _ {M : Type 0} (gates_of : M → List Gate) (form_of : M → Form) (names
         (λ x. Contains (gated_absorbed m) x.name × All (IsHandedOn u ((gated_words texts).may_ask m s)) x.children) (form_of m) (open_ones matches (gated_in m s));
   }
 
-  -- ---- what it asks for
+  -- ---- what the keyword requests
 
   turn_for_less : (mode' : Mode) (mv : Move) → WantsNone mode' → AsksForLess (turn_by mode' mv)
   turn_for_less mode' (halts names) none = tt

@@ -1,5 +1,6 @@
--- How the runs of keywords behind matches go: member by member and gate by gate, the patterns in order, and no further than the first
--- that matches. A turn asks for one match, or one question, or ends the run.
+-- The course of a run of a keyword with gates: member by member, gate by gate, and the patterns in
+-- order up to the first one that matches. A turn asks for one match, or evaluates one child, or
+-- ends the run.
 use Rattle.std.specs.Prelude.{Bool, List, [], drop, false, if◌then◌else◌, length, map, true, ℕ, ◌++◌, ◌+◌, ◌∷◌}
 use Rattle.theory_definitions.specs.Instance.{Subject, Text}
 use Rattle.theory_definitions.specs.Keywords.{Answer, Question, Reply, Turn, ask, done, match_text}
@@ -16,8 +17,9 @@ use Rattle.standard_pattern_properties.specs.declared.gates.GateRun.{GateRun}
 use Rattle.standard_pattern_properties.specs.declared.gates.GateStage.{GateStage}
 use Rattle.standard_pattern_properties.specs.declared.gates.GateStage.TheVariants.{Asked, Begun, Ended, Tested}
 
--- what a turn does. It ends the run, with the names that are told of; or it asks whether a pattern of a number of a gate of a number
--- matches the name of the first member that is left, or the question of a gate there
+-- The outcome of a turn. It ends the run, with the names that the error shows. Or it asks whether a
+-- pattern of a gate, both given by number, matches the current member's name. Or it asks a gate's
+-- question at the current member.
 pub data Move : Type 0 where
   halts : List Text → Move
   tests : List Text → List Text → ℕ → ℕ → Text → Text → Move
@@ -28,13 +30,13 @@ stage_after (halts names) = Ended
 stage_after (tests names left j l p k) = Tested j l
 stage_after (asks names left j q) = Asked j
 
--- the members that are left, the one that it is at first
+-- the members that are left, the current one first
 abbrev pub names_after : Move → List Text
 names_after (halts names) = []
 names_after (tests names left j l p k) = names
 names_after (asks names left j q) = names
 
--- the names to tell of
+-- the names that the error shows
 abbrev pub left_after : Move → List Text
 left_after (halts names) = []
 left_after (tests names left j l p k) = left
@@ -51,10 +53,10 @@ turn_by m (asks names left j q) = ask q (mode_of m)
 abbrev pub run_begin : spec.Mode → List Text → GateRun
 run_begin m names = record { mode = mode_from m; stage = Begun; names = names; left = [] }
 
--- ---- how it moves
+-- ---- the moves
 
 module _ (gates : List Gate) (form : Form) (s : Subject) (m : Mode) where
-  -- a name to tell of: where a verdict alone is wanted, it ends the run
+  -- a name that the error shows: if only a verdict is requested, it ends the run
   abbrev pub notes : Mode → Text → List Text → (List Text → Move) → Move
   notes mode.Verdict k left next = halts (left ++ k ∷ [])
   notes mode.First k left next = next (left ++ k ∷ [])
@@ -70,22 +72,23 @@ module _ (gates : List Gate) (form : Form) (s : Subject) (m : Mode) where
   settles true names left k j g next = enters form names left k j g next
   settles false names left k j g next = next left
 
-  -- the next pattern, where there is one; where there is none, none has matched
+  -- the next pattern, if there is one; if there is none, then no pattern matches
   abbrev pub at_pattern : List Text → List Text → Text → ℕ → ℕ → Gate → List Text → (List Text → Move) → Move
   at_pattern names left k j l g [] next = settles (opens g.condition false) names left k j g next
   at_pattern names left k j l g (p ∷ ps) next = tests names left j l p k
 
-  -- the gates that are left at the first member
+  -- the gates that are left at the current member
   abbrev pub at_gates : List Text → List Text → Text → ℕ → List Gate → (List Text → Move) → Move
   at_gates names left k j [] next = next left
   at_gates names left k j (g ∷ gs) next = at_pattern names left k j 0 g g.patterns (λ left'. at_gates names left' k (j + 1) gs next)
 
-  -- from a gate on at the first member, where the instance has it
+  -- from a gate on at the current member, if the instance has it, and then at the later members
   abbrev pub seeks : ℕ → List Text → List Text → Move
   seeks j left [] = halts left
   seeks j left (k ∷ ks) = if has_member k s then at_gates (k ∷ ks) left k j (drop j gates) (λ left'. seeks 0 left' ks) else seeks 0 left ks
 
-  -- after a match the gate is settled: no other pattern of it is asked. Else the next one is
+  -- A match that succeeds decides the gate, and no other pattern of it is asked; else the next
+  -- pattern is asked.
   abbrev pub matched_by : Bool → List Text → List Text → Text → ℕ → ℕ → Gate → (List Text → Move) → Move
   matched_by true names left k j l g next = settles (opens g.condition true) names left k j g next
   matched_by false names left k j l g next = at_pattern names left k j (l + 1) g (drop (l + 1) g.patterns) next
@@ -102,7 +105,7 @@ module _ (gates : List Gate) (form : Form) (s : Subject) (m : Mode) where
   answered true j left names = seeks (j + 1) left names
   answered false j left names = halts left
 
-  -- whether the last reply says won, and whether it lets the run go on
+  -- the outcome of a turn, given whether the last reply says yes and whether it lets the run go on
   abbrev pub move_by : GateStage → List Text → List Text → Bool → Bool → Move
   move_by Begun left names won onward = seeks 0 left names
   move_by (Tested j l) left names won onward = tested won j l left names
@@ -112,16 +115,16 @@ module _ (gates : List Gate) (form : Form) (s : Subject) (m : Mode) where
 abbrev pub move_at : List Gate → Form → Subject → GateRun → Reply → Move
 move_at gates form s r reply = move_by gates form s r.mode r.stage r.left r.names (says_yes reply) (goes_on reply)
 
--- ---- what it makes of an answer
+-- ---- the answer after a turn
 
--- the answer to a question alone is taken
+-- Only the answer to a question is taken.
 abbrev pub answer_at : GateStage → Answer → Reply → Answer
 answer_at Begun a reply = a
 answer_at (Tested j l) a reply = a
 answer_at (Asked j) a reply = taken a reply
 answer_at Ended a reply = a
 
--- with the error that is told by these names
+-- the answer with the error that shows these names
 abbrev pub told_in : Bool → Form → Mode → Answer → List Text → Answer
 told_in texts passes m a names = a
 told_in texts (tells called text) m a names = noted m called a (map (spoken texts) (told text names))
@@ -131,7 +134,7 @@ answer_by texts form m a (halts names) = told_in texts form m a names
 answer_by texts form m a (tests names left j l p k) = a
 answer_by texts form m a (asks names left j q) = a
 
--- ---- how many turns are left, at the most
+-- ---- an upper bound for the number of turns that are left
 
 abbrev pub gate_weight : Gate → ℕ
 gate_weight g = length g.patterns + 2
@@ -144,7 +147,7 @@ abbrev pub total : List Gate → List Text → ℕ
 total gates [] = 0
 total gates (k ∷ ks) = weight gates + total gates ks
 
--- with one pattern of the first gate in question
+-- if a pattern of the first gate is being matched
 abbrev pub tested_weight : ℕ → List Gate → ℕ
 tested_weight l [] = 1
 tested_weight l (g ∷ gs) = length (drop l g.patterns) + 2 + weight gs

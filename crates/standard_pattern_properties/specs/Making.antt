@@ -1,4 +1,4 @@
--- Which keywords the members of a schema make. (Core 2020-12, 10.3.2.2 and 10.3.2.3)
+-- The keywords that the members of a schema make. (Core 2020-12, 10.3.2.2 and 10.3.2.3)
 use Rattle.std.specs.Prelude.{Bool, List, None, Option, Some, [], bytes_eq, codes, false, if◌then◌else◌, refl, true}
 use Rattle.serde_json.specs.Data.{Data, Members, boolean}
 use Rattle.serde_json.specs.Find.{as_object, get_member}
@@ -16,7 +16,7 @@ use Rattle.standard_pattern_properties.specs.declared.keyword.GatedKeyword.{Gate
 use Rattle.standard_pattern_properties.specs.declared.keyword.GatedKeyword.TheVariants.{AdditionalProperties, NoAdditionalProperties, PatternProperties}
 use Rattle.standard_pattern_properties.specs.declared.keyword.Neighbours.{Neighbours}
 
--- the names of a value's members; none where it is no object, or is not there
+-- the names of a value's members: none if the value is missing or is no object
 abbrev pub names_of_object : Option Members → List Text
 names_of_object None = []
 names_of_object (Some ms) = names_of ms
@@ -25,7 +25,7 @@ abbrev pub names_of_value : Option Data → List Text
 names_of_value None = []
 names_of_value (Some d) = names_of_object (as_object d)
 
--- what `properties` lists, and the patterns of `patternProperties`, of the object around
+-- the names listed in `properties` and the patterns of `patternProperties` of the same object
 abbrev pub beside_of : Members → Neighbours
 beside_of ms = record { listed = names_of_value (get_member (codes "properties") ms); patterns = names_of_value (get_member (codes "patternProperties") ms) }
 
@@ -33,12 +33,12 @@ abbrev pub is_false : Data → Bool
 is_false (boolean false) = true
 is_false d = false
 
--- each schema of an object is a child, in order
+-- Each schema of the object is a child, in order.
 abbrev pub patterns_script : Text → Data → Option Members → Script GatedKeyword
 patterns_script name d None = malformed name d
 patterns_script name d (Some ms) = asks_for (values_below name (names_of ms)) (a_keyword (PatternProperties (names_of ms)) [])
 
--- its own value is the only child; `false` needs none
+-- The value is the only child; the value `false` needs none.
 abbrev pub others_script : Members → Text → Data → Script GatedKeyword
 others_script ms name d = if is_false d then makes (NoAdditionalProperties (beside_of ms)) else only_child name (AdditionalProperties (beside_of ms))
 
@@ -50,11 +50,11 @@ abbrev pub member_script : Members → Text → Option Data → Script GatedKeyw
 member_script ms name None = then_end nothing
 member_script ms name (Some d) = value_script ms name d
 
--- in each draft
+-- the same in each draft
 abbrev pub gated_script : Bool → Text → Members → Draft → Vocabularies → Bool → Script GatedKeyword
 gated_script own name ms draft vocabularies formats = member_script ms name (get_member name ms)
 
--- ---- the makers' law
+-- ---- the law of the makers
 
 abbrev pub absorbed : GatedKeyword → List Text
 absorbed = gated_absorbed gates.gates_of gates.form_of gates.names_of

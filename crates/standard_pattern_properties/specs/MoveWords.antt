@@ -1,4 +1,4 @@
--- Which move the code makes: the one that the definitions make from the same run.
+-- The code makes the same move as the definitions do from the same run.
 use Rattle.std.specs.Prelude.{Bool, List, Option, drop, map, option_map, string_bytes, ℕ, ◌≡◌}
 use Rattle.theory_definitions.specs.Instance.{Subject, Text}
 use Rattle.schema_traits.specs.declared.keyword.Mode.{Mode}
@@ -14,7 +14,7 @@ use Rattle.standard_pattern_properties.specs.declared.gates.GateRun.{GateRun}
 use Rattle.standard_pattern_properties.specs.declared.gates.Move.{Move}
 use Rattle.standard_pattern_properties.specs.declared.keyword.GatedKeyword.{GatedKeyword}
 
--- the gate of a number among these, where there is one
+-- the gate with this number among these, if there is one
 abbrev pub IsGate : List gates.Gate → ℕ → Option Gate → Type 0
 IsGate among number gate = option_map gate_of gate ≡ first_of (drop number among)
 
@@ -22,34 +22,34 @@ IsGate among number gate = option_map gate_of gate ≡ first_of (drop number amo
 abbrev pub moved_in : GateRun → Move → moves.Move
 moved_in run made = move_of made run.names run.left
 
--- ---- at the first member that is left, which has this name: a move is made, or what follows
+-- ---- at the current member, which has this name: a move is made, or what follows continues
 
 module _ (k : GatedKeyword) (run run' : GateRun) (name : Text) (number : ℕ) where
-  -- a gate that is open is entered
+  -- An open gate is entered.
   abbrev pub Enters : Gate → Option Move → Type 0
   Enters gate made = (s : Subject) (next : List Text → moves.Move)
       → enters (gates_of k) (form_of k) s run.mode (form_of k) run.names run.left name number (gate_of gate) next
       ≡ moved_by made run' next
 
-  -- it is entered where it is open
+  -- A gate is entered if it is open.
   abbrev pub Settles : Bool → Gate → Option Move → Type 0
   Settles opened gate made = (s : Subject) (next : List Text → moves.Move)
       → settles (gates_of k) (form_of k) s run.mode opened run.names run.left name number (gate_of gate) next
       ≡ moved_by made run' next
 
-  -- its patterns are asked from a place on
+  -- The gate's patterns are asked from an index on.
   abbrev pub Looks : ℕ → Gate → Option Move → Type 0
   Looks place gate made = (s : Subject) (next : List Text → moves.Move)
       → at_pattern (gates_of k) (form_of k) s run.mode run.names run.left name number place (gate_of gate)
       (drop place (map string_bytes gate.patterns.now)) next ≡ moved_by made run' next
 
-  -- the gates are looked at from the number on
+  -- The gates are looked at from the number on.
   abbrev pub SeeksHere : Option Move → Type 0
   SeeksHere made = (s : Subject) (next : List Text → moves.Move)
       → at_gates (gates_of k) (form_of k) s run.mode run.names run.left name number (drop number (gates_of k)) next
       ≡ moved_by made run' next
 
-  -- what the pattern of a place says is taken
+  -- The result of the match of a pattern is taken.
   abbrev pub TakesMatch : ℕ → Bool → Gate → Option Move → Type 0
   TakesMatch place won gate made = (s : Subject) (next : List Text → moves.Move)
       → matched_by (gates_of k) (form_of k) s run.mode won run.names run.left name number place (gate_of gate) next ≡ moved_by made run' next
@@ -57,21 +57,21 @@ module _ (k : GatedKeyword) (run run' : GateRun) (name : Text) (number : ℕ) wh
 -- ---- at all members that are left
 
 module _ (k : GatedKeyword) (instance : Instance) (run run' : GateRun) where
-  -- the gates are looked at from a number on
+  -- The gates are looked at from a number on.
   abbrev pub Seeks : ℕ → Move → Type 0
   Seeks number made = seeks (gates_of k) (form_of k) (subject_of instance) run.mode number run.left run.names ≡ moved_in run' made
 
-  -- what the pattern of a place of the gate of a number says is taken
+  -- The result of the match of a gate's pattern, both given by number, is taken.
   abbrev pub Tests : ℕ → ℕ → Bool → Move → Type 0
   Tests number place won made = tested (gates_of k) (form_of k) (subject_of instance) run.mode won number place run.left run.names
       ≡ moved_in run' made
 
-  -- the last reply is taken: whether it says won, and whether it lets the run go on
+  -- The last reply is taken: whether it says yes, and whether it lets the run go on.
   abbrev pub Moves : Bool → Bool → Move → Type 0
   Moves won onward made = move_by (gates_of k) (form_of k) (subject_of instance) run.mode run.stage run.left run.names won onward
       ≡ moved_in run' made
 
--- looking at the gates from either number on, the same move is made
+-- From either number on, the same move is made.
 abbrev pub SeekAlike : GatedKeyword → ℕ → ℕ → Type 0
 SeekAlike k i j = (s : Subject) (m : Mode) (left names : List Text)
     → seeks (gates_of k) (form_of k) s m i left names ≡ seeks (gates_of k) (form_of k) s m j left names

@@ -1,4 +1,4 @@
--- The members that an instance has are there.
+-- The members that an instance has are present.
 use Rattle.std.proofs.Common.{◌≡◌, refl, true}
 use Rattle.std.proofs.lemmas.List.Elements.{All-nil, All-weaker}
 use Rattle.std.specs.Prelude.{All, None, Option, Some, is_some, option_and_then}

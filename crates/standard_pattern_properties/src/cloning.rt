@@ -1,4 +1,4 @@
-//! Clones of keywords.
+//! Clones of the keywords.
 ghost use Rattle.std.specs.Prelude.{◌≡◌};
 
 use crate::keyword::{GatedKeyword, Neighbours};
@@ -8,7 +8,11 @@ use std::alloc::AllocError;
 impl Clone for Neighbours {
     ghost is_clone = { λ beside copy. copy ≡ beside };
 
-    /// Returns a clone of the neighbours. Fails only if memory cannot be allocated.
+    /// Returns a clone of the neighbours.
+    ///
+    /// # Errors
+    ///
+    /// Out of memory.
     fn clone(&self) -> Result<Neighbours, AllocError> {
         Ok(Neighbours {
             listed: self.listed.clone()?,
@@ -20,7 +24,11 @@ impl Clone for Neighbours {
 impl Clone for GatedKeyword {
     ghost is_clone = { λ keyword copy. copy ≡ keyword };
 
-    /// Returns a clone of the keyword. Fails only if memory cannot be allocated.
+    /// Returns a clone of the keyword.
+    ///
+    /// # Errors
+    ///
+    /// Out of memory.
     fn clone(&self) -> Result<GatedKeyword, AllocError> {
         match self {
             GatedKeyword::PatternProperties(patterns) => {

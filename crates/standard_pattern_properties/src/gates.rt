@@ -1,4 +1,6 @@
-//! Gates, and the runs of keywords whose questions stand behind them.
+//! Gates, and the runs of keywords that have gates.
+//!
+//! The head of the crate says what a gate is.
 ghost use Rattle.std.specs.Prelude.{◌≡◌, [], IfOk};
 ghost use Rattle.schema_traits.specs.KeywordViews.{mode_of, reply_of};
 ghost use Rattle.standard_pattern_properties.specs.GateMoves.{answer_at, run_begin};
@@ -13,14 +15,14 @@ use schema_reports::location::OutOfMemory;
 use schema_traits::keyword::{Answer, Mode, Reply};
 use std::alloc::Global;
 
-/// When a question behind patterns is asked: where one of them matches, or where none does.
+/// The condition of a gate: one of its patterns matches the member's name, or none does.
 #[derive(Clone, Copy)]
 pub enum Condition {
     OneMatches,
     NoneMatches,
 }
 
-/// The child of a number, behind patterns.
+/// The child with this number, evaluated at a member if the condition holds for the member's name.
 #[derive(Clone, Copy)]
 pub struct Gate<'s> {
     pub condition: Condition,
@@ -28,8 +30,10 @@ pub struct Gate<'s> {
     pub child: usize,
 }
 
-/// How far a run has come: before its first turn; after the match of the pattern of a number, of the gate of a number; after the
-/// answer to the question of the gate of a number; or at its end.
+/// The stage of a run.
+///
+/// A run is before its first turn, after the match of a pattern of a gate, after the evaluation of
+/// a gate's child, or at its end. Gates and patterns are given by their numbers.
 #[derive(Clone, Copy)]
 pub enum GateStage {
     Begun,
@@ -38,7 +42,7 @@ pub enum GateStage {
     Ended,
 }
 
-/// A run, with the names of the members that are left, the first of which it is at, and the names to tell of.
+/// A run: the members that are left, the current one first, and the names that its error shows.
 #[derive(Drop)]
 pub struct GateRun {
     pub mode: Mode,
@@ -47,8 +51,10 @@ pub struct GateRun {
     pub left: Texts,
 }
 
-/// What a turn does: it ends the run; or it asks whether the pattern of a number of the gate of a number matches the name; or it asks
-/// the child of a gate at the member of the name.
+/// The outcome of a turn.
+///
+/// The run ends, or asks whether a pattern of a gate matches the current member's name, or
+/// evaluates a gate's child at the current member. Gates and patterns are given by their numbers.
 #[derive(Clone, Copy)]
 pub enum Move<'s> {
     Halts,
@@ -56,7 +62,7 @@ pub enum Move<'s> {
     Asks(usize, usize, &'s str),
 }
 
-/// Whether a gate is open, one of whose patterns matches or none does.
+/// Returns whether a gate is open, given whether one of its patterns matches.
 pub fn opens(condition: Condition, matched: bool) -> bool
     ensures opens { result ≡ opens condition matched }
 {
@@ -67,7 +73,7 @@ pub fn opens(condition: Condition, matched: bool) -> bool
 }
 
 impl GateRun {
-    /// A run in this mode, before its first turn, with these members before it.
+    /// Returns a run in this mode, before its first turn, with these members left.
     pub fn begin(alloc: Global, mode: Mode, names: NamesLeft) -> GateRun
         ensures begins { run_begin (mode_of mode) names ≡ result }
     {
@@ -89,7 +95,7 @@ impl GateRun {
     }
 }
 
-/// Takes the answer to a question; where none was asked, there is nothing to take.
+/// Takes the answer of a gate's child, if the last turn evaluated one.
 pub fn take_asked<'i>(
     alloc: Global,
     stage: GateStage,

@@ -1,4 +1,4 @@
-//! `patternProperties` and `additionalProperties`.
+//! The keywords `patternProperties` and `additionalProperties`.
 ghost use Rattle.std.specs.Prelude.{◌≡◌, ◌∷◌, [], ◌+◌, ◌^◌, ◌<◌, IfOk, IfSome, None, Some, if◌then◌else◌};
 ghost use Rattle.std.specs.Prelude.{is_some, map, string_bytes};
 ghost use Rattle.serde_json.specs.Find.{get_member};
@@ -28,25 +28,27 @@ use schema_traits::keyword::{Answer, Below, Mode, Reply, Step, Validate};
 use serde_json::{Map, Value};
 use std::alloc::Global;
 
-/// What stands beside `additionalProperties`: the names that `properties` lists, and the patterns of `patternProperties`.
+/// The members beside `additionalProperties` that it reads.
+///
+/// They are the names listed in `properties` and the patterns of `patternProperties`.
 #[derive(Drop)]
 pub struct Neighbours {
     pub listed: Listed,
     pub patterns: Texts,
 }
 
-/// A keyword whose questions stand behind matches of members' names.
+/// A keyword that evaluates its children behind gates.
 #[derive(Drop)]
 pub enum GatedKeyword {
-    /// The child of each of these patterns, at each member whose name it matches.
+    /// Evaluates the child of each pattern at each member whose name the pattern matches.
     PatternProperties(Texts),
-    /// The only child, at each member whose name is not listed and which no pattern matches.
+    /// Evaluates the only child at each member whose name is not listed and matches no pattern.
     AdditionalProperties(Neighbours),
-    /// There is to be no such member. Nothing is asked.
+    /// Evaluates no child; there must be no member whose name is not listed and matches no pattern.
     NoAdditionalProperties(Neighbours),
 }
 
-/// The gate of the pattern of a number.
+/// Returns the gate with this number: it is open if the pattern with this number matches.
 fn pattern_gate(patterns: &[String], number: usize) -> Option<Gate<'_>>
     ensures gate { IsGate (gates_from 0 (map string_bytes patterns.now)) number result }
     ensures inside { IfSome result (λ _. number + 1 < 2 ^ 64) }
@@ -62,7 +64,7 @@ fn pattern_gate(patterns: &[String], number: usize) -> Option<Gate<'_>>
     }
 }
 
-/// The only gate.
+/// Returns the only gate: it is open if no pattern matches.
 fn only_gate(patterns: &[String], number: usize) -> Option<Gate<'_>>
     ensures gate { IsGate (other_gate (map string_bytes patterns.now) ∷ []) number result }
     ensures inside { IfSome result (λ _. number + 1 < 2 ^ 64) }
@@ -78,7 +80,7 @@ fn only_gate(patterns: &[String], number: usize) -> Option<Gate<'_>>
     }
 }
 
-/// The name of an object's member that has this name, as the object holds it.
+/// Returns the member's name as the object stores it.
 fn name_among<'i>(members: &'i Map<String, Value>, name: &str) -> Option<&'i str>
     ensures name { text_read result ≡ (if is_some (get_member name.now (fields members.now)) then Some name.now else None) }
 {
@@ -88,7 +90,7 @@ fn name_among<'i>(members: &'i Map<String, Value>, name: &str) -> Option<&'i str
     }
 }
 
-/// The name of the instance's member that has this name, as the instance holds it.
+/// Returns the member's name as the instance stores it.
 fn name_in<'i>(instance: Instance<'i>, name: &str) -> Option<&'i str>
     ensures name { text_read result ≡ (if has_member name.now (subject_of instance.entry) then Some name.now else None) }
 {
@@ -101,7 +103,7 @@ fn name_in<'i>(instance: Instance<'i>, name: &str) -> Option<&'i str>
     }
 }
 
-/// The name of the first member that is left, as the instance holds it.
+/// Returns the current member's name as the instance stores it.
 fn name_here<'i>(run: &GateRun, instance: Instance<'i>) -> Option<&'i str>
     ensures name { text_read result ≡ name_here (subject_of instance.entry) run.now.names }
 {
@@ -112,7 +114,7 @@ fn name_here<'i>(run: &GateRun, instance: Instance<'i>) -> Option<&'i str>
 }
 
 impl GatedKeyword {
-    /// The gate of a number.
+    /// Returns the gate with this number.
     fn gate(&self, number: usize) -> Option<Gate<'_>>
         ensures gate { IsGate (gates_of self.now) number result }
         ensures inside { IfSome result (λ _. number + 1 < 2 ^ 64) }
@@ -128,7 +130,9 @@ impl GatedKeyword {
         }
     }
 
-    /// Goes through a gate that is open: asks its child, or notes the name. Nothing is asked for where the run goes on to the next gate.
+    /// Passes through an open gate: evaluates its child, or records the name for the error.
+    ///
+    /// Returns `None` if the run continues with the next gate.
     fn enter<'s>(
         &self,
         alloc: Global,
@@ -154,7 +158,7 @@ impl GatedKeyword {
         }
     }
 
-    /// Goes through a gate where it is open, one of whose patterns matches or none does.
+    /// Passes through a gate if it is open, given whether one of its patterns matches.
     fn settle<'s>(
         &self,
         alloc: Global,
@@ -176,7 +180,7 @@ impl GatedKeyword {
         }
     }
 
-    /// Asks for the match of a pattern of a gate, or settles the gate where it has no such pattern.
+    /// Asks for the match of a gate's pattern; without such a pattern, no pattern matches.
     fn look<'s>(
         &self,
         alloc: Global,
@@ -197,7 +201,7 @@ impl GatedKeyword {
         self.settle(alloc, run, name, number, gate, false)
     }
 
-    /// Looks at the gates from a number on, at a member that the instance has.
+    /// Looks at the current member's gates, from gate `from` on.
     fn seek_here<'s>(
         &'s self,
         alloc: Global,
@@ -219,7 +223,8 @@ impl GatedKeyword {
         Ok(None)
     }
 
-    /// Looks at the members that are left: at the first one from the gate of a number on, and at the others from the first gate on.
+    /// Looks at the members that are left: at the current one from gate `from` on, and then at the
+    /// others.
     fn seek<'s, 'i: 's>(
         &'s self,
         alloc: Global,
@@ -243,8 +248,9 @@ impl GatedKeyword {
         Ok(Move::Halts)
     }
 
-    /// Looks at the members that are left, from the gate of a number on at the first one. Where no gate is left there, that member is
-    /// not looked up once more.
+    /// Looks at the members that are left, from gate `number` on.
+    ///
+    /// If the current member has no gate left, then it is not looked up once more.
     fn go_on<'s, 'i: 's>(
         &'s self,
         alloc: Global,
@@ -264,8 +270,9 @@ impl GatedKeyword {
         }
     }
 
-    /// Goes on after a match of a pattern of a gate: settles the gate where the pattern matches, and looks at its next pattern where it
-    /// does not.
+    /// Continues after the match of a gate's pattern.
+    ///
+    /// If the pattern matches, then it decides the gate; else the gate's next pattern is asked.
     fn take_match<'s>(
         &self,
         alloc: Global,
@@ -289,7 +296,7 @@ impl GatedKeyword {
         self.settle(alloc, run, name, number, gate, false)
     }
 
-    /// Goes on after a match.
+    /// Continues after the match of a gate's pattern, with the later gates and members too.
     fn after_match<'s, 'i: 's>(
         &'s self,
         alloc: Global,
@@ -313,7 +320,7 @@ impl GatedKeyword {
         }
     }
 
-    /// The number of the gate after this one, where there is this one.
+    /// Returns the number after this gate's number, if this gate exists, and else the same number.
     fn next_gate(&self, number: usize) -> usize
         ensures next { SeekAlike self.now result (number + 1) }
     {
@@ -323,7 +330,7 @@ impl GatedKeyword {
         }
     }
 
-    /// What a turn does.
+    /// Returns the outcome of a turn.
     fn move_by<'s, 'i: 's>(
         &'s self,
         alloc: Global,
@@ -351,7 +358,9 @@ impl GatedKeyword {
         }
     }
 
-    /// Tells the keyword's error, if it tells one, where there are names to tell of. Where a verdict alone is wanted, no text is made.
+    /// Reports the keyword's error if there are names that it shows.
+    ///
+    /// If only a verdict is requested, then no text is made.
     fn tell<'i>(
         &self,
         alloc: Global,
@@ -379,7 +388,7 @@ impl GatedKeyword {
         }
     }
 
-    /// Does what a turn does: moves the run on, and at its end tells the keyword's error.
+    /// Carries out the outcome of a turn, and reports the keyword's error at the end of the run.
     fn make<'s, 'i>(
         &self,
         alloc: Global,
@@ -410,7 +419,7 @@ impl GatedKeyword {
         }
     }
 
-    /// The names of the members that it looks at, in order.
+    /// Returns the names of the members that the keyword looks at, in order.
     fn names(&self, alloc: Global, instance: Instance<'_>) -> Result<NamesLeft, OutOfMemory>
         ensures names { Yields result (names_of self.now (subject_of instance.entry)) }
     {

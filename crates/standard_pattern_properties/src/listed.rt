@@ -1,4 +1,4 @@
-//! Names among which others are looked up.
+//! A set of names.
 ghost use Rattle.std.specs.Prelude.{◌≡◌, []};
 ghost use Rattle.serde_json.specs.View.{view};
 ghost use Rattle.keyword_authoring.specs.Texts.{is_among};
@@ -12,7 +12,9 @@ use std::alloc::{AllocError, Global};
 use std::collections::BTreeSet;
 use std::marker::Model;
 
-/// Names, in order. To look one up takes a time that is logarithmic in how many there are.
+/// A set of names, in order.
+///
+/// A lookup takes logarithmic time.
 #[derive(Drop)]
 pub struct Listed {
     names: BTreeSet<String>,
@@ -28,7 +30,7 @@ impl Model for Listed {
 }
 
 impl Listed {
-    /// No names.
+    /// Returns an empty set.
     pub fn none(alloc: Global) -> Listed
         ensures none { result ≡ [] }
     {
@@ -37,14 +39,14 @@ impl Listed {
         }
     }
 
-    /// Whether a name is one of these.
+    /// Returns whether the set contains a name.
     pub fn has(&self, name: &str) -> bool
         ensures has { result ≡ is_among self.now name.now }
     {
         self.names.contains(name)
     }
 
-    /// The names of an object's members.
+    /// Returns the names of an object's members.
     pub fn of_members(alloc: Global, members: &Map<String, Value>) -> Result<Listed, OutOfMemory>
         ensures names { Yields result (names_of (fields members.now)) }
     {
@@ -59,7 +61,11 @@ impl Listed {
 impl Clone for Listed {
     ghost is_clone = { λ listed copy. copy ≡ listed };
 
-    /// Returns a clone of the names. Fails only if memory cannot be allocated.
+    /// Returns a clone of the names.
+    ///
+    /// # Errors
+    ///
+    /// Out of memory.
     fn clone(&self) -> Result<Listed, AllocError> {
         let names = self.names.clone()?;
         Ok(Listed { names })

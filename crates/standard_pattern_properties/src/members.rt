@@ -15,7 +15,7 @@ use schema_reports::location::OutOfMemory;
 use serde_json::{Map, Value};
 use std::alloc::Global;
 
-/// The names of an object's members.
+/// Returns the names of an object's members.
 fn names_in(alloc: Global, members: &Map<String, Value>) -> Result<NamesLeft, OutOfMemory>
     ensures names { Yields result (names_in (fields members.now)) }
 {
@@ -26,7 +26,7 @@ fn names_in(alloc: Global, members: &Map<String, Value>) -> Result<NamesLeft, Ou
     Ok(names)
 }
 
-/// The names of an object's members that are not listed.
+/// Returns the names of an object's members that are not listed.
 fn unlisted_in(
     alloc: Global,
     listed: &Listed,
@@ -43,7 +43,7 @@ fn unlisted_in(
     Ok(left)
 }
 
-/// Whether the name of each member of an object is listed.
+/// Returns whether the name of each member of an object is listed.
 fn lists_each_in(listed: &Listed, members: &Map<String, Value>) -> bool
     ensures lists { result ≡ is_nil (unlisted listed.now (names_in (fields members.now))) }
 {
@@ -56,7 +56,7 @@ fn lists_each_in(listed: &Listed, members: &Map<String, Value>) -> bool
     true
 }
 
-/// The names of the instance's members, in order.
+/// Returns the names of the instance's members, in order.
 pub fn all_names(alloc: Global, instance: Instance<'_>) -> Result<NamesLeft, OutOfMemory>
     ensures names { Yields result (subject_names (subject_of instance.entry)) }
 {
@@ -66,7 +66,9 @@ pub fn all_names(alloc: Global, instance: Instance<'_>) -> Result<NamesLeft, Out
     }
 }
 
-/// The names of the instance's members that are not listed, in order. Each is looked up once.
+/// Returns the names of the instance's members that are not listed, in order.
+///
+/// Each name is looked up once.
 pub fn unlisted_names(
     alloc: Global,
     listed: &Listed,
@@ -80,7 +82,7 @@ pub fn unlisted_names(
     }
 }
 
-/// Whether the name of each member of the instance is listed.
+/// Returns whether the name of each member of the instance is listed.
 pub fn lists_each(listed: &Listed, instance: Instance<'_>) -> bool
     ensures lists { result ≡ is_nil (unlisted listed.now (subject_names (subject_of instance.entry))) }
 {
@@ -90,7 +92,7 @@ pub fn lists_each(listed: &Listed, instance: Instance<'_>) -> bool
     }
 }
 
-/// Whether the instance has no members.
+/// Returns whether the instance has no members.
 pub fn has_none(instance: Instance<'_>) -> bool
     ensures none { result ≡ is_nil (subject_names (subject_of instance.entry)) }
 {

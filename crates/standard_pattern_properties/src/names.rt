@@ -13,7 +13,7 @@ use std::alloc::{AllocError, Global};
 use std::collections::VecDeque;
 use std::marker::Model;
 
-/// Texts, in order.
+/// A list of texts, in order.
 #[derive(Drop)]
 pub struct Texts {
     items: Vec<String>,
@@ -29,7 +29,7 @@ impl Model for Texts {
 }
 
 impl Texts {
-    /// No texts.
+    /// Returns an empty list.
     pub fn none(alloc: Global) -> Texts
         ensures none { result ≡ [] }
     {
@@ -38,21 +38,21 @@ impl Texts {
         }
     }
 
-    /// The texts.
+    /// Returns the texts as a slice.
     pub fn as_slice(&self) -> &[String]
         ensures texts { map string_bytes result.now ≡ self.now }
     {
         self.items.as_slice()
     }
 
-    /// Whether there are none.
+    /// Returns whether the list is empty.
     pub fn is_empty(&self) -> bool
         ensures empty { result ≡ is_nil self.now }
     {
         self.items.is_empty()
     }
 
-    /// Adds a text after the others.
+    /// Appends a text.
     pub fn push(&mut self, alloc: Global, text: &str) -> Result<(), OutOfMemory>
         ensures pushed { IfOk result (λ _. self.new ≡ self.old ++ text.now ∷ []) }
     {
@@ -60,7 +60,7 @@ impl Texts {
         Ok(())
     }
 
-    /// The names of an object's members.
+    /// Returns the names of an object's members.
     pub fn of_members(alloc: Global, members: &Map<String, Value>) -> Result<Texts, OutOfMemory>
         ensures names { Yields result (names_of (fields members.now)) }
     {
@@ -72,14 +72,18 @@ impl Texts {
 impl Clone for Texts {
     ghost is_clone = { λ texts copy. copy ≡ texts };
 
-    /// Returns a clone of the texts. Fails only if memory cannot be allocated.
+    /// Returns a clone of the texts.
+    ///
+    /// # Errors
+    ///
+    /// Out of memory.
     fn clone(&self) -> Result<Texts, AllocError> {
         let items = self.items.clone()?;
         Ok(Texts { items })
     }
 }
 
-/// Names that are left to look at, the next one first.
+/// The names of the members that are left, the current one first.
 #[derive(Drop)]
 pub struct NamesLeft {
     names: VecDeque<String>,
@@ -95,7 +99,7 @@ impl Model for NamesLeft {
 }
 
 impl NamesLeft {
-    /// No names.
+    /// Returns an empty list.
     pub fn none(alloc: Global) -> NamesLeft
         ensures none { result ≡ [] }
     {
@@ -104,7 +108,7 @@ impl NamesLeft {
         }
     }
 
-    /// Adds a name after the others.
+    /// Appends a name.
     pub fn push(&mut self, alloc: Global, name: &str) -> Result<(), OutOfMemory>
         ensures pushed { IfOk result (λ _. self.new ≡ self.old ++ name.now ∷ []) }
     {
@@ -112,7 +116,7 @@ impl NamesLeft {
         Ok(())
     }
 
-    /// The next name.
+    /// Returns the current name.
     pub fn first(&self) -> Option<&str>
         ensures first { text_read result ≡ first_of self.now }
     {
@@ -122,7 +126,7 @@ impl NamesLeft {
         }
     }
 
-    /// Leaves the next name behind.
+    /// Removes the current name.
     pub fn advance(&mut self)
         ensures advanced { self.new ≡ later_of self.old }
     {

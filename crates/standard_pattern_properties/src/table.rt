@@ -21,10 +21,10 @@ use schema_traits::table::{KeywordOrigin, KeywordTable, MakerReply, MakerStep};
 use serde_json::{Map, Value};
 use std::alloc::Global;
 
-/// A maker of these keywords.
+/// The maker of these keywords.
 type Maker = PathsMaker<GatedKeyword>;
 
-/// The names that `properties` lists: those of a value's members, which are none where it is no object, or is not there.
+/// Returns the names that `properties` lists: none if its value is missing or is no object.
 fn listed_of(alloc: Global, value: Option<&Value>) -> Result<Listed, OutOfMemory>
     ensures listed { Yields result (names_of_value (value_read value.entry)) }
 {
@@ -37,7 +37,7 @@ fn listed_of(alloc: Global, value: Option<&Value>) -> Result<Listed, OutOfMemory
     }
 }
 
-/// The patterns of `patternProperties`: the names of a value's members, likewise.
+/// Returns the patterns of `patternProperties`: none if its value is missing or is no object.
 fn patterns_of(alloc: Global, value: Option<&Value>) -> Result<Texts, OutOfMemory>
     ensures patterns { Yields result (names_of_value (value_read value.entry)) }
 {
@@ -50,7 +50,7 @@ fn patterns_of(alloc: Global, value: Option<&Value>) -> Result<Texts, OutOfMemor
     }
 }
 
-/// What stands beside `additionalProperties` in an object.
+/// Returns the members beside `additionalProperties` that it reads.
 fn beside_of(alloc: Global, object: &Map<String, Value>) -> Result<Neighbours, OutOfMemory>
     ensures beside { Yields result (beside_of (fields object.now)) }
 {
@@ -60,7 +60,7 @@ fn beside_of(alloc: Global, object: &Map<String, Value>) -> Result<Neighbours, O
     })
 }
 
-/// Whether a value is `false`.
+/// Returns whether a value is `false`.
 fn is_false(value: &Value) -> bool
     ensures is_false { result ≡ is_false (view value.now) }
 {
@@ -70,7 +70,7 @@ fn is_false(value: &Value) -> bool
     }
 }
 
-/// The maker of `patternProperties`.
+/// Returns the maker of `patternProperties`.
 fn patterns_maker(alloc: Global, name: &str, value: &Value) -> Result<Maker, OutOfMemory>
     ensures maker { IfOk result (Begins (λ k. k) (patterns_script name.now (view value.now) (as_object (view value.now)))) }
 {
@@ -84,7 +84,7 @@ fn patterns_maker(alloc: Global, name: &str, value: &Value) -> Result<Maker, Out
     }
 }
 
-/// The maker of `additionalProperties`.
+/// Returns the maker of `additionalProperties`.
 fn others_maker(
     alloc: Global,
     name: &str,
@@ -101,7 +101,7 @@ fn others_maker(
     only_child(alloc, name, GatedKeyword::AdditionalProperties(beside))
 }
 
-/// The maker of a member with this value.
+/// Returns the maker of a keyword with this value.
 fn value_maker(
     alloc: Global,
     name: &str,
@@ -119,7 +119,7 @@ fn value_maker(
     Ok(ends(alloc, Ending::Nothing))
 }
 
-/// The maker of a member of an object, if there is one.
+/// Returns the maker of an object's member, which makes nothing if the member is missing.
 fn member_maker(
     alloc: Global,
     name: &str,
@@ -133,8 +133,10 @@ fn member_maker(
     }
 }
 
-/// The table of `patternProperties`, and of `additionalProperties`, which reads `properties` and `patternProperties` beside it, in each
-/// draft. A `patternProperties` that is no object is refused.
+/// A table of `patternProperties` and `additionalProperties`, in each draft.
+///
+/// `additionalProperties` reads `properties` and `patternProperties` beside it. A value of
+/// `patternProperties` that is no object is refused.
 #[derive(Drop)]
 pub struct GatedTable {}
 

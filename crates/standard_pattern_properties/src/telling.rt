@@ -7,7 +7,7 @@ ghost use Rattle.schema_traits.specs.Showing.{Shows};
 use schema_reports::location::OutOfMemory;
 use std::alloc::Global;
 
-/// Adds each name in quotes, with a comma between two.
+/// Appends the names, each in quotes, with commas between them.
 fn push_quoted(names: &[String], text: &mut String) -> Result<(), OutOfMemory>
     ensures pushed { IfOk result (λ _. Adds (in_quotes [] (map string_bytes names.now)) text.old text.new) }
 {
@@ -22,7 +22,7 @@ fn push_quoted(names: &[String], text: &mut String) -> Result<(), OutOfMemory>
     Ok(())
 }
 
-/// How the text ends, by how many names there are.
+/// Returns the end of the text, by the number of names.
 fn were_unexpected(names: &[String]) -> &'static str
     ensures ends { result.now ≡ were_unexpected (map string_bytes names.now) }
 {
@@ -33,7 +33,7 @@ fn were_unexpected(names: &[String]) -> &'static str
     }
 }
 
-/// The text that says which names were unexpected.
+/// Returns the error's text, which shows the unexpected names.
 pub fn unexpected_text(alloc: Global, names: &[String]) -> Result<String, OutOfMemory>
     ensures text { Shows string_bytes result (unexpected_text (map string_bytes names.now)) }
 {
