@@ -1,4 +1,4 @@
--- The test for UTF-8 says what the reader of texts says.
+-- The test for UTF-8 agrees with the reader of texts.
 use Rattle.std.proofs.Common.{List, false, true, ◌≡◌, ℕ}
 use Rattle.std.specs.Str.{IsUtf8, is_utf8}
 use Rattle.std.proofs.lemmas.Bool.{false_from_ne_true}

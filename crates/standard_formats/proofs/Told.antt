@@ -1,4 +1,4 @@
--- A keyword that does not hold tells its one error.
+-- A keyword that does not hold reports its one error.
 use Rattle.std.proofs.Common.{[], Bool, false, refl, true, ◌∷◌, ◌≡◌}
 use Rattle.theory_definitions.specs.Instance.{Subject, Text}
 use Rattle.schema_traits.specs.KeywordViews.{is_nil}

@@ -1,5 +1,6 @@
--- What `contentEncoding` and `contentMediaType` assert of a text in drafts 6 and 7: that it is base64, that it is JSON, or that it is JSON
--- in base64. (JSON Schema Validation, draft 7, sections 8.3 and 8.4; RFC 4648, section 4; RFC 8259)
+-- What `contentEncoding` and `contentMediaType` assert of a text in drafts 6 and 7: that it is
+-- base64, JSON, or JSON in base64. (JSON Schema Validation, draft 7, sections 8.3 and 8.4; RFC
+-- 4648, section 4; RFC 8259)
 use Rattle.std.specs.Prelude.{Bool, Err, List, Ok, Result, false, is_ok, is_some, ◌&&◌, ℕ}
 use Rattle.std.specs.Str.{is_utf8}
 use Rattle.base64.specs.Engines.{standard}
@@ -12,11 +13,11 @@ use Rattle.theory_definitions.specs.Instance.{Text}
 abbrev pub is_base64 : Text → Bool
 is_base64 t = is_ok (decode_of standard t)
 
--- a JSON text that nests no deeper than 127
+-- a JSON text that is nested at most 127 deep
 abbrev pub is_json : Text → Bool
 is_json t = is_some (read t)
 
--- of the bytes that base64 stands for
+-- the same of the bytes that base64 decodes to
 abbrev pub is_json_bytes : List ℕ → Bool
 is_json_bytes bytes = is_utf8 bytes && is_json bytes
 

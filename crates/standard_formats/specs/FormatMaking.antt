@@ -1,7 +1,9 @@
--- What `format` makes, draft by draft, and `contentEncoding` and `contentMediaType` in drafts 6 and 7. Of `format`: where formats are
--- checked, a keyword for a name that the draft has; nothing for another name; a refusal of a value that is no text. Where they are not
--- checked it makes nothing, whatever its value. A media type looks at the encoding beside it, and speaks for both. (JSON Schema Validation:
--- draft 2020-12, sections 7.2 and 7.3; draft 7, sections 7.3, 8.3 and 8.4; draft 6, section 8.3; draft 4, section 7.3)
+-- What `format` makes, draft by draft, and `contentEncoding` and `contentMediaType` in drafts 6 and
+-- 7. If formats are checked, then `format` makes a keyword of a name that the draft has, and
+-- nothing of another name; a value that is no text is refused. If they are not checked, then it
+-- makes nothing, whatever its value. A media type takes the encoding beside it into account, and
+-- makes one keyword for both. (JSON Schema Validation: draft 2020-12, sections 7.2 and 7.3; draft
+-- 7, sections 7.3, 8.3 and 8.4; draft 6, section 8.3; draft 4, section 7.3)
 use Rattle.std.specs.Prelude.{Bool, List, None, Option, Some, [], bytes_eq, codes, false, if◌then◌else◌, is_none, nat_le, true, ◌&&◌, ◌≡◌, ℕ}
 use Rattle.serde_json.specs.Data.{Data, Members}
 use Rattle.serde_json.specs.Find.{as_str, get_member}
@@ -18,7 +20,7 @@ use Rattle.text_formats.specs.declared.formats.Format.TheVariants as format
 use Rattle.standard_formats.specs.declared.keyword.FormatKeyword.{FormatKeyword}
 use Rattle.standard_formats.specs.declared.keyword.FormatKeyword.TheVariants.{Base64, IdnHostname, Json, JsonInBase64, Of, Regex}
 
--- the drafts in their order; one that is not known is as the last
+-- the numbers of the drafts in their order; an unknown draft counts as the last one
 abbrev pub order : Draft → ℕ
 order draft_4 = 4
 order draft_6 = 6
@@ -27,7 +29,7 @@ order draft_2019_09 = 2019
 order draft_2020_12 = 2020
 order draft_unknown = 2020
 
--- the first draft in which a format is checked
+-- the number of the first draft in which a format is checked
 abbrev pub since : Format → ℕ
 since format.Date = 4
 since format.DateTime = 4
@@ -51,7 +53,7 @@ abbrev pub known : Draft → Option Format → Option FormatKeyword
 known draft None = None
 known draft (Some f) = if nat_le (since f) (order draft) then Some (Of f) else None
 
--- a name of a host that is internationalized is checked from draft 7 on
+-- An internationalized host name is checked from draft 7 on.
 abbrev pub idn_hostname_in : Draft → Option FormatKeyword
 idn_hostname_in draft = if nat_le 7 (order draft) then Some IdnHostname else None
 
@@ -71,7 +73,7 @@ format_made draft (Some t) = keyword_if (keyword_named draft t)
 
 -- ---- contents
 
--- the drafts in which they assert
+-- the drafts in which the contents are asserted
 abbrev pub asserts_contents : Draft → Bool
 asserts_contents draft_4 = false
 asserts_contents draft_6 = true
@@ -103,7 +105,7 @@ contents_made object name d =
     else if bytes_eq name (codes "contentEncoding") && is_none (get_member (codes "contentMediaType") object) then encoding_made (as_str d)
     else here.Nothing
 
--- ---- all of them
+-- ---- all keywords
 
 abbrev pub made : Bool → Draft → Members → Text → Data → MadeHere FormatKeyword
 made formats draft object name d =
@@ -114,7 +116,7 @@ made formats draft object name d =
 abbrev pub format_script : Bool → Text → Members → Draft → Vocabularies → Bool → Script FormatKeyword
 format_script own name object draft vocabularies formats = by_object (made formats) own name object draft vocabularies formats
 
--- a keyword that absorbs nothing and holds no value is made rightly
+-- A keyword that absorbs nothing and stores no value of the schema is made as it must be.
 pub makes_rightly : (absorbed : FormatKeyword → List Text) (is_whole : FormatKeyword → Bool) → ((m : FormatKeyword) → [] ≡ absorbed m) → ((m : FormatKeyword) → is_whole m ≡ true)
     → (own : Bool) (name : Text) (object : Members) (draft : Draft) (vocabularies : Vocabularies) (formats : Bool)
     → MakesRightly absorbed is_whole object (format_script own name object draft vocabularies formats)

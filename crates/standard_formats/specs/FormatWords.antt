@@ -1,5 +1,6 @@
--- `format`, `contentEncoding` and `contentMediaType`: of which instances they hold, and what their error says. Each holds of each instance
--- that is no text. (JSON Schema Validation, draft 2020-12, sections 7.1 to 7.3; draft 7, sections 8.3 and 8.4)
+-- The meanings of `format`, `contentEncoding` and `contentMediaType`: the instances of which they
+-- hold, and the texts of their errors. Each holds of an instance that is no text. (JSON Schema
+-- Validation, draft 2020-12, sections 7.1 to 7.3; draft 7, sections 8.3 and 8.4)
 use Rattle.std.specs.Prelude.{Bool, List, None, Option, Some, codes, true, ◌++◌}
 use Rattle.serde_json.specs.Find.{as_str}
 use Rattle.theory_definitions.specs.Instance.{Subject, Text, a_name, a_value}
@@ -12,7 +13,7 @@ use Rattle.standard_formats.specs.declared.keyword.FormatKeyword.TheVariants.{Ba
 use Rattle.standard_formats.specs.Contents.{is_base64, is_json, is_json_in_base64}
 use Rattle.standard_formats.specs.IdnHostnames.{is_idn_hostname}
 
--- whether a text is as the keyword wants
+-- whether a text passes the keyword's test
 abbrev pub takes : FormatKeyword → Text → Bool
 takes (Of format) t = accepts format t
 takes Regex t = is_readable t
@@ -43,7 +44,7 @@ no_format name = codes " is not a \"" ++ name ++ codes "\""
 abbrev pub no_json : Text
 no_json = codes " is not compliant with \"application/json\" media type"
 
--- what is said of what does not comply
+-- the words that follow the instance in the error's text
 abbrev pub complaint : FormatKeyword → Text
 complaint (Of format) = no_format (name_of format)
 complaint Regex = no_format (codes "regex")
@@ -55,6 +56,6 @@ complaint JsonInBase64 = no_json
 abbrev pub error_text : FormatKeyword → Subject → Text
 error_text k s = subject_text s ++ complaint k
 
--- its one error's text, or none where it holds
+-- the text of its one error, or none if it holds
 abbrev pub error_texts : FormatKeyword → Subject → List Text
 error_texts k s = unless (holds k s) (error_text k s)

@@ -1,6 +1,7 @@
--- Internationalized names of hosts (RFC 5890, section 2.3.2.3): those of which ToASCII makes a name, with the flags CheckHyphens,
--- CheckBidi, CheckJoiners, UseSTD3ASCIIRules and VerifyDnsLength. (UTS #46, section 4.2) It maps characters first, as capital letters to
--- small ones. What RFC 5892, appendices A.3 to A.9, asks of the places of middle dots and their like is not asked.
+-- Internationalized host names (RFC 5890, section 2.3.2.3): those for which ToASCII succeeds with
+-- the flags CheckHyphens, CheckBidi, CheckJoiners, UseSTD3ASCIIRules and VerifyDnsLength (UTS #46,
+-- section 4.2). ToASCII maps characters first, such as capital letters to small ones. The rules of
+-- RFC 5892, appendices A.3 to A.9, for the places of middle dots and the like are not checked.
 use Rattle.std.specs.Prelude.{Bool, is_some, not, ◌&&◌, ◌==◌, ◌||◌, ℕ}
 use Rattle.std.specs.List.{list_all}
 use Rattle.std.specs.Str.{chars}
@@ -11,7 +12,7 @@ use Rattle.idna.specs.declared.options.Hyphens.TheVariants.{Check}
 use Rattle.theory_definitions.specs.Instance.{Text}
 use Rattle.text_formats.specs.Characters.{is_between}
 
--- a character that is disallowed by exception (RFC 5892, section 2.6), whatever UTS #46 says of it
+-- whether a character is disallowed by exception (RFC 5892, section 2.6), whatever UTS #46 says
 abbrev pub is_excepted : ℕ → Bool
 is_excepted c = (c == 0x640) || (c == 0x7FA) || is_between 0x302E 0x302F c || is_between 0x3031 0x3035 c || (c == 0x303B)
 

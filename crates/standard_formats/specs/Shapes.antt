@@ -1,4 +1,4 @@
--- What is known of the keyword of the engine: the keyword.
+-- The shape of a keyword as the engine sees it: the keyword itself.
 use Rattle.keyword_authoring.specs.declared.leaves.Telling.{Telling}
 use Rattle.standard_formats.specs.declared.keyword.FormatKeyword.{FormatKeyword}
 

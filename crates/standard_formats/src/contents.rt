@@ -1,4 +1,4 @@
-//! What `contentEncoding` and `contentMediaType` assert of a text.
+//! The tests of `contentEncoding` and `contentMediaType`.
 ghost use Rattle.std.specs.Prelude.{◌≡◌};
 ghost use Rattle.schema_traits.specs.Showing.{Yields};
 ghost use Rattle.standard_formats.specs.Contents as spec;
@@ -9,11 +9,11 @@ use schema_reports::location::OutOfMemory;
 use serde_json::Value;
 use std::alloc::{AllocError, Global};
 
-/// Whether a text is base64.
+/// Returns whether a text is base64.
 ///
 /// # Errors
 ///
-/// Fails only if memory cannot be allocated.
+/// Out of memory.
 pub fn is_base64(alloc: Global, text: &str) -> Result<bool, OutOfMemory>
     ensures base64 { Yields result (spec.is_base64 text.now) }
 {
@@ -26,11 +26,11 @@ pub fn is_base64(alloc: Global, text: &str) -> Result<bool, OutOfMemory>
     }
 }
 
-/// Whether a text is JSON.
+/// Returns whether a text is JSON.
 ///
 /// # Errors
 ///
-/// Fails only if memory cannot be allocated.
+/// Out of memory.
 pub fn is_json(alloc: Global, text: &str) -> Result<bool, OutOfMemory>
     ensures json { Yields result (spec.is_json text.now) }
 {
@@ -56,11 +56,11 @@ fn is_json_bytes(alloc: Global, bytes: &[u8]) -> Result<bool, OutOfMemory>
     }
 }
 
-/// Whether a text is JSON in base64.
+/// Returns whether a text is JSON in base64.
 ///
 /// # Errors
 ///
-/// Fails only if memory cannot be allocated.
+/// Out of memory.
 pub fn is_json_in_base64(alloc: Global, text: &str) -> Result<bool, OutOfMemory>
     ensures json { Yields result (spec.is_json_in_base64 text.now) }
 {

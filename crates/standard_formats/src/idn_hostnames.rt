@@ -1,4 +1,4 @@
-//! Internationalized names of hosts. (RFC 5890, section 2.3.2.3; UTS #46, section 4.2)
+//! Internationalized host names (RFC 5890, section 2.3.2.3; UTS #46, section 4.2).
 ghost use Rattle.std.specs.Prelude.{◌≡◌, not};
 ghost use Rattle.std.specs.List.{list_all};
 ghost use Rattle.std.specs.Str.{chars};
@@ -9,7 +9,7 @@ use idna::{Errors, domain_to_ascii_strict};
 use schema_reports::location::OutOfMemory;
 use std::alloc::{AllocError, Global};
 
-/// A character that no label may have, by exception.
+/// Returns whether a character is disallowed in every label, by exception.
 fn is_excepted(code: u32) -> bool
     ensures excepted { result ≡ spec.is_excepted code }
 {
@@ -23,11 +23,11 @@ fn are_not_excepted(text: &str) -> bool
         .all(|character| !is_excepted(u32::from(character)))
 }
 
-/// Whether a text is an internationalized name of a host, as `실례.테스트`.
+/// Returns whether a text is an internationalized host name, such as `실례.테스트`.
 ///
 /// # Errors
 ///
-/// Fails only if memory cannot be allocated.
+/// Out of memory.
 pub fn is_idn_hostname(alloc: Global, text: &str) -> Result<bool, OutOfMemory>
     ensures hostname { Yields result (spec.is_idn_hostname text.now) }
 {

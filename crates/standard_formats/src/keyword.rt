@@ -1,4 +1,4 @@
-//! `format`, `contentEncoding` and `contentMediaType`, where they assert.
+//! The assertions of `format`, `contentEncoding` and `contentMediaType`.
 ghost use Rattle.std.specs.Prelude.{◌∷◌, [], IfOk, string_bytes, true};
 ghost use Rattle.schema_traits.specs.Showing.{Yields};
 ghost use Rattle.standard_formats.specs.FormatWords.{complaint, error_text, holds, no_format, takes};
@@ -15,25 +15,25 @@ use schema_reports::location::OutOfMemory;
 use std::alloc::Global;
 use text_formats::formats::Format;
 
-/// A keyword that asserts what a text is. It holds of each instance that is no text.
+/// A keyword that tests a text. It holds of each instance that is no text.
 #[derive(Clone, Copy)]
 pub enum FormatKeyword {
-    /// `format` with the name of a format that is checked by its grammar.
+    /// `format` with the name of a format that is tested by its grammar.
     Of(Format),
     /// `format` with the name `regex`: a pattern that can be read.
     Regex,
-    /// `format` with the name `idn-hostname`: an internationalized name of a host.
+    /// `format` with the name `idn-hostname`: an internationalized host name.
     IdnHostname,
-    /// `contentEncoding` that is `base64`.
+    /// `contentEncoding` with the value `base64`.
     Base64,
-    /// `contentMediaType` that is `application/json`.
+    /// `contentMediaType` with the value `application/json`.
     Json,
-    /// The same, beside a `contentEncoding` that is `base64`.
+    /// The same, beside `contentEncoding` with the value `base64`.
     JsonInBase64,
 }
 
 impl FormatKeyword {
-    /// Adds what is said of what does not comply.
+    /// Appends the words that follow the instance in the error's text.
     fn push_complaint(self, text: &mut String) -> Result<(), OutOfMemory>
         ensures pushed { IfOk result (λ _. Adds (complaint self) text.old text.new) }
     {
@@ -53,7 +53,7 @@ impl FormatKeyword {
         }
     }
 
-    /// Whether a text is as the keyword wants.
+    /// Returns whether a text passes the keyword's test.
     fn takes(self, alloc: Global, text: &str) -> Result<bool, OutOfMemory>
         ensures takes { Yields result (takes self text.now) }
     {
@@ -67,7 +67,7 @@ impl FormatKeyword {
         }
     }
 
-    /// The text of the keyword's one error.
+    /// Returns the text of the keyword's one error.
     fn text(self, alloc: Global, instance: Instance<'_>) -> Result<String, OutOfMemory>
         ensures text { IfOk result (ShowsText instance.entry (error_text self)) }
     {
@@ -77,7 +77,7 @@ impl FormatKeyword {
     }
 }
 
-/// Adds that something is not of a format.
+/// Appends the words that say that an instance does not have a format.
 fn push_no_format(text: &mut String, name: &str) -> Result<(), OutOfMemory>
     ensures pushed { IfOk result (λ _. Adds (no_format name.now) text.old text.new) }
 {
@@ -87,7 +87,6 @@ fn push_no_format(text: &mut String, name: &str) -> Result<(), OutOfMemory>
     Ok(())
 }
 
-/// The one text, as a list.
 fn one_text(alloc: Global, text: String) -> Result<Vec<String>, OutOfMemory>
     ensures one { ListsTexts result (string_bytes text ∷ []) }
 {

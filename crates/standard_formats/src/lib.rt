@@ -1,7 +1,11 @@
-//! `format`, as a keyword that asserts where formats are checked: of a text that it is of the format of a name (`text_formats`), that it is
-//! a pattern (`regex_matcher`), or an internationalized name of a host (`idna`); a name that the draft has not asserts nothing. And
-//! `contentEncoding` and `contentMediaType` of drafts 6 and 7, which assert that a text is base64, JSON, or JSON in base64. Of an instance
-//! that is no text each holds.
+//! The keywords `format`, `contentEncoding` and `contentMediaType` as assertions, and their table.
+//!
+//! If formats are checked, then `format` asserts that a text has the format with its name: by the
+//! format's grammar (`text_formats`), as a pattern that can be read (`regex_matcher`), or as an
+//! internationalized host name (`idna`). A name that the draft does not define asserts nothing.
+//!
+//! In drafts 6 and 7 `contentEncoding` and `contentMediaType` assert that a text is base64, JSON,
+//! or JSON in base64. Each keyword holds of an instance that is no text.
 #![tactic(auto)]
 
 pub mod contents;

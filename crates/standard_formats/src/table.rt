@@ -23,12 +23,12 @@ use serde_json::{Map, Value};
 use std::alloc::Global;
 use text_formats::formats::Format;
 
-/// What a member of an object makes.
+/// The keyword that a member of an object makes.
 type Made = ObjectKeyword<Telling<FormatKeyword>>;
 
 type Maker = PathsMaker<Telling<FormatKeyword>>;
 
-/// The drafts in their order; one that is not known is as the last.
+/// Returns the draft's number in the order of drafts; an unknown draft counts as the last one.
 fn order(draft: Draft) -> u32
     ensures order { result ≡ order (draft_of draft) }
 {
@@ -42,7 +42,7 @@ fn order(draft: Draft) -> u32
     }
 }
 
-/// The first draft in which a format is checked.
+/// Returns the number of the first draft in which a format is checked.
 fn since(format: Format) -> u32
     ensures since { result ≡ since format }
 {
@@ -76,7 +76,7 @@ fn known(draft: Draft, format: Option<Format>) -> Option<FormatKeyword>
     }
 }
 
-/// The keyword of `idn-hostname`, if the draft has it.
+/// Returns the keyword for `idn-hostname`, if it is checked in the draft.
 fn idn_hostname_in(draft: Draft) -> Option<FormatKeyword>
     ensures made { result ≡ idn_hostname_in (draft_of draft) }
 {
@@ -87,7 +87,7 @@ fn idn_hostname_in(draft: Draft) -> Option<FormatKeyword>
     }
 }
 
-/// The keyword of a name, if the draft has it and it is checked.
+/// Returns the keyword for a format's name, if that format is checked in the draft.
 fn keyword_named(draft: Draft, name: &str) -> Option<FormatKeyword>
     ensures named { result ≡ keyword_named (draft_of draft) name.now }
 {
@@ -100,7 +100,7 @@ fn keyword_named(draft: Draft, name: &str) -> Option<FormatKeyword>
     }
 }
 
-/// A keyword without children, or nothing.
+/// Returns a keyword without children, or nothing.
 fn keyword_if(made: Option<FormatKeyword>) -> Made
     ensures made { formed shape_of result ≡ keyword_if made }
 {
@@ -110,7 +110,7 @@ fn keyword_if(made: Option<FormatKeyword>) -> Made
     }
 }
 
-/// `format`, where formats are checked.
+/// Makes `format`, given that formats are checked.
 fn format_made(draft: Draft, value: &Value) -> Made
     ensures made { formed shape_of result ≡ format_made (draft_of draft) (as_str (view value.now)) }
 {
@@ -120,7 +120,7 @@ fn format_made(draft: Draft, value: &Value) -> Made
     }
 }
 
-/// Whether `contentEncoding` and `contentMediaType` assert in a draft.
+/// Returns whether `contentEncoding` and `contentMediaType` assert in a draft.
 fn asserts_contents(draft: Draft) -> bool
     ensures asserts { result ≡ asserts_contents (draft_of draft) }
 {
@@ -131,7 +131,7 @@ fn asserts_contents(draft: Draft) -> bool
     }
 }
 
-/// JSON in an encoding.
+/// Makes the assertion that a text is JSON in an encoding.
 fn json_in(encoding: Option<&str>) -> Made
     ensures made { formed shape_of result ≡ json_in (text_read encoding.entry) }
 {
@@ -147,7 +147,7 @@ fn json_in(encoding: Option<&str>) -> Made
     }
 }
 
-/// JSON in the encoding beside it, if there is one.
+/// Makes the assertion that a text is JSON, in the encoding beside it if there is one.
 fn json_beside(object: &Map<String, Value>) -> Made
     ensures made { formed shape_of result ≡ json_beside (get_member (codes "contentEncoding") (fields object.now)) }
 {
@@ -157,7 +157,7 @@ fn json_beside(object: &Map<String, Value>) -> Made
     }
 }
 
-/// `contentMediaType`.
+/// Makes `contentMediaType`.
 fn media_type_made(object: &Map<String, Value>, value: &Value) -> Made
     ensures made { formed shape_of result ≡ media_type_made (get_member (codes "contentEncoding") (fields object.now)) (as_str
         (view value.now)) }
@@ -174,7 +174,7 @@ fn media_type_made(object: &Map<String, Value>, value: &Value) -> Made
     }
 }
 
-/// `contentEncoding`, with no media type beside it.
+/// Makes `contentEncoding` with no media type beside it.
 fn encoding_made(value: &Value) -> Made
     ensures made { formed shape_of result ≡ encoding_made (as_str (view value.now)) }
 {
@@ -190,7 +190,7 @@ fn encoding_made(value: &Value) -> Made
     }
 }
 
-/// `contentMediaType` or `contentEncoding`, where they assert.
+/// Makes `contentMediaType` or `contentEncoding`.
 fn contents_made(object: &Map<String, Value>, name: &str, value: &Value) -> Made
     ensures made { formed shape_of result ≡ contents_made (fields object.now) name.now (view value.now) }
 {
@@ -203,7 +203,9 @@ fn contents_made(object: &Map<String, Value>, name: &str, value: &Value) -> Made
     }
 }
 
-/// `format`, where formats are checked, and nothing where they are not; and the contents of drafts 6 and 7. No name is the table's own.
+/// A table that makes `format` only if formats are checked, and the contents of drafts 6 and 7.
+///
+/// The table owns no name.
 #[derive(Drop)]
 pub struct FormatsIf {
     pub checked: bool,
@@ -243,8 +245,10 @@ impl MakesByObject<Telling<FormatKeyword>> for FormatsIf {
         (made t.checked draft object name value) };
 }
 
-/// The table of `format`, `contentEncoding` and `contentMediaType`. It makes `format` where the compiler says that formats are checked,
-/// which is so up to draft 7, and later where a vocabulary or an option says so. No name is its own.
+/// A table of `format`, `contentEncoding` and `contentMediaType`.
+///
+/// It makes `format` if the compiler says that formats are checked: up to draft 7 always, and later
+/// if a vocabulary or an option says so. The table owns no name.
 #[derive(Drop)]
 pub struct FormatTable {}
 
