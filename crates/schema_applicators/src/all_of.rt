@@ -10,7 +10,7 @@ use schema_reports::location::OutOfMemory;
 use schema_traits::keyword::{Answer, Reply, Step};
 use std::alloc::Global;
 
-/// Takes a turn of `allOf`, which evaluates each child at the keyword's own place.
+/// Takes a turn of `allOf`, which evaluates each child at its own place.
 pub fn turn_all_of<'s, 'i>(
     alloc: Global,
     count: usize,

@@ -31,7 +31,9 @@ pub enum Applicator {
     If(Option<usize>, Option<usize>),
 }
 
-/// A model of keywords without their representation; the type itself is never used as a value.
+/// A model of keywords without their representation.
+///
+/// The type is never used as a value.
 #[derive(Drop)]
 pub struct Shape {}
 

@@ -1,4 +1,4 @@
-//! The keywords that apply schemas at the instance's own place, and their table.
+//! The keywords that apply schemas at the instance's own place.
 //!
 //! They are `allOf`, `anyOf`, `oneOf`, `not` and `if`. The meaning of each is a definition of its
 //! own (`specs/AllOf`, `specs/AnyOf`, `specs/OneOf`, `specs/Not`, `specs/If`), and the module

@@ -18,7 +18,9 @@ use schema_traits::table::{KeywordOrigin, KeywordTable, MakerReply, MakerStep};
 use serde_json::{Map, Value};
 use std::alloc::Global;
 
-/// A table of `allOf`, `anyOf`, `oneOf`, `not` and `if`, in each draft that has them built in.
+/// A table of `allOf`, `anyOf`, `oneOf`, `not` and `if`.
+///
+/// It covers each draft in which they are built in.
 ///
 /// The table owns no name, and makes nothing of any other name. If a value does not have the form
 /// that its keyword needs, it is refused; the error shows the value and is located at the keyword.
@@ -54,7 +56,9 @@ fn value_maker(
     Ok(ends(alloc, Ending::Nothing))
 }
 
-/// Returns the maker of an object's member, which makes nothing if the member is missing.
+/// Returns the maker of an object's member.
+///
+/// It makes nothing if the member is missing.
 fn member_maker(
     alloc: Global,
     name: &str,

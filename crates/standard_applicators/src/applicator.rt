@@ -18,21 +18,24 @@ use schema_traits::asking::Asking;
 use schema_traits::keyword::{Answer, Mode, Reply, Step, Validate};
 use std::alloc::Global;
 
-/// A keyword that applies schemas to items, or by the members that an instance has.
+/// A keyword that applies schemas to items, or if a member is present.
 ///
 /// A child is identified by the number of the request for it that the keyword's maker made.
 #[derive(Drop)]
 pub enum StandardApplicator {
     /// `contains`, whose value is its only child.
     Contains(Planned<Contains>),
-    /// `dependentSchemas`, with the names that have a schema, in the order of the children.
+    /// `dependentSchemas`, with the names that have a schema, child by child.
     DependentSchemas(Names),
-    /// `dependencies`: the required names, and the names that have a schema, in the order of the
-    /// children.
+    /// `dependencies`: what members require, and the names that have a schema.
+    ///
+    /// The names are in the order of the children.
     Dependencies(Wants, Names),
     /// `items` with a list of this number of schemas.
     ListedItems(usize),
-    /// `items` with one schema, or `additionalItems`, with the number of items that come before.
+    /// `items` with one schema, or `additionalItems`.
+    ///
+    /// The number is that of the items before those that it evaluates.
     LaterItems(usize),
     /// `additionalItems` with the value `false`.
     NoLaterItems(NoLaterItems),

@@ -1,4 +1,4 @@
-//! How the draft and the members beside them affect `items` and `additionalItems`.
+//! The effect of the draft and of neighbouring members on the items' keywords.
 ghost use Rattle.std.specs.Prelude.{◌≡◌, codes, option_and_then};
 ghost use Rattle.serde_json.specs.Find.{as_array, get_member};
 ghost use Rattle.serde_json.specs.View.{view};
@@ -25,7 +25,9 @@ pub fn has_prefix(draft: Draft) -> bool
     }
 }
 
-/// Returns whether a value of `items` is a list of schemas, in a draft that allows a list there.
+/// Returns whether a value of `items` is a list of schemas.
+///
+/// Only some drafts allow a list there.
 pub fn is_older_list(draft: Draft, value: &Value) -> bool
     ensures older { result ≡ is_older_list (draft_of draft) (view value.now) }
 {
@@ -42,7 +44,7 @@ fn prefix_length(object: &Map<String, Value>) -> usize
     }
 }
 
-/// Returns the number of items that come before those that `items` with one schema evaluates.
+/// Returns the number of items that `items` with one schema skips.
 ///
 /// It is the number of schemas in `prefixItems`, in the drafts that have it.
 pub fn items_before(draft: Draft, object: &Map<String, Value>) -> usize
@@ -55,7 +57,9 @@ pub fn items_before(draft: Draft, object: &Map<String, Value>) -> usize
     }
 }
 
-/// Returns the number of schemas in `items`, if it is a list in a draft that allows a list there.
+/// Returns the number of schemas in `items`, if it is a list of schemas.
+///
+/// Only some drafts allow a list there.
 #[tactic(auto, using(keyword_authoring::proofs::MemberCounts::items_count_length))]
 pub fn listed_beside(draft: Draft, object: &Map<String, Value>) -> Option<usize>
     ensures listed { result ≡ listed_beside (draft_of draft) (fields object.now) }

@@ -9,7 +9,7 @@ use schema_reports::instance::Instance;
 use schema_reports::location::OutOfMemory;
 use std::alloc::Global;
 
-/// `contains`, with the least number of items that must fit, and the greatest, if it is limited.
+/// `contains`, with the least and the greatest number of items that may fit.
 #[derive(Clone, Copy)]
 pub struct Contains {
     pub least: usize,

@@ -1,4 +1,4 @@
-//! `dependencies`: a member may require other members, or a schema that the instance must satisfy.
+//! `dependencies`: a member may require other members, or a schema.
 ghost use Rattle.std.specs.Prelude.{◌≡◌, [], IfOk, if◌then◌else◌, map, string_bytes};
 ghost use Rattle.theory_definitions.specs.Instance.{Subject};
 ghost use Rattle.keyword_authoring.specs.Ways.{at_first};
@@ -29,7 +29,9 @@ fn wants_one(mode: Mode) -> bool
     }
 }
 
-/// Reports in the first turn the errors of missing members, and returns whether they end the run.
+/// Reports the errors of missing members in the first turn.
+///
+/// Returns whether they end the run.
 fn tell_first<'i>(
     alloc: Global,
     wants: &[Want],

@@ -1,4 +1,4 @@
-//! The value of `dependencies`: the names that its members require, and those that have a schema.
+//! The value of `dependencies`: the required names, and those with a schema.
 ghost use Rattle.std.specs.Prelude.{◌≡◌, ◌++◌, IfOk};
 ghost use Rattle.serde_json.specs.View.{items_view};
 ghost use Rattle.standard_applicators.specs.DependencyValues.{are_lists_of_texts, are_texts, schema_names, text_wants, wants_of};
@@ -67,7 +67,7 @@ pub fn wants_of(alloc: Global, members: &Map<String, Value>) -> Result<Vec<Want>
     Ok(wants)
 }
 
-/// Returns the names of the members whose values are schemas: those that are no lists.
+/// Returns the names of the members whose values are no lists, but schemas.
 pub fn schema_names(alloc: Global, members: &Map<String, Value>) -> Result<Vec<String>, OutOfMemory>
     ensures names { ListsTexts result (schema_names (fields members.now)) }
 {

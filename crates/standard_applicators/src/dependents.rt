@@ -1,4 +1,4 @@
-//! `dependentSchemas`: each child is evaluated if the instance has the member of its name.
+//! `dependentSchemas`: each child is evaluated if its member is present.
 ghost use Rattle.std.specs.Prelude.{◌≡◌, option_map};
 ghost use Rattle.keyword_authoring.specs.Items.{child_here};
 ghost use Rattle.keyword_authoring.specs.Somes.{some_from};
@@ -16,7 +16,9 @@ use schema_reports::location::OutOfMemory;
 use schema_traits::keyword::{Answer, Below, Reply, Step};
 use std::alloc::Global;
 
-/// Takes a turn of `dependentSchemas`, which evaluates each child whose member is present.
+/// Takes a turn of `dependentSchemas`.
+///
+/// The keyword evaluates each child whose member is present.
 #[inline(always)]
 pub fn turn_dependents<'s, 'i>(
     alloc: Global,
@@ -35,9 +37,9 @@ pub fn turn_dependents<'s, 'i>(
     Ok(ask_dependent(names, start, run, instance))
 }
 
-/// Evaluates the next child, from number `start` on, whose member is present.
+/// Evaluates the next child whose member is present.
 ///
-/// The run ends if there is none.
+/// The search begins at child `start`. The run ends if there is none.
 fn ask_dependent<'s>(
     names: &[String],
     start: Option<usize>,
@@ -65,7 +67,9 @@ fn ask_dependent<'s>(
     }
 }
 
-/// Returns the first child, from number `start` on, whose member is present.
+/// Returns the next child whose member is present.
+///
+/// The search begins at child `start`.
 #[tactic(auto, using(crate::proofs::NextDependents::dependents_from_drop))]
 fn first_present(names: &[String], start: usize, instance: Instance<'_>) -> Option<usize>
     ensures present { option_map (λ i. (i, child_here i)) result ≡ some_from start (dependents_asked names.now instance.entry) }

@@ -1,4 +1,4 @@
-//! The keywords that evaluate items one after the other: `items` and `additionalItems`.
+//! The keywords that evaluate items in order: `items` and `additionalItems`.
 ghost use Rattle.std.specs.Prelude.{◌≡◌, ◌+◌, ◌-◌, ◌^◌, ◌<◌, min, option_map};
 ghost use Rattle.schema_reports.specs.InstanceViews.{subject_of};
 ghost use Rattle.schema_traits.specs.KeywordViews.{turn_of};
@@ -16,7 +16,7 @@ use schema_reports::location::OutOfMemory;
 use schema_traits::keyword::{Answer, Below, Mode, Reply, Step};
 use std::alloc::Global;
 
-/// Returns the step that evaluates the child with this number at the item with this number.
+/// Returns the step that evaluates child `number` at item `number`.
 fn ask_child_at_item<'s>(number: Option<usize>, mode: Mode) -> Step<'s>
     ensures step { turn_of result ≡ asked mode (option_map child_at_item number) }
 {
@@ -26,7 +26,7 @@ fn ask_child_at_item<'s>(number: Option<usize>, mode: Mode) -> Step<'s>
     }
 }
 
-/// Returns the step that evaluates the keyword's only child at the item with this number.
+/// Returns the step that evaluates the only child at item `number`.
 fn ask_first_at_item<'s>(number: Option<usize>, mode: Mode) -> Step<'s>
     ensures step { turn_of result ≡ asked mode (option_map first_at_item number) }
 {
@@ -36,7 +36,7 @@ fn ask_first_at_item<'s>(number: Option<usize>, mode: Mode) -> Step<'s>
     }
 }
 
-/// Takes a turn of `items` with a list, which evaluates child number N at item number N.
+/// Takes a turn of `items` with a list, which evaluates child N at item N.
 pub fn turn_listed_items<'s, 'i>(
     alloc: Global,
     children: usize,
@@ -55,7 +55,9 @@ pub fn turn_listed_items<'s, 'i>(
     Ok(ask_child_at_item(number, mode))
 }
 
-/// Takes a turn of a keyword that evaluates its child at each item after the first `before`.
+/// Takes a turn of `items` with one schema, or of `additionalItems`.
+///
+/// The keyword evaluates its child at each item after the first `before`.
 pub fn turn_later_items<'s, 'i>(
     alloc: Global,
     before: usize,

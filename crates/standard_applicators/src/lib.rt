@@ -1,4 +1,4 @@
-//! The keywords that apply schemas to items, or by the members that an instance has.
+//! The keywords that apply schemas to items, or if a member is present.
 //!
 //! They are `contains` with `minContains` and `maxContains`, `dependentSchemas`, `dependencies`,
 //! and `items` and `additionalItems` as they were before 2020-12. None of them matches a pattern.

@@ -33,7 +33,7 @@ fn limit_of(value: &Value) -> Option<usize>
     }
 }
 
-/// Returns the value of a limit beside `contains`, in a draft that has the limit.
+/// Returns the value of a limit beside `contains`, if the draft has it.
 fn limit_beside<'o>(draft: Draft, name: &str, object: &'o Map<String, Value>) -> Option<&'o Value>
     ensures value { value_read result ≡ limit_beside (draft_of draft) name.now (fields object.now) }
 {

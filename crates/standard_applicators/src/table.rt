@@ -175,7 +175,9 @@ fn value_maker(
     Ok(ends(alloc, Ending::Nothing))
 }
 
-/// Returns the maker of an object's member, which makes nothing if the member is missing.
+/// Returns the maker of an object's member.
+///
+/// It makes nothing if the member is missing.
 fn member_maker(
     alloc: Global,
     name: &str,

@@ -1,4 +1,4 @@
-//! `additionalItems` with the value `false`: a list has no items after the first `before`.
+//! `additionalItems` with the value `false`: there are no later items.
 ghost use Rattle.std.specs.Prelude.{◌≡◌, ◌++◌, IfOk, false, string_bytes};
 ghost use Rattle.serde_json.specs.View.{items_view, view};
 ghost use Rattle.serde_json.specs.Written.{compact_text, has_float, items_have_float};
@@ -60,7 +60,9 @@ fn items_after(list: &[Value], before: usize) -> &[Value]
     }
 }
 
-/// Returns the items after the first `before` if the instance is a list, and else none.
+/// Returns the instance's items after the first `before`.
+///
+/// There are none if the instance is no list.
 fn later_items<'i>(instance: Instance<'i>, before: usize) -> &'i [Value]
     ensures items { items_view result.now ≡ items_after before (subject_items (subject_of instance.entry)) }
 {

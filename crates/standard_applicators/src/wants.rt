@@ -1,4 +1,4 @@
-//! Members that require others: if an object has the one, it must have the other.
+//! Members that require others in the same object.
 ghost use Rattle.std.specs.Prelude.{◌≡◌, IfOk, string_bytes};
 ghost use Rattle.std.specs.List.{list_any};
 ghost use Rattle.schema_reports.specs.InstanceViews.{subject_of};
@@ -33,7 +33,7 @@ impl Model for Want {
 }
 
 impl Want {
-    /// Returns a want: a member with the one name requires a member with the other.
+    /// Returns the want that `member` requires `wanted`.
     pub fn new(alloc: Global, member: &str, wanted: &str) -> Result<Want, OutOfMemory>
         ensures want { Yields result (member.now, wanted.now) }
     {
@@ -42,7 +42,7 @@ impl Want {
         Ok(Want { member, wanted })
     }
 
-    /// Returns whether the instance has the member, but not the one that it requires.
+    /// Returns whether the instance has the member, but not the required one.
     fn is_unmet(&self, instance: Instance<'_>) -> bool
         ensures unmet { result ≡ is_unmet (subject_of instance.entry) self.now }
     {

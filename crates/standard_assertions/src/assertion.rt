@@ -43,9 +43,9 @@ pub enum Assertion<V = HeldValue> {
     Limit(LimitKind, HeldNumber),
     /// `multipleOf`, with its divisor.
     MultipleOf(HeldNumber),
-    /// A keyword that limits the number of items or members, with its limit.
+    /// A keyword that counts items or members, with its limit.
     Size(SizeKind, u64),
-    /// A keyword that limits the number of characters or members, with its limit.
+    /// A keyword that counts characters or members, with its limit.
     Count(CountKind, u64),
     /// `uniqueItems` with the value `true`.
     UniqueItems,
@@ -59,9 +59,9 @@ pub enum Assertion<V = HeldValue> {
 const FEW: usize = 8;
 
 impl Assertion {
-    /// Returns whether the keyword holds of an instance, and allocates nothing.
+    /// Returns whether the keyword holds of an instance.
     ///
-    /// Therefore `uniqueItems` compares each pair of items.
+    /// It allocates nothing. Therefore, `uniqueItems` compares each pair of items.
     fn holds_by_pairs(&self, instance: Instance<'_>) -> bool
         ensures holds { result ≡ holds self.now (subject_of instance.entry) }
     {

@@ -1,4 +1,6 @@
-//! `const`, `enum` and `uniqueItems` (JSON Schema Validation 2020-12, 6.1.2, 6.1.3 and 6.4.3).
+//! The keywords `const`, `enum` and `uniqueItems`.
+//!
+//! (JSON Schema Validation 2020-12, 6.1.2, 6.1.3 and 6.4.3)
 ghost use Rattle.std.specs.Prelude.{◌≡◌, ◌++◌, IfOk, false, string_bytes};
 ghost use Rattle.serde_json.specs.Data.{string};
 ghost use Rattle.serde_json.specs.View.{items_view, view};
@@ -90,7 +92,7 @@ pub fn listed_text(
     Ok(text)
 }
 
-/// Appends the values, with ` or ` before the last one and `, ` between the others.
+/// Appends the values, with ` or ` before the last one, and else with commas.
 fn push_values(alloc: Global, values: &[Value], text: &mut String) -> Result<(), OutOfMemory>
     ensures pushed { IfOk result (λ _. items_have_float (items_view values.now) ≡ false → Adds (values_text (items_view values.now))
         text.old text.new) }
@@ -104,7 +106,7 @@ fn push_values(alloc: Global, values: &[Value], text: &mut String) -> Result<(),
     }
 }
 
-/// Returns the words between a value and the one before it, given the values that follow.
+/// Returns the words before a value, given the values that follow it.
 fn parting(others: &[Value]) -> &'static str
     ensures parting { result.now ≡ parting (items_view others.now) }
 {
@@ -141,7 +143,9 @@ fn push_value(
     text.push_str(shown.as_str())
 }
 
-/// Like `has_distinct_items`, but allocates nothing, and so compares each pair of items.
+/// Like `has_distinct_items`, but allocates nothing.
+///
+/// Therefore, it compares each pair of items.
 pub fn has_distinct_items_by_pairs(instance: Instance<'_>) -> bool
     ensures distinct { result ≡ has_distinct_items (subject_of instance.entry) }
 {

@@ -16,7 +16,9 @@ use serde_json::{Map, Value};
 use standard_basics::required::required_text;
 use std::alloc::Global;
 
-/// Returns whether an instance has a member for each of the names; other values name nothing.
+/// Returns whether an instance has a member for each of the names.
+///
+/// A value that is no text names nothing.
 #[tactic(auto, using(crate::proofs::Missing::either_missing))]
 fn has_each(names: &[Value], instance: Instance<'_>) -> bool
     ensures each { result ≡ is_nil (missing_names (items_view names.now) (subject_of instance.entry)) }
@@ -41,7 +43,7 @@ fn has_each_of(names: &Value, instance: Instance<'_>) -> bool
     }
 }
 
-/// Returns whether each of these members that an instance has comes with those that it requires.
+/// Returns whether an instance has all members that these members require.
 #[tactic(auto, using(crate::proofs::Missing::either_missing))]
 fn meets(dependents: &Map<String, Value>, instance: Instance<'_>) -> bool
     ensures meets { result ≡ is_nil (wanted_by_each (fields dependents.now) (subject_of instance.entry)) }
@@ -100,7 +102,7 @@ fn push_missing_of(
     }
 }
 
-/// Appends an error's text for each missing name that a member of the instance requires.
+/// Appends an error's text for each missing name that a member requires.
 fn push_wanted(
     alloc: Global,
     dependents: &Map<String, Value>,

@@ -1,4 +1,4 @@
-//! The keywords of JSON Schema Validation that evaluate no schema, and their table.
+//! The keywords of JSON Schema Validation that evaluate no schema.
 //!
 //! They are `type`, `const`, `enum`, the limits of numbers, `multipleOf`, the limits of sizes,
 //! `uniqueItems` and `dependentRequired`, as one keyword type.

@@ -70,7 +70,7 @@ impl LimitKind {
     }
 }
 
-/// Returns whether an instance is on the right side of a limit, or is no number.
+/// Returns whether an instance is within a limit, or is no number.
 pub fn keeps_limit(kind: LimitKind, limit: &HeldNumber, instance: Instance<'_>) -> bool
     ensures keeps { result ≡ keeps_limit kind limit.now (subject_of instance.entry) }
 {

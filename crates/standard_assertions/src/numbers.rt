@@ -47,7 +47,9 @@ impl HeldNumber {
         &self.number
     }
 
-    /// Returns the number as compact JSON; the contract does not cover the digits of a fraction.
+    /// Returns the number as compact JSON.
+    ///
+    /// The contract does not cover the digits of a fraction.
     ///
     /// # Errors
     ///

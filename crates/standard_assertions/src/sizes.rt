@@ -1,5 +1,6 @@
-//! `minItems`, `maxItems` and `maxProperties` (JSON Schema Validation 2020-12, 6.4.1, 6.4.2,
-//! 6.5.1).
+//! The keywords `minItems`, `maxItems` and `maxProperties`.
+//!
+//! (JSON Schema Validation 2020-12, 6.4.1, 6.4.2 and 6.5.1)
 ghost use Rattle.std.specs.Prelude.{◌≡◌, ◌==◌, IfOk, None, Some, if◌then◌else◌};
 ghost use Rattle.schema_reports.specs.InstanceViews.{subject_of};
 ghost use Rattle.keyword_authoring.specs.Items.{is_list, item_count};
@@ -72,7 +73,7 @@ impl SizeKind {
         }
     }
 
-    /// Returns the number of items or members, or `None` if the keyword does not apply.
+    /// Returns the instance's size, or `None` if the keyword does not apply.
     fn size_of(self, instance: Instance<'_>) -> Option<usize>
         ensures size { result ≡ size_of self (subject_of instance.entry) }
     {
@@ -95,7 +96,9 @@ fn items_count(instance: Instance<'_>) -> Option<usize>
     }
 }
 
-/// Returns whether the limit allows the instance's size, or the keyword does not apply.
+/// Returns whether the limit allows the instance's size.
+///
+/// An instance to which the keyword does not apply is allowed.
 pub fn size_fits(kind: SizeKind, limit: u64, instance: Instance<'_>) -> bool
     ensures fits { result ≡ size_fits kind limit (subject_of instance.entry) }
 {

@@ -41,7 +41,7 @@ fn here_if(made: Option<Assertion>) -> Made
     }
 }
 
-/// Returns whether the truth value beside a limit of draft 4 excludes the limit.
+/// Returns whether the truth value beside draft 4's limit excludes the limit.
 ///
 /// A missing value does not exclude it. Returns `None` for a value that is no truth value.
 fn excludes(object: &Map<String, Value>, beside: &str) -> Option<bool>
@@ -53,7 +53,9 @@ fn excludes(object: &Map<String, Value>, beside: &str) -> Option<bool>
     }
 }
 
-/// Makes `minimum` or `maximum`, which in draft 4 depends on the member named `beside`.
+/// Makes `minimum` or `maximum`.
+///
+/// In draft 4 the keyword depends on the member named `beside`.
 fn limit_here(
     including: LimitKind,
     excluding: LimitKind,

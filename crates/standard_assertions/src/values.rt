@@ -42,7 +42,7 @@ pub fn integers_of(draft: Draft) -> Integers
     }
 }
 
-/// Makes `type` from its value.
+/// Makes `type`.
 pub fn type_made(
     alloc: Global,
     integers: Integers,
@@ -63,7 +63,7 @@ pub fn type_made(
     }
 }
 
-/// Makes `enum` from its value.
+/// Makes `enum`.
 pub fn enum_made(alloc: Global, value: &Value) -> Result<Option<Assertion>, OutOfMemory>
     ensures made { Yields result (enum_made (view value.now)) }
 {
@@ -75,7 +75,7 @@ pub fn enum_made(alloc: Global, value: &Value) -> Result<Option<Assertion>, OutO
     }
 }
 
-/// Makes a keyword that limits numbers from its value.
+/// Makes a keyword that limits numbers.
 pub fn limit_made(kind: LimitKind, value: &Value) -> Option<Assertion>
     ensures made { result ≡ limit_made kind (view value.now) }
 {
@@ -85,7 +85,7 @@ pub fn limit_made(kind: LimitKind, value: &Value) -> Option<Assertion>
     }
 }
 
-/// Makes `multipleOf` from its value.
+/// Makes `multipleOf`.
 pub fn multiple_made(value: &Value) -> Option<Assertion>
     ensures made { result ≡ multiple_made (view value.now) }
 {
@@ -97,7 +97,7 @@ pub fn multiple_made(value: &Value) -> Option<Assertion>
     }
 }
 
-/// Returns the limit of sizes or counts that a value is, as the draft reads it.
+/// Returns the limit that a value is, as the draft reads it.
 fn size_limit(draft: Draft, value: &Value) -> Option<u64>
     ensures limit { result ≡ size_limit (draft_of draft) (view value.now) }
 {
@@ -111,7 +111,7 @@ fn size_limit(draft: Draft, value: &Value) -> Option<u64>
     }
 }
 
-/// Makes a keyword that limits the number of items or members from its value.
+/// Makes a keyword that limits a count of items or members.
 pub fn size_made(kind: SizeKind, draft: Draft, value: &Value) -> Option<Assertion>
     ensures made { result ≡ size_made kind (draft_of draft) (view value.now) }
 {
@@ -121,7 +121,7 @@ pub fn size_made(kind: SizeKind, draft: Draft, value: &Value) -> Option<Assertio
     }
 }
 
-/// Makes a keyword that limits the number of characters or members from its value.
+/// Makes a keyword that limits a count of characters or members.
 pub fn count_made(kind: CountKind, draft: Draft, value: &Value) -> Option<Assertion>
     ensures made { result ≡ count_made kind (draft_of draft) (view value.now) }
 {
@@ -162,7 +162,7 @@ fn are_text_lists(members: &Map<String, Value>) -> bool
     true
 }
 
-/// Makes `dependentRequired` from its value.
+/// Makes `dependentRequired`.
 pub fn dependents_made(alloc: Global, value: &Value) -> Result<Option<Assertion>, OutOfMemory>
     ensures made { Yields result (dependents_made (view value.now)) }
 {

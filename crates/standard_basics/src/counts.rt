@@ -77,7 +77,7 @@ impl CountKind {
         }
     }
 
-    /// Returns the count for an instance, or `None` if the keyword does not apply to it.
+    /// Returns the instance's count, or `None` if the keyword does not apply.
     fn count_of(self, instance: Instance<'_>) -> Option<usize>
         ensures count { result ≡ count_of self (subject_of instance.entry) }
     {
@@ -128,7 +128,9 @@ fn count_members(members: &Map<String, Value>) -> usize
     members.len()
 }
 
-/// Returns whether the limit allows the instance's count, or nothing is counted.
+/// Returns whether the limit allows the instance's count.
+///
+/// An instance to which the keyword does not apply is allowed.
 pub fn count_fits(kind: CountKind, limit: u64, instance: Instance<'_>) -> bool
     ensures fits { result ≡ count_fits kind limit (subject_of instance.entry) }
 {

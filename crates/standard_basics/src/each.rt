@@ -1,4 +1,4 @@
-//! The keywords that evaluate items one after the other: `prefixItems` and `items`.
+//! The keywords that evaluate items in order: `prefixItems` and `items`.
 ghost use Rattle.std.specs.Prelude.{◌≡◌, ◌+◌, ◌-◌, ◌^◌, ◌<◌, min, option_map};
 ghost use Rattle.schema_reports.specs.InstanceViews.{subject_of};
 ghost use Rattle.schema_traits.specs.KeywordViews.{turn_of};
@@ -17,7 +17,7 @@ use schema_reports::location::OutOfMemory;
 use schema_traits::keyword::{Answer, Below, Mode, Reply, Step};
 use std::alloc::Global;
 
-/// Returns the step that evaluates the child with this number at the item with this number.
+/// Returns the step that evaluates child `number` at item `number`.
 fn ask_child_at_item<'s>(number: Option<usize>, mode: Mode) -> Step<'s>
     ensures step { turn_of result ≡ asked mode (option_map child_at_item number) }
 {
@@ -27,7 +27,7 @@ fn ask_child_at_item<'s>(number: Option<usize>, mode: Mode) -> Step<'s>
     }
 }
 
-/// Returns the step that evaluates the keyword's only child at the item with this number.
+/// Returns the step that evaluates the only child at item `number`.
 fn ask_first_at_item<'s>(number: Option<usize>, mode: Mode) -> Step<'s>
     ensures step { turn_of result ≡ asked mode (option_map first_at_item number) }
 {
@@ -37,7 +37,7 @@ fn ask_first_at_item<'s>(number: Option<usize>, mode: Mode) -> Step<'s>
     }
 }
 
-/// Takes a turn of `prefixItems`, which evaluates child number N at item number N.
+/// Takes a turn of `prefixItems`, which evaluates child N at item N.
 pub fn turn_prefix_items<'s, 'i>(
     alloc: Global,
     children: usize,
@@ -56,7 +56,9 @@ pub fn turn_prefix_items<'s, 'i>(
     Ok(ask_child_at_item(number, mode))
 }
 
-/// Takes a turn of `items`, which evaluates its child at each item after the first `before`.
+/// Takes a turn of `items`.
+///
+/// The keyword evaluates its child at each item after the first `before`.
 pub fn turn_items<'s, 'i>(
     alloc: Global,
     before: usize,

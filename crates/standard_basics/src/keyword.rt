@@ -75,7 +75,9 @@ pub enum BasicKeyword {
     Not(Value),
 }
 
-/// A model of keywords without their representation; the type itself is never used as a value.
+/// A model of keywords without their representation.
+///
+/// The type is never used as a value.
 #[derive(Drop)]
 pub struct Shape {}
 
@@ -112,7 +114,9 @@ fn tell<'i>(
     }
 }
 
-/// Takes a turn of a keyword that evaluates no child: the first turn reports its errors.
+/// Takes a turn of a keyword that evaluates no child.
+///
+/// The first turn reports the keyword's errors.
 #[inline(always)]
 fn turn_telling<'s, 'i>(
     keyword: &BasicKeyword,
@@ -133,7 +137,7 @@ fn turn_telling<'s, 'i>(
     Ok(Step::Done)
 }
 
-/// Begins a run that holds the names of the instance's members, and evaluates a child at them.
+/// Begins a run that holds the names of the instance's members.
 ///
 /// Not inlined, so that other runs do not pay for its stack frame.
 #[inline(never)]

@@ -1,4 +1,4 @@
-//! The basic keywords: `type`, `required`, `properties`, `items`, `pattern`, `allOf` and others.
+//! The basic keywords, such as `type`, `required`, `properties` and `items`.
 //!
 //! Each evaluates an instance in one of the kinds that `keyword_authoring` offers. The five that
 //! combine schemas take their definitions and turns from `schema_applicators`.

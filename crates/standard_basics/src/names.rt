@@ -61,7 +61,9 @@ impl Names {
         Ok(Names { texts })
     }
 
-    /// Returns the names of the instance's members: none unless it is an object.
+    /// Returns the names of the instance's members.
+    ///
+    /// There are none if the instance is no object.
     ///
     /// # Errors
     ///

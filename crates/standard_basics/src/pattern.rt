@@ -52,7 +52,7 @@ fn tell_pattern<'i>(
     note(alloc, mode, "pattern", text, answer)
 }
 
-/// Asks for the match with a text, and then reports an error unless the pattern matches.
+/// Matches the pattern against a text, and reports an error if that fails.
 #[inline(always)]
 fn turn_of_text<'s, 'i>(
     alloc: Global,
@@ -79,7 +79,9 @@ fn turn_of_text<'s, 'i>(
     }
 }
 
-/// Takes a turn of `pattern`, which matches a text or a name, and accepts any other instance.
+/// Takes a turn of `pattern`.
+///
+/// The keyword matches a text or a name, and accepts any other instance.
 #[inline(always)]
 pub fn turn_pattern<'s, 'i: 's>(
     alloc: Global,

@@ -17,7 +17,9 @@ use schema_traits::keyword::{Answer, Below, Reply, Step};
 use std::alloc::Global;
 use std::rc::RcStr;
 
-/// Takes a turn of `properties`, which evaluates a child at each named member that is present.
+/// Takes a turn of `properties`.
+///
+/// The keyword evaluates a child at each named member that is present.
 #[inline(always)]
 pub fn turn_properties<'s, 'i>(
     alloc: Global,
@@ -36,7 +38,7 @@ pub fn turn_properties<'s, 'i>(
     Ok(ask_member(names, start, run, instance))
 }
 
-/// Returns whether it is plain at once that no child is evaluated: there are no members.
+/// Returns whether the instance has no members, so that no child is evaluated.
 pub fn asks_none(names: &[RcStr], instance: Instance<'_>) -> bool
     ensures none { result ≡ true → some_from 0 (at_members (map rc_str_bytes names.now) instance.entry) ≡ None }
 {
@@ -54,9 +56,9 @@ fn may_have_members(instance: Instance<'_>) -> bool {
     }
 }
 
-/// Evaluates the next child, from number `start` on, whose member is present.
+/// Evaluates the next child whose member is present.
 ///
-/// The run ends if there is none.
+/// The search begins at child `start`. The run ends if there is none.
 #[inline(always)]
 fn ask_member<'s>(
     names: &'s [RcStr],
@@ -85,7 +87,9 @@ fn ask_member<'s>(
     }
 }
 
-/// Returns the first child, from number `start` on, whose member is present, and its name.
+/// Returns the next child whose member is present, and its name.
+///
+/// The search begins at child `start`.
 #[tactic(auto, using(keyword_authoring::proofs::NextQuestions::members_from_drop))]
 fn first_present<'s>(
     names: &'s [RcStr],

@@ -42,7 +42,9 @@ fn name_in<'i>(instance: Instance<'i>, name: &str) -> Option<&'i str>
     }
 }
 
-/// Returns the first name, from index `start` on, that a member has, with its index.
+/// Returns the next name that a member has, with its index.
+///
+/// The search begins at index `start`.
 #[tactic(auto, using(crate::proofs::NamesAsked::asked_drop))]
 fn first_name<'i>(
     names: &[String],
@@ -59,9 +61,9 @@ fn first_name<'i>(
     None
 }
 
-/// Evaluates the child at the next name, from index `start` on, that a member has.
+/// Evaluates the child at the next name that a member has.
 ///
-/// The run ends if there is none.
+/// The search begins at index `start`. The run ends if there is none.
 #[inline(always)]
 fn ask_name<'i>(
     names: &[String],
@@ -90,7 +92,9 @@ fn ask_name<'i>(
     }
 }
 
-/// Takes a turn of `propertyNames`, which evaluates its child at each name that a member has.
+/// Takes a turn of `propertyNames`.
+///
+/// The keyword evaluates its child at each of the names that a member has.
 #[inline(always)]
 pub fn turn_property_names<'i>(
     alloc: Global,

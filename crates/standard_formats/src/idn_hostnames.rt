@@ -1,4 +1,6 @@
-//! Internationalized host names (RFC 5890, section 2.3.2.3; UTS #46, section 4.2).
+//! Internationalized host names.
+//!
+//! (RFC 5890, section 2.3.2.3; UTS #46, section 4.2)
 ghost use Rattle.std.specs.Prelude.{◌≡◌, not};
 ghost use Rattle.std.specs.List.{list_all};
 ghost use Rattle.std.specs.Str.{chars};

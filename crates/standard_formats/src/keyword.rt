@@ -15,7 +15,9 @@ use schema_reports::location::OutOfMemory;
 use std::alloc::Global;
 use text_formats::formats::Format;
 
-/// A keyword that tests a text. It holds of each instance that is no text.
+/// A keyword that tests a text.
+///
+/// It holds of each instance that is no text.
 #[derive(Clone, Copy)]
 pub enum FormatKeyword {
     /// `format` with the name of a format that is tested by its grammar.

@@ -1,4 +1,4 @@
-//! The keywords `format`, `contentEncoding` and `contentMediaType` as assertions, and their table.
+//! The assertions of `format`, `contentEncoding` and `contentMediaType`.
 //!
 //! If formats are checked, then `format` asserts that a text has the format with its name: by the
 //! format's grammar (`text_formats`), as a pattern that can be read (`regex_matcher`), or as an

@@ -28,7 +28,9 @@ type Made = ObjectKeyword<Telling<FormatKeyword>>;
 
 type Maker = PathsMaker<Telling<FormatKeyword>>;
 
-/// Returns the draft's number in the order of drafts; an unknown draft counts as the last one.
+/// Returns a number that orders the drafts.
+///
+/// An unknown draft counts as the last one.
 fn order(draft: Draft) -> u32
     ensures order { result ≡ order (draft_of draft) }
 {
@@ -87,7 +89,7 @@ fn idn_hostname_in(draft: Draft) -> Option<FormatKeyword>
     }
 }
 
-/// Returns the keyword for a format's name, if that format is checked in the draft.
+/// Returns the keyword for a format's name, if the draft checks that format.
 fn keyword_named(draft: Draft, name: &str) -> Option<FormatKeyword>
     ensures named { result ≡ keyword_named (draft_of draft) name.now }
 {
@@ -147,7 +149,7 @@ fn json_in(encoding: Option<&str>) -> Made
     }
 }
 
-/// Makes the assertion that a text is JSON, in the encoding beside it if there is one.
+/// Makes the assertion that a text is JSON, in the encoding beside it, if any.
 fn json_beside(object: &Map<String, Value>) -> Made
     ensures made { formed shape_of result ≡ json_beside (get_member (codes "contentEncoding") (fields object.now)) }
 {
@@ -203,7 +205,9 @@ fn contents_made(object: &Map<String, Value>, name: &str, value: &Value) -> Made
     }
 }
 
-/// A table that makes `format` only if formats are checked, and the contents of drafts 6 and 7.
+/// A table that makes `format` only if formats are checked.
+///
+/// It makes `contentEncoding` and `contentMediaType` too, in drafts 6 and 7.
 ///
 /// The table owns no name.
 #[derive(Drop)]
