@@ -15,14 +15,14 @@ use schema_reports::location::OutOfMemory;
 use schema_traits::keyword::{Answer, Mode, Reply};
 use std::alloc::Global;
 
-/// The condition of a gate: one of its patterns matches the member's name, or none does.
+/// The condition of a gate: one of its patterns matches a name, or none does.
 #[derive(Clone, Copy)]
 pub enum Condition {
     OneMatches,
     NoneMatches,
 }
 
-/// The child with this number, evaluated at a member if the condition holds for the member's name.
+/// A child that is evaluated at a member if the condition holds for its name.
 #[derive(Clone, Copy)]
 pub struct Gate<'s> {
     pub condition: Condition,
@@ -42,7 +42,10 @@ pub enum GateStage {
     Ended,
 }
 
-/// A run: the members that are left, the current one first, and the names that its error shows.
+/// A run of a keyword with gates.
+///
+/// `names` are those of the members that are left, the current one first. `left` are the names
+/// that the keyword's error shows.
 #[derive(Drop)]
 pub struct GateRun {
     pub mode: Mode,
@@ -73,7 +76,7 @@ pub fn opens(condition: Condition, matched: bool) -> bool
 }
 
 impl GateRun {
-    /// Returns a run in this mode, before its first turn, with these members left.
+    /// Returns a run before its first turn, with these members left.
     pub fn begin(alloc: Global, mode: Mode, names: NamesLeft) -> GateRun
         ensures begins { run_begin (mode_of mode) names ≡ result }
     {

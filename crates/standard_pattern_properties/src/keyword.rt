@@ -40,15 +40,15 @@ pub struct Neighbours {
 /// A keyword that evaluates its children behind gates.
 #[derive(Drop)]
 pub enum GatedKeyword {
-    /// Evaluates the child of each pattern at each member whose name the pattern matches.
+    /// `patternProperties` with its patterns, in the order of the children.
     PatternProperties(Texts),
-    /// Evaluates the only child at each member whose name is not listed and matches no pattern.
+    /// `additionalProperties` with a schema, its only child.
     AdditionalProperties(Neighbours),
-    /// Evaluates no child; there must be no member whose name is not listed and matches no pattern.
+    /// `additionalProperties` with the value `false`, which has no child.
     NoAdditionalProperties(Neighbours),
 }
 
-/// Returns the gate with this number: it is open if the pattern with this number matches.
+/// Returns the gate of pattern `number`, which is open if that matches.
 fn pattern_gate(patterns: &[String], number: usize) -> Option<Gate<'_>>
     ensures gate { IsGate (gates_from 0 (map string_bytes patterns.now)) number result }
     ensures inside { IfSome result (λ _. number + 1 < 2 ^ 64) }
@@ -130,7 +130,7 @@ impl GatedKeyword {
         }
     }
 
-    /// Passes through an open gate: evaluates its child, or records the name for the error.
+    /// Enters an open gate: evaluates its child, or records the name.
     ///
     /// Returns `None` if the run continues with the next gate.
     fn enter<'s>(
@@ -158,7 +158,7 @@ impl GatedKeyword {
         }
     }
 
-    /// Passes through a gate if it is open, given whether one of its patterns matches.
+    /// Enters a gate if it is open, given whether one of its patterns matches.
     fn settle<'s>(
         &self,
         alloc: Global,
@@ -180,7 +180,9 @@ impl GatedKeyword {
         }
     }
 
-    /// Asks for the match of a gate's pattern; without such a pattern, no pattern matches.
+    /// Asks for the match of a gate's pattern.
+    ///
+    /// If there is no such pattern, then none of the gate's patterns matches.
     fn look<'s>(
         &self,
         alloc: Global,
@@ -223,8 +225,9 @@ impl GatedKeyword {
         Ok(None)
     }
 
-    /// Looks at the members that are left: at the current one from gate `from` on, and then at the
-    /// others.
+    /// Looks at the members that are left, from gate `from` on.
+    ///
+    /// For the members after the current one it begins at the first gate.
     fn seek<'s, 'i: 's>(
         &'s self,
         alloc: Global,
@@ -296,7 +299,7 @@ impl GatedKeyword {
         self.settle(alloc, run, name, number, gate, false)
     }
 
-    /// Continues after the match of a gate's pattern, with the later gates and members too.
+    /// Continues after the match of a gate's pattern, up to the next move.
     fn after_match<'s, 'i: 's>(
         &'s self,
         alloc: Global,
@@ -320,7 +323,7 @@ impl GatedKeyword {
         }
     }
 
-    /// Returns the number after this gate's number, if this gate exists, and else the same number.
+    /// Returns the next gate's number, or `number` if that is no gate's.
     fn next_gate(&self, number: usize) -> usize
         ensures next { SeekAlike self.now result (number + 1) }
     {
@@ -388,7 +391,9 @@ impl GatedKeyword {
         }
     }
 
-    /// Carries out the outcome of a turn, and reports the keyword's error at the end of the run.
+    /// Carries out a move.
+    ///
+    /// A move that ends the run also reports the keyword's error.
     fn make<'s, 'i>(
         &self,
         alloc: Global,

@@ -1,4 +1,4 @@
-//! The keywords `patternProperties` and `additionalProperties`, and their table.
+//! The keywords `patternProperties` and `additionalProperties`.
 //!
 //! Both evaluate a schema at a member only if the member's name matches a pattern, or lies outside
 //! the names and patterns that neighbouring keywords mention. The modules call this condition, with

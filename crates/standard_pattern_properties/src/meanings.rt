@@ -5,20 +5,22 @@ ghost use Rattle.standard_pattern_properties.specs.GatedKeywords.{unexpected_tex
 ghost use Rattle.standard_pattern_properties.specs.Meanings.{NamesLeftOver, NoOthersHold, OthersHold, PatternsHold};
 ghost use Rattle.keyword_authoring.specs.MeaningWords.{Always};
 
-/// `patternProperties` holds exactly if each pattern's schema accepts the members that it matches.
+/// `patternProperties` holds exactly if the schemas of its patterns accept.
+///
+/// The schema of a pattern must accept each member whose name the pattern matches.
 pub fn pattern_properties_means()
     ensures holds { Always PatternsHold }
 {}
 
-/// `additionalProperties` holds exactly if its schema accepts each additional member.
+/// `additionalProperties` holds exactly if each additional member is accepted.
 ///
-/// Such a member's name is neither listed in `properties` nor matched by a pattern of
+/// A member is additional if its name is neither listed in `properties` nor matched by a pattern of
 /// `patternProperties`.
 pub fn additional_properties_means()
     ensures holds { Always OthersHold }
 {}
 
-/// `additionalProperties` with the value `false` holds exactly if there is no additional member.
+/// `additionalProperties: false` holds exactly if no member is additional.
 ///
 /// If it does not hold, it has one error, which shows the additional members' names in order.
 pub fn no_additional_properties_means()

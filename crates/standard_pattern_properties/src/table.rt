@@ -24,7 +24,9 @@ use std::alloc::Global;
 /// The maker of these keywords.
 type Maker = PathsMaker<GatedKeyword>;
 
-/// Returns the names that `properties` lists: none if its value is missing or is no object.
+/// Returns the names that `properties` lists.
+///
+/// There are none if its value is missing or is no object.
 fn listed_of(alloc: Global, value: Option<&Value>) -> Result<Listed, OutOfMemory>
     ensures listed { Yields result (names_of_value (value_read value.entry)) }
 {
@@ -37,7 +39,9 @@ fn listed_of(alloc: Global, value: Option<&Value>) -> Result<Listed, OutOfMemory
     }
 }
 
-/// Returns the patterns of `patternProperties`: none if its value is missing or is no object.
+/// Returns the patterns of `patternProperties`.
+///
+/// There are none if its value is missing or is no object.
 fn patterns_of(alloc: Global, value: Option<&Value>) -> Result<Texts, OutOfMemory>
     ensures patterns { Yields result (names_of_value (value_read value.entry)) }
 {
@@ -119,7 +123,9 @@ fn value_maker(
     Ok(ends(alloc, Ending::Nothing))
 }
 
-/// Returns the maker of an object's member, which makes nothing if the member is missing.
+/// Returns the maker of an object's member.
+///
+/// It makes nothing if the member is missing.
 fn member_maker(
     alloc: Global,
     name: &str,
