@@ -1,5 +1,5 @@
--- The laws of keywords that evaluate an instance by a course. Of each type of keyword it remains to
--- be shown that each question is asked at a place that is present.
+-- The laws of keywords that evaluate an instance by a course. For each type of keyword, it remains
+-- to show that each question is asked at a place that is present.
 use Rattle.std.proofs.Common.{◌≡◌, ◌∙◌, ℕ, zero, suc, ◌+◌, ◌<◌, ◌⊎◌, ◌&&◌, ◌++◌, ◌∷◌, [], List, Bool, true, false, Option, refl, sym, ap, subst, arith, map}
 use Rattle.std.specs.Prelude.{All, Contains, ◌↔◌}
 use Rattle.std.proofs.lemmas.List.Elements.{All-append, All-map, All-nil}

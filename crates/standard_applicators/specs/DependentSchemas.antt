@@ -1,5 +1,5 @@
--- `dependentSchemas` accepts an object if each schema accepts it whose name is a member of the
--- object. An instance that is no object has no members. The schemas are numbered in the order of
+-- `dependentSchemas` accepts an object if the object satisfies each schema whose name is one of its
+-- members. An instance that is no object has no members. The schemas are numbered in the order of
 -- their names. (Core 2020-12, 10.2.2.4)
 use Rattle.std.specs.Prelude.{Bool, List, length, true, ℕ, ◌++◌, ◌∷◌, ◌≡◌}
 use Rattle.theory_definitions.specs.Instance.{Subject, Text}
