@@ -1,5 +1,5 @@
 -- The keyword that a member of a schema makes, by its name and value, and for draft 4's `minimum`
--- and `maximum` by the member beside it. A member makes nothing if its draft does not define its
+-- and `maximum` by the member beside it. A keyword is requested only in a draft that defines its
 -- name: `const`, and `exclusiveMinimum` and `exclusiveMaximum` as keywords of their own, come with
 -- draft 6, and `dependentRequired` with 2019-09. (Validation 2020-12, 6; of draft 4, 5)
 use Rattle.std.specs.Prelude.{Bool, None, Option, Some, bytes_eq, codes, false, if◌then◌else◌, true}
