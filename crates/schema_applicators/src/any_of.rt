@@ -38,7 +38,7 @@ fn tell_any_of<'i>(
 
 /// Takes a turn of `anyOf`, which holds if at least one child accepts.
 ///
-/// If units are requested, then each child is evaluated for its own.
+/// If units are requested, then each child is evaluated for its units.
 #[inline(always)]
 pub fn turn_any_of<'s, 'i>(
     alloc: Global,

@@ -2,7 +2,7 @@
 //!
 //! They are `allOf`, `anyOf`, `oneOf`, `not` and `if`. The meaning of each is a definition of its
 //! own (`specs/AllOf`, `specs/AnyOf`, `specs/OneOf`, `specs/Not`, `specs/If`), and the module
-//! `meanings` states that the keywords have these meanings.
+//! `meanings` states that the keywords have these meanings. The module `table` has their table.
 #![tactic(auto)]
 
 pub mod all_of;

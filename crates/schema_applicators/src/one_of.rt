@@ -52,7 +52,7 @@ fn tell_one_of<'i>(
 
 /// Takes a turn of `oneOf`, which holds if exactly one child accepts.
 ///
-/// If units are requested, then each child is evaluated for its own.
+/// If units are requested, then each child is evaluated for its units.
 #[inline(always)]
 pub fn turn_one_of<'s, 'i>(
     alloc: Global,

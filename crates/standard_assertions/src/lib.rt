@@ -1,7 +1,7 @@
 //! The keywords of JSON Schema Validation that evaluate no schema.
 //!
 //! They are `type`, `const`, `enum`, the limits of numbers, `multipleOf`, the limits of sizes,
-//! `uniqueItems` and `dependentRequired`, as one keyword type.
+//! `uniqueItems` and `dependentRequired`, as one keyword type with the table that makes them.
 #![tactic(auto)]
 
 pub mod assertion;
