@@ -27,8 +27,8 @@ use std::alloc::Global;
 
 /// A keyword that evaluates no schema, such as `type` or `minimum`.
 ///
-/// `V` is the type of the values of the schema that a keyword stores. If a keyword does not apply to
-/// instances of a type, then it holds of them.
+/// `V` is the type of the values of the schema that a keyword stores. If a keyword does not apply
+/// to instances of a type, then it holds of them.
 #[derive(Drop)]
 pub enum Assertion<V = HeldValue> {
     /// `type` with one name.
