@@ -163,7 +163,7 @@ cleared_more es e old mid new sofar put n k =
     go false true false = refl
     go false false s = refl
 
--- ---- what is settled
+-- ---- what is made final
 
 -- a pair that is not this one, said the other way round
 other_way : (i : ℕ) (p : Place) (j : ℕ) (q : Place) → is_this i p j q ≡ false → is_pair i p (j, q) ≡ false

@@ -1,4 +1,4 @@
--- What is found by the lists of a solver, as a pair is begun, refused, assumed or settled.
+-- The facts in a solver's lists, when a pair is begun, refused, assumed or made final.
 use Rattle.std.proofs.Common.{◌≡◌, ◌∙◌, ℕ, ◌++◌, ◌||◌, ◌&&◌, not, Bool, true, false, [], ◌∷◌, refl, sym, ap, true≢false}
 use Rattle.std.specs.Prelude.{Some, if◌then◌else◌}
 use Rattle.std.proofs.lemmas.Bool.{false_from_ne_true}

@@ -40,7 +40,7 @@ weighs_entry ws xs k e w v u l at before here sum =
     let all : edges_weight ws (node_edges (node_these (map entry_of (take (k + 1) xs)))) ≡ edges_weight ws before_it + edges_weight ws of_it = ap (edges_weight ws) (entry_more xs k e l at) ∙ sum_by-append (edge_weight ws) before_it of_it in
     omega (arith, before, here, sum, all)
 
--- ---- where each weight is 255, nothing is to be covered
+-- ---- if each weight is 255, there is nothing to cover
 
 weight-replicate : (n i : ℕ) → weight_in (replicate n 255) i ≡ 255
 weight-replicate n i = elim (leb_tells n i) [

@@ -10,7 +10,8 @@ use Rattle.schema_solver_state.specs.Saying.{WhatIsSaid}
 abbrev pub fresh : Value → Solver
 fresh v = record { root = v; in_progress = []; assumed = []; verdicts = []; marking = []; begun = 0 }
 
--- what is found of a pair: its verdict, which leans on nothing, where that is known, or a yes that leans, where it is in progress or assumed
+-- what is known of a pair: its final verdict, or a provisional "valid" if it is in progress or
+-- assumed
 abbrev pub IsFound : ℕ → Place → Solver → WhatIsSaid → Type 0
 IsFound i p c s = ((verdict_of i p c.verdicts ≡ Some s.valid) × (s.leans ≡ false))
     ⊎ ((s.valid ≡ true) × (s.leans ≡ true) × ((has_pair c.in_progress i p || has_pair c.assumed i p) ≡ true))
@@ -24,7 +25,7 @@ pub record Begins (i : ℕ) (p : Place) (old new : Solver) : Type 0 where
   pub marking : new.marking ≡ old.marking
   pub begun : new.begun ≡ one_more old.begun
 
--- all stays but what is assumed and what is known
+-- nothing changes except what is assumed and what is known
 pub record KeepsRest (old new : Solver) : Type 0 where
   pub root : new.root ≡ old.root
   pub in_progress : new.in_progress ≡ old.in_progress
@@ -51,7 +52,7 @@ pub record OnlyMarks (old new : Solver) : Type 0 where
 abbrev pub IsApart : ℕ → Solver → Type 0
 IsApart mark c = (i : ℕ) (p : Place) → has_pair (drop mark c.assumed) i p ≡ true → has_pair (take mark c.assumed) i p ≡ false
 
--- a no: it is known for good, and what was assumed since the mark is dropped
+-- an "invalid": it is remembered, and what was assumed since the mark is dropped
 abbrev pub Refuses : ℕ → Place → ℕ → Solver → Solver → Type 0
 Refuses i p mark old new = (new.assumed ≡ take mark old.assumed) × Remembers i p false old.verdicts new.verdicts
 
@@ -69,15 +70,16 @@ SettlesAlone i p mark old new = IsAlone p old
 abbrev pub IsBeside : Place → Solver → Type 0
 IsBeside p c = (k : ℕ) × (has_pair c.in_progress k p ≡ true)
 
--- a yes that leans, beside another pair in progress at the place: it is assumed, and goes last among those that are
+-- a provisional "valid", beside another pair in progress at the place: it is assumed, after all
+-- others
 abbrev pub AssumesBeside : ℕ → Place → Solver → Solver → Type 0
 AssumesBeside i p old new = IsBeside p old × (new.assumed ≡ old.assumed ++ (i, p) ∷ []) × (new.verdicts ≡ old.verdicts)
 
--- a yes that leans on nothing, beside another: it alone is known for good, and what was assumed stays so
+-- a final "valid", beside another pair: it alone is remembered, and what was assumed stays assumed
 abbrev pub SettlesBeside : ℕ → Place → Solver → Solver → Type 0
 SettlesBeside i p old new = IsBeside p old × (new.assumed ≡ old.assumed) × Remembers i p true old.verdicts new.verdicts
 
--- so a yes is kept, and the pair is answered a yes then that leans where it is assumed
+-- so a "valid" is kept; the pair's answer from then on is "valid", and provisional if it is assumed
 abbrev pub Accepts : ℕ → Place → ℕ → WhatIsSaid → WhatIsSaid → Solver → Solver → Type 0
 Accepts i p mark said now old new = (SettlesAlone i p mark old new × (now.leans ≡ false))
     ⊎ ((AssumesBeside i p old new × (now.leans ≡ true))

@@ -1,4 +1,5 @@
--- What a context has found of a pair, and what becomes of it: by the pair's node, and by the number of its place.
+-- What a context knows of a pair, and how it changes: by the pair's node, and by the number of its
+-- place.
 use Rattle.std.specs.Prelude.{[], Bool, List, None, Option, drop, false, length, map, option_map, ℕ, ◌++◌, ◌<◌, ◌∷◌, ◌≡◌}
 use Rattle.theory_definitions.specs.Instance.{Place}
 use Rattle.theory_definitions.specs.Guarded.{same_edge}
@@ -75,7 +76,7 @@ module _ (node : SchemaNode) (place : ℕ) (old new : Solver) where
   abbrev pub AssumesAt : Type 0
   AssumesAt = new.assumed ≡ old.assumed ++ (node.0, place_in old place) ∷ []
 
-  -- it is settled with a yes, and so is all that was assumed since the mark
+  -- "valid" is remembered for it, and for all that was assumed since the mark
   abbrev pub SettlesAt : ℕ → Type 0
   SettlesAt mark = SettlesAll ((node.0, place_in old place) ∷ drop mark old.assumed) old.verdicts new.verdicts
 
@@ -83,11 +84,12 @@ module _ (node : SchemaNode) (place : ℕ) (old new : Solver) where
   abbrev pub RefusesAt : ℕ → Type 0
   RefusesAt mark = Refuses node.0 (place_in old place) mark old new
 
-  -- a yes of it is kept, with the mark: this was said, and it is answered from this now
+  -- a "valid" of it is kept, with the mark: this was the node's answer, and this is the pair's
+  -- answer from now on
   abbrev pub AcceptsAt : ℕ → WhatIsSaid → WhatIsSaid → Type 0
   AcceptsAt mark said now = Accepts node.0 (place_in old place) mark said now old new
 
-  -- a yes of it is kept beside another pair at its place, that leans or does not
+  -- a "valid" of it is kept beside another pair at its place, whether it is provisional or not
   abbrev pub AssumesBesideAt : Type 0
   AssumesBesideAt = AssumesBeside node.0 (place_in old place) old new
 

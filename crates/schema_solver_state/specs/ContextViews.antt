@@ -47,6 +47,6 @@ HoldVerdicts count rows = AreWide (2 * row_words count) rows
 abbrev pub KeepsVerdict : ℕ → ℕ → ℕ → Bool → List (List ℕ) → List (List ℕ) → Type 0
 KeepsVerdict count n k v old new = (ps : List Place) → OwnNumbers ps → length ps ≡ count → Remembers n (place_at ps k) v (all_verdicts ps old) (all_verdicts ps new)
 
--- these pairs are settled
+-- "valid" is remembered for these pairs
 abbrev pub SettlesPairs : ℕ → List NumberedPair → List (List ℕ) → List (List ℕ) → Type 0
 SettlesPairs count es old new = (ps : List Place) → OwnNumbers ps → length ps ≡ count → SettlesAll (pairs_at ps es) (all_verdicts ps old) (all_verdicts ps new)

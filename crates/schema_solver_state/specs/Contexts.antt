@@ -1,4 +1,4 @@
--- What a solver holds while it runs, as lists, and what is found by these.
+-- The state of a solver while it runs, as lists, and the facts in it.
 use Rattle.std.specs.List.{list_any}
 use Rattle.std.specs.Prelude.{Bool, List, Some, true, if◌then◌else◌, ℕ, ◌≡◌}
 use Rattle.serde_json.specs.declared.value.Value.{Value}
@@ -28,6 +28,6 @@ has_pair es i p = list_any (is_pair i p) es
 abbrev pub found_of : Solver → Found
 found_of c = record { busy = has_pair c.in_progress; assumed = has_pair c.assumed; known = λ i p. verdict_of i p c.verdicts }
 
--- these pairs are settled with a yes, and the verdicts of others are as before
+-- "valid" is remembered for these pairs, and the verdicts of others are as before
 abbrev pub SettlesAll : Pairs → Verdicts → Verdicts → Type 0
 SettlesAll es old new = (i : ℕ) (p : Place) → verdict_of i p new ≡ (if has_pair es i p then Some true else verdict_of i p old)

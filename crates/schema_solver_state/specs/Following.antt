@@ -1,5 +1,5 @@
--- How many edges that nothing guards lead to each number of a table, and how many nodes it takes to ask it where each edge is followed,
--- by which a solver picks the numbers that it follows.
+-- How many unguarded edges lead to each number of a table, and how many nodes it takes to evaluate
+-- it with each edge followed. By these a solver picks the numbers that it inlines.
 use Rattle.std.specs.Prelude.{Bool, EachIndex, List, Option, Some, count_by, false, filter_map, flat_map, if◌then◌else◌, length, map, min, nat_le, not, option_map}
 use Rattle.std.specs.Prelude.{slice_get, slice_index, slice_index_or, sum_by, unwrap_or, ℕ, ◌&&◌, ◌++◌, ◌<◌, ◌==◌, ◌||◌, ◌≡◌}
 use Rattle.theory_definitions.specs.Guarded.{NodeEdge, form_edges, node_edges, node_these}
@@ -42,7 +42,7 @@ table_edges ns = flat_map (λ n. node_edges (plan_in (Some n))) ns
 abbrev pub ways_in : {K : Type 0} → List (NodeEntry K) → ℕ → ℕ
 ways_in ns i = ways_along (table_edges ns) i
 
--- the node of this number in a table has its form and is settled
+-- the node of this number in a table has its form and is final
 abbrev pub is_settled_in : {K : Type 0} → List (NodeEntry K) → ℕ → Bool
 is_settled_in ns i = unwrap_or (option_map is_settled_entry (slice_get ns i)) false
 
@@ -57,11 +57,12 @@ pub record Counts (es : List NodeEdge) (old new : List ℕ) : Type 0 where
 
 -- ---- weights
 
--- the weight of a number, by the weights of some: 255, which stands for so many nodes that they are not counted, where it has none
+-- the weight of a number, by these weights; if it has none, 255, which stands for too many nodes to
+-- count
 abbrev pub weight_in : List ℕ → ℕ → ℕ
 weight_in ws i = slice_index_or ws i 255
 
--- the weight of an edge: that of the number that it leads to; 255 where it is guarded
+-- the weight of an edge: that of the number that it leads to, or 255 if it is guarded
 abbrev pub edge_weight : List ℕ → NodeEdge → ℕ
 edge_weight ws e = if e.guarded then 255 else weight_in ws e.node
 
@@ -77,16 +78,18 @@ weight_together ws es = min 255 (edges_weight ws es)
 abbrev pub edges_from : {K : Type 0} → List (NodeEntry K) → ℕ → List NodeEdge
 edges_from ns i = node_edges (plan_in (slice_get ns i))
 
--- no weight is less than the nodes that it takes: a number of the table with a weight below 255 weighs at least one more than its edges
--- taken together, so none of these is guarded, and what is asked from it where each edge is followed is a tree of at most so many nodes
+-- no weight is less than the number of nodes to evaluate: a number of the table with a weight below
+-- 255 weighs at least one more than its edges together, so none of these is guarded, and the
+-- evaluation with each edge followed is a tree of at most that many nodes
 abbrev pub Covers : {K : Type 0} → List (NodeEntry K) → List ℕ → Type 0
 Covers ns ws = EachIndex ns (λ i. weight_in ws i < 255 → edges_weight ws (edges_from ns i) < weight_in ws i)
 
--- a number is followed, by these weights: at most one edge leads to it that nothing guards, or it is settled and weighs less than 255
+-- by these weights, a number is inlined: at most one unguarded edge leads to it, or it is final and
+-- weighs less than 255
 abbrev pub may_be_followed : {K : Type 0} → List (NodeEntry K) → List ℕ → ℕ → Bool
 may_be_followed ns ws i = nat_le (ways_in ns i) 1 || (is_settled_in ns i && nat_le (weight_in ws i) 254)
 
--- which numbers of a table are followed, by weights that cover it
+-- which numbers of a table are inlined, by weights that cover it
 pub record IsFollowing {K : Type 0} (ns : List (NodeEntry K)) (followed : List Bool) : Type 0 where
   pub weights : List ℕ
   pub covers : Covers ns weights

@@ -1,4 +1,5 @@
--- The pair of a question that is answered by what is found: what is found of it, and what becomes of it.
+-- A pair of a node and a place in a solver's context: what is known of it, and how the context
+-- changes.
 use Rattle.std.specs.Prelude.{[], IfOk, List, None, OnErr, Result, Some, false, is_some, true, ℕ, ◌++◌, ◌∷◌, ◌≡◌}
 use Rattle.serde_json.specs.View.{view}
 use Rattle.theory_definitions.specs.Instance.{Place, subject_at}
@@ -69,11 +70,13 @@ module _ (p : SolverPair) (old new : Solver) where
   abbrev pub PairRefuses : ℕ → Type 0
   PairRefuses mark = Refuses p.node.0 (place_of p) mark old new
 
-  -- a yes of it is kept, with the mark: this was said, and it is answered from this now
+  -- a "valid" of it is kept, with the mark: this was the node's answer, and this is the pair's
+  -- answer from now on
   abbrev pub PairAccepts : ℕ → WhatIsSaid → WhatIsSaid → Type 0
   PairAccepts mark said now = Accepts p.node.0 (place_of p) mark said now old new
 
--- what is said of it is kept, with the mark, and answered; or else, of a no, nothing has changed
+-- the node's answer is kept, with the mark, and the pair's answer is returned; or there is an
+-- error, and after an "invalid" nothing has changed
 pub record KeepsAnswer {E : Type 0} (p : SolverPair) (mark : ℕ) (said : WhatIsSaid) (old new : Solver) (result : Result WhatIsSaid E) : Type 0 where
   pub valid : IfOk result (λ now. now.valid ≡ said.valid)
   pub refused : IfOk result (λ now. said.valid ≡ false → PairRefuses p old new mark)

@@ -1,4 +1,4 @@
-//! What a solver has found while it runs: the pairs in progress, those that are assumed, and the verdicts that are known.
+//! The state of a solver: pairs in progress, pairs assumed to be valid, and known verdicts.
 ghost use Rattle.std.specs.Prelude.{◌≡◌, ◌<◌, ◌≤◌, []};
 ghost use Rattle.std.specs.Prelude.{All, IfOk, IfSome, None, OnErr, OnOk, false, true, ℕ};
 ghost use Rattle.std.specs.Prelude.{length, take};
@@ -30,12 +30,16 @@ use std::alloc::Global;
 use std::marker::Model;
 use std::mem;
 
-/// The pairs of a node and a place that are in progress, the last entered last, and no pair twice; those that are assumed; the verdicts
-/// that are known; the marks of the keyword's run that is at work; and how many pairs were begun. A context is one run's.
+/// What a solver has found so far. One run has one context.
 ///
-/// Places go by their numbers, which are given when the first is asked for. What is in progress is a row of bits for each node that was
-/// entered, and a count for each place; what is assumed is a row of bits for each node; the verdicts of a node are two rows, of the
-/// places that are known and of the verdicts there.
+/// It holds the pairs of a node and a place that are in progress, the last one entered last, and no
+/// pair twice; the pairs that are assumed to be valid; the verdicts that are known; the marks of
+/// the keyword's run at work; and how many pairs were begun.
+///
+/// Places are identified by their numbers, which are assigned when the first is needed. The pairs
+/// in progress are a row of bits for each node that was entered, and a count for each place. The
+/// assumed pairs are a row of bits for each node. The verdicts of a node are two rows, one of the
+/// places with a known verdict, and one of the verdicts.
 #[derive(Drop)]
 pub struct SolverContext<'i> {
     alloc: Global,
@@ -74,24 +78,25 @@ impl<'i> Model for SolverContext<'i> {
     ghost invariant = { λ c. SolverHolds (root_places c.places) c.pairs.items c.counts.items c.guard c.assumed.items c.yeses c.known };
 }
 
-// So many pairs get room when the first is entered: most instances are no deeper than that where references return.
+// The room for pairs that is reserved when the first is entered. With references that return, most
+// instances are no deeper than that.
 const FIRST_PAIRS: usize = 32;
 
-// How many more pairs get room, where there are so many.
+// Returns how many more pairs to reserve room for, if there are this many.
 fn room_after(pairs: usize) -> usize
     ensures some { 1 ≤ result }
 {
     if pairs == 0 { FIRST_PAIRS } else { 1 }
 }
 
-// A yes that leans.
+// Returns a provisional "valid".
 fn for_now() -> Said
     ensures yes { result ≡ record { valid = true; leans = true } }
 {
     Said::of(true, true)
 }
 
-// Remembers the verdict of a pair; there are so many places. Fails only if memory cannot be allocated, and then nothing has changed.
+// Remembers the verdict of a pair; there are `places` places. On `Err` nothing has changed.
 fn keep_verdict(
     alloc: Global,
     known: &mut Rows,
@@ -113,7 +118,8 @@ fn keep_verdict(
     Ok(())
 }
 
-// Settles these pairs with a yes; there are so many places. Fails only if memory cannot be allocated, and then some may be settled.
+// Remembers "valid" for each of these pairs; there are `places` places. On `Err` some may be
+// remembered.
 fn settle_all(
     alloc: Global,
     known: &mut Rows,
@@ -131,7 +137,6 @@ fn settle_all(
     Ok(())
 }
 
-// Clears the bits of these pairs.
 fn clear_bits(rows: &mut Rows, pairs: &[NumberedPair])
     requires there { HaveBits pairs.now rows.old }
     ensures cleared { ClearsBits pairs.now rows.old rows.new }
@@ -145,7 +150,7 @@ fn clear_bits(rows: &mut Rows, pairs: &[NumberedPair])
 impl<'i> SolverContext<'i> {
     ghost use Rattle.schema_solver_state.specs.Lending.{EndsAs};
 
-    /// Returns a context at these places, with nothing in progress, assumed, known or marked, and no pair begun. It allocates nothing.
+    /// Returns a context at these places, with nothing found and no pair begun.
     pub fn new(alloc: Global, places: PlacesOnDemand<'i>) -> SolverContext<'i>
         ensures empty { result ≡ fresh places.entry }
     {
@@ -163,8 +168,13 @@ impl<'i> SolverContext<'i> {
         }
     }
 
-    /// Returns the numbered places. They are numbered at the first call, or when the first pair is entered. Fails only if memory
-    /// cannot be allocated, and then nothing has changed.
+    /// Returns the numbered places.
+    ///
+    /// They are numbered at the first call, or when the first pair is entered.
+    ///
+    /// # Errors
+    ///
+    /// Out of memory, and then nothing has changed.
     pub fn places(&mut self) -> Result<&Places<'i>, OutOfMemory>
         ensures places { IfOk result (λ ps. ps.now ≡ solver_places self.old) }
         ensures there { IfOk result (λ ps. NumbersAll (view self.old.root) ps.now) }
@@ -179,8 +189,10 @@ impl<'i> SolverContext<'i> {
         Ok(numbered)
     }
 
-    /// Returns what the pair is answered by what is found: its verdict where that is known, a yes that leans where it is in progress or
-    /// assumed, and nothing else. It allocates nothing.
+    /// Returns what is known of a pair.
+    ///
+    /// It is the known verdict, or a provisional "valid" if the pair is in progress or assumed, or
+    /// nothing.
     pub fn state(&self, node: SchemaNode, place: usize) -> Option<Said>
         requires known { IsKnown place self.now }
         ensures known { IfSome result (FoundAt node place self.now) }
@@ -200,8 +212,13 @@ impl<'i> SolverContext<'i> {
         None
     }
 
-    /// Records a pair that is not in progress, counts that it was begun, and returns the mark that goes to `keep_answer`: how many
-    /// pairs are assumed. On `Err` nothing has changed.
+    /// Enters a pair that is not in progress, and returns the mark for `keep_answer`.
+    ///
+    /// The pair counts as begun. The mark is the number of assumed pairs.
+    ///
+    /// # Errors
+    ///
+    /// Out of memory, and then nothing has changed.
     pub fn enter(&mut self, node: SchemaNode, place: usize) -> Result<usize, OutOfMemory>
         requires known { IsKnown place self.old }
         requires is_new { IsIdleAt node place self.old }
@@ -221,7 +238,7 @@ impl<'i> SolverContext<'i> {
         Ok(self.assumed.len())
     }
 
-    /// Removes the pair, which must be the last one entered. It allocates nothing.
+    /// Removes the pair, which must be the last one entered.
     pub fn exit(&mut self, node: SchemaNode, place: usize)
         requires known { IsKnown place self.old }
         requires last { IsLastAt node place self.old }
@@ -234,7 +251,6 @@ impl<'i> SolverContext<'i> {
         self.counts[place] = count - 1;
     }
 
-    // Whether no pair is in progress at the place.
     fn is_idle(&self, place: usize) -> bool
         requires known { IsKnown place self.now }
         ensures none { result ≡ true → IsAloneAt place self.now }
@@ -243,7 +259,7 @@ impl<'i> SolverContext<'i> {
         count_at(self.counts.as_slice(), place) == 0
     }
 
-    // Remembers a verdict of the pair for good. On `Err` nothing has changed.
+    // Remembers the final verdict of a pair. On `Err` nothing has changed.
     fn remember(&mut self, node: SchemaNode, place: usize, verdict: bool) -> Result<(), OutOfMemory>
         requires known { IsKnown place self.old }
         ensures remembered { OnOk result (RemembersAt node place self.old self.new verdict) }
@@ -255,7 +271,7 @@ impl<'i> SolverContext<'i> {
         keep_verdict(self.alloc, &mut self.known, places, node.0, place, verdict)
     }
 
-    // Drops what was assumed since the mark, none of which was assumed before it too.
+    // Drops the assumptions made since the mark; none of them was made before it too.
     fn drop_since(&mut self, mark: usize)
         requires own { HasOwnNumbers self.old }
         requires apart { IsApart mark self.old }
@@ -269,7 +285,7 @@ impl<'i> SolverContext<'i> {
         }
     }
 
-    // Assumes a yes of the pair, which goes last among those that are assumed. On `Err` nothing has changed.
+    // Assumes that the pair is valid, after all other assumptions. On `Err` nothing has changed.
     fn assume(&mut self, node: SchemaNode, place: usize) -> Result<(), OutOfMemory>
         requires known { IsKnown place self.old }
         ensures pushed { OnOk result (AssumesAt node place self.old self.new) }
@@ -285,7 +301,8 @@ impl<'i> SolverContext<'i> {
         Ok(())
     }
 
-    // Remembers a yes for good, of the pair and of all that was assumed since the mark. On `Err` some may be remembered.
+    // Remembers "valid" for the pair and for all that was assumed since the mark. On `Err` some may
+    // be remembered.
     fn settle(&mut self, node: SchemaNode, place: usize, mark: usize) -> Result<(), OutOfMemory>
         requires known { IsKnown place self.old }
         ensures settled { OnOk result (SettlesAt node place self.old self.new mark) }
@@ -300,11 +317,19 @@ impl<'i> SolverContext<'i> {
         Ok(())
     }
 
-    /// Keeps what the node of a pair said, once the pair has been left, and returns what the pair is answered from then on; the mark is
-    /// what `enter` returned, and nothing that was assumed since may have been assumed before it too. A no is known for good, and what was
-    /// assumed since the mark is dropped. A yes is known for good, with all that was assumed since, where no other pair is in progress at
-    /// the place; else it alone is, where it leans on nothing, and is assumed where it leans. Fails only if memory cannot be allocated.
-    /// Then, of a no, nothing has changed; of a yes, what was assumed stays so, and some of what was to be known may be.
+    /// Keeps the answer of a pair's node, and returns the answer of the pair from then on.
+    ///
+    /// The pair has been left before. The mark is the one that `enter` returned; nothing that was
+    /// assumed since may have been assumed before it too.
+    ///
+    /// An "invalid" is remembered, and what was assumed since the mark is dropped. A "valid" is
+    /// remembered, with all that was assumed since, if no other pair is in progress at the place.
+    /// Otherwise it alone is remembered if it is final, and assumed if it is provisional.
+    ///
+    /// # Errors
+    ///
+    /// Out of memory. Then nothing has changed if the answer was "invalid". If it was "valid", the
+    /// assumptions are unchanged, and some of the verdicts may be remembered.
     pub fn keep_answer(
         &mut self,
         node: SchemaNode,
@@ -333,8 +358,8 @@ impl<'i> SolverContext<'i> {
         Ok(Said::settled(said.valid()))
     }
 
-    // Keeps a yes beside another pair in progress at the place: for good where it leans on nothing, and else it is assumed. On `Err`
-    // nothing has changed.
+    // Keeps a "valid" beside another pair in progress at the place: remembers it if it is final,
+    // and assumes it if it is provisional. On `Err` nothing has changed.
     fn keep_beside(
         &mut self,
         node: SchemaNode,
@@ -358,9 +383,14 @@ impl<'i> SolverContext<'i> {
         Ok(said)
     }
 
-    /// Returns `true` if the keyword's run that is at work has marked this already: the same request, or a child that leads to the
-    /// same number and is guarded alike, by the edges that its children got. Otherwise marks it and returns `false`. On `Err`
-    /// nothing has changed.
+    /// Returns whether the keyword's run at work has marked this already, and marks it if not.
+    ///
+    /// The same mark is the same request, or, by the edges of its children, a child that leads to
+    /// the same number and is guarded alike.
+    ///
+    /// # Errors
+    ///
+    /// Out of memory, and then nothing has changed.
     pub fn enter_marking(
         &mut self,
         children: &[Option<Edge>],
@@ -374,7 +404,7 @@ impl<'i> SolverContext<'i> {
         self.marking.enter(children, marked)
     }
 
-    /// Takes away the last mark of the keyword's run that is at work, where it has marked anything. It allocates nothing.
+    /// Removes the last mark of the keyword's run at work, if it has one.
     pub fn exit_marking(&mut self)
         ensures left { self.new.marking ≡ without_last self.old.marking }
         ensures frame { OnlyMarks self.old self.new }
@@ -382,7 +412,7 @@ impl<'i> SolverContext<'i> {
         self.marking.exit();
     }
 
-    /// Sets the marks aside, for a keyword's run that begins with none of its own, and returns them. It allocates nothing.
+    /// Returns the marks, and leaves none, for a keyword's run that begins.
     pub fn set_aside(&mut self, alloc: Global) -> Marks
         ensures aside { result ≡ self.old.marking }
         ensures none { self.new.marking ≡ [] }
@@ -391,7 +421,7 @@ impl<'i> SolverContext<'i> {
         mem::replace(&mut self.marking, Marks::new(alloc))
     }
 
-    /// Puts marks back that were set aside, in the place of those of the run that has ended. It allocates nothing.
+    /// Restores marks that were set aside, in place of those of the run that has ended.
     pub fn put_back(&mut self, aside: Marks)
         ensures back { self.new.marking ≡ aside }
         ensures frame { OnlyMarks self.old self.new }
@@ -399,7 +429,7 @@ impl<'i> SolverContext<'i> {
         self.marking = aside;
     }
 
-    /// Returns how many pairs were begun; the count stays at the greatest `u64` once it is there. It allocates nothing.
+    /// Returns how many pairs were begun. The count stops at the greatest `u64`.
     pub fn begun(&self) -> u64
         ensures begun { result ≡ self.now.begun }
     {

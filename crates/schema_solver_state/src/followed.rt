@@ -1,4 +1,4 @@
-//! Which numbers a solver follows each time it is asked about them, and of which it remembers what they said at a place.
+//! The numbers that a solver inlines, and for which it remembers nothing.
 ghost use Rattle.std.specs.Prelude.{◌≡◌, ◌∷◌, ◌<◌, ◌||◌, ◌&&◌, [], IfOk, false, length, nat_le, slice_index_or};
 ghost use Rattle.schema_traits.specs.Showing.{Shows, Yields};
 ghost use Rattle.schema_traits.specs.EdgeViews.{edge_of};
@@ -12,14 +12,19 @@ use schema_traits::numbers::{Edge, SchemaNode};
 use std::alloc::Global;
 use std::marker::Model;
 
-/// How many nodes it may take at the most to ask a settled number that is followed though two edges or more lead to it.
+/// How many nodes a final number may take to evaluate to be inlined although several edges lead to
+/// it.
 pub const MOST_NODES: u8 = 254;
 
-/// The numbers of nodes that a solver follows each time that an edge which nothing guards leads to them. Of the others it remembers what
-/// they said at a place, until what that leaned on is refused. It answers the same whichever numbers these are, but how long it takes
-/// rests on them: they are those to which at most one edge leads that nothing guards, and the settled ones that take at most
-/// `MOST_NODES` nodes to ask where each edge is asked along once, so that an answer that is found again takes no more. Contracts see
-/// whether each number is one.
+/// The numbers of nodes that a solver inlines.
+///
+/// The solver evaluates such a number each time that an unguarded edge leads to it. For the other
+/// numbers it remembers the verdict at a place, until something that this depends on is refused.
+/// The answers do not depend on which numbers are inlined, but the time does.
+///
+/// A number is inlined if at most one unguarded edge leads to it, or if it is final and takes at
+/// most `MOST_NODES` nodes to evaluate with each edge followed once, so that finding its answer
+/// again takes no more than that. Contracts see for each number whether it is inlined.
 #[derive(Drop)]
 pub struct Followed {
     numbers: Vec<bool>,
@@ -33,8 +38,8 @@ impl Model for Followed {
     ghost view = { λ f. f.numbers.items };
 }
 
-// Counts an edge that nothing guards as a way to the number that it leads to, where that is one of these. Of the ways to a number no
-// more than two are counted.
+// Counts an unguarded edge as a way to its number, if that is one of these. At most two ways to a
+// number are counted.
 fn count_edge(edge: &Edge, ways: &mut Vec<u8>)
     ensures counted { Counts (edge_of edge.now ∷ []) ways.old.items ways.new.items }
 {
@@ -44,7 +49,6 @@ fn count_edge(edge: &Edge, ways: &mut Vec<u8>)
     }
 }
 
-// Counts the edges of a keyword.
 fn count_children(children: &[Option<Edge>], ways: &mut Vec<u8>)
     ensures counted { Counts (child_edges children.now) ways.old.items ways.new.items }
 {
@@ -55,7 +59,6 @@ fn count_children(children: &[Option<Edge>], ways: &mut Vec<u8>)
     }
 }
 
-// Counts the edges of an entry.
 fn count_entry<K: Drop>(entry: &Entry<K>, ways: &mut Vec<u8>)
     ensures counted { Counts (entry_edges entry.now) ways.old.items ways.new.items }
 {
@@ -65,7 +68,6 @@ fn count_entry<K: Drop>(entry: &Entry<K>, ways: &mut Vec<u8>)
     }
 }
 
-// Counts the edges of some entries.
 fn count_entries<K: Drop>(entries: &[Entry<K>], ways: &mut Vec<u8>)
     ensures counted { Counts (entries_edges entries.now) ways.old.items ways.new.items }
 {
@@ -74,7 +76,6 @@ fn count_entries<K: Drop>(entries: &[Entry<K>], ways: &mut Vec<u8>)
     }
 }
 
-// Counts the edges of a node.
 fn count_node<K: Drop>(node: &Node<K>, ways: &mut Vec<u8>)
     ensures counted { Counts (edges_of node.now) ways.old.items ways.new.items }
 {
@@ -88,7 +89,7 @@ fn count_node<K: Drop>(node: &Node<K>, ways: &mut Vec<u8>)
     }
 }
 
-// Returns how many edges that nothing guards lead to each number of these nodes; of more than two no more than two are counted.
+// Returns how many unguarded edges lead to each number of these nodes, but at most two for each.
 fn count_ways<K: Drop>(alloc: Global, nodes: &Nodes<K>) -> Result<Vec<u8>, OutOfMemory>
     ensures size { IfOk result (λ ways. length ways.items ≡ length nodes.now) }
     ensures counted { IfOk result (λ ways. AreWays (table_edges nodes.now) ways.items) }
@@ -101,8 +102,8 @@ fn count_ways<K: Drop>(alloc: Global, nodes: &Nodes<K>) -> Result<Vec<u8>, OutOf
     Ok(ways)
 }
 
-// Returns weights that cover these nodes, by which numbers are followed. They are counted only where some number has two ways in; else
-// the list is empty, which counts as `MANY` for each.
+// Returns weights of these nodes, which decide what is inlined. They are counted only if some
+// number has two ways in. Otherwise the list is empty, which counts as `MANY` for each.
 fn weights_by<K: Drop>(alloc: Global, nodes: &Nodes<K>, ways: &[u8]) -> Result<Vec<u8>, OutOfMemory>
     ensures covers { IfOk result (λ ws. Covers nodes.now ws.items) }
 {
@@ -112,7 +113,7 @@ fn weights_by<K: Drop>(alloc: Global, nodes: &Nodes<K>, ways: &[u8]) -> Result<V
     weights_of(alloc, nodes)
 }
 
-// Returns `true` if a number is followed to which so many ways were counted, and that has this weight.
+// Returns whether a number with this many ways in and this weight is inlined.
 fn is_followed_by<K: Drop>(nodes: &Nodes<K>, number: SchemaNode, ways: u8, weight: u8) -> bool
     requires within { number.0 < length nodes.now }
     ensures followed { result ≡ (nat_le ways 1 || (is_settled_in nodes.now number.0 && nat_le weight 254)) }
@@ -121,8 +122,11 @@ fn is_followed_by<K: Drop>(nodes: &Nodes<K>, number: SchemaNode, ways: u8, weigh
 }
 
 impl Followed {
-    /// Returns the numbers of these nodes that a solver follows: those to which at most one edge leads that nothing guards, and the settled
-    /// ones that take at most `MOST_NODES` nodes to ask. Fails only if memory cannot be allocated.
+    /// Returns the numbers of these nodes that a solver inlines.
+    ///
+    /// # Errors
+    ///
+    /// Out of memory.
     pub fn of<K: Drop>(alloc: Global, nodes: &Nodes<K>) -> Result<Followed, OutOfMemory>
         ensures each { Shows length result (length nodes.now) }
         ensures followed { IfOk result (IsFollowing nodes.now) }
@@ -138,7 +142,7 @@ impl Followed {
         Ok(Followed { numbers })
     }
 
-    /// Returns `true` if the number is followed; one that is not of these nodes is not. It allocates nothing.
+    /// Returns whether a number is inlined; `false` if it is not one of these nodes.
     pub fn is_followed(&self, node: SchemaNode) -> bool
         ensures followed { result ≡ slice_index_or self.now node.0 false }
     {
@@ -148,7 +152,11 @@ impl Followed {
         }
     }
 
-    /// Returns the same numbers once more. Fails only if memory cannot be allocated.
+    /// Returns a clone.
+    ///
+    /// # Errors
+    ///
+    /// Out of memory.
     pub fn clone(&self) -> Result<Followed, OutOfMemory>
         ensures same { Yields result self.now }
     {

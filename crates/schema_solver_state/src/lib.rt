@@ -1,4 +1,5 @@
-//! What a solver works on: the pairs of a node and a place that it has begun or found out, and the numbers that it follows.
+//! The state of a solver: pairs of a node and a place with what is known of them, and the numbers
+//! that the solver inlines.
 #![tactic(auto)]
 
 pub mod context;

@@ -1,4 +1,4 @@
-//! The pair of a question that is answered by what is found: the node that it asks, and the place, with the place's number.
+//! A pair of a node and a place, about which a solver may know something.
 ghost use Rattle.std.specs.Prelude.{◌≡◌, IfOk, IfSome, None, OnErr, OnOk, length};
 ghost use Rattle.schema_traits.specs.Showing.{Shows, Yields};
 ghost use Rattle.schema_run_steps.specs.EvaluationPlaces.{steps_to};
@@ -14,7 +14,7 @@ use schema_reports::location::OutOfMemory;
 use schema_run_steps::evaluation_place::EvaluationPlace;
 use schema_traits::numbers::SchemaNode;
 
-/// A node that is asked at a place, and the place's number.
+/// A node that is evaluated at a place, with the place's number.
 #[derive(Clone, Copy)]
 pub struct SolverPair<'q, 'i> {
     node: SchemaNode,
@@ -23,8 +23,12 @@ pub struct SolverPair<'q, 'i> {
 }
 
 impl<'q, 'i> SolverPair<'q, 'i> {
-    /// Returns the pair. Fails only if memory cannot be allocated, to number the places of the context's instance, and then nothing
-    /// has changed.
+    /// Returns the pair of a node and a place.
+    ///
+    /// # Errors
+    ///
+    /// Out of memory, and then nothing has changed. The first pair needs memory to number the
+    /// places of the instance.
     pub fn new(
         context: &mut SolverContext<'i>,
         node: SchemaNode,
@@ -49,7 +53,7 @@ impl<'q, 'i> SolverPair<'q, 'i> {
         }
     }
 
-    /// The place, which carries its number.
+    /// Returns the place, which carries its number.
     pub fn numbered_place(&self) -> EvaluationPlace<'q, 'i>
         ensures same { steps_to result ≡ place_of self.now }
         ensures carries { (context : Solver) → HasItsNumber self.now context → CarriesNumber context result }
@@ -57,8 +61,10 @@ impl<'q, 'i> SolverPair<'q, 'i> {
         self.place.numbered(self.number)
     }
 
-    /// Returns what the pair is answered by what is found: its verdict where that is known, a yes that leans where it is in progress or
-    /// assumed, and nothing else. It allocates nothing.
+    /// Returns what is known of the pair.
+    ///
+    /// It is the known verdict, or a provisional "valid" if the pair is in progress or assumed, or
+    /// nothing.
     pub fn state(&self, context: &SolverContext<'i>) -> Option<Said>
         requires numbered { HasItsNumber self.now context.now }
         ensures known { IfSome result (PairIsFound self.now context.now) }
@@ -69,8 +75,13 @@ impl<'q, 'i> SolverPair<'q, 'i> {
         context.state(self.node, self.number)
     }
 
-    /// Records a pair that is not in progress, counts that it was begun, and returns the mark that goes to `keep_answer`: how many
-    /// pairs are assumed. On `Err` nothing has changed.
+    /// Enters the pair, which is not in progress, and returns the mark for `keep_answer`.
+    ///
+    /// The pair counts as begun. The mark is the number of assumed pairs.
+    ///
+    /// # Errors
+    ///
+    /// Out of memory, and then nothing has changed.
     pub fn enter(&self, context: &mut SolverContext<'i>) -> Result<usize, OutOfMemory>
         requires numbered { HasItsNumber self.now context.old }
         requires is_new { IsIdle self.now context.old }
@@ -81,7 +92,7 @@ impl<'q, 'i> SolverPair<'q, 'i> {
         context.enter(self.node, self.number)
     }
 
-    /// Removes the pair, which must be the last one entered. It allocates nothing.
+    /// Removes the pair, which must be the last one entered.
     pub fn exit(&self, context: &mut SolverContext<'i>)
         requires numbered { HasItsNumber self.now context.old }
         requires last { IsLast self.now context.old }
@@ -91,11 +102,14 @@ impl<'q, 'i> SolverPair<'q, 'i> {
         context.exit(self.node, self.number);
     }
 
-    /// Keeps what the node of the pair said, once the pair has been left, and returns what the pair is answered from then on; the mark is
-    /// what `enter` returned, and nothing that was assumed since may have been assumed before it too. A no is known for good, and what was
-    /// assumed since the mark is dropped. A yes is known for good, with all that was assumed since, where no other pair is in progress at
-    /// the place; else it alone is, where it leans on nothing, and is assumed where it leans. Fails only if memory cannot be allocated.
-    /// Then, of a no, nothing has changed; of a yes, what was assumed stays so, and some of what was to be known may be.
+    /// Keeps the answer of the pair's node, and returns the answer of the pair from then on.
+    ///
+    /// `SolverContext::keep_answer` says what is kept.
+    ///
+    /// # Errors
+    ///
+    /// Out of memory. Then nothing has changed if the answer was "invalid". If it was "valid", the
+    /// assumptions are unchanged, and some of the verdicts may be remembered.
     pub fn keep_answer(
         &self,
         context: &mut SolverContext<'i>,

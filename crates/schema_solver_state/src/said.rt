@@ -1,10 +1,11 @@
-//! What a solver says of a question.
+//! A solver's verdict on a question, which may be provisional.
 ghost use Rattle.std.specs.Prelude.{◌≡◌};
 ghost use Rattle.schema_solver_state.specs.Saying.{said_as, settled_as};
 
 use std::marker::Model;
 
-// The three things that may be said. They take one byte, and with the tag of a result two, which is what a verdict alone takes.
+// The three possible answers. They take one byte, and two with the tag of a result, as a verdict
+// alone does.
 #[derive(Clone, Copy)]
 enum Answer {
     No,
@@ -12,8 +13,11 @@ enum Answer {
     Leaning,
 }
 
-/// What is said of a question so far: its verdict, and whether this leans on a pair that is answered yes for now, as one in progress or
-/// assumed. Only a yes leans; a no stands, whatever comes of such a pair.
+/// A verdict so far, and whether it is provisional.
+///
+/// A provisional verdict depends on a pair that counts as valid for now, because it is in progress
+/// or assumed. Only a "valid" is provisional; an "invalid" is final, whatever becomes of such a
+/// pair.
 #[derive(Drop)]
 pub struct Said {
     answer: Answer,
@@ -28,7 +32,7 @@ impl Model for Said {
 }
 
 impl Said {
-    /// Says this verdict, which leans on nothing.
+    /// Returns this verdict as a final one.
     #[inline(always)]
     pub fn settled(valid: bool) -> Said
         ensures said { result ≡ settled_as valid }
@@ -38,7 +42,7 @@ impl Said {
         }
     }
 
-    /// Says this verdict, and of a yes whether it leans.
+    /// Returns this verdict; a "valid" is provisional if `leans` says so.
     #[inline(always)]
     pub fn of(valid: bool, leans: bool) -> Said
         ensures said { result ≡ said_as valid leans }
@@ -63,7 +67,7 @@ impl Said {
         }
     }
 
-    /// Returns whether the verdict leans on a pair that is answered yes for now.
+    /// Returns whether the verdict is provisional.
     #[inline(always)]
     pub fn leans(&self) -> bool
         ensures leans { result ≡ self.now.leans }

@@ -1,4 +1,4 @@
-//! How many nodes it takes at the most to ask a number where each edge is followed.
+//! How many nodes it takes at most to evaluate a number with each edge followed.
 ghost use Rattle.std.specs.Prelude.{◌≡◌, IfOk, length};
 ghost use Rattle.schema_traits.specs.EdgeViews.{edge_of};
 ghost use Rattle.schema_solver_state.specs.Following.{Covers, child_edges, edge_weight, edges_of, entries_edges, entry_edges};
@@ -9,10 +9,11 @@ use schema_reports::location::OutOfMemory;
 use schema_traits::numbers::{Edge, SchemaNode};
 use std::alloc::Global;
 
-/// Stands for so many nodes that they are not counted. A number has it that leads to a guarded edge.
+/// The weight that stands for too many nodes to count. A number that leads to a guarded edge has
+/// it.
 pub(crate) const MANY: u8 = 255;
 
-/// Returns the weight of a number by the weights of some: `MANY` where it has none. It allocates nothing.
+/// Returns the weight of a number by these weights, or `MANY` if it has none.
 pub(crate) fn weight_of(weights: &[u8], number: usize) -> u8
     ensures weight { result ≡ weight_in weights.now number }
 {
@@ -22,7 +23,6 @@ pub(crate) fn weight_of(weights: &[u8], number: usize) -> u8
     }
 }
 
-// The weight of an edge, by the weights of the numbers.
 fn weigh_edge(edge: &Edge, weights: &[u8]) -> u8
     ensures weight { result ≡ edge_weight weights.now (edge_of edge.now) }
 {
@@ -32,7 +32,6 @@ fn weigh_edge(edge: &Edge, weights: &[u8]) -> u8
     weight_of(weights, edge.node.0)
 }
 
-// The weights of the edges of a keyword, taken together.
 fn weigh_children(children: &[Option<Edge>], weights: &[u8]) -> u8
     ensures weight { result ≡ weight_together weights.now (child_edges children.now) }
 {
@@ -45,7 +44,6 @@ fn weigh_children(children: &[Option<Edge>], weights: &[u8]) -> u8
     weight
 }
 
-// The weights of the edges of an entry, taken together.
 fn weigh_entry<K: Drop>(entry: &Entry<K>, weights: &[u8]) -> u8
     ensures weight { result ≡ weight_together weights.now (entry_edges entry.now) }
 {
@@ -55,7 +53,6 @@ fn weigh_entry<K: Drop>(entry: &Entry<K>, weights: &[u8]) -> u8
     }
 }
 
-// The weights of the edges of some entries, taken together.
 fn weigh_entries<K: Drop>(entries: &[Entry<K>], weights: &[u8]) -> u8
     ensures weight { result ≡ weight_together weights.now (entries_edges entries.now) }
 {
@@ -66,7 +63,6 @@ fn weigh_entries<K: Drop>(entries: &[Entry<K>], weights: &[u8]) -> u8
     weight
 }
 
-// The weights of the edges of a node, taken together.
 fn weigh_node<K: Drop>(node: &Node<K>, weights: &[u8]) -> u8
     ensures weight { result ≡ weight_together weights.now (edges_of node.now) }
 {
@@ -80,8 +76,8 @@ fn weigh_node<K: Drop>(node: &Node<K>, weights: &[u8]) -> u8
     }
 }
 
-// Makes each weight less that can be, by those of what its number leads to. Returns `true` if there was one. Numbers mostly lead to greater
-// ones, so the last comes first.
+// Lowers each weight that can be lowered, by the weights of the numbers that its own leads to, and
+// returns whether there was one. Numbers mostly lead to greater ones, so the last comes first.
 fn weigh_each<K: Drop>(nodes: &Nodes<K>, weights: &mut Vec<u8>) -> bool
     requires each { length weights.old.items ≡ length nodes.now }
     requires covers { Covers nodes.now weights.old.items }
@@ -100,7 +96,7 @@ fn weigh_each<K: Drop>(nodes: &Nodes<K>, weights: &mut Vec<u8>) -> bool
     changed
 }
 
-// The weight `MANY` for each number: nothing is counted.
+// Returns the weight `MANY` for each number.
 fn uncounted<K: Drop>(alloc: Global, nodes: &Nodes<K>) -> Result<Vec<u8>, OutOfMemory>
     ensures each { IfOk result (λ ws. length ws.items ≡ length nodes.now) }
     ensures covers { IfOk result (λ ws. Covers nodes.now ws.items) }
@@ -110,8 +106,8 @@ fn uncounted<K: Drop>(alloc: Global, nodes: &Nodes<K>) -> Result<Vec<u8>, OutOfM
     Ok(weights)
 }
 
-/// Returns the weight of each number: how many nodes it takes at the most to ask it where each edge is followed, or `MANY`. Fails only if
-/// memory cannot be allocated.
+/// Returns the weight of each number: how many nodes it takes at most to evaluate it with each edge
+/// followed, or `MANY`.
 pub(crate) fn weights_of<K: Drop>(alloc: Global, nodes: &Nodes<K>) -> Result<Vec<u8>, OutOfMemory>
     ensures each { IfOk result (λ ws. length ws.items ≡ length nodes.now) }
     ensures covers { IfOk result (λ ws. Covers nodes.now ws.items) }
